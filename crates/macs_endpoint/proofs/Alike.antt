@@ -1,4 +1,4 @@
--- Frames leave what is in hand and what waits as they were.
+-- Frames leave what is under way and what waits as they were.
 use Rattle.std.proofs.Common.{◌≡◌, ◌⊎◌, inl, inr, ℕ, List, Result, Ok, Err, ap}
 use Rattle.macs_rxsc.specs.declared.verdict.Verdict.{Verdict}
 use Rattle.macs_endpoint.specs.State.{State}
@@ -8,7 +8,7 @@ use Rattle.macs_endpoint.specs.declared.fault.ProtectFault.TheVariants as protec
 use Rattle.macs_endpoint.specs.declared.fault.Stopped.{Stopped}
 
 module _ (s t : State) where
-  -- what is in hand and what waits are as they were
+  -- what is under way and what waits are as they were
   abbrev pub IsAlike : Type 0
   IsAlike = (t.in_hand ≡ s.in_hand) × (t.waiting ≡ s.waiting)
 

@@ -25,7 +25,7 @@ use Rattle.macs_endpoint.proofs.Alike.{alike-protect, alike-receive}
 use Rattle.macs_endpoint.proofs.Between.{none_reserved}
 use Rattle.macs_endpoint.proofs.InHand.{not_stopped, some_is}
 
--- the ceiling in hand makes `to` of what stands, which is `from`
+-- raising the ceiling under way makes `to` of the standing, which is `from`
 abbrev LeadsTo : {D : Type 0} → Standing → Standing → EndpointValue D → Type 0
 LeadsTo from to e = (standing_in e.store ≡ from) × ((raise : Raise) × (e.reserving ≡ Some raise) × (standing_with_raise from raise ≡ to))
 
@@ -33,7 +33,7 @@ LeadsTo from to e = (standing_in e.store ≡ from) × ((raise : Raise) × (e.res
 
 module _ {D : Type 0} (disk_of : D → Disk) (from to : Standing) (old new : EndpointValue D) (kept : IsSoundEndpoint old) (still_kept : IsSoundEndpoint new)
     (busy : ¬ IsIdle old.store) (still_busy : ¬ IsIdle new.store) (running : is_stopped new ≡ false) (leads : LeadsTo from to old) where
-  -- a reservation is in hand
+  -- a reservation is under way
   reserving_by : IsAtRest old ⊎ (IsReserving old ⊎ IsKeeping old) → IsReserving old
   reserving_by (inl rest) = absurd (busy rest.store)
   reserving_by (inr (inl work)) = work

@@ -33,7 +33,7 @@ use Rattle.macs_endpoint.proofs.InHand.{at-rest, not_stopped, some_is}
 abbrev Waits : {D : Type 0} → EndpointValue D → Type 0
 Waits e = (first : Waiting) × (rest : List Waiting) × (e.waiting ≡ first ∷ rest)
 
--- the first command that waits is in hand, or is next
+-- the first command that waits is under way, or is next
 abbrev IsCommands : {D : Type 0} → EndpointValue D → Type 0
 IsCommands e = ((command : Command) × (e.in_hand ≡ Some command)) ⊎ (IsIdle e.store × (e.turn ≡ turn.Command))
 
@@ -83,7 +83,7 @@ module _ {D : Type 0} (disk_of : D → Disk) (old new : EndpointValue D) (kept :
   some_wait : old.waiting ≡ [] → ⊥
   some_wait none = let is = sym none ∙ waits.2 in cc
 
-  -- nothing changes but what waits behind, and packet numbers
+  -- nothing changes but what waits after the first, and packet numbers
   stays : (reply : Reply) → reservations_in_reply reply ≡ 0 → new.in_hand ≡ old.in_hand → new.store ≡ old.store → new.turn ≡ old.turn → Waits new → Uses reply
   stays reply none in_hand store whose wait = inr (inl (
     none,
@@ -113,7 +113,7 @@ module _ {D : Type 0} (disk_of : D → Disk) (old new : EndpointValue D) (kept :
     begins idle (inl held) = absurd (let is = sym held.1 ∙ (at-rest old kept idle).in_hand running in cc)
     begins idle (inr next) = takes_by old.turn (raise_in old) (first_waiting old.waiting) waits.0 next.1 (ap first_waiting waits.2)
 
-    -- work in hand that is a command's
+    -- work under way that is a command's
     held : (¬ IsIdle old.store) → IsCommands old → (command : Command) × (old.in_hand ≡ Some command)
     held busy (inl is) = is
     held busy (inr next) = absurd (busy next.0)

@@ -1,4 +1,4 @@
--- An endpoint with other channels and the same work in hand: numbers that rise carry it on.
+-- An endpoint with other channels and the same work under way: numbers that rise carry it on.
 use Rattle.std.proofs.Common.{◌≡◌, ◌≤◌, ◌⊎◌, inl, inr, ℕ, List, Option, Some, None, sym, subst, arith}
 use Rattle.std.specs.Prelude.{IsSomeAnd}
 use Rattle.macs_txsc.specs.Value as txsc
@@ -37,9 +37,9 @@ rx_carried block pn (Some old) None ceiling rises within = absurd rises
 rx_carried block pn (Some old) (Some new) None rises within = absurd within
 rx_carried block pn (Some old) (Some new) (Some ceiling) rises within = (rises pn within.0, within.1)
 
--- ---- the same work in hand
+-- ---- the same work under way
 
--- an endpoint with the work in hand of another one
+-- an endpoint with the work under way of another one
 abbrev pub with_work : {D : Type 0} → EndpointValue D → EndpointValue D → EndpointValue D
 with_work e other = record other { store = e.store; in_hand = e.in_hand; reserving = e.reserving; waiting = e.waiting }
 

@@ -130,15 +130,15 @@ module _ (s t : State) where
   call-changes (Protects plain) reply quiet made = absurd quiet
   call-changes (Receives frame) reply quiet made = absurd quiet
 
--- ---- what stands
+-- ---- the standing
 
--- P holds of what stands until a command takes effect, which is one that is spared, and Q after it
+-- P holds of the standing until a command takes effect, which is one that is spared, and Q after it
 module _ (s : State) (f g : Standing) (reserving : Option Raise) (P : Standing → Type 0) (Q : Option Command → Standing → Type 0) (Spares : Option Command → Type 0)
     (raised : (x : Standing) (raise : Raise) → first_raise x (tx_side s) (rx_side s) ≡ Some raise → P x → P (standing_with_raise x raise))
     (reserved : (raise : Raise) → reserving ≡ Some raise → P f → P (standing_with_raise f raise))
     (none : (x : Standing) → P x → Q None x)
     (made : (command : Command) (x y : Standing) → accept x command ≡ Ok y → Spares (Some command) → P x → Q (Some command) y) where
-  -- the reservation in hand is done
+  -- the reservation under way is done
   reserved_by : (o : Option Raise) → reserving ≡ o → P f → P (standing_with_reserved f o)
   reserved_by None is holds = holds
   reserved_by (Some raise) is holds = reserved raise is holds
@@ -218,7 +218,7 @@ made-quiet s Advances reply command made = tt
 made-quiet s (Protects plain) reply command made = absurd cc
 made-quiet s (Receives frame) reply command made = absurd cc
 
--- a command, if there is one, was accepted, and made this of what stood
+-- a command, if there is one, was accepted, and made this of the standing before
 abbrev pub IsAcceptedTo : Option Command → Standing → Type 0
 IsAcceptedTo None new = Unit {0}
 IsAcceptedTo (Some command) new = (old : Standing) × (accept old command ≡ Ok new)

@@ -49,7 +49,7 @@ pub by_accepted : (s : Standing) (command : Command) (result : Result Config Rea
 by_accepted s command (Ok config) is = refl
 by_accepted s command (Err refusal) is = absurd cc
 
--- a command is in hand while it is kept
+-- a command is under way while it is kept
 during-held : (s : State) (command : Command) → s.waiting ≡ [] → s.stopped ≡ false → Accepts s command
     → state_during s (Commands command) ≡ state_with_in_hand s command
 during-held s command none running accepts =
@@ -144,7 +144,7 @@ module _ {D : Type 0} (disk_of : D → disk.Disk) (e : EndpointValue D) (kept : 
       λ i. most_with_change (store.slots_with e.store (idle i)) (standing_with_reserved (standing_in e.store) (free i)) in
       omega (arith, within, same)
 
-  -- no work is in hand, so a change leaves what it leaves of the store as it stands
+  -- no work is under way, so a change leaves what it leaves of the store as it is
   same_slots : slots_after e.store ≡ slots_with_change (slots_then e.store) (reserved_in e)
   same_slots = λ i. slots_with_change (store.slots_with e.store (sym idle i)) (standing_with_reserved (standing_in e.store) (sym free i))
 
@@ -155,7 +155,7 @@ module _ {D : Type 0} (disk_of : D → disk.Disk) (e : EndpointValue D) (kept : 
       → StandsRan (standing_in e.store) e.reserving command result s
   stands_ran result s stands = subst (λ (o : Option Raise). StandsRan (standing_in e.store) o command result s) (sym free) stands
 
-  -- the journal cannot begin anew
+  -- the journal cannot start over
   pub spent-command : (s : store.StoreValue D) → Commits disk_of e.store command (Err commit.GenerationsSpent) s
       → KeepsCommand disk_of e command (Err GenerationsSpent) (record e { store = s; turn = turn.Reservation })
   spent-command s commits =

@@ -1,4 +1,4 @@
--- Work in hand that goes on, is done, or is cut short by a fault, and a reservation that ends so.
+-- Work under way that goes on, is done, or is cut short by a fault, and a reservation that ends so.
 use Rattle.std.proofs.Common.{◌≡◌, ◌≤◌, ◌+◌, ◌⊎◌, inl, inr, ℕ, Bool, true, false, length, Option, Some, None, Result, Ok, Err, refl, sym, ◌∙◌, ap, subst, arith}
 use Rattle.std.specs.Prelude.{IsErrOf}
 use Rattle.macs_config.specs.Config.{this_edition}
@@ -43,7 +43,7 @@ use Rattle.macs_endpoint.proofs.InHand.{at-rest, cut-backed, fits-moments, kept-
 
 -- ---- what the store says of its work
 
--- the work of a store is done, and this stands
+-- the work of a store is done, and this is the standing
 pub record IsDone {D : Type 0} (disk_of : D → disk.Disk) (old : store.StoreValue D) (after : Standing) (new : store.StoreValue D) : Type 0 where
   pub stands : standing_in new ≡ after
   pub running : store.is_stopped new ≡ false
@@ -53,7 +53,7 @@ pub record IsDone {D : Type 0} (disk_of : D → disk.Disk) (old : store.StoreVal
       → Leaves (store.disk_in disk_of old) (store.disk_in disk_of new) (StandsForEither (standing_in old) after)
   pub stored : IsHonest (store.disk_in disk_of new) → IsStored disk_of old → IsStored disk_of new
 
--- a device call failed, and what stood stands
+-- a device call failed, and the standing is as it was
 pub record IsCut {D : Type 0} (disk_of : D → disk.Disk) (old : store.StoreValue D) (after : Standing) (new : store.StoreValue D) : Type 0 where
   pub stands : standing_in new ≡ standing_in old
   pub stopped : store.is_stopped new ≡ true
@@ -113,7 +113,7 @@ err_same at is = cc
 
 -- ---- the same channels over another store
 
--- what holds of an endpoint holds of another one with its channels, where the same stands
+-- what holds of an endpoint holds of another one with its channels, and the same standing
 pub kept-held : {D : Type 0} (e other : EndpointValue D) → IsSoundEndpoint e → standing_in other.store ≡ standing_in e.store
     → length other.waiting ≤ queue_length → other.tickets ≤ last_ticket
     → IsAtRest (record other { tx = e.tx; rx = e.rx }) ⊎ (IsReserving (record other { tx = e.tx; rx = e.rx }) ⊎ IsKeeping (record other { tx = e.tx; rx = e.rx }))
@@ -237,7 +237,7 @@ module _ {D : Type 0} (disk_of : D → disk.Disk) (e : EndpointValue D) (kept : 
       → Raised disk_of e raise result new
   begun-raised mid new result same room ends = ends_raised result new room (subst (λ (x : EndpointValue D). ReservationEnds disk_of x result new) same ends)
 
--- no reservation begins, since the journal cannot begin anew
+-- no reservation begins, since the journal cannot start over
 pub spent-raised : {D : Type 0} (disk_of : D → disk.Disk) (e : EndpointValue D) (raise : Raise) → IsIdle e.store → IsSpent e.store
     → Raised disk_of e raise (Err refill.GenerationsSpent) e
 spent-raised disk_of e raise idle spent = record {
@@ -357,7 +357,7 @@ module _ {D : Type 0} (disk_of : D → disk.Disk) (e : EndpointValue D) (kept : 
         cut-backed e kept disk_of given_up cut.stopped given_up-state raised_to
         (subst (λ (n : ℕ). least_sectors ≤ n) (sym cut.works.sectors) backed.size) work.leads (cut.any_moment honest (backed.stored work.running))
 
--- ---- which reservation is in hand
+-- ---- which reservation is under way
 
 module _ {D : Type 0} (e : EndpointValue D) where
   pub which-reserving : (raise : Raise) → e.reserving ≡ Some raise → IsAtRest e ⊎ IsReserving e → (work : IsReserving e) × (work.raise ≡ raise)
@@ -382,7 +382,7 @@ module _ {D : Type 0} (e : EndpointValue D) where
 -- ---- to the end
 
 module _ {D : Type 0} (disk_of : D → disk.Disk) (e : EndpointValue D) (kept : IsSoundEndpoint e) where
-  -- none is in hand
+  -- none is under way
   pub none-ends : e.reserving ≡ None → IsAtRest e → ReservationEnds disk_of e (Ok tt) e
   none-ends none rest = record {
     reserves = record {

@@ -1,4 +1,4 @@
--- What a power loss leaves fits the state: what stands on the disk is a restart of it.
+-- What a power loss leaves fits the state: what is on the disk is a restart of it.
 use Rattle.std.proofs.Common.{◌≡◌, ◌≤◌, ◌<◌, ◌^◌, ◌==◌, ◌&&◌, ◌∷◌, ◌∙◌, [], ℕ, zero, suc, Bool, true, false, not, cond, if◌then◌else◌, inl, inr, List, bytes_eq, Option, Some, None, Result, Ok, Err, is_ok, refl, sym, ap, subst, arith}
 use Rattle.std.specs.Option.{option_map}
 use Rattle.macs_config.specs.Apply.{IsCommand, Reason, apply, has_wrong_start}
@@ -33,7 +33,7 @@ pub record AreAhead (identity : Identity) (next : ℕ → Option ℕ) (numbers :
   pub rx_ahead : (sci : List ℕ) (an : ℕ) → IsRxWithin identity.rx_block (numbers sci an) (c.rx sci an)
   pub few : (sci : List ℕ) (an : ℕ) → 4 ≤ an → numbers sci an ≡ None
 
--- those of channels, and of what stands
+-- those of channels, and of the standing
 pub channels-ahead : (tx : Tx) (rx : rxsc.RxValue) (s : Standing) → AreChannels tx rx s → AreWithin tx rx s.identity
     → AreAhead s.identity (txsc.tx_side_of tx).next (rxsc.rx_side_of rx).numbers s.ceilings
 channels-ahead tx rx s channels within = record {
@@ -221,7 +221,7 @@ module _ (sectors : ℕ) (image : Image) (size : least_sectors ≤ sectors) wher
   pub fits-ahead : (s : State) (c : Ceilings) → AreAhead s.identity s.next s.numbers c → StandsFor s.edition image (standing_with s c) → Fits s.edition sectors image s
   fits-ahead s c are finds = record { found = standing_with s c; is_found = (size, finds); restart = inl (resumed s c are) }
 
-  -- what the command in hand makes of the configuration
+  -- what the command under way makes of the configuration
   pub fits-command : (s : State) (c : Ceilings) (command : Command) (made : Standing) → AreAhead s.identity s.next s.numbers c
       → IsCommand command → s.in_hand ≡ Some command → accept (standing_with s c) command ≡ Ok made → StandsFor s.edition image made
       → Fits s.edition sectors image s
@@ -242,7 +242,7 @@ module _ (sectors : ℕ) (image : Image) (size : least_sectors ≤ sectors) wher
         restart = inr (command, mid, holds, (config, parts.1, refl), resumed mid (ceilings_after s.identity command c) later);
       }
 
-  -- what a power loss leaves while the command in hand is kept
+  -- what a power loss leaves while the command under way is kept
   pub fits-commit : (s : State) (c : Ceilings) (command : Command) → AreAhead s.identity s.next s.numbers c → IsCommand command
       → s.in_hand ≡ Some command → CommitLeaves (standing_with s c) command image → Fits s.edition sectors image s
   fits-commit s c command are ranges holds left = elim left.0 [
@@ -250,7 +250,7 @@ module _ (sectors : ℕ) (image : Image) (size : least_sectors ≤ sectors) wher
     | inr later ↦ fits-command s c command later.0 are ranges holds later.1 later.2
   ]
 
-  -- a command in hand leaves what fits
+  -- a command under way leaves what fits
   pub fits-holding : (edition : Edition) (s : State) (command : Command) → s.in_hand ≡ None → Fits edition sectors image s
       → Fits edition sectors image (state_with_in_hand s command)
   fits-holding edition s command free fits = record {

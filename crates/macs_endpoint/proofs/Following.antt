@@ -1,5 +1,5 @@
 -- The channels follow a command that is accepted: what installing an association asks then holds, and they become those of
--- what stands after it.
+-- the standing after it.
 use Rattle.std.proofs.Common.{◌≡◌, ◌∙◌, ◌≤◌, ◌^◌, ◌⊎◌, inl, inr, ℕ, Bool, List, Option, Some, None, is_some, IsSome, IfSome, Result, Ok, Err, refl, ap, sym, subst, arith}
 use Rattle.std.specs.Option.{option_map}
 use Rattle.std.proofs.Math.Nat.{max-eq_left}
@@ -34,7 +34,7 @@ use Rattle.macs_endpoint.specs.Step.{numbers_after}
 
 -- ---- a command that is accepted
 
--- what stands after it
+-- the standing after it
 abbrev with_config : Standing → Command → Config → Standing
 with_config s command config = record s { config = config; ceilings = ceilings_after s.identity command s.ceilings }
 

@@ -65,7 +65,7 @@ by_test : {X : Type 0} (P : X → Type 0) (b : Bool) (x y : X) → (b ≡ true �
 by_test P true x y this other = this refl
 by_test P false x y this other = other refl
 
--- what comes first of tests with one more behind them
+-- what comes first of tests with one more after them
 first_join : {X : Type 0} (rows : List (X × Bool)) (x : X) (b : Bool) (y : X) → first (rows ++ (x, b) ∷ []) ≡ Some y
     → (first rows ≡ Some y) ⊎ ((first rows ≡ None) × (y ≡ x) × (b ≡ true))
 first_join [] x true y is = inr (refl, cc, refl)
@@ -248,7 +248,7 @@ protect_limited old tx plain later (Err Exhausted) out sends = tt
 module _ {D : Type 0} (old : EndpointValue D) (tx : Tx) (plain : List ℕ) (result : Result ℕ TxFault) (out : List ℕ) (kept : IsSoundEndpoint old)
     (sends : Sends (txsc.tx_side_of old.tx) (txsc.tx_side_of tx) (txsc.ceilings_of old.tx) plain result out)
     (ceilings : txsc.ceilings_of tx ≡ txsc.ceilings_of old.tx) where
-  -- the same, in words of what stands
+  -- the same, in words of the standing
   standing_sends : Sends (tx_side (state_of old no_logs)) (txsc.tx_side_of tx) (standing_in old.store).ceilings.tx plain result out
   standing_sends =
       subst (λ (side : TxSide). Sends side (txsc.tx_side_of tx) (standing_in old.store).ceilings.tx plain result out) kept.channels.tx_is
@@ -540,7 +540,7 @@ module _ {D : Type 0} (disk_of : D → Disk) (old : EndpointValue D) (r : rxsc.R
     (record { verdict = verdict; given = out; numbers = (rxsc.rx_side_of r).numbers }))
     (side : rxsc.rx_side_of r ≡ record (rxsc.rx_side_of old.rx) { numbers = (rxsc.rx_side_of r).numbers })
     (ceilings : rxsc.ceilings_of r ≡ rxsc.ceilings_of old.rx) where
-  -- the same, in words of what stands
+  -- the same, in words of the standing
   standing_receives : rx.IsOutcome (rx_side (state_of old no_logs)) (standing_in old.store).ceilings.rx frame
       (record { verdict = verdict; given = out; numbers = (rxsc.rx_side_of r).numbers })
   standing_receives =

@@ -1,4 +1,4 @@
--- A step that answers Idle: no work is in hand, no command waits, and no ceiling is to be raised.
+-- A step that answers Idle: no work is under way, no command waits, and no ceiling is to be raised.
 use Rattle.std.proofs.Common.{◌≡◌, ◌⊎◌, inl, inr, false, Option, Some, None, Ok, refl}
 use Rattle.macs_disk.specs.Disk.{Disk}
 use Rattle.macs_store.specs.Value.{IsIdle}
@@ -16,7 +16,7 @@ use Rattle.macs_endpoint.specs.declared.queue.Waiting.{Waiting}
 use Rattle.macs_endpoint.specs.declared.turn.Turn.{Turn}
 use Rattle.macs_endpoint.specs.declared.turn.Turn.TheVariants as turn
 
--- work is in hand, or none is
+-- work is under way, or none is
 pub in_hand_or_not : (hand : Change) → (hand ≡ Empty) ⊎ (¬ (hand ≡ Empty))
 in_hand_or_not Empty = inl refl
 in_hand_or_not (Renewing r) = inr (λ is. cc)

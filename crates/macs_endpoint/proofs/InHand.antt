@@ -1,4 +1,4 @@
--- Work in hand: what the disk of an endpoint leaves while it is under way.
+-- Work under way: what the disk of an endpoint leaves meanwhile.
 use Rattle.std.proofs.Common.{◌≡◌, ◌≤◌, ◌<◌, ◌^◌, ◌⊎◌, ◌∙◌, [], ℕ, Bool, true, false, inl, inr, List, Option, Some, None, refl, sym, ap, subst, arith}
 use Rattle.std.specs.Prelude.{IsSomeAnd}
 use Rattle.std.specs.Option.{option_map}
@@ -53,7 +53,7 @@ rx_further block pn (Some numbers) None raise within = absurd raise
 rx_further block pn (Some numbers) (Some ceiling) raise within =
     seen_further block numbers.next pn ceiling numbers.seen raise.0 raise.1 within.0
 
--- the ceilings of what stands, with that one raised, are not too far ahead
+-- the ceilings of the standing, with that one raised, are not too far ahead
 module _ (tx : Tx) (rx : rxsc.RxValue) (s : Standing) (channels : AreChannels tx rx s)
     (are : AreAhead s.identity (txsc.tx_side_of tx).next (rxsc.rx_side_of rx).numbers s.ceilings) where
   pub raise-ahead : (raise : Raise) → IsRaiseWithin tx rx s.identity raise
@@ -92,7 +92,7 @@ module _ (tx : Tx) (rx : rxsc.RxValue) (s : Standing) (channels : AreChannels tx
         few = are.few;
       }
 
--- ---- what is in hand
+-- ---- what is under way
 
 -- the ceilings alone are raised
 pub raise-is : (s : State) (c : Ceilings) (raise : Raise) → standing_with_raise (standing_with s c) raise ≡ standing_with s (standing_with_raise (standing_with s c) raise).ceilings
@@ -114,7 +114,7 @@ module _ {D : Type 0} (e : EndpointValue D) (kept : IsSoundEndpoint e) where
   leads_by (inr (inl work)) = (standing_with_raise before work.raise, work.leads)
   leads_by (inr (inr work)) = (work.after, work.leads)
 
-  -- the work in hand leads to something
+  -- the work under way leads to something
   pub leads-on : (after : Standing) × (standing_then e.store ≡ Some after)
   leads-on = leads_by kept.work
 
@@ -123,7 +123,7 @@ module _ {D : Type 0} (e : EndpointValue D) (kept : IsSoundEndpoint e) where
   rest_by idle (inr (inl work)) = absurd (work.busy idle)
   rest_by idle (inr (inr work)) = absurd (work.busy idle)
 
-  -- an endpoint whose store has nothing in hand is at rest
+  -- an endpoint whose store has nothing under way is at rest
   pub at-rest : IsIdle e.store → IsAtRest e
   at-rest idle = rest_by idle kept.work
 
@@ -166,7 +166,7 @@ module _ {D : Type 0} (e : EndpointValue D) (kept : IsSoundEndpoint e) where
               (inr (work.after, work.accepted, subst (λ (x : Standing). StandsFor this_edition image x) (sym same) finds), left.1)
         ]
 
-    -- an image that stands for what stands, or for what stands once the work in hand is done
+    -- an image that stands for the standing, or for the standing once the work under way is done
     pub fits-either : (after : Standing) → standing_then e.store ≡ Some after → StandsForEither before after image → Fits this_edition sectors image state
     fits-either after leads left = fits_by after leads kept.work left
 
@@ -184,7 +184,7 @@ module _ {D : Type 0} (e : EndpointValue D) (kept : IsSoundEndpoint e) where
       form = λ image left. (in_hand-image disk_of e.store stored leads-on.0 leads-on.1 image left).1;
     }
 
-    -- what calls of the work in hand leave
+    -- what calls of the work under way leave
     pub fits-moments : (new : Disk) (logs : Logs) (after : Standing) → least_sectors ≤ (disk_in disk_of e).sectors → standing_then e.store ≡ Some after
         → Leaves (disk_in disk_of e) new (StandsForEither before after)
         → Leaves (disk_in disk_of e) new (λ image. Fits this_edition (disk_in disk_of e).sectors image (state_of e logs))

@@ -1,4 +1,4 @@
--- A command behind a reservation that was in hand.
+-- A command after a reservation that was under way.
 use Rattle.std.proofs.Common.{◌≡◌, ◌≤◌, ◌+◌, ◌⊎◌, [], inl, inr, ℕ, true, false, Some, None, Result, Ok, Err, is_err, IsErrOf, IsOk, OnOk, refl, sym, ◌∙◌, ap, subst, arith}
 use Rattle.macs_config.specs.Apply.{IsCommand, Named, Reason, apply}
 use Rattle.macs_config.specs.Config.{Config, this_edition}
@@ -51,7 +51,7 @@ ok_standing : (s : Standing) (command : Command) (result : Result Config Reason)
 ok_standing s command (Ok config) is = refl
 ok_standing s command (Err refusal) is = absurd cc
 
--- what a device call cut short is sound, with whatever command in hand
+-- what a device call cut short leaves is sound, with any command under way
 pub cut-short-kept : {D : Type 0} (mid : EndpointValue D) (command : Command) → IsSoundEndpoint mid → is_stopped mid ≡ true
     → IsSoundEndpoint (record mid { in_hand = Some command; turn = turn.Reservation })
 cut-short-kept {D} mid command kept stopped = record {
@@ -71,7 +71,7 @@ cut-short-kept {D} mid command kept stopped = record {
     by (inr (inl work)) = absurd (not_stopped (is_stopped mid) stopped work.running)
     by (inr (inr work)) = absurd (not_stopped (is_stopped mid) stopped work.running)
 
--- ---- a command behind it
+-- ---- a command after it
 
 module _ {D : Type 0} (disk_of : D → disk.Disk) (e : EndpointValue D) (command : Command) (ranges : IsCommand command)
     (running : is_stopped e ≡ false) (none : e.waiting ≡ []) (free : e.in_hand ≡ None) (accepted : IsOk (accept (standing_in e.store) command)) where
@@ -152,7 +152,7 @@ module _ {D : Type 0} (disk_of : D → disk.Disk) (e : EndpointValue D) (command
         let after = standing_in mid.store in
         ok_standing after command (apply this_edition after.identity after.config command) behind_applies
 
-    -- what stands then, how many slots are used and in which generation
+    -- the standing then, how many slots are used and in which generation
     stands : reserved_in mid ≡ reserved_in e
     stands = behind-reserved disk_of e mid ends
 
@@ -229,7 +229,7 @@ module _ {D : Type 0} (disk_of : D → disk.Disk) (e : EndpointValue D) (command
           spent = λ is. no_more_calls (disk_in disk_of new).clock (keeps.spent is);
         }
 
-    -- a command is kept, or not, behind the reservation
+    -- a command is kept, or not, after the reservation
     pub behind-keeps : (result : Result (Unit {0}) CommandFault) (new : EndpointValue D) → KeepsCommand disk_of mid command result new
         → KeepsCommand disk_of e command result new
     behind-keeps (Ok done) new keeps =

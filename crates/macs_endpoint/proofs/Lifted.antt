@@ -15,7 +15,7 @@ use Rattle.macs_endpoint.specs.Ceilings.{RaiseRx, RaiseTx, standing_with_raise}
 use Rattle.macs_endpoint.specs.State.{rx_side_with, tx_side_with}
 use Rattle.macs_endpoint.specs.Value.{AreChannels, IsRxRaiseWithin, IsTxRaiseWithin}
 
--- a ceiling that stands, and is below the next one
+-- a ceiling that exists, and is below the next one
 tx_held : (block : ℕ) (next ceiling : Option ℕ) → IsTxRaiseWithin block next ceiling → (top : ℕ) × (ceiling ≡ Some top) × (top ≤ block_beyond top block)
 tx_held block None ceiling within = absurd within
 tx_held block (Some next) None within = absurd within

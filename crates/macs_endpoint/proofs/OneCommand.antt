@@ -30,7 +30,7 @@ use Rattle.macs_endpoint.proofs.Alike.{alike-protect, alike-receive}
 use Rattle.macs_endpoint.proofs.Idled.{in_hand_or_not}
 use Rattle.macs_endpoint.proofs.InHand.{not_stopped}
 
--- a ceiling is being raised; or no command is in hand, and where no work is, the turn is a reservation's
+-- a ceiling is being raised; or no command is under way, and where no work is, the turn is a reservation's
 abbrev IsReservations : {D : Type 0} → EndpointValue D → Type 0
 IsReservations e = ((raise : Raise) × (e.reserving ≡ Some raise)) ⊎ ((e.in_hand ≡ None) × (IsIdle e.store → e.turn ≡ turn.Reservation))
 
@@ -57,7 +57,7 @@ stopped_none (Protects plain) (Protected result out) stopped = refl
 stopped_none (Receives frame) (Received result out) stopped = refl
 stopped_none call reply stopped = absurd stopped
 
--- a command that is done with is in hand no more
+-- a command that is done with is no longer under way
 done_free : (s : State) (first : Waiting) (rest : List Waiting) (result : Result (Unit {0}) CommandFault) (t : State) → Ends s first rest result t
     → t.in_hand ≡ None
 done_free s first rest (Ok done) t (config, is, made) = ap (λ (x : State). x.in_hand) made
@@ -118,7 +118,7 @@ module _ {D : Type 0} (disk_of : D → Disk) (old new : EndpointValue D) where
   -- ---- a call where a reservation comes next, and a ceiling is needed
 
   module _ (kept : IsSoundEndpoint old) (needed : raise_in old ≢ None) (reservations : IsReservations old) where
-    -- no command is in hand, and where no work is the turn is a reservation's
+    -- no command is under way, and where no work is the turn is a reservation's
     free_by : IsReservations old → IsAtRest old ⊎ (IsReserving old ⊎ IsKeeping old)
         → (old.in_hand ≡ None) × (IsIdle old.store → old.turn ≡ turn.Reservation)
     free_by (inr free) work = free
@@ -143,7 +143,7 @@ module _ {D : Type 0} (disk_of : D → Disk) (old new : EndpointValue D) where
       ))),
     )
 
-    -- the turn is a reservation's, and no command is in hand
+    -- the turn is a reservation's, and no command is under way
     turns_to : (reply : Reply) → commands_in_reply reply ≡ 0 → new.in_hand ≡ None → new.turn ≡ turn.Reservation → IsStillQuiet reply
     turns_to reply none in_hand whose = (none, inr (inl (inr (in_hand, λ idle. whose))))
 
@@ -206,7 +206,7 @@ module _ {D : Type 0} (disk_of : D → Disk) (old new : EndpointValue D) where
       submits command (Err submit.TicketsSpent) moves store whose = keeps (Submitted (Err submit.TicketsSpent)) refl store whose moves.2
       submits command (Err submit.Stopped) moves store whose = absurd moves
 
-      -- behind a refill that is answered Ok nothing is needed
+      -- after a refill that is answered Ok nothing is needed
       refills : v ≡ u → CeilingsAfter u (standing_in old.store) old.reserving Refills (Refilled (Ok tt)) (standing_in new.store) → raise_in new ≡ None
       refills is stands = subst (λ (x : State). first_raise (standing_in new.store) (tx_side x) (rx_side x) ≡ None) (sym is) stands.is_next
 

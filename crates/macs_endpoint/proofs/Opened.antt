@@ -39,7 +39,7 @@ is-next identity read stands items i sci is same_items same within there =
       there = subst (λ (xs : List (List ℕ)). sci ≡ get_or xs i sci) channels there;
     }
 
--- ---- what has stood is read
+-- ---- the standing is read
 
 -- without an association there are no numbers, and no ceiling
 pub none_numbered : (window : ℕ) (sa : Option RxSa) (n : Option Numbers) (ceiling : Option ℕ) → IsNumbered window sa n ceiling → sa ≡ None
@@ -96,7 +96,7 @@ rx_opened s scis = record {
 no_sa : {A B : Type 0} (ceiling : Option A) (sa : Option B) → is_some ceiling ≡ is_some sa → ceiling ≡ None → sa ≡ None
 no_sa ceiling sa same none = none_too sa ceiling (sym same) none
 
--- the four numbers stand at their own places
+-- the four numbers are at their own places
 pub number_is : (numbers : List ℕ) (place d : ℕ) → numbers ≡ 0 ∷ 1 ∷ 2 ∷ 3 ∷ [] → place < 4 → get_or numbers place d ≡ place
 number_is numbers place d are within = ap (λ (ns : List ℕ). get_or ns place d) are ∙ at place within
   where
@@ -165,7 +165,7 @@ no_tx_ceiling s is none an past = none_too (s.ceilings.tx an) (s.config.tx an) (
 
 module _ (s : Standing) (is : IsStanding s) (tx : Tx) (n : ℕ) (filled : IsTxFilled s tx n) (end : 4 ≤ n)
     (none : (an : ℕ) → 4 ≤ an → s.config.tx an ≡ None) where
-  -- what stands when all are installed
+  -- the transmit side when all are installed
   abbrev all_tx : TxSide
   all_tx = record { sci = s.identity.sci; mode = s.config.mode; encoding = None; tx = s.config.tx; next = s.ceilings.tx }
 

@@ -1,4 +1,4 @@
--- A command that is to wait: it comes behind the others, under a ticket of its own, and no work is touched.
+-- A command that is to wait: it comes after the others, under a ticket of its own, and no work is touched.
 use Rattle.std.proofs.Common.{◌≡◌, ◌≤◌, ◌<◌, ◌∷◌, ◌⊎◌, [], inl, inr, ℕ, true, false, List, length, Result, Ok, Err, refl, sym, ap, subst, arith}
 use Rattle.std.proofs.lemmas.List.{length-append}
 use Rattle.macs_config.specs.Apply.{IsCommand}
@@ -61,7 +61,7 @@ module _ {D : Type 0} (disk_of : D → disk.Disk) (e : EndpointValue D) (command
   abbrev pub before : QueueValue
   before = record { waiting = e.waiting; given = e.tickets }
 
-  -- the work in hand is the same
+  -- the work under way is the same
   more_work : (ticket : ℕ) → IsAtRest e ⊎ (IsReserving e ⊎ IsKeeping e)
       → let more : QueueValue = record { waiting = with_waiting e.waiting ticket command; given = ticket } in
       IsAtRest (queued more) ⊎ (IsReserving (queued more) ⊎ IsKeeping (queued more))

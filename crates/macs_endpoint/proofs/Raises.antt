@@ -144,7 +144,7 @@ rx-raised-ahead identity next numbers c need is are =
       few = are.few;
     }
 
--- ceilings, as they stand, of the numbers on these sides
+-- ceilings, as they are, of the numbers on these sides
 abbrev pub IsAhead : TxSide → RxSide → Standing → Type 0
 IsAhead tx_side rx_side s = AreAhead s.identity tx_side.next rx_side.numbers s.ceilings
 

@@ -1,4 +1,4 @@
--- A refill: raises one behind the other, and the call that they make.
+-- A refill: raises one after another, and the call that they make.
 use Rattle.std.proofs.Common.{◌≡◌, ◌<◌, ◌⊎◌, inl, inr, ℕ, true, false, [], IsErrOf, Option, Some, None, Result, Ok, Err, refl, sym, ◌∙◌, ap, subst}
 use Rattle.macs_config.specs.Config.{this_edition}
 use Rattle.macs_config.specs.Identity.{IsIdentity}
@@ -193,7 +193,7 @@ module _ {D : Type 0} (disk_of : D → disk.Disk) where
         };
       }
 
-  -- ---- what stands then
+  -- ---- the standing then
 
   module _ (old mid new : EndpointValue D) (so_far : Reserves disk_of old (Ok tt) mid) (none : old.reserving ≡ None) (has : HaveRaised disk_of old mid.store) where
     raised : AreRaisedIn old mid
@@ -215,7 +215,7 @@ module _ {D : Type 0} (disk_of : D → disk.Disk) where
     pub turn-raised : (raise : Raise) → raise_in mid ≡ Some raise → Raised disk_of mid raise (Ok tt) new → HaveRaised disk_of old new.store
     turn-raised raise first made = raised-more disk_of old mid new has raise (first_before (Some raise) first) made
 
-    -- of an endpoint that needs none, or whose journal cannot begin anew
+    -- of an endpoint that needs none, or whose journal cannot start over
     pub turn-moves : (free : (raise_in old ≡ None) ⊎ IsSpent old.store) → ((raise_in old ≡ None) ⊎ IsSpent old.store → mid ≡ old) → (raise : Raise)
         → raise_in mid ≡ Some raise → Raised disk_of mid raise (Ok tt) new → ⊥
     turn-moves free still raise first made = elim free [
@@ -282,7 +282,7 @@ module _ {D : Type 0} (disk_of : D → disk.Disk) where
     spends = has;
   }
 
-  -- ---- behind a reservation that was in hand
+  -- ---- after a reservation that was under way
 
   stands_on : (tx_side : TxSide) (rx_side : RxSide) (old mid new : Standing) (reserving : Option Raise) (result : Result (Unit {0}) RefillFault)
       → mid ≡ standing_with_reserved old reserving → (¬ (result ≡ Err refill.Stopped)) → (¬ (result ≡ Err refill.Busy))

@@ -1,4 +1,4 @@
--- What a refill takes: ceilings that are raised one behind another, and behind a reservation that was in hand.
+-- What a refill takes: ceilings that are raised one after another, and after a reservation that was under way.
 use Rattle.std.proofs.Common.{◌≡◌, ◌≤◌, ◌+◌, ◌++◌, inl, inr, ℕ, List, [], ◌∷◌, Option, Some, None, Result, Ok, Err, refl, sym, ◌∙◌, ap, subst, arith}
 use Rattle.macs_disk.specs.Disk.{Disk}
 use Rattle.macs_txsc.specs.Transmit.{TxSide}
@@ -68,7 +68,7 @@ module _ {D : Type 0} (disk_of : D → Disk) where
       },
     )
 
-    -- by what stands
+    -- by the standing
     pub raised-in : (new : StoreValue D) → HaveRaised old new
         → AreRaised (tx_side (state_of old no_logs)) (rx_side (state_of old no_logs)) (standing_in old.store) (standing_in new)
     raised-in new has = (
@@ -130,7 +130,7 @@ module _ {D : Type 0} (disk_of : D → Disk) where
     pub raised-not : (fault : RefillFault) → Raised disk_of mid raise (Err fault) new → Spends disk_of old (Err fault) new.store
     raised-not fault made = spends_by fault made
 
-  -- ---- behind a reservation that was in hand
+  -- ---- after a reservation that was under way
 
   module _ (old mid : EndpointValue D) (ends : ReservationEnds disk_of old (Ok tt) mid) where
     behind_state : state_of mid no_logs ≡ state_of old no_logs
@@ -174,7 +174,7 @@ module _ {D : Type 0} (disk_of : D → Disk) where
       },
     )
 
-    -- what follows took as much behind it
+    -- what follows took as much after it
     pub spends-behind : (result : Result (Unit {0}) RefillFault) (new : StoreValue D) → (¬ (result ≡ Err refill.Stopped)) → (¬ (result ≡ Err refill.Busy))
         → Spends disk_of mid result new → Spends disk_of old result new
     spends-behind (Ok done) new a b has = raised_behind new has

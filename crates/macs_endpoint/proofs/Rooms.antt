@@ -390,7 +390,7 @@ module _ {D : Type 0} (disk_of : D → Disk) where
       (first_need_of (rx_side (state_of old no_logs)) s.ceilings.rx block) call.behaves.ceilings.is_next in
       below_unneeded new sci an next lowest seen pn kept (ap (λ (x : RxSide). first_need_of x s.ceilings.rx block) same ∙ parts.1) are last reach
 
-  -- the same behind a step that found nothing to do
+  -- the same after a step that found nothing to do
   pub below-idle : (old new : EndpointValue D) (sci : List ℕ) (an next lowest seen pn : ℕ) → IsSoundEndpoint new → IsCall disk_of old Advances (Advanced (Ok Idle)) new
       → (state_of new no_logs).numbers sci an ≡ Some (record { next = next; lowest = lowest; seen = Some seen }) → pn < 2 ^ 32
       → ((pn ≤ seen) ⊎ ((pn < next + (standing_in new.store).identity.rx_block / 2 + 1)
@@ -462,7 +462,7 @@ module _ {D : Type 0} (disk_of : D → Disk) where
       room_of new an count (frames_sent an old turns) (standing_in new.store).identity.tx_block n c refl refl ((kept-ahead new kept).tx_ahead an)
       (covers_same count (0 + frames_sent an old turns) (frames_sent an old turns) n c (omega arith) later)
 
-  -- behind the call that made an install durable, whichever it was
+  -- after the call that made an install durable, whichever it was
   pub room-installed : (old new : EndpointValue D) (call : Call) (reply : Reply) (an : ℕ) (key : Key) (start : ℕ) (confidential : Bool) (offset : ℕ)
       → IsSoundEndpoint old → IsCall disk_of old call reply new
       → command_made (state_of old no_logs) call reply ≡ Some (TxInstall an key start confidential offset)
@@ -496,7 +496,7 @@ module _ {D : Type 0} (disk_of : D → Disk) where
 
   -- ---- after a refill
 
-  -- an association that has a next number stands
+  -- an association that has a next number exists
   association_of : (a : Option Association) → IsSome (option_map (λ (x : Association). x.next) a) → (one : Association) × (a ≡ Some one)
   association_of None stands = absurd cc
   association_of (Some one) stands = (one, refl)
@@ -558,7 +558,7 @@ module _ {D : Type 0} (disk_of : D → Disk) where
       ] in
       room_refilled old new an kept same call.behaves.ceilings encodes
 
-  -- the same behind a step that found nothing to do
+  -- the same after a step that found nothing to do
   pub room-idle : (old new : EndpointValue D) (an : ℕ) → IsSoundEndpoint old → IsCall disk_of old Advances (Advanced (Ok Idle)) new → IsEncodingAn new an
       → HasRoom new an ((standing_in new.store).identity.tx_block / 2 + 1)
   room-idle old new an kept call encodes =

@@ -207,14 +207,14 @@ module _ {D : Type 0} (disk_of : D → Disk) where
         ]
       ]
 
-  -- a frame that was held back, and calls behind it that leave its association alone
+  -- a frame that was held back, and calls after it that leave its association alone
   module _ (old mid late new : EndpointValue D) (turns : List (Transition D)) (frame out : List ℕ) (a : Arrival) (kept : IsSoundEndpoint new)
       (arrives : Arrives (rx_side (state_of old no_logs)) frame a) (held : IsCall disk_of old (Receives frame) (Received (Ok HeldBack) out) mid)
       (lives : Lives disk_of mid turns late) (stays : RxStays a.sci a.an mid turns) where
     last : a.pn < 2 ^ 32
     last = subst (λ (pn : ℕ). pn < 2 ^ 32) (sym arrives.is_pn) (pn-in-range frame held.behaves.in_range)
 
-    -- behind a call that changes no numbers it was seen still
+    -- after a call that changes no numbers it is still seen
     below_by : ((next lowest top : ℕ) → (state_of new no_logs).numbers a.sci a.an ≡ Some (record { next = next; lowest = lowest; seen = Some top })
         → a.pn ≤ top → IsBelow new a.sci a.an a.pn)
         → (numbers : Option Numbers) → (state_of new no_logs).numbers a.sci a.an ≡ numbers → HasSeen numbers a.pn → IsBelow new a.sci a.an a.pn

@@ -1,4 +1,4 @@
--- One device call of the work in hand: it goes on, is done, or is cut short.
+-- One device call of the work under way: it goes on, is done, or is cut short.
 use Rattle.std.proofs.Common.{◌≡◌, ◌≤◌, ◌⊎◌, ◌∷◌, inl, inr, ℕ, false, List, length, Option, Some, None, Result, Ok, Err, is_ok, refl, sym, ◌∙◌, ap, subst, arith}
 use Rattle.macs_config.specs.Apply.{IsCommand}
 use Rattle.macs_config.specs.Config.{this_edition}
@@ -144,14 +144,14 @@ module _ {D : Type 0} (disk_of : D → disk.Disk) (e : EndpointValue D) (kept : 
       (λ honest backed. kept-backed gone_on (gone_on-kept work) disk_of
       (subst (λ (n : ℕ). least_sectors ≤ n) (sym steps.work.works.sectors) backed.size) (steps.stored honest (backed.stored running)))
 
--- what a step of work in hand answers that is not done
+-- what a step of work under way answers that is not done
 pub still_going : {D : Type 0} (disk_of : D → disk.Disk) (old : store.StoreValue D) (busy : ¬ IsIdle old) (at : JournalStep) (new : store.StoreValue D)
     → (¬ (at ≡ Finished)) → Steps disk_of old (Ok at) new → at ≡ Going
 still_going disk_of old busy Going new other steps = refl
 still_going disk_of old busy Idle new other steps = absurd (busy (steps.idle.0 refl).1)
 still_going disk_of old busy Finished new other steps = absurd (other refl)
 
--- a step of work in hand fails as Disk
+-- a step of work under way fails as Disk
 pub step_fault : {D : Type 0} (disk_of : D → disk.Disk) (old new : store.StoreValue D) (at : JournalFault) → store.is_stopped old ≡ false
     → Steps disk_of old (Err at) new → at ≡ fault.Disk
 step_fault disk_of old new at running steps = elim steps.names [

@@ -1,4 +1,4 @@
--- Work that is taken in hand with its first device call, and a command that is refused before.
+-- Work that is started with its first device call, and a command that is refused before.
 use Rattle.std.proofs.Common.{◌≡◌, ◌≤◌, ◌+◌, ◌==◌, inl, inr, ℕ, Bool, true, false, if◌then◌else◌, Option, Some, None, Result, Ok, Err, is_err, OnErr, OnOk, refl, sym, ◌∙◌, ap, subst, arith}
 use Rattle.macs_config.specs.Config.{this_edition}
 use Rattle.macs_config.specs.declared.command.Command.{Command}
@@ -68,12 +68,12 @@ most_by false n = omega arith
 some_calls : {D : Type 0} (s : store.StoreValue D) → 4 ≤ most_calls s
 some_calls s = most_by (store.used_slots s == slots) (store.snapshot_length s)
 
--- so the one behind the start is not the last
+-- so the one after the start is not the last
 pub many-calls : {D : Type 0} (disk_of : D → disk.Disk) (old : store.StoreValue D) (after : Standing) (new : store.StoreValue D)
     → HasInHand disk_of old after new → calls_left new ≡ 1 → ⊥
 many-calls disk_of old after new has one = let most = has.left in let least = some_calls old in omega (arith, one, most, least)
 
--- ---- the call behind the start
+-- ---- the call after the start
 
 module _ {D : Type 0} (disk_of : D → disk.Disk) (e : EndpointValue D) (running : is_stopped e ≡ false) (idle : IsIdle e.store) (after : Standing)
     (s : store.StoreValue D) (has : HasInHand disk_of e.store after s) (in_hand : Option Command) (reserving : Option Raise) where
@@ -220,7 +220,7 @@ module _ {D : Type 0} (disk_of : D → disk.Disk) (e : EndpointValue D) (running
   idle-call none = quiet (Ok Idle) e (λ logs. refl) refl refl (subst (λ (p : Option Piece). BeginsWith e p (Ok Idle) e) (sym none) refl) refl refl refl refl
       (clock-stays (disk_in disk_of e).clock) (λ backed. backed)
 
-  -- the journal cannot begin anew for a reservation
+  -- the journal cannot start over for a reservation
   pub spent-call : (raise : Raise) → next_piece e ≡ Some (ToRaise raise) → IsSpent e.store
       → IsCall disk_of e Advances (Advanced (Err step.GenerationsSpent)) (record e { turn = turn.Command })
   spent-call raise next spent =

@@ -1,4 +1,4 @@
--- The first command that waits: it is taken in hand with its first device call, or is refused.
+-- The first command that waits: it is started with its first device call, or is refused.
 use Rattle.std.proofs.Common.{◌≡◌, ◌≤◌, [], ◌∷◌, ◌&&◌, inl, inr, ℕ, Bool, true, false, not, if◌then◌else◌, List, length, Option, Some, None, Result, Ok, Err, is_ok, IsOk, refl, sym, ◌∙◌, ap, subst, arith}
 use Rattle.macs_config.specs.Apply.{IsCommand, Named, Reason, apply}
 use Rattle.macs_config.specs.Config.{Config, this_edition}
@@ -38,7 +38,7 @@ use Rattle.macs_endpoint.proofs.Taken.{clock-stays, many-calls, quiet, taken-cal
 
 -- ---- which command is the first
 
--- the commands behind it
+-- the commands after it
 pub rest-waiting : (waiting : List Waiting) (first : Waiting) → first_waiting waiting ≡ Some first → (rest : List Waiting) × (waiting ≡ first ∷ rest)
 rest-waiting [] first is = absurd cc
 rest-waiting (other ∷ rest) first is = (rest, let same : other ≡ first = cc in ap (λ (w : Waiting). w ∷ rest) same)
@@ -64,7 +64,7 @@ taken_by : (s : State) (command : Command) (stopped accepts : Bool) → stopped 
     → (if not stopped && accepts then state_with_in_hand s command else s) ≡ state_with_in_hand s command
 taken_by s command stopped accepts running is = λ i. if not (running i) && is i then state_with_in_hand s command else s
 
--- the first command is in hand while it is taken up
+-- the first command is under way while it is taken up
 during_taken : (s : State) (in_hand : Option Command) (waiting : List Waiting) (first : Waiting) (rest : List Waiting) → in_hand ≡ None
     → waiting ≡ first ∷ rest → s.stopped ≡ false → is_ok (apply s.edition s.identity s.config first.command) ≡ true
     → state_taking_first s in_hand waiting ≡ state_with_in_hand s first.command
@@ -72,7 +72,7 @@ during_taken s in_hand waiting first rest free waits running accepts =
     (λ i. state_taking_first s (free i) (waits i))
     ∙ taken_by s first.command s.stopped (is_ok (apply s.edition s.identity s.config first.command)) running accepts
 
--- ---- it is taken in hand
+-- ---- it is started
 
 module _ {D : Type 0} (disk_of : D → disk.Disk) (e : EndpointValue D) (kept : IsSoundEndpoint e) (running : is_stopped e ≡ false) (idle : IsIdle e.store)
     (first : Waiting) (ranges : IsCommand first.command) (waits : first_waiting e.waiting ≡ Some first) where
@@ -94,7 +94,7 @@ module _ {D : Type 0} (disk_of : D → disk.Disk) (e : EndpointValue D) (kept : 
 
   module _ (s : store.StoreValue D) (after : Standing) (accepted : accept old first.command ≡ Ok after)
       (has : HasInHand disk_of e.store after s) where
-    -- the endpoint with the command in hand
+    -- the endpoint with the command under way
     abbrev keeping : EndpointValue D
     keeping = record e { store = s; in_hand = Some first.command }
 
@@ -236,7 +236,7 @@ module _ {D : Type 0} (disk_of : D → disk.Disk) (e : EndpointValue D) (kept : 
         let spent = starts.spent.0 refl in
         refused_call ran.GenerationsSpent (λ logs. (resting.in_hand running, accepted_by old first.command judged spent.0, left_state logs)) spent.1 next
 
-    -- the same, where endpoint and fault are told otherwise
+    -- the same, where endpoint and fault are named otherwise
     told_so : (at told : CommandFault) → told ≡ at → (x : EndpointValue D) → x ≡ e → (tickets : ℕ) → tickets ≡ x.tickets
         → IsCall disk_of e Advances (Advanced (Ok (Done first.ticket (Err at)))) without
         → IsCall disk_of e Advances (Advanced (Ok (Done first.ticket (Err told))))
@@ -247,7 +247,7 @@ module _ {D : Type 0} (disk_of : D → disk.Disk) (e : EndpointValue D) (kept : 
         (subst (λ (n : ℕ). Ended at (record x { waiting = others; tickets = n; turn = turn.Reservation })) (sym given)
         (subst (λ (y : EndpointValue D). Ended at (record y { waiting = others; turn = turn.Reservation })) (sym same) call))
 
-    -- the store refuses it, and it is told why
+    -- the store refuses it, and the reason is reported
     pub refused-ends : (at : CommitFault) (s : store.StoreValue D) → StartsCommit disk_of e.store first.command (Err at) s
         → next_piece e ≡ Some (ToKeep first) → (told : CommandFault) → told ≡ command_fault_of at → (x : EndpointValue D) → x ≡ e → (tickets : ℕ) → tickets ≡ x.tickets
         → IsCall disk_of e Advances (Advanced (Ok (Done first.ticket (Err told))))

@@ -1,4 +1,4 @@
--- Events served: one turn behind others.
+-- Events served: one turn after others.
 use Rattle.std.proofs.Common.{◌≡◌, ◌≤◌, ◌<◌, ◌+◌, ◌&&◌, inl, inr, ℕ, Bool, true, false, if◌then◌else◌, not, List, [], ◌∷◌, ◌++◌, length, map, Option, Some, None, is_ok, refl, sym, ◌∙◌, ap, subst, arith, append_assoc, append-nil}
 use Rattle.std.proofs.lemmas.Bool.{cases_lt}
 use Rattle.std.proofs.lemmas.List.{map-append, length_push}
@@ -53,7 +53,7 @@ held_or_not P false true x y this other = this refl
 held_or_not P false false x y this other = other
 
 module _ (edition : Edition) (sectors : ℕ) (image : Image) (s : State) (fits : Fits edition sectors image s) where
-  -- no command was in hand before one that does not wait
+  -- no command was under way before one that does not wait
   fits_alone : (command : Command) (waiting : List Waiting) → (waiting ≡ [] → s.stopped ≡ false → s.in_hand ≡ None)
       → Fits edition sectors image (state_taking_alone s command waiting)
   fits_alone command [] free =
@@ -70,7 +70,7 @@ module _ (edition : Edition) (sectors : ℕ) (image : Image) (s : State) (fits :
   fits_during (Protects plain) free = fits
   fits_during (Receives frame) free = fits
 
--- while it runs a command in hand is one that waits
+-- while it runs a command under way is one that waits
 abbrev pub IsFree : {D : Type 0} → EndpointValue D → Type 0
 IsFree e = e.waiting ≡ [] → is_stopped e ≡ false → e.in_hand ≡ None
 
@@ -146,7 +146,7 @@ module _ {D : Type 0} (disk_of : D → Disk) (turn : Transition D) where
 
 -- ---- turns
 
--- What so many turns did, between what a source and a sink told before and after
+-- What so many turns did, between what a source and a sink reported before and after
 pub record AreTurns {D : Type 0} (disk_of : D → Disk) (turns : List (Transition D)) (old : EndpointValue D) (told : Told) (new : EndpointValue D) (tells : Told) : Type 0 where
   pub lives : Lives disk_of old turns new
   pub run : (logs : Logs) → (after : Logs) × Steps (state_of old logs) (map exchange_of turns) (state_of new after)
@@ -160,7 +160,7 @@ pub record AreTurns {D : Type 0} (disk_of : D → Disk) (turns : List (Transitio
   pub given : told.sink_tells ≡ true → (answers : List Answer)
       × (tells.took ≡ told.took ++ answers) × (map reply_of answers ≡ map (λ turn. turn.reply) turns)
 
--- what a source and a sink told, once a source gave an event and a sink took its answer
+-- what a source and a sink report, once a source gave an event and a sink took its answer
 abbrev pub HasTaken : Told → Option Event → Told → Type 0
 HasTaken told event tells = (told.source_tells ≡ true → Takes told.left event tells.left) × (tells.source_tells ≡ told.source_tells)
 

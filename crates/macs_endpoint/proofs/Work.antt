@@ -1,4 +1,4 @@
--- What the work in hand of a sound endpoint says: a ceiling that is being raised rises, and not too far, and no command is in hand where none waits.
+-- What the work under way of a sound endpoint says: a ceiling that is being raised rises, and not too far, and no command is under way where none waits.
 use Rattle.std.proofs.Common.{◌≡◌, ◌<◌, ◌⊎◌, [], inl, inr, ℕ, false, List, Option, Some, None, refl, sym, ◌∙◌, subst}
 use Rattle.std.specs.Prelude.{IsSomeAnd}
 use Rattle.macs_config.specs.Identity.{Identity}
@@ -40,7 +40,7 @@ within_higher block pn None ceiling within = absurd within
 within_higher block pn (Some numbers) None within = absurd within
 within_higher block pn (Some numbers) (Some ceiling) within = within.1
 
--- a reservation in hand changes ceilings alone
+-- a reservation under way changes ceilings alone
 pub reserved-parts : (s : Standing) (o : Option Raise)
     → ((standing_with_reserved s o).identity ≡ s.identity) × ((standing_with_reserved s o).config ≡ s.config)
 reserved-parts s None = (refl, refl)
@@ -78,7 +78,7 @@ module _ {D : Type 0} (e : EndpointValue D) (kept : IsSoundEndpoint e) where
       subst (λ (i : Identity). AreAhead i (txsc.tx_side_of e.tx).next (rxsc.rx_side_of e.rx).numbers (standing_with_raise s raise).ceilings)
       (sym (raise-parts s raise).0) (raise-ahead e.tx e.rx s kept.channels (kept-ahead e kept) raise (raise_within raise is))
 
-  -- no ceiling is too far ahead once the reservation in hand is done
+  -- no ceiling is too far ahead once the reservation under way is done
   pub reserved-ahead : IsAhead (tx_side (state_of e no_logs)) (rx_side (state_of e no_logs)) (standing_with_reserved (standing_in e.store) e.reserving)
   reserved-ahead = ahead_by e.reserving refl
 
@@ -89,6 +89,6 @@ module _ {D : Type 0} (e : EndpointValue D) (kept : IsSoundEndpoint e) where
   free_by none running (inr (inl work)) = work.in_hand
   free_by none running (inr (inr work)) = absurd (let waits = sym work.waiting ∙ none in cc)
 
-  -- while it runs a command in hand is one that waits
+  -- while it runs a command under way is one that waits
   pub free-hand : e.waiting ≡ [] → is_stopped e ≡ false → e.in_hand ≡ None
   free-hand none running = free_by none running kept.work

@@ -1,4 +1,4 @@
--- Work in hand ends, and what is reserved then is what was needed when it began.
+-- Work under way ends, and what is reserved then is what was needed when it began.
 use Rattle.std.proofs.Common.{◌≡◌, ◌≤◌, ◌+◌, ◌⊎◌, inl, inr, true, false, List, [], ◌∷◌, Option, Some, None, Result, Ok, Err, refl, ◌∙◌, ap, arith}
 use Rattle.macs_disk.specs.Disk.{Disk}
 use Rattle.macs_store.specs.Keeps.{most_calls}
@@ -26,7 +26,7 @@ still_stopped s t stopped is = ap (λ (x : State). x.stopped) is ∙ stopped
 -- ---- one call
 
 module _ {D : Type 0} (disk_of : D → Disk) (old new : EndpointValue D) (busy : ¬ IsIdle old.store) (running : is_stopped new ≡ false) where
-  -- a call leaves fewer device calls of the work in hand, by one for a step, or none
+  -- a call leaves fewer device calls of the work under way, by one for a step, or none
   abbrev LeavesFewer : Call → Type 0
   LeavesFewer call = (IsIdle new.store × (steps_in_call call ≤ calls_left old.store)) ⊎ (steps_in_call call + calls_left new.store ≤ calls_left old.store)
 
@@ -91,7 +91,7 @@ module _ {D : Type 0} (disk_of : D → Disk) (old new : EndpointValue D) (busy :
 -- ---- through calls
 
 module _ {D : Type 0} (disk_of : D → Disk) where
-  -- no call comes while work is in hand that has ended
+  -- no call comes while work is under way where that work has ended
   no_more : (turns : List (Transition D)) (e : EndpointValue D) → IsIdle e.store → Lasts e turns → steps_made turns ≡ 0
   no_more [] e idle lasts = refl
   no_more (turn ∷ turns) e idle lasts = absurd (lasts.0 idle)

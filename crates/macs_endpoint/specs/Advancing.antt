@@ -50,7 +50,7 @@ turn_after_step whose (Ok (Done ticket result)) = turn.Reservation
 turn_after_step whose (Err step.GenerationsSpent) = turn.Command
 turn_after_step whose result = whose
 
--- and after a refill that finished the reservation in hand
+-- and after a refill that finished the reservation under way
 abbrev pub turn_after_refill : Turn → Option Raise → Turn
 turn_after_refill whose None = whose
 turn_after_refill whose (Some raise) = turn.Command
@@ -68,8 +68,8 @@ turn_after e call reply = e.turn
 
 -- ---- a step
 
--- A step of an endpoint that runs and has no work in hand: it is idle where no piece of work is there, and else that piece begins, with its
--- first device call, or is refused before. Whether that call succeeds or fails, a command is in hand then, and a reservation leaves none there.
+-- A step of an endpoint that runs and has no work under way: it is idle where there is no piece of work, and else that piece begins, with its
+-- first device call, or is refused before. Whether that call succeeds or fails, a command is under way then, and a reservation leaves none under way.
 abbrev pub BeginsWith : {D : Type 0} → EndpointValue D → Option Piece → Result Progress StepFault → EndpointValue D → Type 0
 BeginsWith old None (Ok Idle) new = new ≡ old
 BeginsWith old (Some (ToRaise raise)) (Ok Worked) new =
@@ -82,8 +82,8 @@ BeginsWith old (Some (ToKeep first)) (Ok (Done ticket (Err ran.GenerationsSpent)
 BeginsWith old (Some (ToKeep first)) (Err step.Disk) new = new.in_hand ≡ Some first.command
 BeginsWith old piece result new = ⊥
 
--- A step of an endpoint with work in hand: the next device call of that work, which goes on, with fewer calls left, or is done with the
--- last. Where the call fails a command in hand stays there.
+-- A step of an endpoint with work under way: the next device call of that work, which goes on, with fewer calls left, or is done with the
+-- last. Where the call fails a command under way stays so.
 abbrev pub GoesOn : {D : Type 0} → EndpointValue D → Result Progress StepFault → EndpointValue D → Type 0
 GoesOn old (Ok Worked) new =
     (new.reserving ≡ old.reserving) × (new.in_hand ≡ old.in_hand) × (¬ IsIdle new.store) × (calls_left new.store + 1 ≤ calls_left old.store)

@@ -36,7 +36,7 @@ abbrev pub AdvancesIn : {D : Type 0} → (D → Disk) → EndpointValue D → Ca
 AdvancesIn disk_of old Advances (Advanced result) new = is_stopped old ≡ false → AdvancesAs disk_of old result new
 AdvancesIn disk_of old call reply new = Unit {0}
 
--- no work is in hand after a command or a refill that went to its end, or that the journal has no room for
+-- no work is under way after a command or a refill that went to its end, or that the journal has no room for
 abbrev pub Rests : {D : Type 0} → Call → Reply → EndpointValue D → Type 0
 Rests (Commands command) (Ran (Ok done)) new = IsIdle new.store
 Rests (Commands command) (Ran (Err ran.GenerationsSpent)) new = IsIdle new.store
@@ -45,7 +45,7 @@ Rests Refills (Refilled (Err refill.GenerationsSpent)) new = IsIdle new.store
 Rests call reply new = Unit {0}
 
 -- What a caller sees of one call: what it is given is in range; it is a step of the machine; what becomes of configuration and ceilings;
--- where the answers come that a step leaves to the endpoint; which calls make no device call; after which no work is in hand; what a step of
+-- where the answers come that a step leaves to the endpoint; which calls make no device call; after which no work is under way; what a step of
 -- its work does, and whose turn it is after; what is counted.
 pub record CallBehaves {D : Type 0} (disk_of : D → Disk) (old : EndpointValue D) (call : Call) (reply : Reply) (new : EndpointValue D) : Type 0 where
   pub in_range : IsInRange call
@@ -73,10 +73,10 @@ pub record DeviceCalls {D : Type 0} (disk_of : D → Disk) (old : EndpointValue 
   pub works : Works (disk_in disk_of old) (disk_in disk_of new)
   pub fails : Fails (disk_in disk_of old) (disk_in disk_of new) reply
 
--- ---- on an honest disk that held what stood in memory
+-- ---- on an honest disk that held what was in memory
 
--- What a power loss leaves of one call: at each moment since it began an image fits the state before it, with its command in hand, or
--- the state after it; and the disk holds what stands in memory again.
+-- What a power loss leaves of one call: at each moment since it began an image fits the state before it, with its command under way, or
+-- the state after it; and the disk holds what is in memory again.
 pub record Survives {D : Type 0} (disk_of : D → Disk) (old : EndpointValue D) (call : Call) (new : EndpointValue D) : Type 0 where
   pub any_moment : (logs after : Logs) → Leaves (disk_in disk_of old) (disk_in disk_of new)
       (FitsCall (disk_in disk_of old).sectors (state_of old logs) call (state_of new after))

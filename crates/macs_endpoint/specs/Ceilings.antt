@@ -24,12 +24,12 @@ pub data Raise : Type 0 where
   RaiseTx : (an : ℕ) → Raise
   RaiseRx : Need → Raise
 
--- what stands after a ceiling was raised
+-- the standing after a ceiling was raised
 abbrev pub standing_with_raise : Standing → Raise → Standing
 standing_with_raise s (RaiseTx an) = standing_with_tx_raised s an
 standing_with_raise s (RaiseRx need) = standing_with_rx_raised s need.sci need.an need.pn
 
--- the association of a ceiling stands, and the ceiling is below the one that it is raised to
+-- the association of a ceiling exists, and the ceiling is below the one that it is raised to
 abbrev pub Rises : Standing → Raise → Type 0
 Rises s (RaiseTx an) = IsSome (s.ceilings.tx an) × IfSome (s.ceilings.tx an) (λ old. old < 2 ^ 32)
 Rises s (RaiseRx need) =
@@ -61,24 +61,24 @@ pub record IsRefilled (tx_side : TxSide) (rx_side : RxSide) (old new : Standing)
 
 -- ---- calls
 
--- what stands once a reservation that is in hand is done, if one is
+-- the standing once a reservation that is under way is done, if one is
 abbrev pub standing_with_reserved : Standing → Option Raise → Standing
 standing_with_reserved s None = s
 standing_with_reserved s (Some raise) = standing_with_raise s raise
 
--- what stands after a command that was made durable, if one was
+-- the standing after a command that was made durable, if one was
 abbrev pub StandsAfter : Option Command → Standing → Standing → Type 0
 StandsAfter None old new = new ≡ old
 StandsAfter (Some command) old new = accept old command ≡ Ok new
 
--- what stands after a command with this answer: a reservation in hand is done first, unless the command is refused before
+-- the standing after a command with this answer: a reservation under way is done first, unless the command is refused before
 abbrev pub StandsRan : Standing → Option Raise → Command → Result (Unit {0}) CommandFault → Standing → Type 0
 StandsRan old reserving command (Ok done) new = accept (standing_with_reserved old reserving) command ≡ Ok new
 StandsRan old reserving command (Err ran.GenerationsSpent) new = new ≡ standing_with_reserved old reserving
 StandsRan old reserving command (Err ran.Disk) new = (new ≡ old) ⊎ (new ≡ standing_with_reserved old reserving)
 StandsRan old reserving command (Err fault) new = new ≡ old
 
--- what stands after a refill with this answer: a reservation in hand is done first; then every need is served, or one is left that was not; or
+-- the standing after a refill with this answer: a reservation under way is done first; then every need is served, or one is left that was not; or
 -- nothing changed
 abbrev pub StandsRefilled : TxSide → RxSide → Standing → Option Raise → Result (Unit {0}) RefillFault → Standing → Type 0
 StandsRefilled tx_side rx_side old reserving (Ok done) new = IsRefilled tx_side rx_side (standing_with_reserved old reserving) new None
@@ -89,12 +89,12 @@ StandsRefilled tx_side rx_side old reserving (Err refill.Disk) new =
     ⊎ ((raise : Raise) × IsRefilled tx_side rx_side (standing_with_reserved old reserving) new (Some raise))
 StandsRefilled tx_side rx_side old reserving (Err fault) new = new ≡ old
 
--- what stands after a step with this answer: the reservation in hand is done, or a command took effect, or nothing changed
+-- the standing after a step with this answer: the reservation under way is done, or a command took effect, or nothing changed
 abbrev pub StandsAdvanced : Standing → Option Raise → Option Command → Result Progress StepFault → Standing → Type 0
 StandsAdvanced old reserving made (Ok Reserved) new = (raise : Raise) × (reserving ≡ Some raise) × (new ≡ standing_with_raise old raise)
 StandsAdvanced old reserving made result new = StandsAfter made old new
 
--- what stands, its ceilings included, after a call of an endpoint in this state with this reservation in hand
+-- the standing, its ceilings included, after a call of an endpoint in this state with this reservation under way
 abbrev pub CeilingsAfter : State → Standing → Option Raise → Call → Reply → Standing → Type 0
 CeilingsAfter s old reserving (Commands command) (Ran result) new = StandsRan old reserving command result new
 CeilingsAfter s old reserving Refills (Refilled result) new = StandsRefilled (tx_side s) (rx_side s) old reserving result new

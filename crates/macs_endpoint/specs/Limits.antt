@@ -27,7 +27,7 @@ IsLimited old (Receives frame) (Received (Ok HeldBack) out) new =
 IsLimited old call reply new = Unit {0}
 
 -- This program refuses no command for the length of its key. Frames, commands that are to wait, work that is refused before it begins and a stopped endpoint
--- leave the store as it was, and with it the disk and its clock. Where no work is in hand so do a command that is answered GenerationsSpent, and a refill where
+-- leave the store as it was, and with it the disk and its clock. Where no work is under way so do a command that is answered GenerationsSpent, and a refill where
 -- no ceiling is needed or no change is kept any more.
 abbrev pub IsStill : {D : Type 0} → EndpointValue D → Call → Reply → EndpointValue D → Type 0
 IsStill old (Commands command) (Ran (Err (ran.Refused refusal))) new = new.store ≡ old.store

@@ -29,14 +29,14 @@ pub record IsNewTx (identity : Identity) (tx : Tx) : Type 0 where
   pub ceilings : txsc.ceilings_of tx ≡ (λ an. None)
   pub counters : txsc.counters_of tx ≡ transmit.no_counts
 
--- the receive channels are new: none stands, and nothing is counted
+-- the receive channels are new: there is none, and nothing is counted
 pub record IsNewRx (rx : rxsc.RxValue) : Type 0 where
   pub side : rxsc.rx_side_of rx ≡ new_rx_side
   pub ceilings : rxsc.ceilings_of rx ≡ (λ sci an. None)
   pub counters : rxsc.counters_of rx ≡ counting.no_counts
   pub channel_counters : rxsc.channel_counters_of rx ≡ (λ sci. None)
 
--- A sound endpoint begins with what stands in a store: its packet numbers begin at their ceilings, nothing is in hand or waits, the first
+-- A sound endpoint begins with what is in a store: its packet numbers begin at their ceilings, nothing is under way or waits, the first
 -- turn is a reservation's, and nothing is counted.
 pub record Begins {D : Type 0} (store : StoreValue D) (e : EndpointValue D) : Type 0 where
   pub from : e.store ≡ store
@@ -57,8 +57,8 @@ BeginsOpened (Ok store) (Err left) = ⊥
 BeginsOpened (Err refused) (Ok e) = ⊥
 BeginsOpened (Err refused) (Err left) = left ≡ refused
 
--- A disk is opened to this endpoint. It is in the state of one that begins with what stands in its store, after whatever logs, no work is in
--- hand, and nothing is counted. On an honest disk the disk stood for that, and holds it.
+-- A disk is opened to this endpoint. It is in the state of one that begins with what is in its store, after whatever logs, no work is
+-- under way, and nothing is counted. On an honest disk the disk stood for that, and holds it.
 pub record Opens {D : Type 0} (disk_of : D → Disk) (disk : D) (e : EndpointValue D) : Type 0 where
   pub device : OpensDisk (disk_of disk) (disk_in disk_of e) (standing_in e.store)
   pub state : (logs : Logs) → state_of e logs ≡ opened_state (standing_in e.store) logs
@@ -70,7 +70,7 @@ pub record Opens {D : Type 0} (disk_of : D → Disk) (disk : D) (e : EndpointVal
   pub rx_counters : rxsc.counters_of e.rx ≡ counting.no_counts
   pub channel_counters : rxsc.channel_counters_of e.rx ≡ new_channel_counters (standing_in e.store).config.channels
 
--- A disk is refused for what stands on it, or for a device call that failed. Where each image that a power loss could leave of an honest
+-- A disk is refused for what is on it, or for a device call that failed. Where each image that a power loss could leave of an honest
 -- disk fits a state, only a failed device call remains, and a journal of format one in the last generation.
 pub record RefusesOpening {D : Type 0} (disk_of : D → Disk) (disk left : D) (fault : JournalFault) : Type 0 where
   pub refused : RefusesDisk disk_of disk left fault

@@ -1,4 +1,4 @@
--- What private types of the program tell.
+-- What private types of the program mean.
 use Rattle.macs_endpoint.specs.Advancing.{Piece, ToKeep, ToRaise}
 use Rattle.macs_endpoint.specs.Ceilings as ceilings
 use Rattle.macs_endpoint.specs.declared.refilling.Raise.{Raise}

@@ -1,4 +1,4 @@
--- Commands that wait, and the tickets by which they are told.
+-- Commands that wait, and the tickets that name them.
 use Rattle.std.specs.Prelude.{◌≡◌, ◌<◌, ◌≤◌, ◌+◌, ◌-◌, ◌^◌, ◌++◌, ℕ, List, [], ◌∷◌, length, Option, Some, None, Result, Ok, Err}
 use Rattle.std.specs.Option.{option_map}
 use Rattle.macs_config.specs.declared.command.Command.{Command}
@@ -6,7 +6,7 @@ use Rattle.macs_endpoint.specs.declared.fault.SubmitFault.{SubmitFault}
 use Rattle.macs_endpoint.specs.declared.fault.SubmitFault.TheVariants.{QueueFull, Stopped, TicketsSpent}
 use Rattle.macs_endpoint.specs.declared.queue.Waiting.{Waiting}
 
--- how many commands may wait, the one in hand included
+-- how many commands may wait, the one under way included
 abbrev pub queue_length : ℕ
 queue_length = 16
 

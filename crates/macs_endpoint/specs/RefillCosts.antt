@@ -12,12 +12,12 @@ use Rattle.macs_endpoint.specs.declared.fault.RefillFault.TheVariants as refill
 
 -- ---- ceilings that are raised one after another
 
--- how many slots are used after them, where so many were used and this stood
+-- how many slots are used after them, where so many were used and this was the standing
 abbrev pub slots_in_raises : ℕ → Standing → List Raise → ℕ
 slots_in_raises used s [] = used
 slots_in_raises used s (raise ∷ raises) = slots_in_raises (slots_with_change used s) (standing_with_raise s raise) raises
 
--- and in which generation they stand, where those before stood in this one
+-- and in which generation they are, where those before were in this one
 abbrev pub generation_in_raises : ℕ → ℕ → Standing → List Raise → ℕ
 generation_in_raises used number s [] = number
 generation_in_raises used number s (raise ∷ raises) =
@@ -29,9 +29,9 @@ most_in_raises used s [] = 0
 most_in_raises used s (raise ∷ raises) =
     most_with_change used s + most_in_raises (slots_with_change used s) (standing_with_raise s raise) raises
 
--- ---- behind a reservation in hand
+-- ---- after a reservation under way
 
--- what stands once the reservation in hand is done, if one is
+-- the standing once the reservation under way is done, if one is
 abbrev pub reserved_in : {D : Type 0} → EndpointValue D → Standing
 reserved_in e = standing_with_reserved (standing_in e.store) e.reserving
 
@@ -39,12 +39,12 @@ reserved_in e = standing_with_reserved (standing_in e.store) e.reserving
 abbrev pub RaisesBehind : {D : Type 0} → EndpointValue D → List Raise → Standing → Type 0
 RaisesBehind e raises new = Raises (tx_side (state_of e no_logs)) (rx_side (state_of e no_logs)) (reserved_in e) raises new
 
--- how many device calls are left of the reservation, with those of these ceilings behind it, at most
+-- how many device calls are left of the reservation, with those of these ceilings after it, at most
 abbrev pub most_behind : {D : Type 0} → EndpointValue D → List Raise → ℕ
 most_behind e raises = calls_left e.store + most_in_raises (slots_then e.store) (reserved_in e) raises
 
--- The reservation in hand was finished and these ceilings were raised, by one change each, with the device calls of these changes at most.
--- Where there was nothing in hand and nothing was raised the store is as it was.
+-- The reservation under way was finished and these ceilings were raised, by one change each, with the device calls of these changes at most.
+-- Where there was nothing under way and nothing was raised the store is as it was.
 pub record HasRaised {D : Type 0} (disk_of : D → Disk) (old : EndpointValue D) (raises : List Raise) (new : StoreValue D) : Type 0 where
   pub raised : RaisesBehind old raises (standing_in new)
   pub slots : used_slots new ≡ slots_in_raises (slots_then old.store) (reserved_in old) raises
@@ -52,14 +52,14 @@ pub record HasRaised {D : Type 0} (disk_of : D → Disk) (old : EndpointValue D)
   pub most : (disk_in disk_of new).clock ≤ (disk_in disk_of old.store).clock + most_behind old raises
   pub still : IsIdle old.store → raises ≡ [] → new ≡ old.store
 
--- A device call of the reservation in hand failed. That reservation is not made: what stands is as it was.
+-- A device call of the reservation under way failed. That reservation is not made: the standing is as it was.
 pub record FailsInHand {D : Type 0} (disk_of : D → Disk) (old : EndpointValue D) (new : StoreValue D) : Type 0 where
   pub raise : Raise
   pub reserving : old.reserving ≡ Some raise
   pub stands : standing_in new ≡ standing_in old.store
   pub most : (disk_in disk_of new).clock ≤ (disk_in disk_of old.store).clock + calls_left old.store
 
--- these ceilings were raised, and a device call of the raise behind them failed
+-- these ceilings were raised, and a device call of the raise after them failed
 pub record FailsBehind {D : Type 0} (disk_of : D → Disk) (old : EndpointValue D) (raises : List Raise) (raise : Raise) (new : StoreValue D) : Type 0 where
   pub raised : RaisesBehind old raises (standing_in new)
   pub failed : first_raise (standing_in new) (tx_side (state_of old no_logs)) (rx_side (state_of old no_logs)) ≡ Some raise

@@ -32,7 +32,7 @@ ReserveStep old (Err refill.GenerationsSpent) new = new ≡ old
 ReserveStep old (Err refill.Disk) new = new ≡ state_after_fault old
 ReserveStep old (Err fault) new = ⊥
 
--- Whatever is raised: the step that it is, that no work is in hand then, what it does with the disk, and what a power loss leaves at any
+-- Whatever is raised: the step that it is, that no work is under way then, what it does with the disk, and what a power loss leaves at any
 -- moment since it began
 pub record Reserves {D : Type 0} (disk_of : D → Disk) (old : EndpointValue D) (result : Result (Unit {0}) RefillFault) (new : EndpointValue D) : Type 0 where
   pub step : (logs : Logs) → ReserveStep (state_of old logs) result (state_of new logs)
@@ -70,7 +70,7 @@ pub record ReservationEnds {D : Type 0} (disk_of : D → Disk) (old : EndpointVa
   pub generation : OnOk result (generation new.store ≡ generation_then old.store)
   pub most : (disk_in disk_of new).clock ≤ (disk_in disk_of old).clock + calls_left old.store
 
--- Every ceiling that is needed is raised, or one is left. Where no work is in hand, and none is needed or no change is kept any more,
+-- Every ceiling that is needed is raised, or one is left. Where no work is under way, and none is needed or no change is kept any more,
 -- the store stays as it is.
 pub record ReservesAll {D : Type 0} (disk_of : D → Disk) (old : EndpointValue D) (result : Result (Unit {0}) RefillFault) (new : EndpointValue D) : Type 0 where
   pub reserves : Reserves disk_of old result new
@@ -78,7 +78,7 @@ pub record ReservesAll {D : Type 0} (disk_of : D → Disk) (old : EndpointValue 
   pub still : IsIdle old.store → (raise_in old ≡ None) ⊎ IsSpent old.store → new.store ≡ old.store
   pub spends : Spends disk_of old result new.store
 
--- It is taken in hand that this ceiling is raised, and no device call is made; or no change is kept any more, and nothing changes.
+-- The raise of this ceiling is started, and no device call is made; or no change is kept any more, and nothing changes.
 pub record StartsRaise {D : Type 0} (disk_of : D → Disk) (old : EndpointValue D) (raise : Raise) (result : Result (Unit {0}) JournalFault) (new : EndpointValue D) : Type 0 where
   pub refused : OnErr result (IsErrOf result journal.GenerationsSpent × (new ≡ old) × IsSpent old.store)
   pub room : OnOk result (¬ IsSpent old.store)

@@ -33,7 +33,7 @@ RxRises block (Some numbers) found =
 
 -- ---- a restart
 
--- The same configuration and logs, with numbers that rose, nothing in hand or waiting and no ticket given, in a program of no smaller
+-- The same configuration and logs, with numbers that rose, nothing under way or waiting and no ticket given, in a program of no smaller
 -- edition. Where an opening is spoken of, the logs are the same by themselves; they count where restarts are put together.
 pub record Resumes (old new : State) : Type 0 where
   pub edition : IsUpTo old.edition new.edition
@@ -47,7 +47,7 @@ pub record Resumes (old new : State) : Type 0 where
   pub waiting : new.waiting ≡ []
   pub tickets : new.tickets ≡ 0
 
--- the state is resumed, or the state after the command in hand
+-- the state is resumed, or the state after the command under way
 abbrev pub Restart : State → State → Type 0
 Restart old new = Resumes old new
     ⊎ ((command : Command) × (mid : State) × (old.in_hand ≡ Some command) × Makes old command mid × Resumes mid new)
@@ -75,7 +75,7 @@ pub record Fits (edition : Edition) (sectors : ℕ) (image : Image) (s : State) 
   pub is_found : StandingIs edition sectors image (Ok found)
   pub restart : Restart s (opened_state found s.logs)
 
--- the state with a command in hand where work on it may begin: the endpoint runs, and accepts it
+-- the state with a command under way where work on it may begin: the endpoint runs, and accepts it
 abbrev pub state_taking : State → Command → State
 state_taking s command = if not s.stopped && is_ok (apply s.edition s.identity s.config command) then state_with_in_hand s command else s
 
@@ -84,12 +84,12 @@ abbrev pub state_taking_alone : State → Command → List Waiting → State
 state_taking_alone s command [] = state_taking s command
 state_taking_alone s command (first ∷ rest) = s
 
--- the first command that waits is taken where none is in hand
+-- the first command that waits is taken where none is under way
 abbrev pub state_taking_first : State → Option Command → List Waiting → State
 state_taking_first s None (first ∷ rest) = state_taking s first.command
 state_taking_first s in_hand waiting = s
 
--- the state while a call is under way: a command is in hand where work on it may have begun
+-- the state while a call is under way: a command is under way where work on it may have begun
 abbrev pub state_during : State → Call → State
 state_during s (Commands command) = state_taking_alone s command s.waiting
 state_during s Advances = state_taking_first s s.in_hand s.waiting

@@ -18,7 +18,7 @@ pub record HasRoom {D : Type 0} (e : EndpointValue D) (an count : ℕ) : Type 0 
   pub is_ceiling : (standing_in e.store).ceilings.tx an ≡ Some ceiling
   pub room : (next + count ≤ ceiling) ⊎ (ceiling ≡ 2 ^ 32)
 
--- the association at this AN is the encoding one, and it stands
+-- the association at this AN is the encoding one, and it exists
 abbrev pub IsEncodingAn : {D : Type 0} → EndpointValue D → ℕ → Type 0
 IsEncodingAn e an = ((standing_in e.store).config.encoding ≡ Some an) × IsSome ((state_of e no_logs).next an)
 

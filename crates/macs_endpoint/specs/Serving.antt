@@ -58,14 +58,14 @@ EndsAs [] end = Unit {0}
 EndsAs (reply ∷ []) Halted = is_halt reply ≡ true
 EndsAs (reply ∷ replies) end = (is_halt reply ≡ false) × EndsAs replies end
 
--- what a source tells of the events that it has left, if it tells, and a sink of the answers that it took
+-- what a source reports of the events that it has left, if it reports them, and a sink of the answers that it took
 pub record Told : Type 0 where
   pub source_tells : Bool
   pub left : List Event
   pub sink_tells : Bool
   pub took : List Answer
 
--- What was served in at most so many turns, with what source and sink tell before and after: the calls link the endpoint of before to that of
+-- What was served in at most so many turns, with what source and sink report before and after: the calls link the endpoint of before to that of
 -- after, their answers are a run of the machine, and a power loss at any moment leaves what fits one of their states. Ended comes only with a turn left, in which the source had no further event.
 pub record IsServed {D : Type 0} (disk_of : D → Disk) (most : ℕ) (old : EndpointValue D) (before : Told) (end : ServeEnd) (new : EndpointValue D) (after : Told) : Type 0 where
   pub turns : List (Transition D)

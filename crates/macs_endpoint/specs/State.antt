@@ -46,7 +46,7 @@ no_logs = record { used = []; given = [] }
 
 -- The edition of the program; next packet numbers of transmit associations by their numbers, numbers of receive associations by
 -- SCI and number; the command whose call or whose work on the disk began and did not end, which after a device fault stays; the submitted commands that
--- wait, the one in hand first where it is one of them; and how many tickets were given
+-- wait, the one under way first where it is one of them; and how many tickets were given
 pub record State : Type 0 where
   pub edition : Edition
   pub identity : Identity
@@ -87,7 +87,7 @@ tx_side s = tx_side_with s.identity s.config s.next
 abbrev pub rx_side : State → RxSide
 rx_side s = rx_side_with s.config s.numbers
 
--- the state with a command in hand
+-- the state with a command under way
 abbrev pub state_with_in_hand : State → Command → State
 state_with_in_hand s command = record s { in_hand = Some command }
 
@@ -115,7 +115,7 @@ pub data Call : Type 0 where
   Protects : (plain : List ℕ) → Call
   Receives : (frame : List ℕ) → Call
 
--- What is answered, with what stands in `out` then. The last two are answers of an edition without long keys: a command, and the first that
+-- What is answered, with what is in `out` then. The last two are answers of an edition without long keys: a command, and the first that
 -- waited, was refused for the length of its key.
 pub data Reply : Type 0 where
   Ran : Result (Unit {0}) CommandFault → Reply

@@ -59,7 +59,7 @@ state_after_command s command config = record s {
 abbrev pub Makes : State → Command → State → Type 0
 Makes old command new = (config : Config) × (apply old.edition old.identity old.config command ≡ Ok config) × (new ≡ state_after_command old command config)
 
--- A command takes effect, or nothing changes, or a device call failed and the command is in hand. While a submitted command waits, in hand or
+-- A command takes effect, or nothing changes, or a device call failed and the command is under way. While a submitted command waits, under way or
 -- not, no other is taken.
 abbrev pub CommandStep : State → Command → Result (Unit {0}) CommandFault → State → Type 0
 CommandStep old command (Ok done) new = NoneWait old × Makes old command new
@@ -91,17 +91,17 @@ SubmitStep old command (Err submit.QueueFull) new = (queue_length ≤ length old
 SubmitStep old command (Err submit.TicketsSpent) new = (length old.waiting < queue_length) × (last_ticket ≤ old.tickets) × (new ≡ old)
 SubmitStep old command (Err submit.Stopped) new = ⊥
 
--- the first waiting command is taken in hand: it is accepted, and nothing was in hand
+-- the first waiting command is started: it is accepted, and nothing was under way
 abbrev pub TakesUp : State → State → Type 0
 TakesUp old new = (first : Waiting) × (rest : List Waiting) × (old.waiting ≡ first ∷ rest) × (old.in_hand ≡ None)
     × Accepts old first.command × (new ≡ state_with_in_hand old first.command)
 
--- the state without the first waiting command, which is not in hand any more
+-- the state without the first waiting command, which is not under way any more
 abbrev pub state_without_first : State → List Waiting → State
 state_without_first s rest = record s { waiting = rest; in_hand = None }
 
--- The first waiting command is done with. One that is in hand took effect; one that is not took effect, or was refused, or the journal
--- cannot begin anew for it.
+-- The first waiting command is done with. One that is under way took effect; one that is not took effect, or was refused, or the journal
+-- cannot start over for it.
 abbrev pub Ends : State → Waiting → List Waiting → Result (Unit {0}) CommandFault → State → Type 0
 Ends old first rest (Ok done) new = Makes (state_without_first old rest) first.command new
 Ends old first rest (Err (ran.Refused refusal)) new =
@@ -109,7 +109,7 @@ Ends old first rest (Err (ran.Refused refusal)) new =
 Ends old first rest (Err ran.GenerationsSpent) new = (old.in_hand ≡ None) × Accepts old first.command × (new ≡ state_without_first old rest)
 Ends old first rest (Err fault) new = ⊥
 
--- One device call of the work that there is, or none. Nothing changes but what is in hand, unless the first waiting command is done with.
+-- One device call of the work that there is, or none. Nothing changes but what is under way, unless the first waiting command is done with.
 abbrev pub AdvanceStep : State → Result Progress StepFault → State → Type 0
 AdvanceStep old (Ok Idle) new = new ≡ old
 AdvanceStep old (Ok Worked) new = (new ≡ old) ⊎ TakesUp old new
@@ -120,7 +120,7 @@ AdvanceStep old (Err step.GenerationsSpent) new = new ≡ old
 AdvanceStep old (Err step.Disk) new = (new ≡ state_after_fault old) ⊎ ((mid : State) × TakesUp old mid × (new ≡ state_after_fault mid))
 AdvanceStep old (Err step.Stopped) new = ⊥
 
--- the first waiting command, which is not in hand, is refused for the length of its key
+-- the first waiting command, which is not under way, is refused for the length of its key
 abbrev pub RefusesFirst : State → Waiting → List Waiting → State → Type 0
 RefusesFirst old first rest new =
     (old.in_hand ≡ None) × (apply old.edition old.identity old.config first.command ≡ Err LongKey) × (new ≡ state_without_first old rest)

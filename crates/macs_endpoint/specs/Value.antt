@@ -106,7 +106,7 @@ IsRaiseWithin tx rx identity (RaiseTx an) = IsTxRaiseWithin identity.tx_block ((
 IsRaiseWithin tx rx identity (RaiseRx need) =
     IsRxRaiseWithin identity.rx_block need.pn ((rxsc.rx_side_of rx).numbers need.sci need.an) (rxsc.ceilings_of rx need.sci need.an)
 
--- no work is in hand: nothing is being raised, and no command is in hand unless a device call failed
+-- no work is under way: nothing is being raised, and no command is under way unless a device call failed
 pub record IsAtRest {D : Type 0} (e : EndpointValue D) : Type 0 where
   pub store : IsIdle e.store
   pub reserving : e.reserving ≡ None
@@ -136,7 +136,7 @@ pub record IsKeeping {D : Type 0} (e : EndpointValue D) : Type 0 where
   pub leads : standing_then e.store ≡ Some after
   pub accepted : accept (standing_in e.store) first.command ≡ Ok after
 
--- The channels are those of what stands, no ceiling is too far ahead, no more commands wait than may, and the work in hand is one of these.
+-- The channels are those of the standing, no ceiling is too far ahead, no more commands wait than may, and the work under way is one of these.
 pub record IsSoundEndpoint {D : Type 0} (e : EndpointValue D) : Type 0 where
   pub identity : IsIdentity (standing_in e.store).identity
   pub channels : AreChannels e.tx e.rx (standing_in e.store)
@@ -147,7 +147,7 @@ pub record IsSoundEndpoint {D : Type 0} (e : EndpointValue D) : Type 0 where
 
 -- ---- what its disk holds
 
--- The disk holds what stands in memory, with the work in hand, unless a device call failed; and what a power loss leaves now fits the state, in a
+-- The disk holds what is in memory, with the work under way, unless a device call failed; and what a power loss leaves now fits the state, in a
 -- journal of format two.
 pub record IsBacked {D : Type 0} (disk_of : D → Disk) (e : EndpointValue D) : Type 0 where
   pub size : least_sectors ≤ (disk_in disk_of e).sectors

@@ -1,4 +1,4 @@
--- How long work in hand lasts, and what has its turn, through calls.
+-- How long work under way lasts, and what has its turn, through calls.
 use Rattle.std.specs.Prelude.{◌≡◌, ◌≢◌, ◌+◌, ℕ, false, List, [], ◌∷◌, None, Ok, Err}
 use Rattle.macs_store.specs.Value.{IsIdle}
 use Rattle.macs_endpoint.specs.Lives.{Transition}
@@ -9,7 +9,7 @@ use Rattle.macs_endpoint.specs.declared.fault.RefillFault.TheVariants as refill
 use Rattle.macs_endpoint.specs.declared.fault.StepFault.TheVariants as step
 use Rattle.macs_endpoint.specs.declared.progress.Step.TheVariants.{Done, Reserved}
 
--- ---- work in hand
+-- ---- work under way
 
 -- 1 for a step, else 0
 abbrev pub steps_in_call : Call → ℕ
@@ -21,7 +21,7 @@ abbrev pub steps_made : {D : Type 0} → List (Transition D) → ℕ
 steps_made [] = 0
 steps_made (turn ∷ turns) = steps_in_call turn.call + steps_made turns
 
--- work is in hand before each of these calls, and none of them finds or makes the endpoint stopped
+-- work is under way before each of these calls, and none of them finds or makes the endpoint stopped
 abbrev pub Lasts : {D : Type 0} → EndpointValue D → List (Transition D) → Type 0
 Lasts e [] = Unit {0}
 Lasts e (turn ∷ turns) = (¬ IsIdle e.store) × (is_stopped turn.after ≡ false) × Lasts turn.after turns

@@ -122,7 +122,7 @@ pub(crate) fn set_policy<D: SectorDisk>(rx: &mut Rx, store: &Store<D>)
     rx.set_policy(store.config().validate(), replay.on, replay.window);
 }
 
-/// Installs a transmit association that the store has, where none stands. `next` is its next packet
+/// Installs a transmit association that the store has, where there is none. `next` is its next packet
 /// number, 1 to the ceiling.
 pub(crate) fn install_tx<D: SectorDisk>(tx: &mut Tx, store: &Store<D>, an: An, next: u64)
     requires stands { IsSome ((standing_in store.now).config.tx an) }
@@ -150,7 +150,7 @@ pub(crate) fn install_tx<D: SectorDisk>(tx: &mut Tx, store: &Store<D>, an: An, n
     );
 }
 
-/// Installs a receive association that the store has on a channel that stands, where none does.
+/// Installs a receive association that the store has on an existing channel, where there is none.
 /// `next` is its next and lowest acceptable packet number, 1 to the ceiling.
 pub(crate) fn install_rx<D: SectorDisk>(rx: &mut Rx, store: &Store<D>, sci: Sci, an: An, next: u64)
     requires stands { IsSome ((standing_in store.now).config.rx sci an) }

@@ -43,7 +43,7 @@ impl Counters<'_> {
 
     /// How often a verdict was given on frames of a channel, since the channel was added or the disk
     /// was opened. It is 0 for a verdict that is not counted for channels, and `None` where the
-    /// channel does not stand.
+    /// channel does not exist.
     pub fn channel(&self, sci: Sci, verdict: Verdict) -> Option<u64>
         ensures { result ≡ option_map (channel_count_of verdict) (rxsc.channel_counters_of self.now.rx.now sci) }
     {

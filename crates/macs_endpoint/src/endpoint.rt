@@ -55,11 +55,11 @@ impl<D: SectorDisk> Model for Endpoint<D> {
 
 impl<D: SectorDisk> Endpoint<D> {
     /// Opens a disk: makes sure of what reads give by one sync, and then only reads, unless its journal is of
-    /// format one: that then begins anew in the other area, in format two, and stands for the same. The packet
+    /// format one: that then starts over in the other area, in format two, and stands for the same. The packet
     /// numbers of each association begin at its ceiling, and nothing is counted. Refused as `TooSmall`, then
     /// as `Disk` at the first call that fails, `NotFormatted` and `BadJournal`, as `GenerationsSpent` where a
     /// journal of format one has generation 2^64 - 1, and as `Disk` at the first call that fails while the
-    /// journal begins anew: the next opening finds what this one found. The disk is given back.
+    /// journal starts over: the next opening finds what this one found. The disk is given back.
     #[inline(always)] // Else it has a place of its own for the endpoint, beside its caller's.
     pub fn open(disk: D) -> Result<Endpoint<D>, OpenRefused<D>>
         ensures { IsOpening D.disk disk result }
@@ -67,8 +67,8 @@ impl<D: SectorDisk> Endpoint<D> {
         Endpoint::begun(Store::open(disk))
     }
 
-    /// What comes of an opened store that has nothing in hand, or of a refusal: the endpoint that begins with what
-    /// stands in the store. It is put together in one place, where each part is moved to once.
+    /// What comes of an opened store that has nothing under way, or of a refusal: the endpoint that begins with what
+    /// is in the store. It is put together in one place, where each part is moved to once.
     #[inline(never)] // What it takes of the stack is not there while the disk is read.
     fn begun(opened: Result<Store<D>, OpenRefused<D>>) -> Result<Endpoint<D>, OpenRefused<D>>
         requires { IfOk opened IsIdle }
@@ -96,11 +96,11 @@ impl<D: SectorDisk> Endpoint<D> {
         })
     }
 
-    /// Keeps a command and follows it. A reservation that is in hand is finished first, and no other begins. Refused
+    /// Keeps a command and follows it. A reservation that is under way is finished first, and no other begins. Refused
     /// as `Stopped`, then as `Busy` where a submitted command waits: nothing changes. Then as `Refused` with the first
     /// refusal that holds: nothing changes but whose turn it is. Then as `GenerationsSpent`, where all 256 slots are used
-    /// and the generation is 2^64 - 1: nothing changes but whose turn it is, and the ceiling of a reservation that was in
-    /// hand. `Disk` at the first device call that fails: the endpoint is stopped, and the next opening finds it with the
+    /// and the generation is 2^64 - 1: nothing changes but whose turn it is, and the ceiling of a reservation that was
+    /// under way. `Disk` at the first device call that fails: the endpoint is stopped, and the next opening finds it with the
     /// command or without.
     pub fn command(&mut self, command: Command) -> Result<(), CommandFault>
         ensures { KeepsCommand D.disk self.old command result self.new }
@@ -121,7 +121,7 @@ impl<D: SectorDisk> Endpoint<D> {
         }
     }
 
-    /// Finishes a reservation that is in hand, and then keeps a command that is accepted, as its check judged it:
+    /// Finishes a reservation that is under way, and then keeps a command that is accepted, as its check judged it:
     /// what is reserved changes no configuration. No submitted command waits.
     fn keep(&mut self, checked: &Checked) -> Result<(), CommandFault>
         requires running { is_stopped self.old ≡ false }
@@ -139,7 +139,7 @@ impl<D: SectorDisk> Endpoint<D> {
         self.commit(checked)
     }
 
-    /// Keeps a command that is accepted, as its check judged it, and follows it. No work is in hand, and no submitted
+    /// Keeps a command that is accepted, as its check judged it, and follows it. No work is under way, and no submitted
     /// command waits.
     fn commit(&mut self, checked: &Checked) -> Result<(), CommandFault>
         requires running { is_stopped self.old ≡ false }
@@ -208,7 +208,7 @@ impl<D: SectorDisk> Endpoint<D> {
         self.store.is_stopped()
     }
 
-    /// The command in hand: its call, or its work, began and did not end. After a device fault it stays, and is
+    /// The command under way: its call, or its work, began and did not end. After a device fault it stays, and is
     /// found or not once the disk is opened again.
     pub fn in_hand(&self) -> Option<Command>
         ensures { result ≡ (state_of self.now no_logs).in_hand }
@@ -251,7 +251,7 @@ impl<D: SectorDisk> Endpoint<D> {
         }
     }
 
-    /// The next packet number of a transmit association, 1 to 2^32, `None` where none stands at that
+    /// The next packet number of a transmit association, 1 to 2^32, `None` where there is none at that
     /// number.
     pub fn next_number(&self, an: An) -> Option<u64>
         ensures { result ≡ (state_of self.now no_logs).next an }
@@ -260,7 +260,7 @@ impl<D: SectorDisk> Endpoint<D> {
     }
 
     /// The next and the lowest acceptable packet number of a receive association, 1 to 2^32, the lowest not
-    /// above the next; `None` where none stands.
+    /// above the next; `None` where there is none.
     pub fn numbers(&self, sci: Sci, an: An) -> Option<RxNumbers>
         ensures { result ≡ option_map (λ (n : Numbers). record { next = n.next; lowest = n.lowest })
             ((state_of self.now no_logs).numbers sci an) }
@@ -268,8 +268,8 @@ impl<D: SectorDisk> Endpoint<D> {
         self.channels.rx.numbers(sci, an)
     }
 
-    /// What holds of every endpoint: its channels are those of what stands in its store, no ceiling is too
-    /// far ahead, no more commands wait than may, and the work in hand is a reservation or the first command
+    /// What holds of every endpoint: its channels are those of what is in its store, no ceiling is too
+    /// far ahead, no more commands wait than may, and the work under way is a reservation or the first command
     /// that waits.
     pub fn facts(&self)
         ensures { IsSoundEndpoint self.now }
@@ -277,7 +277,7 @@ impl<D: SectorDisk> Endpoint<D> {
         let _store = &self.store;
     }
 
-    /// The disk, as it stands.
+    /// The disk, as it is.
     pub fn into_disk(self) -> D
         ensures { result ≡ device_in self }
     {

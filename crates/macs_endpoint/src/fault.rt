@@ -15,7 +15,7 @@ pub enum CommandFault {
     /// The command does not fit the configuration.
     Refused(Refusal),
     /// All 256 slots of the journal's current area are used, and its generation is 2^64 - 1: it cannot
-    /// begin anew.
+    /// start over.
     GenerationsSpent,
     /// A device call failed: after the next opening the command is found or not.
     Disk,
@@ -42,7 +42,7 @@ impl From<CommitFault> for CommandFault {
 pub enum SubmitFault {
     /// A device call failed before: the disk is to be opened again.
     Stopped,
-    /// 16 commands wait, the one in hand included.
+    /// 16 commands wait, the one under way included.
     QueueFull,
     /// 2^64 - 1 tickets were given since the disk was opened.
     TicketsSpent,
@@ -54,7 +54,7 @@ pub enum StepFault {
     /// A device call failed before: the disk is to be opened again.
     Stopped,
     /// A ceiling is to be raised, all 256 slots of the journal's current area are used, and its generation is
-    /// 2^64 - 1: it cannot begin anew. The next step takes the first command that waits, if one does.
+    /// 2^64 - 1: it cannot start over. The next step takes the first command that waits, if one does.
     GenerationsSpent,
     /// The device call failed.
     Disk,
@@ -69,7 +69,7 @@ pub enum RefillFault {
     /// A submitted command waits: nothing changes.
     Busy,
     /// All 256 slots of the journal's current area are used, and its generation is 2^64 - 1: it cannot
-    /// begin anew. No further ceiling is raised.
+    /// start over. No further ceiling is raised.
     GenerationsSpent,
     /// A device call failed.
     Disk,

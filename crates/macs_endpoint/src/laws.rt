@@ -32,7 +32,7 @@ pub fn frame_numbers_in_range<D: SectorDisk>()
 /// After `refill` answered Ok, or `step` answered `Idle`, it is one more than half a transmit block, rounded down,
 /// under the association that frames go out under; after the call that made an install durable, whichever it was, it
 /// is a block; or until the numbers end, when
-/// `Exhausted` comes. It is one less for each frame that goes out under the association while it stands.
+/// `Exhausted` comes. It is one less for each frame that goes out under the association while it exists.
 pub fn frames_before_no_number<D: SectorDisk>()
     ensures refilled { (old new : EndpointValue D) (an : ℕ) → IsSoundEndpoint old → IsCall D.disk old Refills (Refilled (Ok tt)) new → IsEncodingAn new an
         → HasRoom new an ((standing_in new.store).identity.tx_block / 2 + 1) }
@@ -52,9 +52,9 @@ pub fn frames_before_no_number<D: SectorDisk>()
 ///
 /// After `refill` answered Ok, or `step` answered `Idle`, these are the frames of an association on which a frame
 /// was seen, whose numbers are not above the greatest seen, or below both `next + rx_block / 2 + 1` and
-/// `seen + rx_block`, as they are then. They are not held back while the association stands. So a frame that
+/// `seen + rx_block`, as they are then. They are not held back while the association exists. So a frame that
 /// was held back is not held back again once a `refill` after it answered Ok, or a `step` `Idle`, while its
-/// association stands.
+/// association exists.
 pub fn frames_not_held_back<D: SectorDisk>()
     ensures refilled { (old new : EndpointValue D) (sci : List ℕ) (an next lowest seen pn : ℕ) → IsSoundEndpoint new
         → IsCall D.disk old Refills (Refilled (Ok tt)) new
@@ -106,7 +106,7 @@ pub fn reserved_as_begun<D: SectorDisk>()
 
 /// Between two commands that wait one reservation at most has its turn.
 ///
-/// While a command waits, in hand or not, and none is done with, one step at most is answered with `Reserved`, or with
+/// While a command waits, under way or not, and none is done with, one step at most is answered with `Reserved`, or with
 /// `GenerationsSpent`, whatever other calls come between.
 pub fn one_reservation_between<D: SectorDisk>()
     ensures { (old new : EndpointValue D) (turns : List (Transition D)) → old.waiting ≢ [] → Lives D.disk old turns new → NoneDone turns → reservations_made turns ≤ 1 }

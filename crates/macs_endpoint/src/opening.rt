@@ -67,7 +67,7 @@ fn take_up_tx<D: SectorDisk>(tx: &mut Tx, store: &Store<D>)
     }
 }
 
-/// Takes up the receive channels that a store has, where none stands.
+/// Takes up the receive channels that a store has, where there is none.
 fn take_up_rx<D: SectorDisk>(rx: &mut Rx, store: &Store<D>)
     requires { IsNewRx rx.old }
     ensures side { rxsc.rx_side_of rx.new ≡ rx_side_with (standing_in store.now).config
@@ -86,7 +86,7 @@ fn take_up_rx<D: SectorDisk>(rx: &mut Rx, store: &Store<D>)
     }
 }
 
-/// Installs the associations that a store has on a channel, which stands without one.
+/// Installs the associations that a store has on a channel that exists and has none.
 fn install_channel<D: SectorDisk>(rx: &mut Rx, store: &Store<D>, sci: Sci)
     requires stands { has_channel (rxsc.rx_side_of rx.old) sci ≡ true }
     requires empty { (an : ℕ) → (rxsc.rx_side_of rx.old).rx sci an ≡ None }

@@ -9,10 +9,10 @@ use crate::event::{Answer, Event};
 
 /// A source of events.
 pub trait EventSource {
-    /// Whether it tells which events it has left.
+    /// Whether it reports which events it has left.
     ghost tells: { Self → Bool };
 
-    /// The events that it has left, where it tells them.
+    /// The events that it has left, where it reports them.
     ghost left: { Self → List Event };
 
     /// The next event, `None` where there is no further one.
@@ -23,10 +23,10 @@ pub trait EventSource {
 
 /// A sink of answers.
 pub trait AnswerSink {
-    /// Whether it tells which answers it took.
+    /// Whether it reports which answers it took.
     ghost tells: { Self → Bool };
 
-    /// The answers that it took, where it tells them.
+    /// The answers that it took, where it reports them.
     ghost took: { Self → List Answer };
 
     /// Takes an answer.

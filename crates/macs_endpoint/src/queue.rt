@@ -8,10 +8,10 @@ use arrayvec::ArrayVec;
 use macs_config::{Command, Validate};
 use std::marker::Model;
 
-/// How many commands may wait, the one in hand included.
+/// How many commands may wait, the one under way included.
 pub const QUEUE: usize = 16;
 
-/// What a submitted command is told by: they count from 1 in each life, and none is given twice.
+/// What names a submitted command: tickets count from 1 in each life, and none is given twice.
 #[derive(Clone, Copy, Debug, PartialEq, Eq)]
 pub struct Ticket(u64);
 

@@ -31,7 +31,7 @@ pub enum Raise {
 }
 
 impl<D: SectorDisk> Endpoint<D> {
-    /// Finishes a reservation that is in hand, and then makes every reservation of packet numbers that is needed: that
+    /// Finishes a reservation that is under way, and then makes every reservation of packet numbers that is needed: that
     /// of the transmit association that frames go out under, then those of receive associations by ascending SCI and
     /// number. Refused as `Stopped`, then as `Busy` where a submitted command waits; these change nothing. Then as
     /// `GenerationsSpent`, where a ceiling is needed, all 256 slots are used and the generation is 2^64 - 1; and as `Disk`
@@ -54,7 +54,7 @@ impl<D: SectorDisk> Endpoint<D> {
         result
     }
 
-    /// Whose turn it is after a refill: a command's where a reservation is in hand, and else that of before.
+    /// Whose turn it is after a refill: a command's where a reservation is under way, and else that of before.
     fn turn_after_refill(&self) -> Turn
         ensures { result ≡ turn_after_refill self.now.turn self.now.reserving }
     {
@@ -64,7 +64,7 @@ impl<D: SectorDisk> Endpoint<D> {
         }
     }
 
-    /// Finishes a reservation that is in hand, and then makes every reservation that is needed.
+    /// Finishes a reservation that is under way, and then makes every reservation that is needed.
     fn finish_and_reserve(&mut self) -> Result<(), RefillFault>
         requires running { is_stopped self.old ≡ false }
         requires work { IsAtRest self.old ⊎ IsReserving self.old }
@@ -74,7 +74,7 @@ impl<D: SectorDisk> Endpoint<D> {
         self.reserve()
     }
 
-    /// Makes every reservation that is needed. No work is in hand.
+    /// Makes every reservation that is needed. No work is under way.
     fn reserve(&mut self) -> Result<(), RefillFault>
         requires running { is_stopped self.old ≡ false }
         requires idle { IsIdle self.old.store }
@@ -109,8 +109,8 @@ impl<D: SectorDisk> Endpoint<D> {
         self.finish_reservation()
     }
 
-    /// Takes in hand that the ceiling is raised which is to be raised first, and makes no device call. No work is in
-    /// hand. Refused as `GenerationsSpent`, which changes nothing.
+    /// Starts to raise the ceiling that is to be raised first, and makes no device call. No work is
+    /// under way. Refused as `GenerationsSpent`, which changes nothing.
     pub(crate) fn start_raise(&mut self, raise: Raise) -> Result<(), JournalFault>
         requires running { is_stopped self.old ≡ false }
         requires idle { IsIdle self.old.store }
@@ -122,7 +122,7 @@ impl<D: SectorDisk> Endpoint<D> {
         Ok(())
     }
 
-    /// Finishes a reservation that is in hand. Refused as `Disk` at the first device call that fails; the next opening
+    /// Finishes a reservation that is under way. Refused as `Disk` at the first device call that fails; the next opening
     /// finds it or not.
     pub(crate) fn finish_reservation(&mut self) -> Result<(), RefillFault>
         requires running { is_stopped self.old ≡ false }
@@ -138,7 +138,7 @@ impl<D: SectorDisk> Endpoint<D> {
     }
 }
 
-/// Has a store take in hand that a ceiling is raised. No work is in hand. Refused as the store refuses it.
+/// Has a store start to raise a ceiling. No work is under way. Refused as the store refuses it.
 fn start_ceiling<D: SectorDisk>(store: &mut Store<D>, raise: &Raise) -> Result<(), JournalFault>
     requires idle { IsIdle store.old }
     requires rises { Rises (standing_in store.old) (raise_of raise.now) }

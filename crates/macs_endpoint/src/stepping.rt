@@ -31,7 +31,7 @@ pub enum Piece {
 }
 
 impl<D: SectorDisk> Endpoint<D> {
-    /// Takes a command that is to be kept when its turn comes, and answers the ticket by which `step` tells what
+    /// Takes a command that is to be kept when its turn comes, and answers the ticket by which `step` reports what
     /// became of it. Whether it fits the configuration is judged then. Refused as `Stopped`, then as `QueueFull` where 16
     /// commands wait, then as `TicketsSpent` where 2^64 - 1 tickets were given; these change nothing. No device call is made.
     pub fn submit(&mut self, command: Command) -> Result<Ticket, SubmitFault>
@@ -44,12 +44,12 @@ impl<D: SectorDisk> Endpoint<D> {
         self.queue.push(command)
     }
 
-    /// Makes one device call of the work that there is, or none where there is none. Work in hand goes on; else the
+    /// Makes one device call of the work that there is, or none where there is none. Work under way goes on; else the
     /// reservation that is needed first begins, or the first command that waits, by turns where there are both, of which
     /// the first after an opening is the reservation's. What is reserved or commanded takes effect with the last device
     /// call of its work. Refused as `Stopped`; as `GenerationsSpent`, where a reservation has its turn and the journal
-    /// cannot begin anew; and as `Disk` where the call fails: the endpoint is stopped, and the next opening finds what
-    /// was in hand or not.
+    /// cannot start over; and as `Disk` where the call fails: the endpoint is stopped, and the next opening finds what
+    /// was under way or not.
     pub fn step(&mut self) -> Result<Step, StepFault>
         ensures call { IsCall D.disk self.old Advances (Advanced result) self.new }
     {
@@ -66,7 +66,7 @@ impl<D: SectorDisk> Endpoint<D> {
         }
     }
 
-    /// Begins the piece of work that is next, if any is. No work is in hand.
+    /// Begins the piece of work that is next, if any is. No work is under way.
     fn begin(&mut self) -> Result<Step, StepFault>
         requires running { is_stopped self.old ≡ false }
         requires idle { IsIdle self.old.store }
@@ -94,7 +94,7 @@ impl<D: SectorDisk> Endpoint<D> {
         }
     }
 
-    /// Takes a reservation in hand and makes its first device call.
+    /// Starts a reservation and makes its first device call.
     fn begin_raise(&mut self, raise: Raise) -> Result<Step, StepFault>
         requires running { is_stopped self.old ≡ false }
         requires idle { IsIdle self.old.store }
@@ -108,7 +108,7 @@ impl<D: SectorDisk> Endpoint<D> {
         self.go_on_reserving()
     }
 
-    /// Takes the first command that waits in hand and makes its first device call, or tells why it is not kept.
+    /// Starts the first command that waits and makes its first device call, or reports why it is not kept.
     fn begin_command(&mut self, first: Waiting) -> Result<Step, StepFault>
         requires running { is_stopped self.old ≡ false }
         requires idle { IsIdle self.old.store }
@@ -124,7 +124,7 @@ impl<D: SectorDisk> Endpoint<D> {
         self.go_on_keeping()
     }
 
-    /// Takes the first command that waits in hand, and makes no device call. Refused as the store refuses it.
+    /// Starts the first command that waits, and makes no device call. Refused as the store refuses it.
     fn start_first(&mut self, first: Waiting) -> Result<(), CommitFault>
         requires running { is_stopped self.old ≡ false }
         requires idle { IsIdle self.old.store }
@@ -142,7 +142,7 @@ impl<D: SectorDisk> Endpoint<D> {
         }
     }
 
-    /// The next device call of a reservation in hand. With the last one the ceiling is raised.
+    /// The next device call of a reservation under way. With the last one the ceiling is raised.
     fn go_on_reserving(&mut self) -> Result<Step, StepFault>
         requires { IsReserving self.old }
         ensures { IsCall D.disk self.old Advances (Advanced result) self.new }
@@ -164,7 +164,7 @@ impl<D: SectorDisk> Endpoint<D> {
         }
     }
 
-    /// The next device call of the command in hand. With the last one it takes effect.
+    /// The next device call of the command under way. With the last one it takes effect.
     fn go_on_keeping(&mut self) -> Result<Step, StepFault>
         requires { IsKeeping self.old }
         ensures { IsCall D.disk self.old Advances (Advanced result) self.new }

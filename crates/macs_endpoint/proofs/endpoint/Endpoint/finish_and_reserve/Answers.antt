@@ -8,7 +8,7 @@ use Rattle.macs_endpoint.proofs.endpoint.Endpoint.finish_and_reserve.Given.{Over
 use Rattle.macs_endpoint.proofs.endpoint.Endpoint.finish_and_reserve.Goals.{After-finish_reservation}
 use Rattle.macs_endpoint.proofs.endpoint.Endpoint.finish_and_reserve.Goals as goal
 
--- what is said of the reservation in hand
+-- what is said of the reservation under way
 ends : (g : Over) (c : After-finish_reservation g) (result : Result (Unit {0}) RefillFault) → c.finish_reservation.result ≡ result
     → ReservationEnds g.D.SectorDisk.disk c.args.self.now result c.finish_reservation.new.self
 ends g c result is =

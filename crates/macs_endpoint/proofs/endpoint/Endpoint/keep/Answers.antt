@@ -14,11 +14,11 @@ use Rattle.macs_endpoint.proofs.endpoint.Endpoint.keep.Goals.{After-finish_reser
 use Rattle.macs_endpoint.proofs.endpoint.Endpoint.keep.Goals as goal
 
 module _ (g : Over) (c : After-finish_reservation g) where
-  -- no command is in hand
+  -- no command is under way
   free : c.args.self.now.in_hand ≡ None
   free = free-hand c.args.self.now c.facts.ensures c.requires.none c.requires.running
 
-  -- what is said of the reservation in hand
+  -- what is said of the reservation under way
   ends : (result : Result (Unit {0}) RefillFault) → c.finish_reservation.result ≡ result
       → ReservationEnds g.D.SectorDisk.disk c.args.self.now result c.finish_reservation.new.self
   ends result is =

@@ -5,7 +5,7 @@ use Rattle.macs_endpoint.proofs.Turns.{served-ended, served-halted, served-spent
 use Rattle.macs_endpoint.proofs.endpoint.Endpoint.serve.Given.{Over}
 use Rattle.macs_endpoint.proofs.endpoint.Endpoint.serve.Goals as goal
 
--- what a source and a sink tell
+-- what a source and a sink report
 abbrev tells : (g : Over) → g.row.S.Denot → g.row.K.Denot → Told
 tells g source sink = record {
   source_tells = g.S.EventSource.tells source;

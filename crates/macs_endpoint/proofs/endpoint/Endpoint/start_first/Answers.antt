@@ -34,7 +34,7 @@ module _ (g : Over) (c : After-start_checked g) where
       (subst (λ (r : Result (Unit {0}) CommitFault). StartsCommit g.D.SectorDisk.disk c.self.inside.store c.in-Ok.checked r c.start_checked.new.self) is
       c.start_checked.ensures)
 
-  -- what is in hand is the command that waited
+  -- what is under way is the command that waited
   taken_is : Some c.in-Ok.checked ≡ Some c.args.first.command
   taken_is = ap (λ (command : Command). Some command) c.in-Ok.ensures.checked
 
@@ -69,7 +69,7 @@ returns-in_ok-start_checked-in-Ok g c =
       sound = c.self.invariant;
     }))
 
--- the store refuses it, and nothing is taken in hand
+-- the store refuses it, and nothing is started
 pub returns-in-Err : goal.returns-in-Err
 returns-in-Err g c =
     rw (← c.self.view_is) (record {
