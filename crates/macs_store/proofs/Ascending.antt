@@ -1,4 +1,4 @@
--- SCIs that ascend: each is put behind those before it, and is none of them.
+-- SCIs that ascend: each is put after those before it, and is none of them.
 use Rattle.std.proofs.Common.{◌≡◌, ◌∙◌, ◌≤◌, ◌<◌, ◌+◌, ℕ, zero, suc, Bool, true, false, cond, List, [], ◌∷◌, length, take, get_or, bytes_eq, refl, ap, sym, arith, add-one, nat_cmp, is_lt, is_eq, Ordering, Less, Equal, Greater}
 use Rattle.std.specs.Cmp.Lexicographic.{slice_cmp}
 use Rattle.std.proofs.lemmas.Bool.{and_parts, or_from}
@@ -33,7 +33,7 @@ not_back_by a b true is before =
     cc
 not_back_by a b false is before = refl
 
--- the next one is put behind those before it
+-- the next one is put after those before it
 put_next : (scis : List (List ℕ)) (i : ℕ) (d : List ℕ) → is_ascending scis ≡ true → i < length scis
     → put_among (get_or scis i d) (take i scis) ≡ take (suc i) scis
 put_next [] i d ascend within = absurd (omega arith)

@@ -1,4 +1,4 @@
--- What a journal stands for that begins anew with a snapshot of what it stood for.
+-- What a journal stands for that starts over with a snapshot of what it stood for.
 use Rattle.std.proofs.Common.{◌≡◌, ◌∙◌, true, List, [], length, take, drop, Option, Some, ap, sym, arith}
 use Rattle.std.specs.Option.{option_and_then}
 use Rattle.std.proofs.lemmas.List.{drop_all, take_all}
@@ -11,7 +11,7 @@ use Rattle.macs_store.specs.Standing.{Standing}
 use Rattle.macs_store.proofs.Formats.{meaning-read, two-read}
 use Rattle.macs_store.proofs.Identities.{meaning-identity}
 
--- what a journal stands for that began anew with a snapshot of what it stood for
+-- what a journal stands for that started over with a snapshot of what it stood for
 pub meaning-compacted : (edition : Edition) (c : Content) (s : Standing) (records : List Record) → edition.format_two ≡ true → meaning_of edition c ≡ Some s
     → snapshot_of edition s.identity records ≡ Some s → meaning_of edition (compacted c records) ≡ Some s
 meaning-compacted edition c s records takes_two is stands =

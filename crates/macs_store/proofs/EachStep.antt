@@ -1,4 +1,4 @@
--- The steps of a store, one behind the other, up to the end of the work in hand.
+-- The steps of a store, one after another, up to the end of the work under way.
 use Rattle.std.proofs.Common.{◌≡◌, ◌≤◌, ◌+◌, ◌∙◌, true, false, Some, Result, Ok, Err, IsErrOf, inl, inr, refl, ap, sym, subst, arith}
 use Rattle.macs_disk.specs.Disk.{Disk, IsHonest, Works}
 use Rattle.macs_disk.specs.Runs.{Leaves}
@@ -24,7 +24,7 @@ use Rattle.macs_store.specs.declared.change.Change.{Change}
 use Rattle.macs_store.specs.declared.change.Change.TheVariants.{Appending, Empty, Renewing}
 use Rattle.macs_store.proofs.Keeping.{in_hand-image, stored-image}
 
--- ---- a call is left while work is in hand
+-- ---- a call is left while work is under way
 
 some-calls : (stage : AppendStage) → 1 ≤ journal.calls_left (Some stage)
 some-calls Body = omega arith
@@ -44,8 +44,8 @@ calls-some s (Appending r) fits busy = append-calls s.journal.hand fits.2
 
 -- ---- what holds between two steps
 
--- A store ran, and its steps so far came to this: work is in hand or done, what stands does not change before it is done, and at each moment
--- a power loss left what stood or what stands then.
+-- A store ran, and its steps so far came to this: work is under way or done, the standing does not change before it is done, and at each moment
+-- a power loss left the standing before or the standing then.
 pub record IsOnItsWay {D : Type 0} (disk_of : D → Disk) (old now : StoreValue D) : Type 0 where
   pub ran : is_stopped old ≡ false
   pub runs : is_stopped now ≡ false
@@ -116,7 +116,7 @@ module _ {D : Type 0} (disk_of : D → Disk) (old mid : StoreValue D) (way : IsO
   not_stopped : is_stopped old ≡ true → ⊥
   not_stopped is = let no : true ≡ false = sym is ∙ way.ran in cc
 
-  -- ---- nothing is in hand any more
+  -- ---- nothing is under way any more
 
   pub way-done : IsIdle mid → Finishes disk_of old done mid
   way-done idle = record {

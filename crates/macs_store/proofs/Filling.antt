@@ -11,7 +11,7 @@ use Rattle.macs_config.proofs.Tables.{put-same, put_at-here, put_at-same, put_at
 
 -- ---- number by number
 
--- what stands at the numbers below this one
+-- what is at the numbers below this one
 abbrev pub below : {X : Type 0} → ℕ → (ℕ → Option X) → ℕ → Option X
 below n f k = cond (nat_lt k n) (f k) None
 
@@ -40,7 +40,7 @@ module _ {X : Type 0} (f : ℕ → Option X) where
   pub below-next : (n : ℕ) → below n f n ≡ None
   below-next n = ap (λ (b : Bool). cond b (f n) None) (le-ltb n n (omega arith))
 
-  -- where nothing stands nothing is put
+  -- where there is nothing, nothing is put
   pub below-passed : (n : ℕ) → f n ≡ None → below n f ≡ below (n + 1) f
   below-passed n none = sym (put-same (below n f) n None (below-next n)) ∙ below-more n None none
 
@@ -76,7 +76,7 @@ module _ {X : Type 0} (f : ℕ → Option X) where
 
 -- ---- channel by channel
 
--- what stands at these SCIs
+-- what is at these SCIs
 abbrev pub among : {Y : Type 0} → List (List ℕ) → (List ℕ → Y) → Y → List ℕ → Y
 among scis f none s = cond (is_among scis s) (f s) none
 

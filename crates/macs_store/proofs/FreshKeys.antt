@@ -1,4 +1,4 @@
--- Spent keys that come once each, a record of them at a time: those of each are new behind those before, and fit.
+-- Spent keys that come once each, a record of them at a time: those of each are new after those before, and fit.
 use Rattle.std.proofs.Common.{◌≡◌, ◌∙◌, ◌≤◌, ◌+◌, ◌*◌, ℕ, true, false, not, ◌&&◌, nat_le, List, [], ◌∷◌, ◌++◌, length, take, drop, bytes_eq, refl, ap, sym, subst, arith, length-append}
 use Rattle.std.specs.List.{list_all}
 use Rattle.std.proofs.Math.Seq.{take-add}
@@ -24,7 +24,7 @@ all-apart x items (y ∷ rest) free all =
     (ap not (or_from (bytes_eq x y) (is_among items y) (bytes_eq-sym x y ∙ apart.0) (not-true (is_among items y) parts.0)))
     (all-apart x items rest apart.1 parts.1)
 
--- of those that come once each, the first ones do so, and the others are new behind them
+-- of those that come once each, the first ones do so, and the others are new after them
 distinct-parts : (items rest : List (List ℕ)) → are_distinct (items ++ rest) ≡ true → (are_distinct items ≡ true) × (are_new items rest ≡ true)
 distinct-parts [] rest once = (refl, and_from (are_distinct rest) (list_all (λ (item : List ℕ). not (is_among [] item)) rest) once (none-among rest))
 distinct-parts (x ∷ items) rest once =

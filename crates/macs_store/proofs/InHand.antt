@@ -1,4 +1,4 @@
--- A record is taken in hand, and what that takes.
+-- Work on a record is started, and what that takes.
 use Rattle.std.proofs.Common.{◌≡◌, ◌<◌, ◌+◌, ◌==◌, ◌∙◌, Bool, true, false, if◌then◌else◌, List, Some, Result, Ok, Err, refl, ap, sym, arith, eq-eqb}
 use Rattle.std.proofs.lemmas.Bool.{ne_eqb}
 use Rattle.macs_config.specs.Config.{this_edition}
@@ -55,7 +55,7 @@ module _ {D : Type 0} (s : StoreValue D) (room : used_slots s < slots) where
   free-calls : most_calls s ≡ 4
   free-calls = ap (λ (b : Bool). if b then 523 + snapshot_length s else 4) has_room
 
--- ---- what the journal has in hand
+-- ---- what the journal has under way
 
 pub task-appends : {D : Type 0} (j : JournalValue D) (r : Record) (hand : journal_hand.Hand) → IsTaskInHand j (Appends r) hand → IsAppendHand hand
 task-appends j r journal_work.Empty is = absurd is
@@ -68,7 +68,7 @@ task-renews j records journal_work.Empty is = absurd is
 task-renews j records (journal_work.Append work) is = absurd is
 task-renews j records (journal_work.Compact work) is = is
 
--- work that was taken in hand
+-- work that was started
 abbrev taken : Result (Unit {0}) JournalFault
 taken = Ok tt
 
@@ -116,7 +116,7 @@ module _ {D : Type 0} (disk_of : D → Disk) (s : StoreValue D) (idle : IsIdle s
     not-full : IsSpent s → ⊥
     not-full spent = let full = spent.1 in omega (arith, room, full)
 
-    -- the record is in hand, where a slot is free
+    -- the record is under way, where a slot is free
     pub append-started : (j : JournalValue D) → journal.Starts disk_of s.journal (Appends r) taken j → StartsRecord disk_of s r taken (with_append j)
     append-started j starts = record {
       stopped = (λ same. starts.stopped.0 same, λ is. starts.stopped.1 is);
@@ -169,7 +169,7 @@ module _ {D : Type 0} (disk_of : D → Disk) (s : StoreValue D) (idle : IsIdle s
       stored = renewal-stored j starts;
     }
 
-    -- the compaction is in hand, where all slots are used
+    -- the compaction is under way, where all slots are used
     pub renewal-started : (j : JournalValue D) → journal.Starts disk_of s.journal (Renews records) taken j → StartsRecord disk_of s r taken (with_renewal j)
     renewal-started j starts = record {
       stopped = (λ same. starts.stopped.0 same, λ is. starts.stopped.1 is);

@@ -15,7 +15,7 @@ use Rattle.macs_store.specs.Replay.{ceilings_with_record, ceilings_with_records,
 use Rattle.macs_store.specs.Standing.{Ceilings}
 use Rattle.macs_store.proofs.Replaying.{joined}
 
--- the numbers from 0 on stand at their own places
+-- the numbers from 0 on are at their own places
 pub number-at : (n i d : ℕ) → i < n → i ≡ get_or (range_with_len 0 n) i d
 number-at n i d within =
     let here : i ≡ 0 + i = omega arith in

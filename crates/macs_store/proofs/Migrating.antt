@@ -1,4 +1,4 @@
--- A disk whose journal was recovered: opened as it is, begun anew in format two, or refused.
+-- A disk whose journal was recovered: opened as it is, rewritten in format two, or refused.
 use Rattle.std.proofs.Common.{◌≡◌, ◌⊎◌, ◌∙◌, inl, inr, ℕ, Bool, true, false, if◌then◌else◌, List, length, Some, None, Result, Ok, Err, IsErrOf, refl, sym, ap, subst, arith}
 use Rattle.macs_config.specs.Config.{Edition, this_edition}
 use Rattle.macs_config.specs.Identity.{Identity}
@@ -61,7 +61,7 @@ is_two : (format : Format) → migrates this_edition format ≡ false → format
 is_two One gone_on = absurd (no_true gone_on)
 is_two Two gone_on = refl
 
--- and a journal of that format is none to begin anew
+-- and a journal of that format is not one to start over
 pub not-old : (image : Image) (c : Content) (s : Standing) → HasFormat image Two → IsOld this_edition image c s → ⊥
 not-old image c s is old =
     let same = one_content image c is.content old.found is.found in
@@ -283,7 +283,7 @@ module _ {D : Type 0} (disk_of : D → Disk) (disk : D) (sound : IsHonest (disk_
         alike_leaves : IsHonest new → Leaves old new (OpeningLeaves old)
         alike_leaves honest = Leaves-weaker old new (MigrationLeaves old content (standing_in s)) (OpeningLeaves old) (alike (back honest)) (either honest)
 
-        -- whatever journal is to begin anew, it is this one
+        -- whatever journal is to start over, it is this one
         this_one : (P : Content → Standing → Type 0) → IsHonest mid → (c : Content) (x : Standing) → IsToMigrate this_edition (now old).seen c x
             → P content (standing_in s) → P c x
         this_one P honest c x to here =
@@ -292,7 +292,7 @@ module _ {D : Type 0} (disk_of : D → Disk) (disk : D) (sound : IsHonest (disk_
             let same_meant = standing_one x (standing_in s) meant in
             subst (λ (c : Content). P c x) (sym same) (subst (λ (y : Standing). P content y) (sym same_meant) here)
 
-      -- begun anew
+      -- the journal is rewritten
       module _ (old_format : migrates this_edition format ≡ true) (t : StoreValue D) (begins : BeginsAnew disk_of s done t) where
         abbrev after : Disk
         after = disk_in disk_of t
@@ -339,7 +339,7 @@ module _ {D : Type 0} (disk_of : D → Disk) (disk : D) (sound : IsHonest (disk_
                   (subst (λ (x : Standing). meaning_of this_edition later ≡ Some x) same (next_stands old_format done t begins)) refl;
             }
 
-      -- it cannot begin anew: its generation is the last
+      -- it cannot start over: its generation is the last
       module _ (old_format : migrates this_edition format ≡ true) (t : StoreValue D) (begins : BeginsAnew disk_of s (refused GenerationsSpent) t) where
         spent_same : IsErrOf (refused GenerationsSpent) Failed ⊎ (t.journal ≡ s.journal) → device_in t ≡ device_in s
         spent_same (inl failed) = absurd cc
@@ -441,7 +441,7 @@ module _ {D : Type 0} (disk_of : D → Disk) (disk : D) (sound : IsHonest (disk_
 
 -- ---- what the calls of a store give
 
--- a journal that began anew, or did not, has no work
+-- a journal that started over, or did not, has no work
 module _ {D : Type 0} (disk_of : D → Disk) (j k : JournalValue D) (records : List Record) where
   pub compacted-idle : (result : Result (Unit {0}) JournalFault) → Compacts disk_of j records result k → journal.IsIdle j → journal.IsIdle k
   compacted-idle (Ok value) is rests = is.running.1

@@ -1,4 +1,4 @@
--- A snapshot of what stands, stands for it.
+-- A snapshot of the standing stands for it.
 use Rattle.std.proofs.Common.{◌≡◌, ◌∙◌, ◌≤◌, ℕ, Bool, true, false, cond, List, [], ◌∷◌, ◌++◌, Option, Some, None, is_some, refl, ap, sym, subst, arith}
 use Rattle.std.specs.Option.{option_and_then, option_map}
 use Rattle.std.proofs.Math.Path.{fun_ext}
@@ -79,7 +79,7 @@ module _ (s : Standing) (is : IsConfig s.edition s.identity s.config) (stands : 
       (lowered s.edition s.identity with_spent_tx s.config s.ceilings s.ceilings _ 5 6 6 (omega arith)
       (rx-spent-all s.edition s.identity with_spent_tx s.ceilings s.config.spent_rx (is.spent_once Receive) (is.spent_fit Receive) refl)))))
 
-  -- a snapshot of what stands, stands for it
+  -- a snapshot of the standing stands for it
   pub snapshot-stands : snapshot_of s.edition s.identity (snapshot s) ≡ Some s
   unfolding snapshot
   snapshot-stands =

@@ -1,4 +1,4 @@
--- A command or a raised ceiling is taken in hand, as its record is.
+-- A command or a raised ceiling is started, as its record is.
 use Rattle.std.proofs.Common.{◌≡◌, ◌∙◌, true, false, Option, Some, inl, inr, Result, Ok, Err, is_ok, IsOk, refl, sym, ap, subst}
 use Rattle.std.specs.Option.{IsSome}
 use Rattle.macs_config.specs.Apply.{Named, Reason}
@@ -52,7 +52,7 @@ ok-is : {T E : Type 0} (result : Result T E) → IsOk result → (value : T) × 
 ok-is (Ok value) is = (value, refl)
 ok-is (Err e) is = absurd cc
 
--- its record follows from what stands
+-- its record follows from the standing
 pub accepted-record_follows : (s : Standing) (command : Command) (r : Record) → record_of command ≡ Some r → IsOk (accept s command)
     → IsSome (standing_after_record s r)
 accepted-record_follows s command r has fits =
@@ -110,7 +110,7 @@ module _ {D : Type 0} (disk_of : D → Disk) (s : StoreValue D) (command : Comma
           in_hand = (accepts.0, accepts.1, starts.in_hand accepts.0 (accepted-follows (standing_in s) accepts.0 command r has accepts.1));
         }
 
-    -- the journal cannot begin anew
+    -- the journal cannot start over
     spent-is : (at : JournalFault) → StartsRecord disk_of s r (refused at) new → at ≡ fault.GenerationsSpent
     spent-is at starts = elim starts.names [
       | inl stopped ↦ absurd (let no : true ≡ false = sym (starts.stopped.0 stopped) ∙ runs in cc)

@@ -1,4 +1,4 @@
--- Work that is taken in hand and done to its end: what a call promises that does both.
+-- Work that is started and done to its end: what a call promises that does both.
 use Rattle.std.proofs.Common.{◌≡◌, ◌≤◌, ◌+◌, ◌∙◌, ℕ, true, false, Result, Ok, Err, is_ok, IsOk, inl, inr, refl, ap, sym, subst, arith}
 use Rattle.std.specs.Prelude.{IsErrOf}
 use Rattle.macs_config.specs.Apply.{Named}
@@ -22,7 +22,7 @@ use Rattle.macs_store.specs.declared.fault.CommitFault.{CommitFault}
 use Rattle.macs_store.specs.declared.fault.CommitFault.TheVariants as commit_fault
 use Rattle.macs_store.proofs.Keeping.{stored-form, stored-image}
 
--- ---- work in hand, done to its end
+-- ---- work under way, done to its end
 
 module _ {D : Type 0} (disk_of : D → Disk) (old : StoreValue D) (after : Standing) (mid : StoreValue D) (has : HasInHand disk_of old after mid) where
   same-standing : standing_in mid ≡ standing_in old
@@ -69,7 +69,7 @@ module _ {D : Type 0} (disk_of : D → Disk) (old : StoreValue D) (idle : IsIdle
       Leaves-start (disk_in disk_of old) (StandsForEither (standing_in old) after)
       (λ image left. (inl (stored-image disk_of old idle stored image left), stored-form disk_of old idle stored image left))
 
-  -- nothing was taken in hand
+  -- nothing was started
   refused-alone : (at : JournalFault) → Starts disk_of old after (Err at) old → Keeps disk_of old after (Err at) old
   refused-alone at starts = record {
     stopped = (λ same. starts.stopped.0 same, λ is. starts.stopped.1 is);

@@ -41,7 +41,7 @@ answers step = Ok step
 abbrev refuses : JournalFault → Result JournalStep JournalFault
 refuses at = Err at
 
--- ---- no work is in hand
+-- ---- no work is under way
 
 module _ {D : Type 0} (disk_of : D → Disk) (s : StoreValue D) where
   nothing-new : IsStored disk_of s → (after : Standing) → standing_then s ≡ Some after → Leaves (disk_in disk_of s) (disk_in disk_of s) (StandsForEither (standing_in s) after)
@@ -102,7 +102,7 @@ module _ {D : Type 0} (disk_of : D → Disk) (s : StoreValue D) where
     by_test true is = rests-stopped is
     by_test false is = rests-idle is idle
 
--- ---- what is read of a store with work in hand
+-- ---- what is read of a store with work under way
 
 -- the slots, the generation and the calls, by what is read of its journal
 slots-kept : {D : Type 0} (old new : StoreValue D) (hand : Change) → new.journal.place ≡ old.journal.place → new.held ≡ old.held → slots_with new hand ≡ slots_with old hand
@@ -299,7 +299,7 @@ module _ {D : Type 0} (disk_of : D → Disk) (s : StoreValue D) (runs : is_stopp
             stored-image disk_of (record { journal = j; held = held; hand = Empty }) refl (append-stored records j held follows steps honest stored) image left;
       }
 
--- of a compaction, behind which the record is in hand
+-- of a compaction, after which the record is under way
 module _ {D : Type 0} (disk_of : D → Disk) (s : StoreValue D) (runs : is_stopped s ≡ false) (r : Record) (hand_is : s.hand ≡ Renewing r)
     (renews : RenewsWith s.journal.place s.journal.hand (snapshot (standing_in s))) where
   renewal-busy : ¬ IsIdle s
@@ -393,7 +393,7 @@ not-none : (found : Option Standing) → IsSome found → found ≡ None → ⊥
 not-none None some none = cc
 not-none (Some next) some none = cc
 
--- what follows from what stands, once it was looked for
+-- what follows from the standing, once this was looked for
 pub must-follow : (fits : Bool) (found : Option Standing) (next : Standing) → IsSome found → (fits ≡ true → found ≡ Some next) → (fits ≡ false → found ≡ None)
     → found ≡ Some next
 must-follow true found next some follows refused = follows refl

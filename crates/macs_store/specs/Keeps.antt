@@ -22,16 +22,16 @@ use Rattle.macs_store.specs.declared.fault.CommitFault.TheVariants as commit
 
 -- ---- one change more
 
--- no change is kept any more: it runs, all slots are used, and the journal cannot begin anew
+-- no change is kept any more: it runs, all slots are used, and the journal cannot start over
 abbrev pub IsSpent : {D : Type 0} → StoreValue D → Type 0
 IsSpent s = (is_stopped s ≡ false) × (used_slots s ≡ slots) × (generation s ≡ last_generation)
 
--- how many slots are used after one more change, where so many were used and this stood: where all were used the journal began anew with
+-- how many slots are used after one more change, where so many were used and this was the standing: where all were used the journal started over with
 -- a snapshot
 abbrev pub slots_with_change : ℕ → Standing → ℕ
 slots_with_change used s = if used == slots then length (snapshot s) + 1 else used + 1
 
--- and in which generation they stand, where those before stood in this one
+-- and in which generation they are, where those before were in this one
 abbrev pub generation_with_change : ℕ → ℕ → ℕ
 generation_with_change used number = if used == slots then number + 1 else number
 
@@ -44,7 +44,7 @@ most_with_change used s = if used == slots then 523 + length (snapshot s) else 4
 abbrev pub slots_after : {D : Type 0} → StoreValue D → ℕ
 slots_after s = slots_with_change (used_slots s) (standing_in s)
 
--- and in which generation they stand
+-- and in which generation they are
 abbrev pub generation_after : {D : Type 0} → StoreValue D → ℕ
 generation_after s = generation_with_change (used_slots s) (generation s)
 
@@ -54,9 +54,9 @@ most_calls s = most_with_change (used_slots s) (standing_in s)
 
 -- ---- a reservation
 
--- A call keeps one change, which makes `after` of what stands. Refused as Stopped, then as GenerationsSpent; these are judged before the
--- work starts, and change nothing. Disk where a device call failed: memory is as it was, and a power loss leaves what stood before or
--- what it becomes, in format two. Where all slots are used the journal begins anew first, with a snapshot of what stands.
+-- A call keeps one change, which makes `after` of the standing. Refused as Stopped, then as GenerationsSpent; these are judged before the
+-- work starts, and change nothing. Disk where a device call failed: memory is as it was, and a power loss leaves the standing before or
+-- what it becomes, in format two. Where all slots are used the journal starts over first, with a snapshot of the standing.
 pub record Keeps {D : Type 0} (disk_of : D → disk.Disk) (old : StoreValue D) (after : Standing) (result : Result (Unit {0}) JournalFault) (new : StoreValue D) : Type 0 where
   pub stopped : IsErrOf result journal.Stopped ↔ (is_stopped old ≡ true)
   pub spent : IsErrOf result journal.GenerationsSpent ↔ IsSpent old
@@ -90,8 +90,8 @@ pub record IsCommitOf (old new : disk.Disk) (result : Result (Unit {0}) CommitFa
 
 -- A call keeps a command and applies it. Refused as Stopped, then as Refused with the first refusal that holds, then as GenerationsSpent;
 -- these are judged before the work starts, and change nothing. Disk where a device call failed: memory is as it was, and a power loss
--- leaves what stood before or what the command makes of it, in format two. Where all slots are used the journal begins anew first, with a snapshot of what
--- stands.
+-- leaves the standing before or what the command makes of it, in format two. Where all slots are used the journal starts over first, with a snapshot of the
+-- standing.
 pub record Commits {D : Type 0} (disk_of : D → disk.Disk) (old : StoreValue D) (command : Command) (result : Result (Unit {0}) CommitFault) (new : StoreValue D) : Type 0 where
   pub stopped : IsErrOf result commit.Stopped ↔ (is_stopped old ≡ true)
   pub refused : (refusal : Refusal) → (result ≡ Err (commit.Refused refusal))

@@ -1,4 +1,4 @@
--- What stands, as the records of a snapshot.
+-- The standing, as the records of a snapshot.
 use Rattle.std.specs.Prelude.{ℕ, ◌*◌, List, [], ◌∷◌, ◌++◌, map, flat_map, take, drop, Option, Some}
 use Rattle.std.specs.List.{range_with_len}
 use Rattle.macs_config.specs.Config.{Config}
@@ -9,7 +9,7 @@ use Rattle.macs_record.specs.declared.record.Record.{Record}
 use Rattle.macs_record.specs.declared.record.Record.TheVariants.{Settings, TxSa, Channel, RxSa, Spent}
 use Rattle.macs_store.specs.Standing.{Ceilings, Standing}
 
--- the record of an association with its ceiling, if both stand
+-- the record of an association with its ceiling, if there are both
 abbrev pub record_if_both : {A : Type 0} → (A → ℕ → Record) → Option A → Option ℕ → List Record
 record_if_both r (Some sa) (Some ceiling) = r sa ceiling ∷ []
 record_if_both r sa ceiling = []
@@ -18,7 +18,7 @@ record_if_both r sa ceiling = []
 abbrev pub settings_record : Config → Record
 settings_record c = Settings c.validate c.replay c.mode c.encoding
 
--- the record of the transmit association at an AN, if one stands there
+-- the record of the transmit association at an AN, if there is one
 abbrev pub tx_records_at : Config → Ceilings → ℕ → List Record
 tx_records_at c ceilings an = record_if_both (λ sa ceiling. TxSa an sa ceiling) (c.tx an) (ceilings.tx an)
 
@@ -30,7 +30,7 @@ tx_records c ceilings = flat_map (tx_records_at c ceilings) every_an
 abbrev pub channel_records : List (List ℕ) → List Record
 channel_records scis = map (λ sci. Channel sci) scis
 
--- the record of the receive association of an SCI at an AN, if one stands there
+-- the record of the receive association of an SCI at an AN, if there is one
 abbrev pub rx_records_at : Config → Ceilings → List ℕ → ℕ → List Record
 rx_records_at c ceilings sci an = record_if_both (λ sa ceiling. RxSa sci an sa ceiling) (c.rx sci an) (ceilings.rx sci an)
 

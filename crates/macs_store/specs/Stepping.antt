@@ -24,9 +24,9 @@ use Rattle.macs_store.specs.declared.change.Change.{Change}
 use Rattle.macs_store.specs.declared.change.Change.TheVariants.{Appending, Renewing}
 use Rattle.macs_store.specs.declared.fault.CommitFault.TheVariants as commit
 
--- ---- work is taken in hand
+-- ---- work is started
 
--- What a store is that has taken one change in hand, which makes `after` of what stands: what stands is as it was, no device call was made,
+-- What a store is that has started one change, which makes `after` of the standing: the standing is as it was, no device call was made,
 -- and so many are to come at most.
 pub record HasInHand {D : Type 0} (disk_of : D → disk.Disk) (old : StoreValue D) (after : Standing) (new : StoreValue D) : Type 0 where
   pub running : is_stopped new ≡ false
@@ -39,7 +39,7 @@ pub record HasInHand {D : Type 0} (disk_of : D → disk.Disk) (old : StoreValue 
   pub left : calls_left new ≡ most_calls old
   pub stored : IsStored disk_of old → IsStored disk_of new
 
--- A reservation is taken in hand, which makes `after` of what stands. Refused as Stopped, then as GenerationsSpent; nothing changes then.
+-- A reservation is started, which makes `after` of the standing. Refused as Stopped, then as GenerationsSpent; nothing changes then.
 pub record Starts {D : Type 0} (disk_of : D → disk.Disk) (old : StoreValue D) (after : Standing) (result : Result (Unit {0}) JournalFault) (new : StoreValue D) : Type 0 where
   pub stopped : IsErrOf result journal.Stopped ↔ (is_stopped old ≡ true)
   pub spent : IsErrOf result journal.GenerationsSpent ↔ IsSpent old
@@ -47,7 +47,7 @@ pub record Starts {D : Type 0} (disk_of : D → disk.Disk) (old : StoreValue D) 
   pub same : OnErr result (new ≡ old)
   pub in_hand : OnOk result (HasInHand disk_of old after new)
 
--- A command is taken in hand. Refused as Stopped, then as Refused with the first refusal that holds, then as GenerationsSpent; nothing
+-- A command is started. Refused as Stopped, then as Refused with the first refusal that holds, then as GenerationsSpent; nothing
 -- changes then.
 pub record StartsCommit {D : Type 0} (disk_of : D → disk.Disk) (old : StoreValue D) (command : Command) (result : Result (Unit {0}) CommitFault) (new : StoreValue D) : Type 0 where
   pub stopped : IsErrOf result commit.Stopped ↔ (is_stopped old ≡ true)
@@ -58,7 +58,7 @@ pub record StartsCommit {D : Type 0} (disk_of : D → disk.Disk) (old : StoreVal
   pub same : OnErr result (new ≡ old)
   pub in_hand : OnOk result ((after : Standing) × (accept (standing_in old) command ≡ Ok after) × HasInHand disk_of old after new)
 
--- A record is taken in hand, as a reservation is.
+-- Work on a record is started, as a reservation is.
 pub record StartsRecord {D : Type 0} (disk_of : D → disk.Disk) (old : StoreValue D) (r : Record) (result : Result (Unit {0}) JournalFault) (new : StoreValue D) : Type 0 where
   pub stopped : IsErrOf result journal.Stopped ↔ (is_stopped old ≡ true)
   pub spent : IsErrOf result journal.GenerationsSpent ↔ IsSpent old
@@ -68,7 +68,7 @@ pub record StartsRecord {D : Type 0} (disk_of : D → disk.Disk) (old : StoreVal
 
 -- ---- one device call
 
--- the journal is to begin anew
+-- the journal is to start over
 abbrev pub IsRenewing : Change → Type 0
 IsRenewing (Renewing r) = Unit {0}
 IsRenewing other = ⊥
@@ -78,10 +78,10 @@ abbrev pub IsAppending : Change → Type 0
 IsAppending (Appending r) = Unit {0}
 IsAppending other = ⊥
 
--- A step of a store: one device call of the work in hand. Stopped exactly where a device call failed before, else Idle exactly where nothing
--- is in hand: then no call is made and nothing changes. Disk exactly where the call failed, which stops the store and leaves nothing in hand.
--- Else the work goes on, or is finished: what stands changes then, and at no other time. At each moment a power loss leaves what stood, or
--- what stands once the work is done; and once it is finished, only what stands then.
+-- A step of a store: one device call of the work under way. Stopped exactly where a device call failed before, else Idle exactly where nothing
+-- is under way: then no call is made and nothing changes. Disk exactly where the call failed, which stops the store and leaves nothing under way.
+-- Else the work goes on, or is finished: the standing changes then, and at no other time. At each moment a power loss leaves the standing before, or
+-- the standing once the work is done; and once it is finished, only the standing then.
 pub record Steps {D : Type 0} (disk_of : D → disk.Disk) (old : StoreValue D) (result : Result JournalStep JournalFault) (new : StoreValue D) : Type 0 where
   -- what is answered, and what becomes of the store in memory
   pub stopped : IsErrOf result journal.Stopped ↔ (is_stopped old ≡ true)
@@ -111,8 +111,8 @@ pub record Steps {D : Type 0} (disk_of : D → disk.Disk) (old : StoreValue D) (
 
 -- ---- to the end
 
--- The device calls of the work in hand, up to its end. Refused as a step. After Ok nothing is in hand, the work is done, and a power loss
--- leaves what stands.
+-- The device calls of the work under way, up to its end. Refused as a step. After Ok nothing is under way, the work is done, and a power loss
+-- leaves the standing.
 pub record Finishes {D : Type 0} (disk_of : D → disk.Disk) (old : StoreValue D) (result : Result (Unit {0}) JournalFault) (new : StoreValue D) : Type 0 where
   pub stopped : IsErrOf result journal.Stopped ↔ (is_stopped old ≡ true)
   pub names : OnErr result (IsErrOf result journal.Stopped ⊎ IsErrOf result journal.Disk)

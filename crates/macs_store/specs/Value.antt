@@ -1,4 +1,4 @@
--- A store in memory, the work that it has in hand, and what stands on its disk.
+-- A store in memory, the work that it has under way, and what is on its disk.
 use Rattle.std.specs.Prelude.{◌≡◌, ◌+◌, ℕ, Bool, true, false, Option, Some, None, length, IsSome}
 use Rattle.macs_config.specs.Config.{this_edition}
 use Rattle.macs_config.specs.declared.command.Command.{Command}
@@ -24,7 +24,7 @@ pub record StoreValue (D : Type 0) : Type 0 where
   pub held : StandingValue
   pub hand : Change
 
--- what stands in memory
+-- what is in memory
 abbrev pub standing_in : {D : Type 0} → StoreValue D → Standing
 standing_in s = standing_of s.held
 
@@ -48,33 +48,33 @@ used_slots s = journal.used_slots s.journal
 abbrev pub generation : {D : Type 0} → StoreValue D → ℕ
 generation s = journal.generation s.journal
 
--- how many records what stands has as a snapshot
+-- how many records a snapshot of the standing has
 abbrev pub snapshot_length : {D : Type 0} → StoreValue D → ℕ
 snapshot_length s = length (snapshot (standing_in s))
 
--- ---- the work in hand
+-- ---- the work under way
 
--- no work is in hand
+-- no work is under way
 abbrev pub IsIdle : {D : Type 0} → StoreValue D → Type 0
 IsIdle s = s.hand ≡ Empty
 
--- what stands once the work in hand is done
+-- the standing once the work under way is done
 abbrev pub standing_with : Standing → Change → Option Standing
 standing_with standing Empty = Some standing
 standing_with standing (Renewing r) = standing_after_record standing r
 standing_with standing (Appending r) = standing_after_record standing r
 
--- the same of the work that a store has in hand
+-- the same of the work that a store has under way
 abbrev pub standing_then : {D : Type 0} → StoreValue D → Option Standing
 standing_then s = standing_with (standing_in s) s.hand
 
--- how many slots are used once the work in hand is done
+-- how many slots are used once the work under way is done
 abbrev pub slots_with : {D : Type 0} → StoreValue D → Change → ℕ
 slots_with s Empty = used_slots s
 slots_with s (Renewing r) = snapshot_length s + 1
 slots_with s (Appending r) = used_slots s + 1
 
--- the same of the work that a store has in hand
+-- the same of the work that a store has under way
 abbrev pub slots_then : {D : Type 0} → StoreValue D → ℕ
 slots_then s = slots_with s s.hand
 
@@ -84,7 +84,7 @@ generation_with s Empty = generation s
 generation_with s (Renewing r) = generation s + 1
 generation_with s (Appending r) = generation s
 
--- the same of the work that a store has in hand
+-- the same of the work that a store has under way
 abbrev pub generation_then : {D : Type 0} → StoreValue D → ℕ
 generation_then s = generation_with s s.hand
 
@@ -94,11 +94,11 @@ calls_with s Empty = 0
 calls_with s (Renewing r) = left_of s.journal.hand + 4
 calls_with s (Appending r) = left_of s.journal.hand
 
--- the same of the work that a store has in hand
+-- the same of the work that a store has under way
 abbrev pub calls_left : {D : Type 0} → StoreValue D → ℕ
 calls_left s = calls_with s s.hand
 
--- the record in hand follows from what stands, and the journal is at work for it
+-- the record under way follows from the standing, and the journal is at work for it
 abbrev pub FitsChange : {D : Type 0} → JournalValue D → Standing → Change → Type 0
 FitsChange j standing Empty = journal.IsIdle j
 FitsChange j standing (Renewing r) =
@@ -116,7 +116,7 @@ abbrev pub IsOfRecord : Record → Option Command → Type 0
 IsOfRecord r None = is_ceiling r ≡ true
 IsOfRecord r (Some command) = record_of command ≡ Some r
 
--- what was judged beside the work in hand is of the record in hand, and nothing is left of it where no work is in hand
+-- what was judged beside the work under way is of the record under way, and nothing is left of it where no work is under way
 abbrev pub IsOfChange : Change → Option Command → Type 0
 IsOfChange Empty checked = checked ≡ None
 IsOfChange (Renewing r) checked = IsOfRecord r checked
@@ -130,13 +130,13 @@ standing_next standing Empty = Some standing
 standing_next standing (Renewing r) = Some standing
 standing_next standing (Appending r) = standing_after_record standing r
 
--- and that content: the same, one behind a compaction, or one with the record
+-- and that content: the same, one after a compaction, or one with the record
 abbrev pub LeadsTo : Change → Content → Content → Type 0
 LeadsTo Empty before after = after ≡ before
 LeadsTo (Renewing r) before after = Unit {0}
 LeadsTo (Appending r) before after = after ≡ content_with_record before r
 
--- The disk holds what stands in memory, with the work in hand: in format two, before that work and after it.
+-- The disk holds what is in memory, with the work under way: in format two, before that work and after it.
 pub record IsStored {D : Type 0} (disk_of : D → disk.Disk) (s : StoreValue D) : Type 0 where
   pub content : Content
   pub next : Content

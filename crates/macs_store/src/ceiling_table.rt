@@ -39,7 +39,7 @@ impl ChannelCeilings {
     }
 }
 
-/// The place of the channel of an SCI, `None` where none stands.
+/// The place of the channel of an SCI, `None` where there is none.
 fn place(channels: &[ChannelCeilings], sci: Sci) -> Option<usize>
     ensures { result ≡ position (λ (channel : ChannelCeilings). bytes_eq channel.sci sci) channels.now }
 {
@@ -47,7 +47,7 @@ fn place(channels: &[ChannelCeilings], sci: Sci) -> Option<usize>
 }
 
 /// The ceilings of transmit associations by their numbers, and those of the receive channels that
-/// stand, by ascending SCI.
+/// exist, by ascending SCI.
 #[derive(Drop)]
 pub struct CeilingTable {
     pub tx: [Option<Ceiling>; ASSOCIATIONS],
@@ -98,7 +98,7 @@ impl CeilingTable {
         self.tx[an.get() as usize] = ceiling;
     }
 
-    /// Puts a ceiling of a receive association of a channel that stands, or takes it away.
+    /// Puts a ceiling of a receive association of a channel that exists, or takes it away.
     pub(crate) fn put_rx(&mut self, sci: Sci, an: An, ceiling: Option<Ceiling>)
         requires { is_among (table_scis self.old) sci ≡ true }
         ensures put { table_ceilings self.new ≡ ceilings_with_rx (table_ceilings self.old) sci an ceiling }
@@ -109,7 +109,7 @@ impl CeilingTable {
         }
     }
 
-    /// Keeps the ceilings of these channels, which stand from now on; a new one has none.
+    /// Keeps the ceilings of these channels, which exist from now on; a new one has none.
     pub(crate) fn keep(&mut self, scis: &[Sci])
         requires few { length scis.now ≤ 32 }
         ensures tx { (table_ceilings self.new).tx ≡ (table_ceilings self.old).tx }

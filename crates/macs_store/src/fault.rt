@@ -10,7 +10,7 @@ pub enum CommitFault {
     /// The command does not fit the configuration.
     Refused(Refusal),
     /// All 256 slots of the journal's current area are used, and its generation is 2^64 - 1: it cannot
-    /// begin anew. Nothing changes.
+    /// start over. Nothing changes.
     GenerationsSpent,
     /// A device call failed.
     Disk,

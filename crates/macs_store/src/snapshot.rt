@@ -1,4 +1,4 @@
-//! What stands, as the records of a snapshot, one by one.
+//! The standing, as the records of a snapshot, one by one.
 
 ghost use Rattle.std.specs.Prelude.{◌≡◌, ◌≤◌, ◌<◌, ◌+◌, ◌*◌, ◌==◌, [], false, true, IfNone, IfSome, Some, length};
 ghost use Rattle.std.specs.List.{slice_get};
@@ -22,7 +22,7 @@ use macs_record::Record;
 /// How many records as many keys take as may be spent on a side.
 const MAX_SPENT_RECORDS: usize = 35;
 
-// The records of a snapshot of what stands. No more than one of them is there at a time.
+// The records of a snapshot of the standing. No more than one of them is there at a time.
 impl RecordSource for Standing {
     ghost listed = { λ s. snapshot (standing_of s) };
 
@@ -46,7 +46,7 @@ impl Standing {
         self.config.facts();
     }
 
-    /// How many records a snapshot of what stands has.
+    /// How many records a snapshot of the standing has.
     fn record_count(&self) -> usize
         ensures { result ≡ length (snapshot (standing_of self.now)) }
     {
@@ -54,7 +54,7 @@ impl Standing {
         passed
     }
 
-    /// The record at a place of a snapshot of what stands, counted from 0; `None` after the last one.
+    /// The record at a place of a snapshot of the standing, counted from 0; `None` after the last one.
     fn record_at(&self, place: usize) -> Option<Record>
         ensures { result ≡ slice_get (snapshot (standing_of self.now)) place }
     {
@@ -62,7 +62,7 @@ impl Standing {
         found
     }
 
-    /// Goes past all records of a snapshot of what stands, and keeps the one at a place.
+    /// Goes past all records of a snapshot of the standing, and keeps the one at a place.
     fn walk(&self, place: usize) -> Walk
         ensures { result ≡ walk_past_all (new_walk place) (snapshot (standing_of self.now)) }
     {

@@ -90,7 +90,7 @@ impl Standing {
         is_read(format) && all_belong(format, records) && self.replay(count, records)
     }
 
-    /// Makes it, in its place, what the records of a snapshot stand for under its identity, then those behind
+    /// Makes it, in its place, what the records of a snapshot stand for under its identity, then those after
     /// it, and answers whether they stand for something; where they are refused, nothing is said of what is left.
     #[inline(never)]
     fn replay(&mut self, count: usize, records: &[Record]) -> bool
@@ -115,7 +115,7 @@ impl Standing {
         true
     }
 
-    /// Goes on with the records behind a snapshot, and answers whether each of them fits.
+    /// Goes on with the records after a snapshot, and answers whether each of them fits.
     fn replay_records(&mut self, records: &[Record]) -> bool
         ensures { standing_after_records (standing_of self.old) records.now
             ≡ (if result then Some (standing_of self.new) else None) }
@@ -161,7 +161,7 @@ impl Standing {
         }
     }
 
-    /// Goes on with a record that follows from what stands: that of a command as its check judged it, and a
+    /// Goes on with a record that follows from the standing: that of a command as its check judged it, and a
     /// raised ceiling where nothing was judged.
     pub(crate) fn keep(&mut self, value: &Record, checked: Option<Checked>)
         requires follows { IsSome (standing_after_record (standing_of self.old) value.now) }
@@ -200,7 +200,7 @@ impl Standing {
         is_raised
     }
 
-    /// Raises the ceiling of a transmit association that stands.
+    /// Raises the ceiling of a transmit association that exists.
     pub(crate) fn raise_tx(&mut self, an: An, ceiling: Ceiling)
         requires stands { IsSome ((standing_of self.old).ceilings.tx an) }
         ensures { standing_of self.new ≡ standing_with_tx_ceiling (standing_of self.old) an ceiling }
@@ -208,7 +208,7 @@ impl Standing {
         self.ceilings.put_tx(an, Some(ceiling));
     }
 
-    /// Raises the ceiling of a receive association that stands.
+    /// Raises the ceiling of a receive association that exists.
     pub(crate) fn raise_rx(&mut self, sci: Sci, an: An, ceiling: Ceiling)
         requires stands { IsSome ((standing_of self.old).ceilings.rx sci an) }
         ensures { standing_of self.new ≡ standing_with_rx_ceiling (standing_of self.old) sci an ceiling }
@@ -286,7 +286,7 @@ fn adjust(config: &Config, ceilings: &mut CeilingTable, judged: &Judged)
     }
 }
 
-/// Whether a ceiling is above the one that stands.
+/// Whether a ceiling is above the present one.
 fn rises(old: Option<Ceiling>, ceiling: Ceiling) -> bool
     ensures { result ≡ is_raise old ceiling }
 {

@@ -28,7 +28,7 @@ use macs_record::Record;
 use std::mem::replace;
 
 impl<D: SectorDisk> Store<D> {
-    /// Takes a command in hand, and makes no device call. No work is in hand before. Refused as `Stopped` where a device
+    /// Starts a command, and makes no device call. No work is under way before. Refused as `Stopped` where a device
     /// call failed before, then as `Refused` with the first refusal that holds, then as `GenerationsSpent` where all 256
     /// slots are used and the generation is 2^64 - 1; never as `Disk`. A refusal changes nothing.
     pub fn start_commit(&mut self, command: &Command) -> Result<(), CommitFault>
@@ -44,8 +44,8 @@ impl<D: SectorDisk> Store<D> {
         }
     }
 
-    /// Takes a command in hand that the configuration does not refuse, as its check judged it, and makes no device
-    /// call. No work is in hand before, and no device call failed. Refused as `GenerationsSpent` where all 256 slots
+    /// Starts a command that the configuration does not refuse, as its check judged it, and makes no device
+    /// call. No work is under way before, and no device call failed. Refused as `GenerationsSpent` where all 256 slots
     /// are used and the generation is 2^64 - 1; then nothing changes.
     pub fn start_checked(&mut self, checked: &Checked) -> Result<(), CommitFault>
         requires idle { IsIdle self.old }
@@ -60,8 +60,8 @@ impl<D: SectorDisk> Store<D> {
         }
     }
 
-    /// Takes in hand that the ceiling of a transmit association is raised by a block, to 2^32 at most, and makes no
-    /// device call. No work is in hand before; the association stands, and its ceiling is below 2^32. Refused as
+    /// Starts to raise the ceiling of a transmit association by a block, to 2^32 at most, and makes no
+    /// device call. No work is under way before; the association exists, and its ceiling is below 2^32. Refused as
     /// `Stopped` where a device call failed before, then as `GenerationsSpent` where all 256 slots are used and the
     /// generation is 2^64 - 1; these change nothing.
     pub fn start_tx(&mut self, an: An) -> Result<(), JournalFault>
@@ -75,8 +75,8 @@ impl<D: SectorDisk> Store<D> {
         self.start(Record::TxCeiling { an, ceiling }, None)
     }
 
-    /// Takes in hand that the ceiling of a receive association is raised to a block beyond a packet number, to 2^32
-    /// at most, and makes no device call. No work is in hand; the association stands, and its ceiling is below the new
+    /// Starts to raise the ceiling of a receive association to a block beyond a packet number, to 2^32
+    /// at most, and makes no device call. No work is under way; the association exists, and its ceiling is below the new
     /// one. Refused as `start_tx`.
     pub fn start_rx(&mut self, sci: Sci, an: An, pn: Pn) -> Result<(), JournalFault>
         requires idle { IsIdle self.old }
@@ -89,9 +89,9 @@ impl<D: SectorDisk> Store<D> {
         self.start(Record::RxCeiling { sci, an, ceiling }, None)
     }
 
-    /// Takes a record in hand that follows from what stands, and where it is a command's, what its check judged: nothing
+    /// Starts work on a record that follows from the standing, and where it is a command's, what its check judged: nothing
     /// is judged of a raised ceiling, and of each command its record.
-    /// Where all 256 slots are used the journal is to begin anew first.
+    /// Where all 256 slots are used the journal is to start over first.
     fn start(&mut self, value: Record, checked: Option<Checked>) -> Result<(), JournalFault>
         requires idle { IsIdle self.old }
         requires follows { IsSome (standing_after_record (standing_in self.old) value) }
@@ -111,9 +111,9 @@ impl<D: SectorDisk> Store<D> {
         Ok(())
     }
 
-    /// Makes the next device call of the work in hand, and none where no work is in hand. Configuration and ceilings
+    /// Makes the next device call of the work under way, and none where no work is under way. Configuration and ceilings
     /// change where it answers `Finished` and at no other time. A record that waits for a compaction is begun by the
-    /// step behind it. Refused as `Stopped`, and as `Disk` where the call fails: then no work is in hand, what stands is
+    /// step after it. Refused as `Stopped`, and as `Disk` where the call fails: then no work is under way, the standing is
     /// as it was, and a power loss leaves it with the work or without.
     pub fn step(&mut self) -> Result<JournalStep, JournalFault>
         ensures { Steps D.disk self.old result self.new }
@@ -125,7 +125,7 @@ impl<D: SectorDisk> Store<D> {
         }
     }
 
-    /// Makes the device calls of the work in hand up to its end, and none where no work is in hand. Refused as `step`.
+    /// Makes the device calls of the work under way up to its end, and none where no work is under way. Refused as `step`.
     pub fn finish(&mut self) -> Result<(), JournalFault>
         ensures { Finishes D.disk self.old result self.new }
     {
@@ -138,7 +138,7 @@ impl<D: SectorDisk> Store<D> {
         Ok(())
     }
 
-    /// Whether work is in hand.
+    /// Whether work is under way.
     fn has_work(&self) -> bool
         ensures idle { result ≡ false → IsIdle self.now }
         ensures busy { result ≡ true → ¬ IsIdle self.now }
@@ -151,7 +151,7 @@ impl<D: SectorDisk> Store<D> {
         }
     }
 
-    /// What a step answers where no work is in hand.
+    /// What a step answers where no work is under way.
     fn rest(&self) -> Result<JournalStep, JournalFault>
         ensures { result ≡ (if is_stopped self.now then Err Stopped else Ok Idle) }
     {
@@ -161,7 +161,7 @@ impl<D: SectorDisk> Store<D> {
         Ok(JournalStep::Idle)
     }
 
-    /// The next device call of a journal that begins anew. Behind the last one the record is in hand.
+    /// The next device call of a journal that starts over. After the last one the record is under way.
     fn step_renewal(&mut self) -> Result<JournalStep, JournalFault>
         requires renewing { IsRenewing self.old.hand }
         ensures { Steps D.disk self.old result self.new }
@@ -186,8 +186,8 @@ impl<D: SectorDisk> Store<D> {
         }
     }
 
-    /// The next device call of an append. Behind the last one what stands is what the record makes of it: a command
-    /// is applied as its check judged it, since what stands has not changed.
+    /// The next device call of an append. After the last one the standing is what the record makes of it: a command
+    /// is applied as its check judged it, since the standing has not changed.
     fn step_append(&mut self) -> Result<JournalStep, JournalFault>
         requires appending { IsAppending self.old.hand }
         ensures { Steps D.disk self.old result self.new }
@@ -212,7 +212,7 @@ impl<D: SectorDisk> Store<D> {
     }
 }
 
-/// Takes in hand that the journal begins anew with a snapshot of what stands.
+/// Starts a compaction, with a snapshot of the standing.
 fn start_renewal<D: SectorDisk>(
     journal: &mut Journal<D>,
     standing: &Standing,
@@ -224,7 +224,7 @@ fn start_renewal<D: SectorDisk>(
     journal.start_compact(standing)
 }
 
-/// The next device call of a journal that begins anew with a snapshot of what stands: the record whose body it writes
+/// The next device call of a journal that starts over with a snapshot of the standing: the record whose body it writes
 /// is made for that call.
 fn step_with_snapshot<D: SectorDisk>(
     journal: &mut Journal<D>,

@@ -19,17 +19,17 @@ use macs_journal::{Journal, JournalFault};
 use macs_record::Ceiling;
 use std::marker::Model;
 
-/// The configuration of an endpoint and the ceilings of its packet numbers, as they stand on its disk.
+/// The configuration of an endpoint and the ceilings of its packet numbers, as they are on its disk.
 /// A change is in memory only after its record is durable. Where all 256 slots of the journal's current
-/// area are used it begins anew in the other area, with a snapshot of what stands, before it takes the
+/// area are used it starts over in the other area, with a snapshot of both, before it takes the
 /// next record. After a device fault the store answers `Stopped` until the disk is opened again.
 #[derive(Drop)]
 pub struct Store<D: SectorDisk> {
     pub(crate) journal: Journal<D>,
     pub(crate) standing: Standing,
     pub(crate) hand: Change,
-    /// What the check of the command in hand judged; `None` where a ceiling is being raised or no work is in hand, so
-    /// that a key is kept no longer than its record is in hand.
+    /// What the check of the command under way judged; `None` where a ceiling is being raised or no work is under way, so
+    /// that a key is kept no longer than its record is under way.
     pub(crate) checked: Option<Checked>,
 }
 
@@ -43,7 +43,7 @@ impl<D: SectorDisk> Model for Store<D> {
 
 impl<D: SectorDisk> Store<D> {
     /// What is judged of a command that the configuration does not refuse, or the first refusal in the order of
-    /// `Refusal`. It serves while the configuration stands: raised ceilings leave it as it is.
+    /// `Refusal`. It holds while the configuration stays: raised ceilings leave it as it is.
     pub fn check(&self, command: &Command) -> Result<Checked, Refusal>
         ensures fits { OnOk result (IsOk (accept (standing_in self.now) command.now)) }
         ensures checked { IfOk result (λ checked. checked ≡ command.now) }
@@ -52,9 +52,9 @@ impl<D: SectorDisk> Store<D> {
         self.standing.check(command)
     }
 
-    /// Keeps a command and applies it. No work is in hand. Refused as `Stopped`, then as `Refused` with the first
+    /// Keeps a command and applies it. No work is under way. Refused as `Stopped`, then as `Refused` with the first
     /// refusal that holds, then as `GenerationsSpent`; these change nothing. `Disk` at the first device call that
-    /// fails: the configuration stands as it was, and after a power loss it is found with the command or without.
+    /// fails: the configuration is as it was, and after a power loss it is found with the command or without.
     pub fn commit(&mut self, command: &Command) -> Result<(), CommitFault>
         requires idle { IsIdle self.old }
         ensures { Commits D.disk self.old command.now result self.new }
@@ -66,8 +66,8 @@ impl<D: SectorDisk> Store<D> {
         }
     }
 
-    /// Keeps a command that the configuration does not refuse, and applies it, as its check judged it. No work is in
-    /// hand, and no device call failed. Refused as `GenerationsSpent`, which changes nothing, and as `Disk` as `commit`.
+    /// Keeps a command that the configuration does not refuse, and applies it, as its check judged it. No work is
+    /// under way, and no device call failed. Refused as `GenerationsSpent`, which changes nothing, and as `Disk` as `commit`.
     pub fn commit_checked(&mut self, checked: &Checked) -> Result<(), CommitFault>
         requires idle { IsIdle self.old }
         requires running { is_stopped self.old ≡ false }
@@ -81,9 +81,9 @@ impl<D: SectorDisk> Store<D> {
         }
     }
 
-    /// Raises the ceiling of a transmit association by a block, to 2^32 at most. No work is in hand; the association
-    /// stands, and its ceiling is below 2^32. Refused as `Stopped`, then as `GenerationsSpent`; these change
-    /// nothing. `Disk` at the first device call that fails: the ceiling stands as it was, and after a power
+    /// Raises the ceiling of a transmit association by a block, to 2^32 at most. No work is under way; the association
+    /// exists, and its ceiling is below 2^32. Refused as `Stopped`, then as `GenerationsSpent`; these change
+    /// nothing. `Disk` at the first device call that fails: the ceiling is as it was, and after a power
     /// loss it is found raised or not.
     pub fn reserve_tx(&mut self, an: An) -> Result<(), JournalFault>
         requires idle { IsIdle self.old }
@@ -95,8 +95,8 @@ impl<D: SectorDisk> Store<D> {
         self.finish()
     }
 
-    /// Raises the ceiling of a receive association to a block beyond a packet number, to 2^32 at most. No work is in
-    /// hand; the association stands, and its ceiling is below the new one. Refused as `reserve_tx`.
+    /// Raises the ceiling of a receive association to a block beyond a packet number, to 2^32 at most. No work is
+    /// under way; the association exists, and its ceiling is below the new one. Refused as `reserve_tx`.
     pub fn reserve_rx(&mut self, sci: Sci, an: An, pn: Pn) -> Result<(), JournalFault>
         requires idle { IsIdle self.old }
         requires raised { IfSome ((standing_in self.old).ceilings.rx sci an)
@@ -115,7 +115,7 @@ impl<D: SectorDisk> Store<D> {
         self.journal.is_stopped()
     }
 
-    /// Whether no work is in hand.
+    /// Whether no work is under way.
     pub fn is_idle(&self) -> bool
         ensures { IsTrue result ↔ IsIdle self.now }
     {
@@ -141,28 +141,28 @@ impl<D: SectorDisk> Store<D> {
         self.standing.config.identity()
     }
 
-    /// The ceiling of a transmit association, `None` where none stands at that number.
+    /// The ceiling of a transmit association, `None` where there is none at that number.
     pub fn tx_ceiling(&self, an: An) -> Option<Ceiling>
         ensures { result ≡ (standing_in self.now).ceilings.tx an }
     {
         self.standing.ceilings.tx(an)
     }
 
-    /// The ceiling of a receive association, `None` where none stands at that number of that channel.
+    /// The ceiling of a receive association, `None` where there is none at that number of that channel.
     pub fn rx_ceiling(&self, sci: Sci, an: An) -> Option<Ceiling>
         ensures { result ≡ (standing_in self.now).ceilings.rx sci an }
     {
         self.standing.ceilings.rx(sci, an)
     }
 
-    /// Exactly the associations that stand have a ceiling.
+    /// Exactly the associations that exist have a ceiling.
     pub fn facts(&self)
         ensures { IsStanding (standing_in self.now) }
     {
         let _config = &self.standing.config;
     }
 
-    /// The disk, as it stands.
+    /// The disk, as it is.
     pub fn into_disk(self) -> D
         ensures { result ≡ device_in self }
     {

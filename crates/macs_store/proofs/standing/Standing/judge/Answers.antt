@@ -10,7 +10,7 @@ use Rattle.macs_store.specs.Table.{StandingValue, standing_of}
 use Rattle.macs_store.proofs.Replaying.{answered-by, judged-fits, judged-refused, ok-with_reason, plain-is}
 use Rattle.macs_store.proofs.standing.Standing.judge.Goals as goal
 
--- what a configuration answers to a command, in the answer of what stands
+-- what a configuration answers to a command, in the answer of the standing
 abbrev answer : StandingValue → Command → Result Command Reason
 answer h asked = answer_or_refusal (refusal_of this_edition (standing_of h).identity (standing_of h).config asked) asked
 

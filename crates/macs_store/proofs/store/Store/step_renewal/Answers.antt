@@ -22,7 +22,7 @@ module _ (g : Over) (c : After-step_with_snapshot g) where
   is : IsRenewing c.self.inside.hand
   is = rw (← c.self.view_is) at c.requires.renewing
 
--- behind the last device call of the compaction
+-- after the last device call of the compaction
 module _ (g : Over) (c : In-Renewing g) where
   abbrev was : StoreValue g.row.D.Denot
   was = record { journal = c.self.inside.journal; held = c.self.inside.standing; hand = c.self.inside.hand }
