@@ -1,4 +1,4 @@
--- What one device call of the work in hand makes of a journal.
+-- What one device call of the work under way makes of a journal.
 use Rattle.std.proofs.Common.{◌≡◌, ◌≢◌, ◌≤◌, ◌+◌, ℕ, refl, sym, ◌∙◌, ap, subst, arith, Bool, true, false, List, length, Option, Some, None, Result, Ok, Err}
 use Rattle.macs_disk.specs.Disk as disk
 use Rattle.macs_disk.specs.declared.disk.DeviceFault.{DeviceFault}
@@ -75,7 +75,7 @@ module _ {D : Type 0} (disk_of : D → disk.Disk) (device later : D) (place : Pl
       opened = λ idle. absurd (let not : Append (record work { stage = stage }) ≡ Empty = idle in cc);
     }
 
-    -- the record stands
+    -- the record is there
     pub append-ends : next ≡ None
         → AdvancesAppend disk_of (journal_of device place (Append work) false) went (journal_of later (record place { free = place.free + 1 }) Empty false)
     append-ends is = record {
@@ -231,7 +231,7 @@ module _ {D : Type 0} (disk_of : D → disk.Disk) (device later : D) (place : Pl
       next = λ honest began head at. (at.0, next-is (Some stage) is honest began head at);
     }
 
-    -- the records stand
+    -- the records are there
     pub compact-ends : next ≡ None
         → AdvancesCompact disk_of (journal_of device place (Compact work) false) records went (journal_of later (new_place (other_area place.area) work) Empty false)
     compact-ends is = record {

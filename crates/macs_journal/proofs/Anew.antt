@@ -1,4 +1,4 @@
--- One device call of a compaction in hand, and what a journal with one comes to.
+-- One device call of a compaction under way, and what a journal with one comes to.
 use Rattle.std.proofs.Common.{◌≡◌, ◌≤◌, ℕ, refl, sym, ◌∙◌, ap, subst, arith, List, length, Option, Some, None}
 use Rattle.macs_disk.specs.Disk.{Disk, Works}
 use Rattle.macs_disk.specs.Runs.{Leaves}
@@ -29,7 +29,7 @@ new_place area work = record { area = area; head = work.head; free = work.head.c
 same-records : (before after : Content) (records others : List Record) → after ≡ compacted before records → after ≡ compacted before others → records ≡ others
 same-records before after records others is other_is = ap (λ (c : Content). c.records) (sym is ∙ other_is)
 
--- a compaction in hand, with the records that are lent
+-- a compaction under way, with the records that are lent
 compacting : (old : Disk) (place : Place) (hand : Hand) (work : Compacting) (records : List Record) (before after : Content) → hand ≡ Compact work
     → HoldsWith old place hand records before after → IsCompacting old work before after
 compacting old place hand work records before after hand_is holding = subst (λ (h : Hand). HoldsHand old h before after) hand_is holding.holds.holds

@@ -1,4 +1,4 @@
--- The device calls of an append: what a power loss leaves around each, which sectors it leaves alone, and what stands before the next.
+-- The device calls of an append: what a power loss leaves around each, which sectors it leaves alone, and what is before the next.
 use Rattle.std.proofs.Common.{◌≡◌, ◌≢◌, ◌<◌, ◌+◌, ℕ, refl, subst, arith, List, Some, Result, Ok, Err, OnOk, length}
 use Rattle.macs_disk.specs.States.{Image, IsImage, IsSound, DiskState, state_after_write}
 use Rattle.macs_disk.specs.Disk.{Disk, IsDeviceCall, now}
@@ -14,7 +14,7 @@ use Rattle.macs_journal.specs.declared.appending.AppendStage.TheVariants.{Body, 
 use Rattle.macs_journal.proofs.Appends.{append-synced, appended, body-written, gate-written, record-synced}
 use Rattle.macs_journal.proofs.Spared.{Spared-sync, Spared-write}
 
--- one call less is left behind a call
+-- one call less is left after a call
 pub left-next : (stage : AppendStage) → calls_left (next_append stage) + 1 ≡ calls_left (Some stage)
 left-next Body = refl
 left-next BodySync = refl

@@ -1,4 +1,4 @@
--- Which sectors are left alone while a disk is formatted, what stands in the gates, and what a power loss leaves.
+-- Which sectors are left alone while a disk is formatted, what is in the gates, and what a power loss leaves.
 use Rattle.std.proofs.Common.{◌≡◌, ◌≢◌, ◌<◌, ◌≤◌, ◌+◌, ◌-◌, ⊎_elim, inl, inr, ℕ, sym, ◌∙◌, ap, subst, arith, [], ◌∷◌, length, Some}
 use Rattle.std.specs.List.{slice_get}
 use Rattle.std.proofs.lemmas.Option.{slice_get_within}

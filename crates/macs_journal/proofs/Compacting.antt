@@ -1,4 +1,4 @@
--- A journal that begins anew: what it is where that was not begun, and what its device calls come to.
+-- A journal that starts over: what it is where that was not begun, and what its device calls come to.
 use Rattle.std.proofs.Common.{◌≡◌, ◌≤◌, ◌⊎◌, ◌↔◌, ◌+◌, ◌∙◌, ℕ, true, false, inl, inr, sym, ap, refl, subst, arith, List, length, Result, Ok, Err, IsErrOf}
 use Rattle.macs_disk.specs.Disk.{now}
 use Rattle.macs_disk.specs.Disk as disk
@@ -104,7 +104,7 @@ module _ {D : Type 0} (disk_of : D → disk.Disk) (old mid : JournalValue D) (re
     by_stopped false is = is
     by_stopped true is = absurd (let no = starts.stopped.1 is in cc)
 
-  -- with nothing in hand it is as before
+  -- with nothing under way it is as before
   as-before : with_nothing mid ≡ old
   as-before = λ i. record {
     disk = starts.device i;
@@ -113,7 +113,7 @@ module _ {D : Type 0} (disk_of : D → disk.Disk) (old mid : JournalValue D) (re
     stopped = (starts.running ∙ sym ran) i;
   }
 
-  -- what is in hand is to be done from where it is
+  -- what is under way is to be done from where it is
   task-there : (hand : Hand) → IsTaskInHand old (Renews records) hand → IsTaskInHand mid (Renews records) hand
   task-there Empty task = absurd task
   task-there (Append work) task = absurd task
@@ -136,9 +136,9 @@ module _ {D : Type 0} (disk_of : D → disk.Disk) (old mid : JournalValue D) (re
       → Compacts disk_of old records result new
   begun-compacts result new compacts = subst (λ (j : JournalValue D). Compacts disk_of j records result new) as-before compacts
 
--- ---- the work in hand
+-- ---- the work under way
 
--- nothing is in hand, or the journal begins anew under this head
+-- nothing is under way, or the journal starts over under this head
 abbrev pub IsCompactOf : Head → Hand → Type 0
 IsCompactOf head Empty = Unit {0}
 IsCompactOf head (Append work) = ⊥

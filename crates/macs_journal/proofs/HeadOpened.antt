@@ -38,7 +38,7 @@ left-until old mid new P limit leaves works between k from until lt image left =
   | inr before ↦ leaves.each image (k, from, before, subst (λ (s : DiskState). IsImage s image) (works.past k before) left)
 ]
 
--- a first call that leaves nothing new, with others behind it
+-- a first call that leaves nothing new, with others after it
 pub first-left : (old mid new : Disk) → LeavesNothingNew old mid → Works mid new → mid.clock ≡ old.clock + 1
     → (k : ℕ) → old.clock ≤ k → k ≤ new.clock → k < old.clock + 2 → (image : Image) → IsImage (new.past k) image → MayLeave old image
 first-left old mid new nothing works one k from until lt image left =

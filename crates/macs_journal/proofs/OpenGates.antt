@@ -110,7 +110,7 @@ shut old new area from works spared closed k le lt opens = elim (open_or_closed 
       not (subst IsOpen same opens)
 ]
 
--- and then that of the head was opened; what was written before and behind the closing is no gate of a slot
+-- and then that of the head was opened; what was written before and after the closing is no gate of a slot
 pub new-gates : (old mid full new : Image) (area from : ℕ) → from ≤ 1 → ((k : ℕ) → mid (gate area (k + 1)) ≡ old (gate area (k + 1)))
     → AreClosed mid full area from gates → ((k : ℕ) → new (gate area (k + 1)) ≡ full (gate area (k + 1))) → new (gate area 0) ≡ open_gate
     → HasNewGates old new area

@@ -72,7 +72,7 @@ module _ {D : Type 0} (disk_of : D → disk.Disk) (old new : D) (large : least_s
       any_moment = nothing;
     }
 
-    -- what stands there is no journal
+    -- what is there is no journal
     pub refused-found : (meaning : Meaning) (fault : JournalFault) (room : List Record) → meaning ≡ Refused fault → IsNamed meaning
         → (disk.IsHonest (disk_of new) → MeaningIs (disk.now (disk_of old)).seen meaning (read_in meaning room))
         → IsRefused disk_of (IsNoJournal disk_of old) old new fault

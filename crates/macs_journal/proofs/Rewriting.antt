@@ -1,4 +1,4 @@
--- What a power loss leaves while a journal begins anew, by the sectors that are left alone.
+-- What a power loss leaves while a journal starts over, by the sectors that are left alone.
 use Rattle.std.proofs.Common.{◌≡◌, ◌≢◌, ◌<◌, ◌≤◌, ◌+◌, inl, inr, ⊎_elim, ℕ, refl, sym, ◌∙◌, ap, subst, arith, List, length}
 use Rattle.macs_disk.specs.States.{DiskState, Image}
 use Rattle.macs_disk.specs.Disk.{Disk, Works, now}
@@ -110,7 +110,7 @@ module _ (before : Content) (area : ℕ) (area_is : other_area before.area ≡ a
         (subst (λ (a : ℕ). IsPast image a before.head) (sym area_is) (λ opens. absurd (not opens))))
   ]
 
--- ---- the runs, one behind the other
+-- ---- the runs, one after another
 
 module _ (old mid : Disk) (before : Content) (area : ℕ) (area_is : other_area before.area ≡ area) (ready : IsReady (now old) before) (to_mid : Works old mid)
     (clearing : (i : ℕ) → IsNoOpenGate (now old).seen area 0 gates i → IsSpared old mid i) where
@@ -181,7 +181,7 @@ module _ (old mid : Disk) (area count : ℕ) (to_mid : Works old mid)
     spared-opening new to_new opening i apart =
         Spared-on old full new i (Works-on old mid full to_mid to_full) to_new (spared-filling i apart) (opening i (λ here. apart (inl (inr here))))
 
--- ---- what stands in the gates
+-- ---- what is in the gates
 
 -- they were closed, and then the bodies were written and the head was opened
 pub gates-opened : (old mid full new : Disk) (area count : ℕ) → AreClosed (now old).seen (now mid).seen area 0 gates

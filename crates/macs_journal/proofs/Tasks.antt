@@ -1,4 +1,4 @@
--- A task in hand: it stays the same while it goes on, and with which records it is in hand.
+-- A task under way: it stays the same while it goes on, and with which records it is under way.
 use Rattle.std.proofs.Common.{◌∙◌, refl, sym, List}
 use Rattle.macs_disk.specs.Disk.{Disk}
 use Rattle.macs_record.specs.declared.record.Record.{Record}
@@ -42,7 +42,7 @@ pub append-with : (d : Disk) (place : Place) (hand : Hand) (records : List Recor
     → IsHolding d place hand before after → HoldsWith d place hand records before after
 append-with d place hand records before after is holding = record { holds = holding; made = append-made hand records before after is }
 
--- a compaction is in hand with the records that it began with
+-- a compaction is under way with the records that it began with
 renewal-made : (hand : Hand) (records : List Record) (before : Content) → IsMadeOf hand records before (compacted before records)
 renewal-made Empty records before = tt
 renewal-made (Append work) records before = tt

@@ -29,7 +29,7 @@ use Rattle.macs_journal.proofs.Stages.{body_from-cases, gate_from-cases}
 -- ---- one call
 
 module _ (began new : Disk) (area : ℕ) (head : Head) (records : List Record) where
-  -- before the next gate, or behind the last
+  -- before the next gate, or after the last
   at-gates : (k : ℕ) → AreGatesClosed began new area k 0 → AtStage began new area head records (gate_from k)
   at-gates k at = elim (gate_from-cases k) [
     | inl last ↦ subst (AtStage began new area head records) (sym last.1) (subst (λ (n : ℕ). AreGatesClosed began new area n 0) last.0 at)

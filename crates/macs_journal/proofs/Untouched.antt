@@ -1,4 +1,4 @@
--- Calls that change nothing, and a first call with others behind it that change nothing.
+-- Calls that change nothing, and a first call with others after it that change nothing.
 use Rattle.std.proofs.Common.{◌≡◌, ◌⊎◌, inl, inr, ℕ, sym, ◌∙◌, ap, subst, arith, List, Result}
 use Rattle.std.proofs.lemmas.Bool.{cases_lt}
 use Rattle.macs_disk.specs.States.{DiskState, IsImage, IsSound, state_after_sync}
@@ -53,13 +53,13 @@ untouched-spared old new i untouched = record {
   leaves = λ k from until octets holds. subst (λ (s : DiskState). MayHold s i octets) (untouched k from until) holds;
 }
 
--- ---- a first call, with others behind it that change nothing
+-- ---- a first call, with others after it that change nothing
 
 pub stands-from-first : {T E : Type 0} (old mid new : Disk) (result : Result T E) → IsDeviceCall old mid result → Works mid new → IsUntouched mid new → StandsFromFirst old new
 stands-from-first old mid new result call works untouched k after until =
     untouched k (omega (arith, after, call.at_most_one)) until ∙ sym (untouched-now mid new works untouched)
 
--- with none behind it
+-- with none after it
 pub stands-after-one : {T E : Type 0} (old new : Disk) (result : Result T E) → IsDeviceCall old new result → StandsFromFirst old new
 stands-after-one old new result call = stands-from-first old new new result call (Works-start new) (untouched-start new)
 

@@ -1,4 +1,4 @@
--- Calls of a disk, and an answer that tells of them in a type of its own.
+-- Calls of a disk, and an answer that reports them in a type of its own.
 use Rattle.std.proofs.Common.{◌≡◌, ◌+◌, refl, Bool, true, false, Result, Ok, Err, IsErr, IfOk, OnOk, is_err}
 use Rattle.macs_disk.specs.Disk.{Disk, FailsOnce, IsDeviceCall, IsWork, Works}
 use Rattle.macs_disk.proofs.Moments.{FailsOnce-before, Works-on}

@@ -1,4 +1,4 @@
--- A journal that begins anew in its other area: its snapshot is written there, under a head of the next generation.
+-- A journal that starts over in its other area: its snapshot is written there, under a head of the next generation.
 use Rattle.std.specs.Prelude.{◌≡◌, ◌≤◌, ◌⊎◌, ◌↔◌, ◌+◌, ℕ, true, false, List, length, Result, IsErrOf, OnOk, OnErr}
 use Rattle.macs_disk.specs.States.{Image}
 use Rattle.macs_disk.specs.Disk.{IsHonest, MayLeave, now}
@@ -19,11 +19,11 @@ use Rattle.macs_journal.specs.declared.place.Place.{Place}
 pub use Rattle.macs_journal.specs.Renewal.{CompactWrites, FindsUntil, compacted, last_generation, next_head}
 unfoldable pub use Rattle.macs_journal.specs.Renewal.{HasOpenGates}
 
--- the place where it goes on, behind so many records
+-- the place where it goes on, after so many records
 abbrev pub compacted_place : Place → ℕ → Place
 compacted_place place count = record { area = other_area place.area; head = next_head place.head count; free = count }
 
--- it runs, and it is in hand that it begins anew with these records, of which no device call was made
+-- it runs, and a compaction with these records is under way, for which no device call was made yet
 pub record IsBegun {D : Type 0} (j : JournalValue D) (records : List Record) : Type 0 where
   pub running : is_stopped j ≡ false
   pub more : ¬ (generation j ≡ last_generation)
@@ -31,11 +31,11 @@ pub record IsBegun {D : Type 0} (j : JournalValue D) (records : List Record) : T
   pub hand : IsTaskInHand j (Renews records) j.hand
   pub left : left_of j.hand ≡ calls_of (Renews records)
 
--- the journal with nothing in hand
+-- the journal with nothing under way
 abbrev pub with_nothing : {D : Type 0} → JournalValue D → JournalValue D
 with_nothing j = record j { hand = Empty }
 
--- A journal begins anew with these records in its other area. Refused as Stopped where a device call failed before, then as
+-- A journal starts over with these records in its other area. Refused as Stopped where a device call failed before, then as
 -- GenerationsSpent where its generation is the last one, and changes nothing then; as Disk where a device call failed, which stops it.
 -- Until the head gate is written a power loss leaves the old content, from then on the old or the new, and after Ok the new.
 pub record Compacts {D : Type 0} (disk_of : D → disk.Disk) (old : JournalValue D) (records : List Record) (result : Result (Unit {0}) JournalFault) (new : JournalValue D) : Type 0 where
@@ -46,7 +46,7 @@ pub record Compacts {D : Type 0} (disk_of : D → disk.Disk) (old : JournalValue
   pub same : OnErr result (IsErrOf result Disk ⊎ (new ≡ old))
   pub halted : IsErrOf result Disk → (is_stopped new ≡ true) × IsIdle new
   pub at_fault : OnErr result (new.place ≡ old.place)
-  -- it runs, nothing is in hand, and it goes on behind the records
+  -- it runs, nothing is under way, and it goes on after the records
   pub running : OnOk result ((is_stopped new ≡ false) × IsIdle new)
   pub place : OnOk result (new.place ≡ compacted_place old.place (length records))
   -- its device calls: how many at most, and how many by the gates of the other area that read open
@@ -55,7 +55,7 @@ pub record Compacts {D : Type 0} (disk_of : D → disk.Disk) (old : JournalValue
   pub calls : OnOk result (IsHonest (disk_in disk_of new) → (opened : ℕ)
       → HasOpenGates (now (disk_in disk_of old)).seen (other_area old.place.area) gates opened
       → (disk_in disk_of new).clock ≡ (disk_in disk_of old).clock + (262 + opened + length records))
-  -- the old content stands at each moment before the head gate is written
+  -- the old content is at each moment before the head gate is written
   pub until : IsHonest (disk_in disk_of new) → (before : Content) → HoldsContent disk_of old before → (opened : ℕ)
       → HasOpenGates (now (disk_in disk_of old)).seen (other_area old.place.area) gates opened
       → FindsUntil (disk_in disk_of old) (disk_in disk_of new) ((disk_in disk_of old).clock + (261 + opened + length records)) before

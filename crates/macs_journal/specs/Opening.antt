@@ -17,12 +17,12 @@ use Rattle.macs_journal.specs.declared.recovery.FoundJournal.{FoundJournal}
 use Rattle.macs_journal.specs.declared.recovery.RecoverRefused.{RecoverRefused}
 use Rattle.macs_journal.specs.declared.recovery.Recovered.{Recovered}
 
--- what stands behind the first call stands to the end
+-- what is there after the first call stays to the end
 abbrev pub StandsFromFirst : Disk → Disk → Type 0
 StandsFromFirst old new = (k : ℕ) → old.clock < k → k ≤ new.clock → new.past k ≡ now new
 
 -- The device calls of an opening that is not refused: the disk is large enough, and no call failed. On an honest disk the first call is a
--- sync, and those behind it only read: what reads give is durable from then on, and no power loss on the way left anything that it could
+-- sync, and those after it only read: what reads give is durable from then on, and no power loss on the way left anything that it could
 -- not leave before.
 pub record IsOpened (old new : Disk) : Type 0 where
   pub large : least_sectors ≤ old.sectors
@@ -32,9 +32,9 @@ pub record IsOpened (old new : Disk) : Type 0 where
   pub from_first : IsHonest new → StandsFromFirst old new
   pub any_moment : IsHonest new → LeavesNothingNew old new
 
--- An opening that is refused, and gives the disk back. TooSmall is told exactly of a disk that is too small, and then no call is made;
+-- An opening that is refused, and gives the disk back. TooSmall is answered exactly for a disk that is too small, and then no call is made;
 -- Disk exactly where a device call failed, which was the last one. On an honest disk every other fault is what `Found` says, nothing is
--- written, the calls behind the first change nothing, and no power loss on the way left anything that it could not leave before.
+-- written, the calls after the first change nothing, and no power loss on the way left anything that it could not leave before.
 pub record IsRefused {D : Type 0} (disk_of : D → Disk) (Found : JournalFault → Type 0) (disk left : D) (fault : JournalFault) : Type 0 where
   pub name : IsRecoverName fault
   pub small : (fault ≡ variant.TooSmall) ↔ ((disk_of disk).sectors < least_sectors)
@@ -46,7 +46,7 @@ pub record IsRefused {D : Type 0} (disk_of : D → Disk) (Found : JournalFault �
   pub from_first : IsHonest (disk_of left) → StandsFromFirst (disk_of disk) (disk_of left)
   pub any_moment : IsHonest (disk_of left) → LeavesNothingNew (disk_of disk) (disk_of left)
 
--- A journal is recovered, and these are its records. It runs and has nothing in hand, its head has this format, identity and count, and its
+-- A journal is recovered, and these are its records. It runs and has nothing under way, its head has this format, identity and count, and its
 -- records fill the slots that are used, those of the snapshot first. On an honest disk this is what the disk stood for, and the journal holds it.
 pub record Recovers {D : Type 0} (disk_of : D → Disk) (disk : D) (journal : JournalValue D) (format : Format) (identity : Identity) (count : ℕ)
     (records : List Record) : Type 0 where
@@ -66,7 +66,7 @@ pub record Recovers {D : Type 0} (disk_of : D → Disk) (disk : D) (journal : Jo
 abbrev pub IsNoJournal : {D : Type 0} → (D → Disk) → D → JournalFault → Type 0
 IsNoJournal disk_of disk fault = JournalIs (disk_of disk).sectors (now (disk_of disk)).seen (Err fault)
 
--- The journal of a disk is recovered with the first records of a room, or refused for what stands on the disk, or for a device call that
+-- The journal of a disk is recovered with the first records of a room, or refused for what is on the disk, or for a device call that
 -- failed.
 abbrev pub IsRecoveryInto : {D : Type 0} → (D → Disk) → D → Result (FoundJournal D) (RecoverRefused D) → List Record
     → Type 0

@@ -1,4 +1,4 @@
--- What a journal is that begins anew in its other area, and which sectors that writes to.
+-- What a journal is that starts over in its other area, and which sectors that writes to.
 use Rattle.std.specs.Prelude.{◌≡◌, ◌<◌, ◌≤◌, ◌⊎◌, ◌+◌, ◌-◌, ◌^◌, ℕ, zero, suc, List, length}
 use Rattle.macs_disk.specs.States.{Image, IsImage}
 use Rattle.macs_disk.specs.Disk as disk
@@ -8,7 +8,7 @@ use Rattle.macs_record.specs.declared.record.Record.{Record}
 use Rattle.macs_journal.specs.Areas.{gate, gates, head_body, other_area, slot_body}
 use Rattle.macs_journal.specs.Found.{Content, HasJournal, IsGateOpen}
 
--- the greatest generation, which 8 octets hold: behind it there is no next one
+-- the greatest generation, which 8 octets hold: after it there is no next one
 abbrev pub last_generation : ℕ
 last_generation = 2 ^ 64 - 1
 
@@ -16,7 +16,7 @@ last_generation = 2 ^ 64 - 1
 abbrev pub next_head : Head → ℕ → Head
 next_head head count = record { format = Two; generation = head.generation + 1; count = count; identity = head.identity }
 
--- the content of a journal that begins anew with these records
+-- the content of a journal that starts over with these records
 abbrev pub compacted : Content → List Record → Content
 compacted c records = record { area = other_area c.area; head = next_head c.head (length records); records = records }
 

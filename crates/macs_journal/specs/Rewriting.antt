@@ -1,4 +1,4 @@
--- An area written anew: its gates closed, its bodies written, and its head opened.
+-- An area rewritten: its gates closed, its bodies written, and its head opened.
 use Rattle.std.specs.Prelude.{◌≡◌, ◌≢◌, ◌<◌, ◌≤◌, ◌⊎◌, ◌+◌, ℕ, false, List, slice_get, Some}
 use Rattle.macs_disk.specs.States.{DiskState, Image, IsImage}
 use Rattle.macs_record.specs.Decoding.{IsSectorOf}
@@ -44,7 +44,7 @@ IsOldOrOpening old area image = IsImage old image ⊎ ((i : ℕ) → i ≢ gate 
 
 -- ---- the whole
 
--- what an area that begins anew has in its gates: that of its head is open, and those of slots that read open are closed, each as it
+-- what an area that starts over has in its gates: that of its head is open, and those of slots that read open are closed, each as it
 -- is written
 pub record HasNewGates (old new : Image) (area : ℕ) : Type 0 where
   pub head : new (gate area 0) ≡ open_gate

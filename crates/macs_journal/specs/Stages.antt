@@ -1,4 +1,4 @@
--- A compaction cut at its device calls: what stands before each of them, and what each does.
+-- A compaction cut at its device calls: what is before each of them, and what each does.
 use Rattle.std.specs.Prelude.{◌≡◌, ◌≢◌, ◌==◌, ◌<◌, ◌≤◌, ◌⊎◌, ◌+◌, ◌*◌, ◌-◌, ℕ, if◌then◌else◌, Bool, true, false, List, length, slice_get, Option, Some, None, Result}
 use Rattle.macs_disk.specs.Disk.{Disk, MayLeave, Reads, Syncs, Works, Writes, now}
 use Rattle.macs_disk.specs.Runs.{Leaves}
@@ -17,15 +17,15 @@ use Rattle.macs_journal.specs.declared.compact_stage.CompactStage.TheVariants.{R
 
 -- ---- the calls in their order
 
--- the call for a gate, or that behind the gates where there is none
+-- the call for a gate, or that after the gates where there is none
 abbrev pub gate_from : ℕ → CompactStage
 gate_from k = if k == gates then GatesSync else ReadGate k
 
--- the call for the body of a slot, or that behind the bodies where there is none
+-- the call for the body of a slot, or that after the bodies where there is none
 abbrev pub body_from : (count slot : ℕ) → CompactStage
 body_from count slot = if slot == count then BodiesSync else Body slot
 
--- the call behind one, by how many records there are, and whether the gate that was read is open
+-- the call after one, by how many records there are, and whether the gate that was read is open
 abbrev pub next_stage : ℕ → CompactStage → Bool → Option CompactStage
 next_stage count (ReadGate k) true = Some (CloseGate k)
 next_stage count (ReadGate k) false = Some (gate_from (k + 1))
@@ -110,7 +110,7 @@ pub record AreBodiesWritten (began d : Disk) (area : ℕ) (head : Head) (records
   pub bodies : (slot : ℕ) → slot < count → IsBodyOf records slot ((now d).seen (slot_body area slot))
   pub others : (i : ℕ) → i ≢ head_body area → IsNoBody area count i → IsSpared mid d i
 
--- all of them were written, and from there on no sector was written but the head gate, behind a sync
+-- all of them were written, and from there on no sector was written but the head gate, after a sync
 pub record IsOpening (began d : Disk) (area : ℕ) (head : Head) (records : List Record) : Type 0 where
   pub full : Disk
   pub filled : AreBodiesWritten began full area head records (length records)
@@ -150,7 +150,7 @@ AtStage began d area head records BodiesSync = AreBodiesWritten began d area hea
 AtStage began d area head records HeadGate = AreBodiesDurable began d area head records
 AtStage began d area head records HeadSync = IsHeadOpened began d area head records
 
--- before the next call, or behind the last
+-- before the next call, or after the last
 abbrev pub AtNextStage : (began d : Disk) → ℕ → Head → List Record → Option CompactStage → Type 0
 AtNextStage began d area head records (Some stage) = AtStage began d area head records stage
 AtNextStage began d area head records None = IsRewritten began d area head records

@@ -27,7 +27,7 @@ use Rattle.macs_journal.specs.declared.work.Work.TheVariants.{Append, Compact}
 
 -- ---- what is to be done
 
--- to append a record, or to begin anew with these
+-- to append a record, or to start over with these
 pub data Task : Type 0 where
   Appends : Record → Task
   Renews : List Record → Task
@@ -42,17 +42,17 @@ abbrev pub after_task : Task → Content → Content
 after_task (Appends r) before = content_with_record before r
 after_task (Renews records) before = compacted before records
 
--- the area is not full, or there is a record to begin anew with
+-- the area is not full, or there is a record to start over with
 abbrev pub FitsWork : Place → Work → Type 0
 FitsWork place (Append r) = place.free < slots
 FitsWork place (Compact records) = 1 ≤ length records.items
 
--- the journal is to begin anew, and its generation is the last
+-- the journal is to start over, and its generation is the last
 abbrev pub IsSpent : {D : Type 0} → JournalValue D → Task → Type 0
 IsSpent j (Appends r) = ⊥
 IsSpent j (Renews records) = generation j ≡ last_generation
 
--- what it takes in hand: the sector of the record, or the head of the next generation; which call comes first is said by how many are left
+-- the work that it starts: the sector of the record, or the head of the next generation; how many calls are left says which comes first
 abbrev pub IsTaskInHand : {D : Type 0} → JournalValue D → Task → Hand → Type 0
 IsTaskInHand j task hand.Empty = ⊥
 IsTaskInHand j (Appends r) (hand.Append work) = IsSectorOf r work.sector
@@ -65,8 +65,8 @@ abbrev pub calls_of : Task → ℕ
 calls_of (Appends r) = 4
 calls_of (Renews records) = 519 + length records
 
--- A task is taken in hand, and no device call is made. Stopped exactly where a device call failed before; GenerationsSpent exactly where
--- the journal is to begin anew and its generation is the last; nothing changes then.
+-- A task is started, and no device call is made. Stopped exactly where a device call failed before; GenerationsSpent exactly where
+-- the journal is to start over and its generation is the last; nothing changes then.
 pub record Starts {D : Type 0} (disk_of : D → disk.Disk) (old : JournalValue D) (task : Task) (result : Result (Unit {0}) JournalFault) (new : JournalValue D) : Type 0 where
   pub stopped : IsErrOf result Stopped ↔ (is_stopped old ≡ true)
   pub spent : IsErrOf result GenerationsSpent ↔ ((is_stopped old ≡ false) × IsSpent old task)
@@ -94,28 +94,28 @@ place_then place hand.Empty = place
 place_then place (hand.Append work) = record place { free = place.free + 1 }
 place_then place (hand.Compact work) = record { area = other_area place.area; head = work.head; free = work.head.count }
 
--- an append is in hand
+-- an append is under way
 abbrev pub IsAppendHand : Hand → Type 0
 IsAppendHand (hand.Append work) = Unit {0}
 IsAppendHand other = ⊥
 
--- it is in hand that the journal at this place begins anew, with as many records as these
+-- a compaction of the journal at this place is under way, with as many records as these
 abbrev pub RenewsWith : Place → Hand → List Record → Type 0
 RenewsWith place (hand.Compact work) records = next_head place.head (length records) ≡ work.head
 RenewsWith place other records = ⊥
 
--- a compaction is in hand
+-- a compaction is under way
 abbrev pub IsCompactHand : Hand → Type 0
 IsCompactHand (hand.Compact work) = Unit {0}
 IsCompactHand other = ⊥
 
--- where nothing is left in hand the work is finished
+-- where nothing is left under way the work is finished
 abbrev pub step_of : Hand → JournalStep
 step_of hand.Empty = Finished
 step_of (hand.Append work) = Going
 step_of (hand.Compact work) = Going
 
--- One device call of the append in hand.
+-- One device call of the append under way.
 pub record AdvancesAppend {D : Type 0} (disk_of : D → disk.Disk) (old : JournalValue D) (result : Result (Unit {0}) JournalFault) (new : JournalValue D) : Type 0 where
   pub names : OnErr result (IsErrOf result Disk)
   pub work : IsWorkOf (disk_in disk_of old) (disk_in disk_of new) result
@@ -140,7 +140,7 @@ pub record AdvancesAppend {D : Type 0} (disk_of : D → disk.Disk) (old : Journa
   pub others : IsHonest (disk_in disk_of new) → (i : ℕ) → i ≢ slot_body old.place.area old.place.free → i ≢ gate old.place.area (old.place.free + 1)
       → IsSpared (disk_in disk_of old) (disk_in disk_of new) i
 
--- One device call of the work in hand, with the records that are lent to it.
+-- One device call of the work under way, with the records that are lent to it.
 pub record Advances {D : Type 0} (disk_of : D → disk.Disk) (old : JournalValue D) (snapshot : List Record) (result : Result (Unit {0}) JournalFault) (new : JournalValue D) : Type 0 where
   pub names : OnErr result (IsErrOf result Disk)
   pub work : IsWorkOf (disk_in disk_of old) (disk_in disk_of new) result
@@ -162,13 +162,13 @@ pub record Advances {D : Type 0} (disk_of : D → disk.Disk) (old : JournalValue
   pub next : OnOk result (IsHonest (disk_in disk_of new) → (before after : Content) → HoldsWith (disk_in disk_of old) old.place old.hand snapshot before after
       → ComesTo (disk_in disk_of new) new.place new.hand before after)
 
--- before the device call that comes next of a compaction in hand under this head, or after its last one
+-- before the device call that comes next of a compaction under way under this head, or after its last one
 abbrev pub AtNextCall : (began d : disk.Disk) → ℕ → Head → List Record → Hand → Type 0
 AtNextCall began d area head records hand.Empty = IsRewritten began d area head records
 AtNextCall began d area head records (hand.Append work) = ⊥
 AtNextCall began d area head records (hand.Compact work) = (work.head ≡ head) × AtStage began d area head records work.stage
 
--- One device call of the compaction in hand, of these records, which goes on from where it is. Whatever the call answers, the compaction is
+-- One device call of the compaction under way, of these records, which goes on from where it is. Whatever the call answers, the compaction is
 -- under way; after Ok it is before its next call, or done.
 pub record AdvancesCompact {D : Type 0} (disk_of : D → disk.Disk) (old : JournalValue D) (records : List Record) (result : Result (Unit {0}) JournalFault) (new : JournalValue D) : Type 0 where
   pub advances : Advances disk_of old records result new
@@ -179,10 +179,10 @@ pub record AdvancesCompact {D : Type 0} (disk_of : D → disk.Disk) (old : Journ
       → AtNextCall began (disk_in disk_of old) (other_area old.place.area) head records old.hand
       → AtNextCall began (disk_in disk_of new) (other_area old.place.area) head records new.hand)
 
--- A step of a journal: one device call of the work in hand. Stopped exactly where a device call failed before, else Idle exactly where
--- nothing is in hand: then no call is made and nothing changes. Disk exactly where the call failed, which stops the journal and leaves
--- nothing in hand. Else the work goes on, the same before and after, or is finished: then the content is the one after it. What is said of
--- contents is said where the work in hand makes the one of the other with the records that are lent.
+-- A step of a journal: one device call of the work under way. Stopped exactly where a device call failed before, else Idle exactly where
+-- nothing is under way: then no call is made and nothing changes. Disk exactly where the call failed, which stops the journal and leaves
+-- nothing under way. Else the work goes on, the same before and after, or is finished: then the content is the one after it. What is said of
+-- contents is said where the work under way makes the one of the other with the records that are lent.
 pub record Steps {D : Type 0} (disk_of : D → disk.Disk) (old : JournalValue D) (snapshot : List Record) (result : Result JournalStep JournalFault) (new : JournalValue D) : Type 0 where
   -- what is answered, and what is left of the journal in memory
   pub stopped : IsErrOf result Stopped ↔ (is_stopped old ≡ true)
@@ -198,7 +198,7 @@ pub record Steps {D : Type 0} (disk_of : D → disk.Disk) (old : JournalValue D)
   pub moved : result ≡ Ok Finished → new.place ≡ place_then old.place old.hand
   -- as many records are to be lent as before
   pub lent : (later : List Record) → AreLent old.hand later → AreLent new.hand later
-  -- its device calls: one that answers what the step answers, where work is in hand and none failed before
+  -- its device calls: one that answers what the step answers, where work is under way and none failed before
   pub work : IsWorkOf (disk_in disk_of old) (disk_in disk_of new) result
   pub device : is_stopped old ≡ false → (¬ IsIdle old) → IsDeviceCall (disk_in disk_of old) (disk_in disk_of new) result
   pub one : (disk_in disk_of new).clock ≤ (disk_in disk_of old).clock + 1

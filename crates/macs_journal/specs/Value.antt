@@ -1,4 +1,4 @@
--- A journal in memory: what is read of it, and the work that it has in hand.
+-- A journal in memory: what is read of it, and the work that it has under way.
 use Rattle.std.specs.Prelude.{◌≡◌, ◌<◌, ◌≤◌, ℕ, Bool, List, Some, length}
 use Rattle.macs_disk.specs.Disk.{Disk, now}
 use Rattle.macs_record.specs.Decoding.{IsSectorOf}
@@ -13,7 +13,7 @@ use Rattle.macs_journal.specs.declared.hand.Hand.{Hand}
 use Rattle.macs_journal.specs.declared.hand.Hand.TheVariants.{Append, Compact, Empty}
 use Rattle.macs_journal.specs.declared.place.Place.{Place}
 
--- what a journal keeps: its disk, where the next record goes, the work in hand, and whether a device call failed
+-- what a journal keeps: its disk, where the next record goes, the work under way, and whether a device call failed
 pub record JournalValue (D : Type 0) : Type 0 where
   pub disk : D
   pub place : Place
@@ -44,7 +44,7 @@ current_area j = j.place.area
 abbrev pub generation : {D : Type 0} → JournalValue D → ℕ
 generation j = j.place.head.generation
 
--- no work is in hand
+-- no work is under way
 abbrev pub IsIdle : {D : Type 0} → JournalValue D → Type 0
 IsIdle j = j.hand ≡ Empty
 
@@ -52,13 +52,13 @@ IsIdle j = j.hand ≡ Empty
 abbrev pub content_of : {D : Type 0} → JournalValue D → List Record → Content
 content_of j records = record { area = j.place.area; head = j.place.head; records = records }
 
--- the place is the one behind this content
+-- the place is the one after this content
 pub record IsAt (place : Place) (c : Content) : Type 0 where
   pub area : c.area ≡ place.area
   pub head : c.head ≡ place.head
   pub free : length c.records ≡ place.free
 
--- At the disk `began`, with the content `before`, the journal started to begin anew with these records, and its calls led to this disk.
+-- At the disk `began`, with the content `before`, the journal began to start over with these records, and its calls led to this disk.
 pub record IsCompacting (d : Disk) (work : Compacting) (before after : Content) : Type 0 where
   pub began : Disk
   pub records : List Record
@@ -69,19 +69,19 @@ pub record IsCompacting (d : Disk) (work : Compacting) (before after : Content) 
   pub fits : IsCompactStage (length records) work.stage
   pub at : AtStage began d (other_area before.area) work.head records work.stage
 
--- nothing is in hand, or a record that is to be appended to a free slot, or records with which the journal begins anew
+-- nothing is under way, or a record that is to be appended to a free slot, or records with which the journal starts over
 abbrev pub HoldsHand : Disk → Hand → Content → Content → Type 0
 HoldsHand d Empty before after = IsReady (now d) before × (after ≡ before)
 HoldsHand d (Append work) before after =
     (r : Record) × IsSectorOf r work.sector × (after ≡ content_with_record before r) × AtAppend (now d) before work.sector work.stage × (length before.records < slots)
 HoldsHand d (Compact work) before after = IsCompacting d work before after
 
--- The disk has the content `before`, and `after` once the work in hand is done.
+-- The disk has the content `before`, and `after` once the work under way is done.
 pub record IsHolding (d : Disk) (place : Place) (hand : Hand) (before after : Content) : Type 0 where
   pub at : IsAt place before
   pub holds : HoldsHand d hand before after
 
--- where the journal begins anew: there are as many records as its new head counts
+-- where the journal starts over: there are as many records as its new head counts
 abbrev pub AreLent : Hand → List Record → Type 0
 AreLent Empty snapshot = Unit {0}
 AreLent (Append work) snapshot = Unit {0}
@@ -93,7 +93,7 @@ IsMadeOf Empty snapshot before after = Unit {0}
 IsMadeOf (Append work) snapshot before after = Unit {0}
 IsMadeOf (Compact work) snapshot before after = after ≡ compacted before snapshot
 
--- The disk has the content `before`, and `after` once the work in hand is done, with these records where it is to begin anew.
+-- The disk has the content `before`, and `after` once the work under way is done, with these records where it is to start over.
 pub record HoldsWith (d : Disk) (place : Place) (hand : Hand) (snapshot : List Record) (before after : Content) : Type 0 where
   pub holds : IsHolding d place hand before after
   pub made : IsMadeOf hand snapshot before after
@@ -104,7 +104,7 @@ ComesTo d place Empty before after = IsHolding d place Empty after after
 ComesTo d place (Append work) before after = IsHolding d place (Append work) before after
 ComesTo d place (Compact work) before after = IsHolding d place (Compact work) before after
 
--- what the work in hand asks of the place, and of itself
+-- what the work under way asks of the place, and of itself
 abbrev pub FitsHand : Place → Hand → Type 0
 FitsHand place Empty = Unit {0}
 FitsHand place (Append work) = place.free < slots
@@ -122,11 +122,11 @@ append_left Empty = 0
 append_left (Append work) = calls_left (Some work.stage)
 append_left (Compact work) = 0
 
--- nothing is in hand, or an append
+-- nothing is under way, or an append
 abbrev pub IsNoCompact : Hand → Type 0
 IsNoCompact (Compact work) = ⊥
 IsNoCompact hand = Unit {0}
 
--- the disk has this content, and nothing is in hand
+-- the disk has this content, and nothing is under way
 abbrev pub HoldsContent : {D : Type 0} → (D → Disk) → JournalValue D → Content → Type 0
 HoldsContent disk_of j content = IsHolding (disk_in disk_of j) j.place j.hand content content

@@ -1,11 +1,11 @@
-//! Where things stand on a disk.
+//! Where things are on a disk.
 
 ghost use Rattle.std.specs.Prelude.{◌≡◌, ◌<◌, ◌≤◌, ◌+◌, ℕ};
 ghost use Rattle.macs_journal.specs.Areas.{IsArea, gate, gates, head_body, least_sectors, other_area, slot_body, slots};
 
 use std::marker::Model;
 
-/// How many sectors a disk needs: those behind them are never touched.
+/// How many sectors a disk needs: those after them are never touched.
 pub(crate) const LEAST_SECTORS: u64 = 1_028;
 
 /// How many slots an area has.
@@ -39,7 +39,7 @@ impl Area {
         Area(0)
     }
 
-    /// The area behind the first.
+    /// The area after the first.
     pub(crate) fn second() -> Area
         ensures { result ≡ 1 }
     {

@@ -9,11 +9,11 @@ use crate::area::GATES;
 /// The device calls of a compaction, in their order.
 #[derive(Clone, Copy)]
 pub enum CompactStage {
-    /// Reads a gate of the area that begins anew: gate 0 is that of the head.
+    /// Reads a gate of the area that starts over: gate 0 is that of the head.
     ReadGate(u64),
     /// Closes a gate that read open, since an old head there would name old bodies, and an old gate an old record.
     CloseGate(u64),
-    /// Makes the closed gates durable, before a body behind them changes.
+    /// Makes the closed gates durable, before a body after them changes.
     GatesSync,
     /// Writes the body of the head, of the next generation, at which nobody looks while its gate is closed.
     HeadBody,
@@ -28,7 +28,7 @@ pub enum CompactStage {
 }
 
 impl CompactStage {
-    /// The device call behind this one, `None` behind the last: by whether the gate that was read is open,
+    /// The device call after this one, `None` after the last: by whether the gate that was read is open,
     /// and how many records there are.
     pub(crate) fn next(self, is_open: bool, count: u64) -> Option<CompactStage>
         requires room { IsCompactStage count self }
@@ -54,7 +54,7 @@ impl CompactStage {
     }
 }
 
-/// The call for a gate, or that behind the gates where there is none.
+/// The call for a gate, or that after the gates where there is none.
 fn gate_from(k: u64) -> CompactStage
     ensures { result ≡ gate_from k }
 {
@@ -65,7 +65,7 @@ fn gate_from(k: u64) -> CompactStage
     }
 }
 
-/// The call for the body of a slot, or that behind the bodies where there is none.
+/// The call for the body of a slot, or that after the bodies where there is none.
 fn body_from(slot: u64, count: u64) -> CompactStage
     ensures { result ≡ body_from count slot }
 {

@@ -1,4 +1,4 @@
-//! A journal that begins anew in its other area.
+//! A journal that starts over in its other area.
 
 ghost use Rattle.std.specs.Prelude.{◌≡◌, ◌≤◌, ◌↔◌, None, IfSome, IsTrue, length};
 ghost use Rattle.macs_journal.specs.Areas.{slots};
@@ -14,12 +14,12 @@ use macs_disk::SectorDisk;
 use macs_record::{Format, Head, Record};
 
 impl<D: SectorDisk> Journal<D> {
-    /// Begins anew with these records, 1 to 256, in the area that is not current: the gates there that
+    /// Starts over with these records, 1 to 256, in the area that is not current: the gates there that
     /// read open are closed, that of the head included, and this is made durable; the bodies of the
     /// records and of a head of the next generation, in format two, are written and made durable; the
     /// head gate is opened and made durable. Refused as `Stopped`, and as `GenerationsSpent`, where nothing is
     /// changed; as `Disk` at the first call that fails: then a power loss leaves the journal with the
-    /// records of before or with these. No work is in hand, before or after.
+    /// records of before or with these. No work is under way, before or after.
     pub fn compact(&mut self, records: &[Record]) -> Result<(), JournalFault>
         requires idle { IsIdle self.old }
         requires some { (1 ≤ length records.now) × (length records.now ≤ slots) }
@@ -28,7 +28,7 @@ impl<D: SectorDisk> Journal<D> {
         self.compact_from(&records)
     }
 
-    /// Begins anew with the records of a source, 1 to 256, as `compact` does with those of a slice: each is read
+    /// Starts over with the records of a source, 1 to 256, as `compact` does with those of a slice: each is read
     /// once, where its body is written.
     pub fn compact_from<R: RecordSource>(&mut self, records: &R) -> Result<(), JournalFault>
         requires idle { IsIdle self.old }
@@ -39,8 +39,8 @@ impl<D: SectorDisk> Journal<D> {
         self.finish_compact(records)
     }
 
-    /// Makes the device calls of the compaction in hand, of these records, up to its end: what it comes to is what a
-    /// journal with nothing in hand comes to that begins anew with them.
+    /// Makes the device calls of the compaction under way, of these records, up to its end: what it comes to is what a
+    /// journal with nothing under way comes to that starts over with them.
     fn finish_compact<R: RecordSource>(&mut self, records: &R) -> Result<(), JournalFault>
         requires { IsBegun self.old (R.listed records.now) }
         ensures { Compacts D.disk (with_nothing self.old) (R.listed records.now) result self.new }
@@ -51,7 +51,7 @@ impl<D: SectorDisk> Journal<D> {
         Ok(())
     }
 
-    /// Whether a compaction is in hand.
+    /// Whether a compaction is under way.
     fn is_compacting(&self) -> bool
         ensures { IsTrue result ↔ IsCompactHand self.now.hand }
     {

@@ -14,8 +14,8 @@ pub enum JournalFault {
     AlreadyFormatted,
     /// No head gate is open: there is no journal.
     NotFormatted,
-    /// A head gate is open, and what stands on the disk is no journal.
+    /// A head gate is open, and what is on the disk is no journal.
     BadJournal,
-    /// The generation is 2^64 - 1: the journal cannot begin anew. Nothing changes.
+    /// The generation is 2^64 - 1: the journal cannot start over. Nothing changes.
     GenerationsSpent,
 }

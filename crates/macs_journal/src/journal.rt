@@ -43,7 +43,7 @@ impl<D: SectorDisk> Model for Journal<D> {
 }
 
 impl<D: SectorDisk> Journal<D> {
-    /// A journal with nothing in hand.
+    /// A journal with nothing under way.
     pub(crate) fn new(disk: D, place: Place) -> Journal<D>
         requires size { least_sectors ≤ (D.disk disk).sectors }
         requires few { place.free ≤ slots }
@@ -72,8 +72,8 @@ impl<D: SectorDisk> Journal<D> {
         self.place.area.number()
     }
 
-    /// The generation of the current area: 1 when the disk is formatted, and one more each time that the journal begins
-    /// anew.
+    /// The generation of the current area: 1 when the disk is formatted, and one more each time that the journal starts
+    /// over.
     pub fn generation(&self) -> u64
         ensures { result ≡ generation self.now }
     {
@@ -96,7 +96,7 @@ impl<D: SectorDisk> Journal<D> {
         *stopped
     }
 
-    /// Whether no work is in hand.
+    /// Whether no work is under way.
     pub fn is_idle(&self) -> bool
         ensures { IsTrue result ↔ IsIdle self.now }
     {
@@ -107,7 +107,7 @@ impl<D: SectorDisk> Journal<D> {
         }
     }
 
-    /// The disk, as it stands.
+    /// The disk, as it is.
     pub fn into_disk(self) -> D
         ensures { result ≡ device_in self }
     {
@@ -116,9 +116,9 @@ impl<D: SectorDisk> Journal<D> {
     }
 
     /// Appends a record in four calls of the disk: it is written into the body of the first free slot,
-    /// made durable, the slot's gate opened and made durable. No work is in hand, and the area is not full. Refused as
+    /// made durable, the slot's gate opened and made durable. No work is under way, and the area is not full. Refused as
     /// `Stopped`, and as `Disk` at the first call that fails; then a power loss leaves the journal
-    /// with the record or without it, and no work is in hand.
+    /// with the record or without it, and no work is under way.
     pub fn append(&mut self, value: &Record) -> Result<(), JournalFault>
         requires idle { IsIdle self.old }
         requires room { used_slots self.old < slots }
@@ -149,7 +149,7 @@ impl<D: SectorDisk> Journal<D> {
         self.finish_append()
     }
 
-    /// Makes the calls of the append in hand up to its end.
+    /// Makes the calls of the append under way up to its end.
     fn finish_append(&mut self) -> Result<(), JournalFault>
         requires no_compact { IsNoCompact self.old.hand }
         requires running { is_stopped self.old ≡ false }
@@ -180,7 +180,7 @@ impl<D: SectorDisk> Journal<D> {
         Ok(())
     }
 
-    /// Whether an append is in hand.
+    /// Whether an append is under way.
     fn has_work(&self) -> bool
         requires no_compact { IsNoCompact self.now.hand }
         ensures busy { IsTrue result ↔ (1 ≤ append_left self.now.hand) }
@@ -192,7 +192,7 @@ impl<D: SectorDisk> Journal<D> {
         }
     }
 
-    /// One device call of the append in hand. After a device fault nothing is in hand.
+    /// One device call of the append under way. After a device fault nothing is under way.
     pub(crate) fn step_append(&mut self) -> Result<(), JournalFault>
         requires busy { 1 ≤ append_left self.old.hand }
         requires running { is_stopped self.old ≡ false }

@@ -1,4 +1,4 @@
-//! Where the records come from with which a journal begins anew.
+//! Where the records come from with which a journal starts over.
 
 ghost use Rattle.std.specs.Prelude.{◌≡◌, List, length};
 ghost use Rattle.std.specs.List.{slice_get};
@@ -6,7 +6,7 @@ ghost use Rattle.macs_record.specs.declared.record.Record.{Record};
 
 use macs_record::Record;
 
-/// A source of the records with which a journal begins anew: it has them by their places, and makes one at a time.
+/// A source of the records with which a journal starts over: it has them by their places, and makes one at a time.
 pub trait RecordSource {
     /// The records, in the order of the slots that they go to.
     ghost listed: { Self → List Record };

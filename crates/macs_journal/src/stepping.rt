@@ -23,9 +23,9 @@ use macs_record::laws::record_in_range;
 use macs_record::{Record, encode};
 
 impl<D: SectorDisk> Journal<D> {
-    /// Takes work in hand, and makes no call of the disk. None is in hand before; for an append the area is not full,
-    /// and a journal begins anew with 1 to 256 records. These stay with the caller: their number alone is read. Refused
-    /// as `Stopped` where a device call failed before, then as `GenerationsSpent` where the journal is to begin anew and
+    /// Starts work, and makes no call of the disk. None is under way before; for an append the area is not full,
+    /// and a journal starts over with 1 to 256 records. These stay with the caller: their number alone is read. Refused
+    /// as `Stopped` where a device call failed before, then as `GenerationsSpent` where the journal is to start over and
     /// its generation is 2^64 - 1; nothing changes then.
     pub fn start(&mut self, work: &Work) -> Result<(), JournalFault>
         requires idle { IsIdle self.old }
@@ -41,7 +41,7 @@ impl<D: SectorDisk> Journal<D> {
         }
     }
 
-    /// Takes in hand that this record is appended: `start` for a record that is lent. Refused as `Stopped` alone.
+    /// Starts to append this record: `start` for a record that is lent. Refused as `Stopped` alone.
     pub fn start_append(&mut self, value: &Record) -> Result<(), JournalFault>
         requires idle { IsIdle self.old }
         requires room { used_slots self.old < slots }
@@ -58,7 +58,7 @@ impl<D: SectorDisk> Journal<D> {
         Ok(())
     }
 
-    /// Takes in hand that the journal begins anew with the records of a source, 1 to 256: `start` for records that are
+    /// Starts a compaction with the records of a source, 1 to 256: `start` for records that are
     /// lent, with its refusals. How many there are is asked, and no record is read.
     pub fn start_compact<R: RecordSource>(&mut self, records: &R) -> Result<(), JournalFault>
         requires idle { IsIdle self.old }
@@ -79,7 +79,7 @@ impl<D: SectorDisk> Journal<D> {
         Ok(())
     }
 
-    /// Whether these records may be lent to the next step: where the journal begins anew they are as many as it was
+    /// Whether these records may be lent to the next step: where the journal starts over they are as many as it was
     /// started with.
     pub fn may_lend(&self, snapshot: &[Record]) -> bool
         ensures { IsTrue result ↔ AreLent self.now.hand snapshot.now }
@@ -91,11 +91,11 @@ impl<D: SectorDisk> Journal<D> {
         }
     }
 
-    /// Makes the next call of the disk of the work in hand, and none where no work is in hand. Where the journal begins
-    /// anew, `snapshot` has as many records as it was started with (`may_lend`). They are to be the same records at each
-    /// step: else nothing is promised of what stands on the disk. For other work `snapshot` is not read. Refused as
+    /// Makes the next call of the disk of the work under way, and none where no work is under way. Where the journal starts
+    /// over, `snapshot` has as many records as it was started with (`may_lend`). They are to be the same records at each
+    /// step: else nothing is promised of what is on the disk. For other work `snapshot` is not read. Refused as
     /// `Stopped` where a device call failed before, and as `Disk` where this one fails: then a power loss leaves the
-    /// journal as before the work or as after it, and no work is in hand.
+    /// journal as before the work or as after it, and no work is under way.
     pub fn step(&mut self, snapshot: &[Record]) -> Result<JournalStep, JournalFault>
         requires lent { AreLent self.old.hand snapshot.now }
         ensures { Steps D.disk self.old snapshot.now result self.new }
@@ -120,7 +120,7 @@ impl<D: SectorDisk> Journal<D> {
         Ok(progress)
     }
 
-    /// Whether the work in hand goes on: where none is in hand it is finished.
+    /// Whether the work under way goes on: where none is under way it is finished.
     fn progress(&self) -> JournalStep
         ensures { result ≡ step_of self.now.hand }
     {
@@ -131,7 +131,7 @@ impl<D: SectorDisk> Journal<D> {
         }
     }
 
-    /// One device call of the work in hand. After a device fault nothing is in hand.
+    /// One device call of the work under way. After a device fault nothing is under way.
     fn advance<R: RecordSource>(&mut self, snapshot: &R) -> Result<(), JournalFault>
         requires busy { ¬ IsIdle self.old }
         requires running { is_stopped self.old ≡ false }
@@ -145,7 +145,7 @@ impl<D: SectorDisk> Journal<D> {
         }
     }
 
-    /// One device call of the compaction in hand, of these records. After a device fault nothing is in hand.
+    /// One device call of the compaction under way, of these records. After a device fault nothing is under way.
     pub(crate) fn step_compact<R: RecordSource>(&mut self, snapshot: &R) -> Result<(), JournalFault>
         requires busy { IsCompactHand self.old.hand }
         requires running { is_stopped self.old ≡ false }
@@ -176,7 +176,7 @@ impl<D: SectorDisk> Journal<D> {
         }
     }
 
-    /// Where the journal goes on once it began anew.
+    /// Where the journal goes on once it started over.
     fn new_place(&self) -> Place
         ensures { (work : Compacting) → self.now.hand ≡ Compact work
             → result ≡ record { area = other_area self.now.place.area; head = work.head; free = work.head.count } }

@@ -8,16 +8,16 @@ use macs_record::Record;
 pub enum Work {
     /// To append a record.
     Append(Record),
-    /// To begin anew with these records.
+    /// To start over with these records.
     Compact(Records),
 }
 
 /// How far a step came.
 #[derive(Clone, Copy, Debug, PartialEq, Eq)]
 pub enum JournalStep {
-    /// No work was in hand, and no call of the disk was made.
+    /// No work was under way, and no call of the disk was made.
     Idle,
-    /// One call of the disk was made, and the work is still in hand.
+    /// One call of the disk was made, and the work is still under way.
     Going,
     /// The last call of the work was made.
     Finished,
