@@ -8,7 +8,7 @@ use Rattle.macs_disk.specs.CallLists.{sectors_in, choice_at, disk_of_calls}
 use Rattle.macs_disk.specs.Memory.{blank_memory}
 use Rattle.macs_disk.specs.declared.call_list.Entry.{Entry}
 
--- the same everywhere, behind the end too
+-- the same everywhere, after the end too
 pub get_or-same : {X : Type 0} (n i : ℕ) (x : X) → get_or (replicate n x) i x ≡ x
 get_or-same n i x = elim (cases_lt i n) [
   | inl lt ↦ get_or-replicate n i x x lt

@@ -45,7 +45,7 @@ pub counted-done : {T E : Type 0} (old new : Disk) (result : Result T E) → IsD
 counted-done old new (Ok x) call is = call.work.ok
 counted-done old new (Err e) call is = absurd cc
 
--- of a worn disk both counts stand, or both rise by one
+-- of a worn disk both counts stay, or both rise by one
 pub counted-worn : {T E : Type 0} (old new : Disk) (result : Result T E) → IsDeviceCall old new result → old.worn ≡ true
     → ((new.clock ≡ old.clock) × (new.failures ≡ old.failures)) ⊎ ((new.clock ≡ old.clock + 1) × (new.failures ≡ old.failures + 1))
 counted-worn old new result call is = elim (cases_lt old.clock new.clock) [

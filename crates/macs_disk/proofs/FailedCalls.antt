@@ -38,7 +38,7 @@ pub not-measured : (before between after : Option (List FailedCall)) (kind : Err
     → OneFailed between after Measures kind → IsFaultOfKind kind fault → MeasureFails before after fault
 not-measured before between after kind fault first failed is = inr (Measures, kind, inr refl, one-after before between after Measures kind first failed, is)
 
--- a sync or a reading anew that fails
+-- a sync or a rereading that fails
 pub not-synced : {T E : Type 0} (before after : Option (List FailedCall)) (kind : E → ErrorKind) (answer : Result T E) → IsErr answer
     → NotesFailure {T = T} {E = E} before after Syncs kind answer → SettleFails before after
 not-synced {T} {E} before after kind (Ok value) is noted = absurd (false≢true is)

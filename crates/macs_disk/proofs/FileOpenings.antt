@@ -125,7 +125,7 @@ some-room : (layout : Layout) → 0 < place layout 1028
 some-room Packed = omega arith
 some-room Spaced = omega arith
 
--- the layout is found again behind what was written over the sectors
+-- the layout is found again after what was written over the sectors
 found-again : (layout : Layout) (before new : FileState) (xs : List ℕ) → HasMark layout before → new ≡ file_after_write before 0 xs → length xs ≡ place layout 1028
     → new.size ≡ max before.size (0 + length xs) → layout_in new ≡ layout
 found-again Packed before new xs (inl short) is long size = sym (too-short new (omega (arith, short, size, long)))

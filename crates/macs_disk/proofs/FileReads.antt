@@ -26,7 +26,7 @@ pub values-joined : (f : ℕ → ℕ) (at first second : ℕ) → values_from f 
 unfolding values_from
 values-joined f at first second = values-behind f at first second
 
--- what stood in front stays there, and the octets from there on are those that were read
+-- what was in front stays there, and the octets from there on are those that were read
 take_split : (from to : ℕ) (old new : List ℕ) → from ≤ to → take from new ≡ take from old → take from old ++ slice_range new from to ≡ take to new
 take_split from to old new ordered front =
     let same : from + (to - from) ≡ to = omega arith in
@@ -40,7 +40,7 @@ slice_range-put_mid from room count buffer read within fits =
     ap (take ((from + count) - from)) (drop_at (take from buffer) (read ++ after) from (length-take-le from buffer within))
     ∙ ap (λ n. take n (read ++ after)) same ∙ take-append-le count read after fits
 
--- a read goes on behind what was read
+-- a read goes on after what was read
 pub read-more : (f : ℕ → ℕ) (at place done count room : ℕ) (buffer read : List ℕ) → place ≡ at + done → done ≤ length buffer → count ≤ length read
     → take done buffer ≡ values_from f at done → take count read ≡ values_from f place count
     → take (done + count) (put_mid done room buffer read) ≡ values_from f at (done + count)

@@ -14,7 +14,7 @@ use Rattle.macs_disk.specs.declared.layout.Layout.TheVariants.{Packed, Spaced}
 use Rattle.macs_disk.proofs.Images.{State-ext, put-same, put-other}
 use Rattle.macs_disk.proofs.FileWrites.{put-at, put-before, put-behind, length-joined, get_or-front, get_or-behind, octets-joined, small-values, write-block, write-sure, write-behaves}
 
--- ---- where sectors stand
+-- ---- where sectors are
 
 -- two places are a whole block apart
 abbrev pub Apart : ℕ → ℕ → ℕ → Type 0
@@ -47,7 +47,7 @@ ends-before Spaced at count within = omega (arith, within)
 
 -- ---- a sector that was written
 
--- the first octets of a sector, and what stood behind them
+-- the first octets of a sector, and what was after them
 abbrev filled : (ℕ → ℕ) → ℕ → List ℕ → List ℕ
 filled f at xs = xs ++ values_from f (at + length xs) (512 - length xs)
 

@@ -13,7 +13,7 @@ put-none f at p = elim (cases_lt p at) [
   | inr from ↦ let yes = le-leb at p from in rw yes refl
 ]
 
--- two writes, one behind the other
+-- two writes, one after another
 pub get_or-front : {X : Type 0} (xs ys : List X) (i : ℕ) (d : X) → i < length xs → get_or (xs ++ ys) i d ≡ get_or xs i d
 get_or-front [] ys i d lt = absurd (omega (arith, lt))
 get_or-front (x ∷ xs) ys zero d lt = refl
@@ -63,7 +63,7 @@ durable-joined true size first second = elim (cases_lt size first) [
       ]
 ]
 
--- a block that ends behind its front has octets of two parts, or of the whole
+-- a block that ends after its front has octets of two parts, or of the whole
 either-part : (front end from mid to : ℕ) (rest : Bool) → front < end → from ≤ mid → mid ≤ to
     → ((nat_lt front to && nat_lt mid end) || ((nat_lt front mid && nat_lt from end) || rest)) ≡ ((nat_lt front to && nat_lt from end) || rest)
 either-part front end from mid to rest wide first second = elim (cases_lt front mid) [
@@ -161,7 +161,7 @@ octets-joined xs ys first second i = elim (cases_lt i (length xs)) [
       subst (λ (v : ℕ). v < 2 ^ 8) (sym (ap (λ (k : ℕ). get_or (xs ++ ys) k 0) place ∙ get_or-behind xs ys (i - length xs) 0)) (second (i - length xs))
 ]
 
--- some octets were written, and then some behind them
+-- some octets were written, and then some after them
 pub some-behind : (old mid new : FileState) (at place most room : ℕ) (xs : List ℕ) → 0 < old.block → AreOctets xs → mid ≡ file_after_write old at xs → place ≡ at + length xs
     → WritesSome mid new place room → length xs + room ≤ most → WritesSome old new at most
 some-behind old mid new at place most room xs wide octets first is some fits =
@@ -181,7 +181,7 @@ length-take-most zero xs = omega arith
 length-take-most (suc n) [] = omega arith
 length-take-most (suc n) (x ∷ xs) = let h = length-take-most n xs in omega (arith, h)
 
--- a write goes on behind what was written
+-- a write goes on after what was written
 pub write-more : (old mid new : FileState) (at place done count room : ℕ) (from : List ℕ) → 0 < old.block → mid ≡ file_after_write old at (take done from)
     → place ≡ at + done → done ≤ length from → count ≤ room → new ≡ file_after_write mid place (take count (take room (drop done from)))
     → new ≡ file_after_write old at (take (done + count) from)
@@ -204,7 +204,7 @@ octets-front (suc n) (x ∷ xs) octets (suc i) = octets-front n xs (λ k. octets
 pub part-fits : (count room done : ℕ) (from : List ℕ) → count ≤ length (take room (drop done from)) → count ≤ room
 part-fits count room done from fits = let h = length-take-most room (drop done from) in omega (arith, h, fits)
 
--- a write that moved nothing behind what was written
+-- a write that moved nothing after what was written
 pub wrote-none : (old mid new : FileState) (at place done count room : ℕ) (from : List ℕ) → ((i : ℕ) → get_or from i 0 < 2 ^ 8) → mid ≡ file_after_write old at (take done from)
     → count ≡ 0 → done ≤ length from → new ≡ file_after_write mid place (take count (take room (drop done from))) → WritesSome old new at (length from)
 wrote-none old mid new at place done count room from octets so_far none within here =
@@ -213,7 +213,7 @@ wrote-none old mid new at place done count room from octets so_far none within h
     (here ∙ ap (λ (l : List ℕ). file_after_write mid place l) nothing ∙ so_far)
     (let h = length-take-le done from within in omega (arith, h, within))
 
--- a write that failed behind what was written
+-- a write that failed after what was written
 pub failed-behind : (old mid new : FileState) (at place done room : ℕ) (from : List ℕ) → 0 < old.block → ((i : ℕ) → get_or from i 0 < 2 ^ 8) → mid ≡ file_after_write old at (take done from)
     → place ≡ at + done → done + room ≤ length from → WritesSome mid new place (length (take room (drop done from))) → WritesSome old new at (length from)
 failed-behind old mid new at place done room from wide octets so_far is inside some =
@@ -230,7 +230,7 @@ small-values f at count small i = elim (cases_lt i count) [
       (sym (get_or_past (values_from f at count) i 0 (subst (λ (n : ℕ). n ≤ i) (sym (length-values f at count)) past))) (omega arith)
 ]
 
--- zeros go on behind zeros
+-- zeros go on after zeros
 pub zeros-more : (old mid new : FileState) (from at count : ℕ) (zeros : List ℕ) → 0 < old.block → mid ≡ file_after_write old from (replicate (at - from) 0) → from ≤ at
     → zeros ≡ replicate count 0 → new ≡ file_after_write mid at zeros → new ≡ file_after_write old from (replicate (at + count - from) 0)
 zeros-more old mid new from at count zeros wide so_far ordered are here =
@@ -262,7 +262,7 @@ zeros-front old new from at to is reached =
       | inr none ↦ omega (arith, done, all, none)
     ])
 
--- zeros that a write failed behind
+-- zeros that a write failed after
 pub zeros-failed : (old mid new : FileState) (from at to most : ℕ) → 0 < old.block → mid ≡ file_after_write old from (replicate (at - from) 0) → from ≤ at
     → WritesSome mid new at most → at + most ≤ to → WritesSome old new from (length (replicate {A = ℕ} (to - from) 0))
 zeros-failed old mid new from at to most wide is ordered some within =

@@ -15,13 +15,13 @@ use Rattle.macs_disk.proofs.FileWrites.{write-sure}
 
 -- ---- the block of the mark
 
--- the mark stands at the front of a block
+-- the mark is at the front of a block
 pub mark-stands : (layout : Layout) (block : ℕ) → suits layout block ≡ true → StandsAt block (mark_place / block) mark_place
 mark-stands Packed block suited = subst (λ (b : ℕ). StandsAt b (mark_place / b) mark_place) (sym (is_same block 512 suited))
     (record { front = omega arith; long = omega arith })
 mark-stands Spaced block suited = stands-at Spaced block 1028 suited
 
--- a write that ends in front of the mark, or begins behind its block, leaves its block as it was
+-- a write that ends in front of the mark, or begins after its block, leaves its block as it was
 mark-untouched : (block n there count : ℕ) (rest : Bool) → mark_place ≡ block * n → (there + count ≤ mark_place) ⊎ (mark_place + block ≤ there)
     → ((nat_lt (block * n) (there + count) && nat_lt there (block * n + block)) || rest) ≡ rest
 mark-untouched block n there count rest front (inl before) =

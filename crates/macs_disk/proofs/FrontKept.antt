@@ -75,7 +75,7 @@ nothing-reread : (old new : FileState) → new ≡ file_reread old → HasNothin
 nothing-reread old new is = subst (HasNothingNew old) (sym is)
     (record { block = refl; size = λ durable. (refl, durable); images = λ image left. record { kept = left.kept; octets = left.octets } })
 
--- a reading anew of a clean file that is claimed, done or failed
+-- a rereading of a clean file that is claimed, done or failed
 pub nothing-after-reread : {T E : Type 0} (old new : FileState) (result : Result T E) → old.is_clean ≡ true → IsClaimed old → RereadsFile old new result → HasNothingNew old new
 nothing-after-reread old new (Ok x) clean claimed rereads = nothing-reread old new (rereads.ok clean claimed)
 nothing-after-reread old new (Err e) clean claimed rereads = let some = rereads.err in nothing-shown old new some.0 some.1
@@ -99,7 +99,7 @@ settles-claimed old mid new is settles =
     subst (λ (f : FileState). Settles f new → Settles old new) (sym is)
     (λ s. (s.0, record { kept = s.1.kept; octets = s.1.octets }, s.2, s.3)) settles
 
--- a claimed file that was synced and read anew
+-- a claimed file that was synced and read again
 pub settled-by : {T E U D : Type 0} (old mid new : FileState) (x : T) (y : U) → IsSoundFile old → IsClaimed old → SyncsFile {E = E} old mid (Ok x)
     → RereadsFile {E = D} mid new (Ok y) → Settles old new
 settled-by {T} {E} old mid new x y sound claimed syncs rereads = by old.is_sure refl where
@@ -153,7 +153,7 @@ blocks-reach block n m le = elim (cases_lt m n) [
   | inr from ↦ let same : block * m ≡ block * n = ap (λ (x : ℕ). block * x) (omega (arith, le, from)) in omega (arith, same)
 ]
 
--- an image with its octets in front of a place, and behind it what the file shows
+-- an image with its octets in front of a place, and after it what the file shows
 abbrev with_front : (ℕ → ℕ) → ℕ → (ℕ → ℕ) → ℕ → ℕ
 with_front image front seen p = if nat_lt p front then image p else seen p
 
@@ -201,7 +201,7 @@ module _ (old : FileState) (front number there x : ℕ) (xs : List ℕ) (sound :
     images = λ image left. (with_front image front old.seen, before-image image left, λ p lt. sym (in-front image old.seen front p lt));
   }
 
--- octets were written behind the front, which ends with a block
+-- octets were written after the front, which ends with a block
 pub front-written : (old new : FileState) (front number there : ℕ) (xs : List ℕ) → IsSoundFile old → IsSure old → front ≡ old.block * number → front ≤ there
     → new ≡ file_after_write old there xs → KeepsFront front old new
 front-written old new front number there [] sound sure is_front behind is = front-same front old new is
@@ -217,7 +217,7 @@ pub packed-end : (file : FileState) → suits Packed file.block ≡ true → fil
 packed-end file suited whole =
     subst (λ (b : ℕ). file.size ≡ b * (file.size / 512)) (sym (is_same file.block 512 suited)) (omega (arith, whole))
 
--- octets were written behind the front, or a write of them failed
+-- octets were written after the front, or a write of them failed
 pub front-writes : {T E : Type 0} (old new : FileState) (front number there : ℕ) (octets : List ℕ) (result : Result T E) → IsSoundFile old → IsSure old → front ≡ old.block * number
     → front ≤ there → WritesAll old new there octets result → KeepsFront front old new
 front-writes old new front number there octets (Ok x) sound sure is_front behind writes =

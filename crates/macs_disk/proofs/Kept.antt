@@ -161,7 +161,7 @@ module _ (first seen durable torn : List (List ℕ)) (pending : List Bool) (choi
   chosen : (i : ℕ) → i < length seen → sectors_in torn i ≡ unwrap_or (choice_at choices i) (sectors_in seen i)
   chosen i lt = said i lt ∙ ap (λ (xs : List (Option (List ℕ))). unwrap_or (choice_at xs i) (sectors_in seen i)) is_given
 
-  -- at each sector, and behind the last
+  -- at each sector, and after the last
   pub crash-left : (i : ℕ) → sectors_in torn i ≡ unwrap_or (choice_at choices i) (sectors_in seen i)
   crash-left i = elim (cases_lt i (length seen)) [
     | inl lt ↦ chosen i lt

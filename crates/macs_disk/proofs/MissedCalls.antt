@@ -24,7 +24,7 @@ worn-on : (a b c : Bool) → (b ≡ true → c ≡ true) → (a || b) ≡ true �
 worn-on true b c more is = refl
 worn-on false b c more is = more is
 
--- The disk behind stands at its moment `clock`, and `was` is that of the call that was missed before, where one was. One missed call more
+-- The disk behind is at its moment `clock`, and `was` is that of the call that was missed before, where one was. One missed call more
 -- is one moment more and one failure more, until they are full.
 module _ (disk : Disk) (was at missed added more fails : ℕ) (within : was ≤ disk.clock) (here : at ≡ disk.clock) (alike : missed ≡ added) (fits : missed ≤ most)
     (since : 0 < missed → was ≡ disk.clock) (next : more ≡ min (missed + 1) most) (one : fails ≡ min (added + 1) most) where
@@ -102,7 +102,7 @@ module _ {D : Type 0} (disk : D → Disk) (old new : FuseValue D) (left : old.le
         (omega (arith, none)) (λ before. absurd (omega (arith, none, before))) (omega (arith, none)) (omega (arith, none_added)) answer is)
     by NoCall same = absurd (some same)
 
-  -- the disk behind stands
+  -- the disk behind stays as it is
   behind : new.inner ≡ old.inner
   behind = by old.blow refl where
     by : (blow : Blow) → old.blow ≡ blow → new.inner ≡ old.inner

@@ -6,7 +6,7 @@ use Rattle.macs_disk.specs.declared.call_list.Entry.{Entry}
 use Rattle.macs_disk.specs.declared.call_list.Call.{Call}
 use Rattle.macs_disk.specs.declared.call_list.Call.TheVariants.{Write, Sync}
 
--- an image by the list of its sectors, and zeros behind them
+-- an image by the list of its sectors, and zeros after them
 abbrev pub sectors_in : List (List ℕ) → Image
 sectors_in sectors i = get_or sectors i zero_sector
 

@@ -28,8 +28,8 @@ MayLeave disk image = IsImage (now disk) image
 abbrev pub LeftSince : Disk → ℕ → Image → Type 0
 LeftSince disk since image = (k : ℕ) × (since ≤ k) × (k ≤ disk.clock) × IsImage (disk.past k) image
 
--- a disk that a power loss left with this image. It is no call: the counts stand. Its past begins
--- anew: at each moment it is settled with this image.
+-- a disk that a power loss left with this image. It is no call: the counts stay. Its past starts
+-- over: at each moment it is settled with this image.
 abbrev pub disk_after_loss : Disk → Image → Disk
 disk_after_loss disk image =
     record {
@@ -55,15 +55,15 @@ pub record Works (old new : Disk) : Type 0 where
 abbrev pub FailsOnce : Disk → Disk → Type 0
 FailsOnce old new = (new.failures ≡ old.failures + 1) ⊎ (new.worn ≡ true)
 
--- calls, and a result that tells whether one of them failed: Ok where none did, Err where exactly one did
+-- calls, and a result that reports whether one of them failed: Ok where none did, Err where exactly one did
 pub record IsWork {T E : Type 0} (old new : Disk) (result : Result T E) : Type 0 where
   pub works : Works old new
   pub ok : OnOk result (new.failures ≡ old.failures)
   pub err : OnErr result (FailsOnce old new)
 
 -- what each call does on every disk, honest or not: a moment passes, and a failure is counted exactly
--- where one is answered. A worn disk fails the call and its state stands; its clock and its failures
--- stand as well, or both rise by one (those of a fuse, which counts the calls that it fails itself).
+-- where one is answered. A worn disk fails the call and its state stays; its clock and its failures
+-- stay as well, or both rise by one (those of a fuse, which counts the calls that it fails itself).
 pub record IsDeviceCall {T E : Type 0} (old new : Disk) (result : Result T E) : Type 0 where
   pub work : IsWork old new result
   pub at_most_one : new.clock ≤ old.clock + 1

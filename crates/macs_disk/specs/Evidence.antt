@@ -1,5 +1,5 @@
--- What the disks of this crate hand to the trait: that they are sound, and worn no sooner than their clock is full. It stands here
--- and not among the proofs, since what a ghost item cites of its own crate stands in its specs.
+-- What the disks of this crate hand to the trait: that they are sound, and worn no sooner than their clock is full. It is here
+-- and not among the proofs, since what a ghost item cites of its own crate is in its specs.
 use Rattle.std.proofs.Common.{◌≡◌, ◌≤◌, ◌+◌, ◌-◌, ◌^◌, ◌==◌, inl, inr, ℕ, min, max, Bool, true, false, List, refl, ap, arith, subst, sym}
 use Rattle.std.proofs.lemmas.Bool.{cases_eq}
 use Rattle.std.proofs.lemmas.Bool.Decides.{nat_tests}

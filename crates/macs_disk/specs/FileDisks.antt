@@ -81,7 +81,7 @@ layout_of it = it.layout
 abbrev pub sectors_of : {F : Type 0} → FileDisk F → ℕ
 sectors_of it = it.sectors
 
--- the layout of a file is found, whatever a power loss leaves: what stands at the place of the mark is durable, and its block is not
+-- the layout of a file is found, whatever a power loss leaves: what is at the place of the mark is durable, and its block is not
 -- pending, where the device's blocks suit the layout. The size is durable, or the file ends before that place.
 pub record KeepsLayout (layout : Layout) (file : FileState) : Type 0 where
   pub found : layout_in file ≡ layout

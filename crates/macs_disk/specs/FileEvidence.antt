@@ -1,5 +1,5 @@
--- That a disk in a file that behaves is sound. It stands here and not among the proofs, since what a ghost item cites of
--- its own crate stands in its specs.
+-- That a disk in a file that behaves is sound. It is here and not among the proofs, since what a ghost item cites of
+-- its own crate is in its specs.
 use Rattle.std.proofs.Common.{◌≡◌, ◌≤◌, ◌<◌, ◌+◌, ◌*◌, ◌/◌, ◌^◌, ◌==◌, ◌&&◌, ◌||◌, inl, inr, ℕ, zero, suc, Bool, true, false, List, ◌∷◌, length, get_or, refl, arith, subst, sym}
 use Rattle.std.proofs.lemmas.Bool.{cases_eq, cases_lt, and_parts}
 use Rattle.std.proofs.lemmas.Bool.Decides.{nat_tests}
@@ -44,7 +44,7 @@ unfolding values_from
 values-same f g at zero same = refl
 values-same f g at (suc n) same = λ j. same_first f g at n same j ∷ values-same f g (at + 1) n (same_rest f g at n same) j
 
--- a sector stands at the front of a block of the device, and is no longer than that
+-- a sector is at the front of a block of the device, and is no longer than that
 pub record StandsAt (block number place : ℕ) : Type 0 where
   pub front : place ≡ block * number
   pub long : 512 ≤ block

@@ -46,7 +46,7 @@ MeasureFails before after it =
     ((it ≡ fault.Length) × NoneFailed before after)
     ⊎ ((call : FileCall) × (kind : ErrorKind) × ((call ≡ Claims) ⊎ (call ≡ Measures)) × OneFailed before after call kind × IsFaultOfKind kind it)
 
--- a file is not settled: the sync or the reading anew failed
+-- a file is not settled: the sync or the rereading failed
 abbrev pub SettleFails : Option (List FailedCall) → Option (List FailedCall) → Type 0
 SettleFails before after = (call : FileCall) × (kind : ErrorKind) × ((call ≡ Syncs) ⊎ (call ≡ Rereads)) × OneFailed before after call kind
 

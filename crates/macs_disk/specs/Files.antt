@@ -1,6 +1,6 @@
 -- A file at one moment, and what each call of a file that behaves does to it. A file behaves as one of a kernel's does that keeps
 -- its promises: octets are written to a cache and read from there; a sync makes them durable on the device; where a sync
--- fails, the cache may show octets that the device does not have, until a sync succeeds and the file is read anew.
+-- fails, the cache may show octets that the device does not have, until a sync succeeds and the file is read again.
 use Rattle.std.specs.Prelude.{◌≡◌, ◌≤◌, ◌<◌, ◌+◌, ◌-◌, ◌*◌, ◌^◌, ◌&&◌, ◌||◌, ℕ, if◌then◌else◌, max, nat_le, nat_lt, Bool, true, false, List, [], ◌∷◌, length, map, take, get_or, Result, IfOk, OnOk, OnErr}
 use Rattle.std.specs.List.{range_with_len}
 
@@ -20,7 +20,7 @@ pub record FileState : Type 0 where
   -- the blocks that were written since the last sync that succeeded, and whether there are none
   pub pending : ℕ → Bool
   pub is_clean : Bool
-  -- no sync failed since the file was last read anew
+  -- no sync failed since the file was last read again
   pub is_sure : Bool
   -- this open of the file has claimed it: no other that asks for a claim has it
   pub is_claimed : Bool
@@ -179,7 +179,7 @@ pub record SyncsFile {T E : Type 0} (old new : FileState) (result : Result T E) 
   pub doubt : old.is_sure ≡ false → OnOk result ((image : ℕ → ℕ) × IsFileImage old image × (new ≡ file_synced old image))
   pub err : OnErr result (new ≡ file_in_doubt old)
 
--- what reading anew does: a clean file that is claimed shows what is durable, and is sure. Of a file with octets that are
+-- what reading again does: a clean file that is claimed shows what is durable, and is sure. Of a file with octets that are
 -- pending nothing is said, since their pages stay in the cache, nor of one that is not claimed, since others may write to it.
 -- Where it fails the file may show something else, and nothing else is changed.
 pub record RereadsFile {T E : Type 0} (old new : FileState) (result : Result T E) : Type 0 where

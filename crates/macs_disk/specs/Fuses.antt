@@ -90,7 +90,7 @@ abbrev pub IsCounted : {D : Type 0} → (D → Disk) → FuseValue D → Type 0
 IsCounted disk fuse = AreCounted fuse.blow (disk fuse.when).clock (disk fuse.inner).clock fuse.left fuse.missed fuse.added
 
 -- the disk that a fuse shows: the one behind it, which at this moment of its own clock missed so many calls, with the failures
--- that the fuse added. At the moments of missed calls it stands as before them, and what came after them comes so much later.
+-- that the fuse added. At the moments of missed calls it is as before them, and what came after them comes so much later.
 abbrev pub fused_disk : Disk → (at missed added : ℕ) → Disk
 fused_disk disk at missed added =
     record {

@@ -14,7 +14,7 @@ place Spaced at = 4096 * at
 abbrev pub spaced_sectors : ℕ
 spaced_sectors = 1028
 
--- the octet at which the mark of a spaced file stands
+-- the octet at which the mark of a spaced file is
 abbrev pub mark_place : ℕ
 mark_place = place Spaced spaced_sectors
 

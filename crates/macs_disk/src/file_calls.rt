@@ -125,7 +125,7 @@ pub(crate) fn write_zeros<F: DiskFile>(file: &mut F, from: u64, to: u64) -> io::
     Err(io::Error::from(io::ErrorKind::TimedOut))
 }
 
-/// Has a claimed file show what the device has, and nothing pending: it is synced, and then read anew. In this
+/// Has a claimed file show what the device has, and nothing pending: it is synced, and then read again. In this
 /// order, since what is not synced stays in the cache.
 pub(crate) fn settle<F: DiskFile>(file: &mut F) -> Result<(), DeviceFault>
     ensures steady { (F.file file.new).behaves ≡ (F.file file.old).behaves }

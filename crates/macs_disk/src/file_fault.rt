@@ -9,7 +9,7 @@ ghost use Rattle.macs_disk.specs.declared.file_fault.FileFault.TheVariants.{Memo
 use crate::disk::DeviceFault;
 use std::io;
 
-/// Why there is no disk in a file. It is opened, claimed, measured, synced and read anew, and then made longer
+/// Why there is no disk in a file. It is opened, claimed, measured, synced and read again, and then made longer
 /// and synced, in this order, and the first of these that cannot be done says the fault.
 #[derive(Clone, Copy, Debug, PartialEq, Eq)]
 pub enum FileFault {
@@ -19,7 +19,7 @@ pub enum FileFault {
     Open,
     /// The file is not a whole number of sectors of 512 octets. It is left as it is.
     Length,
-    /// The file cannot be synced or read anew, or its mark cannot be read: what it shows may not be
+    /// The file cannot be synced or read again, or its mark cannot be read: what it shows may not be
     /// what the device has.
     Device,
     /// The operating system had no memory to open, claim, measure or lengthen the file. The calls of this

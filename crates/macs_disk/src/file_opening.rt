@@ -24,7 +24,7 @@ fn how_to_open(is_made: bool) -> OpenOptions
     ensures both { (result.read ≡ true) × (result.write ≡ true) × (result.append ≡ false) }
 {
     let mut options = OpenOptions::new();
-    // Of the options after this nothing is known, so that the others are set behind it.
+    // Nothing is known of the options after this, so that the others are set after it.
     options.mode(OWNER_ALONE);
     options
         .read(true)
@@ -61,7 +61,7 @@ impl<F: DiskFile> FileDisk<F> {
     ghost use Rattle.macs_disk.specs.FileDisks.{disk_in_file, file_given, file_left, layout_of};
 
     /// A disk of at least so many sectors in the file at `path`. Where there is no file it is made, for its
-    /// owner alone, and its name is made durable as by `sync_folder`. The file is synced and read anew, so that
+    /// owner alone, and its name is made durable as by `sync_folder`. The file is synced and read again, so that
     /// what it shows is what the device has. A file of fewer sectors is lengthened with zeros, which are
     /// synced. A longer one stays as it is, and no octet of a file is lost. A file that was made
     /// stays where a later step is a fault.
@@ -84,7 +84,7 @@ impl<F: DiskFile> FileDisk<F> {
         Ok(disk)
     }
 
-    /// A disk of all sectors of the file at `path`, which is synced and read anew. Where there is no file none
+    /// A disk of all sectors of the file at `path`, which is synced and read again. Where there is no file none
     /// is made, and that is `Open`.
     pub fn open<R: Files<File = F>, P: AsPath>(rt: &R, path: P) -> Result<Self, FileFault>
         ensures known { IfOk result (λ it. Behaves (F.file (file_given it))

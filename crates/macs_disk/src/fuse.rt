@@ -83,7 +83,7 @@ impl<D: SectorDisk> Fuse<D> {
         }
     }
 
-    /// The disk behind the fuse, as it stands.
+    /// The disk behind the fuse, as it is.
     pub fn into_inner(self) -> D
         ensures { result ≡ self.inner }
     {

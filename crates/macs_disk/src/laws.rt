@@ -55,7 +55,7 @@ pub fn a_write_leaves_one_sector()
 {}
 
 /// What a call counts. Before the disk is worn the clock goes on by one, and a failure is counted exactly
-/// where it is answered. On a worn disk the call fails, the state stands, and so do both counts, or both
+/// where it is answered. On a worn disk the call fails, the state stays, and so do both counts, or both
 /// rise by one.
 pub fn calls_are_counted<T, E>()
     ensures clock { (old new : Disk) (result : Result T E) → IsDeviceCall old new result

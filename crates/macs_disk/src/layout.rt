@@ -12,7 +12,7 @@ pub(crate) const BLOCK_OCTETS: u64 = 4_096;
 /// How many sectors a disk in a spaced file has.
 pub(crate) const SPACED_SECTORS: u64 = 1_028;
 
-/// Where the mark of a spaced file stands: in the block after its last sector.
+/// Where the mark of a spaced file is: in the block after its last sector.
 pub(crate) const MARK_PLACE: u64 = BLOCK_OCTETS * SPACED_SECTORS;
 
 /// What the mark of a spaced file begins with.

@@ -44,7 +44,7 @@ pub struct MemDisk<A: Allocator = Global> {
     ghost chosen: { AreChosen seen.items pending.items choices.items },
 }
 
-/// Makes every sector durable as reads give it: nothing is pending, and no choice stands. The pending sectors
+/// Makes every sector durable as reads give it: nothing is pending, and no choice is left. The pending sectors
 /// alone are copied, since all others are durable as reads give them.
 fn make_durable<A: Allocator>(
     seen: &[[u8; 512]],
@@ -220,7 +220,7 @@ impl<A: Allocator> MemDisk<A> {
     }
 
     /// Chooses what a power loss leaves in sector `at`. The answer is false, and nothing changes,
-    /// unless that sector is pending. The choice stands, over later writes to the sector too, until a
+    /// unless that sector is pending. The choice holds, over later writes to the sector too, until a
     /// sync succeeds or a power loss comes.
     pub fn tear(&mut self, at: u64, octets: &[u8; 512]) -> bool
         requires { at < (disk_of self.old).sectors }
@@ -237,7 +237,7 @@ impl<A: Allocator> MemDisk<A> {
 
     /// A power loss: in each pending sector the octets that were chosen, or the last write where none
     /// were, become durable, and they are what reads give from then on. Nothing is pending then. It
-    /// is no call of the device: clock and failures stand. The list is emptied, so that at each
+    /// is no call of the device: clock and failures stay as they are. The list is emptied, so that at each
     /// moment up to the clock the disk's state is now this one.
     pub fn crash(&mut self)
         ensures crashed { memory_of self.new ≡ memory_after_loss (memory_of self.old) }

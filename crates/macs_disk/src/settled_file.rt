@@ -139,7 +139,7 @@ impl<F: DiskFile> SettledFile<F> {
     ghost use Rattle.macs_disk.specs.FileDisks.{IsBlank, IsFoundAgain, IsFresh, IsLeftAsShown, IsOpened, IsSettled};
     ghost use Rattle.macs_disk.specs.FileDisks.{disk_in_file, file_before, file_given, file_left, layout_of, octets_of};
 
-    /// Claims a file that is open to read and write, measures it, syncs it, and reads it anew: in this order,
+    /// Claims a file that is open to read and write, measures it, syncs it, and reads it again: in this order,
     /// and the first of these that cannot be done says the fault. No octet is changed.
     pub fn of(mut file: F) -> Result<Self, FileFault>
         ensures given { IfOk result (λ it. file_before it ≡ file) }
