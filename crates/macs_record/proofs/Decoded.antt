@@ -10,12 +10,12 @@ use Rattle.macs_record.specs.declared.record.Record.{Record}
 use Rattle.macs_record.specs.declared.record.RecordFault.TheVariants.{Field, Rest}
 use Rattle.macs_record.proofs.Numbers.{never}
 
--- the kind is read wherever it stands
+-- the kind is read wherever it is
 abbrev pub KindFound : List ℕ → Option Kind → List ℕ → Type 0
 KindFound octets result left =
     (kind : Kind) (rest : List ℕ) → octets ≡ octets_of_kind kind ++ rest → (result ≡ Some kind) × (left ≡ rest)
 
--- the fields are read wherever they stand
+-- the fields are read wherever they are
 abbrev pub FieldsFound : Kind → List ℕ → Option Record → List ℕ → Type 0
 FieldsFound kind octets result left =
     (r : Record) (rest : List ℕ) → IsRecord r → kind_of r ≡ kind → octets ≡ fields_of r ++ rest → (result ≡ Some r) × (left ≡ rest)

@@ -4,7 +4,7 @@ use Rattle.macs_record.specs.Heads.{Head, IsHead, IsHeadOf, head_octets}
 use Rattle.macs_record.proofs.Decoded.{all_zeros, filled}
 use Rattle.macs_record.proofs.Numbers.{never}
 
--- the head is read wherever it stands
+-- the head is read wherever it is
 abbrev pub HeadFound : List ℕ → Option Head → List ℕ → Type 0
 HeadFound octets result left =
     (head : Head) (rest : List ℕ) → IsHead head → octets ≡ head_octets head ++ rest → (result ≡ Some head) × (left ≡ rest)

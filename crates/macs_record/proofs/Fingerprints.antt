@@ -17,11 +17,11 @@ append_items_nil : (xs : List (List ℕ)) → xs ++ [] ≡ xs
 append_items_nil [] = refl
 append_items_nil (x ∷ xs) = ap (λ (ys : List (List ℕ)). x ∷ ys) (append_items_nil xs)
 
--- one more behind those that are joined
+-- one more after those that are joined
 pub concat_push : (items : List (List ℕ)) (item : List ℕ) → concat (items ++ item ∷ []) ≡ concat items ++ item
 concat_push items item = concat-append items (item ∷ []) ∙ ap (λ (end : List ℕ). concat items ++ end) (append_nil item)
 
--- some octets are read where they stand
+-- some octets are read where they are
 abbrev pub OctetsFound : List ℕ → Option (List ℕ) → List ℕ → Type 0
 OctetsFound octets result left = (item rest : List ℕ) → length item ≡ 32 → octets ≡ item ++ rest → (result ≡ Some item) × (left ≡ rest)
 
@@ -34,7 +34,7 @@ pub record IsRead (count at : ℕ) (old new : List ℕ) (items : List (List ℕ)
   pub found : (all : List (List ℕ)) (rest : List ℕ) → IsFingerprints all → old ≡ fingerprint_octets all ++ rest
       → (more : List (List ℕ)) × (all ≡ items ++ more) × (new ≡ concat more ++ rest)
 
--- the octets of the next of them stand in front
+-- the octets of the next of them are in front
 next : (octets left : List ℕ) (result : Option (List ℕ)) → OctetsFound octets result left → (item : List ℕ) (more : List (List ℕ)) (rest : List ℕ)
     → All (IsOctets 32) (item ∷ more) → octets ≡ concat (item ∷ more) ++ rest → (result ≡ Some item) × (left ≡ concat more ++ rest)
 next octets left result found item more rest are here =

@@ -1,4 +1,4 @@
--- Numbers, and what stands in front of octets.
+-- Numbers, and what is in front of octets.
 use Rattle.std.proofs.Common.{◌≡◌, ◌<◌, ◌^◌, ◌+◌, ◌++◌, ◌∙◌, ℕ, List, length, get_or, Some, None, sym, ap, arith, inl, inr, length-append}
 use Rattle.std.specs.Int.{to_be_bytes, from_be_bytes, w32, w64}
 use Rattle.std.specs.List.{All}
@@ -8,7 +8,7 @@ use Rattle.std.proofs.lemmas.List.Elements.{All-from_get_or}
 use Rattle.std.proofs.lemmas.Nat.{be_bytes_4, be_bytes_8, from_be_bytes-to_be_bytes_4, from_be_bytes-to_be_bytes_8}
 use Rattle.macs_fields.specs.Fields.{IsOctets}
 
--- nothing was read where something stands
+-- nothing was read where there is something
 pub never : {X B : Type 0} (x : X) → (None ≡ Some x) × B → ⊥
 never x p = let e = p.0 in cc
 

@@ -31,7 +31,7 @@ format_read Two = refl
 format_back : (format : Format) → format_from (from_be_bytes w32 (to_be_bytes w32 (version_of format))) ≡ format
 format_back format = ap format_from (from_be_bytes-to_be_bytes_4 (version_of format) (small_version format)) ∙ format_read format
 
--- what stands in the places of a head's fields
+-- what is in the places of a head's fields
 unfoldable head_at : List ℕ → Head
 head_at sector = record {
   format = format_from (from_be_bytes w32 (take 4 (drop 8 sector)));

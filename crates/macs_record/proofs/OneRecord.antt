@@ -99,7 +99,7 @@ chunks : ℕ → List ℕ → List (List ℕ)
 chunks zero octets = []
 chunks (suc n) octets = take 32 octets ∷ chunks n (drop 32 octets)
 
--- a list that is cut behind its front
+-- a list that is cut after its front
 pub cut : {X : Type 0} (f : List ℕ → List ℕ → X) (n : ℕ) (front rest octets : List ℕ) → length front ≡ n → octets ≡ front ++ rest
     → f (take n octets) (drop n octets) ≡ f front rest
 cut f n front rest octets size is =

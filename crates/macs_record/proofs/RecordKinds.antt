@@ -62,7 +62,7 @@ has_number number result is kind = (
   (λ same. is ∙ ap of_number (sym same) ∙ of_its_number kind),
 )
 
--- the octets behind the mark are the kind's
+-- the octets after the mark are the kind's
 pub kind_read : (result : Option Kind) (number : ℕ) (old left : List ℕ)
     → ((kind : Kind) → (result ≡ Some kind → kind_number kind ≡ number) × (kind_number kind ≡ number → result ≡ Some kind))
     → old ≡ record_mark ++ number ∷ left → IfSome result (λ kind. old ≡ octets_of_kind kind ++ left)

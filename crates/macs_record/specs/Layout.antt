@@ -1,4 +1,4 @@
--- How a record stands in its sector: a mark, its kind, its fields in order without gaps, and zeros. Numbers of several octets
+-- How a record is in its sector: a mark, its kind, its fields in order without gaps, and zeros. Numbers of several octets
 -- are big-endian.
 use Rattle.std.specs.Prelude.{◌<◌, ◌^◌, ◌++◌, ◌==◌, ℕ, Bool, true, false, if◌then◌else◌, List, [], ◌∷◌, length, Option, Some, None}
 use Rattle.std.specs.Int.{to_be_bytes, w32, w64}
@@ -135,7 +135,7 @@ has_one_field kinds.RxAdd = true
 has_one_field kinds.RxDrop = true
 has_one_field kind = false
 
--- what stands behind the mark and the kind: the fields in order, without gaps
+-- what is after the mark and the kind: the fields in order, without gaps
 abbrev pub fields_of : Record → List ℕ
 fields_of (Settings validate replay mode encoding) =
     validate_octet validate ∷ (replay_octets replay ++ (mode_octet mode ∷ encoding_octet encoding ∷ []))

@@ -1,4 +1,4 @@
-//! The records of a journal, the heads and gates of its areas, and the sectors that they stand in.
+//! The records of a journal, the heads and gates of its areas, and the sectors that they are in.
 #![tactic(auto)]
 
 mod ceiling;

@@ -98,7 +98,7 @@ pub enum RecordFault {
     Kind,
     /// A field of that kind is out of its range.
     Field,
-    /// An octet behind the fields is not zero.
+    /// An octet after the fields is not zero.
     Rest,
 }
 
