@@ -62,7 +62,7 @@ ascending_to sci others is = and_parts (leads sci others) (is_ascending others) 
 
 -- ---- put among
 
--- an SCI goes behind those that it does not come before
+-- an SCI goes after those that it does not come before
 pub put_among-behind : (sci : List ℕ) (scis : List (List ℕ)) (place : ℕ) → place < length scis
     → comes_before sci (get_or scis place []) ≡ false → put_among sci scis ≡ take place scis ++ put_among sci (drop place scis)
     → put_among sci scis ≡ take (place + 1) scis ++ put_among sci (drop (place + 1) scis)

@@ -1,4 +1,4 @@
--- Entries of a list, each under an SCI: where one stands, and what is read of them after one has changed, come or gone.
+-- Entries of a list, each under an SCI: where there is one, and what is read of them after one has changed, come or gone.
 use Rattle.std.proofs.Common.{◌≡◌, ◌∙◌, ◌<◌, ◌≤◌, ◌+◌, ◌==◌, ℕ, zero, suc, Bool, true, false, cond, not, List, [], ◌∷◌, ◌++◌, length, map, take, drop, set, get_or, Some, None, filter, bytes_eq, refl, ap, sym, subst, arith}
 use Rattle.std.specs.Prelude.{nat_lt, position}
 use Rattle.std.specs.List.{insert, position_or_len}
@@ -16,7 +16,7 @@ use Rattle.macs_config.specs.Tables.{put, put_at}
 use Rattle.macs_config.proofs.Channels.{bytes_eq-sym}
 use Rattle.macs_config.proofs.Tables.{put_at-number}
 
--- ---- where an SCI stands
+-- ---- where an SCI is
 
 before_step : (other : List ℕ) (others : List (List ℕ)) (sci : List ℕ) (here : Bool) (place : ℕ) → bytes_eq other sci ≡ here
     → is_among (take place others) sci ≡ false → is_among (take (cond (not here) (1 + place) 0) (other ∷ others)) sci ≡ false

@@ -46,7 +46,7 @@ joined (item ∷ items) rest once also new =
     (ap not (among-append items rest item ∙ or_from (is_among items item) (is_among rest item) (not-true (is_among items item) parts.0) (apart_from item items rest new)))
     (joined items rest parts.1 also (fewer item items rest new))
 
--- new ones behind them
+-- new ones after them
 pub distinct-append : (items rest : List (List ℕ)) → are_distinct items ≡ true → are_new items rest ≡ true → are_distinct (items ++ rest) ≡ true
 distinct-append items rest once new =
     let parts = and_parts (are_distinct rest) (list_all (λ (other : List ℕ). not (is_among items other)) rest) new in
@@ -56,6 +56,6 @@ and_true : (a : Bool) → a ≡ true → (true && (a && true)) ≡ true
 and_true true is = refl
 and_true false is = is
 
--- one new one behind them
+-- one new one after them
 pub distinct-push : (items : List (List ℕ)) (item : List ℕ) → are_distinct items ≡ true → is_among items item ≡ false → are_distinct (items ++ item ∷ []) ≡ true
 distinct-push items item once new = distinct-append items (item ∷ []) once (and_true (not (is_among items item)) (ap not new))

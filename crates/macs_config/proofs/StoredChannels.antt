@@ -67,7 +67,7 @@ pub read-channels : (contents : Contents) (items : List Channel) (scis : List (L
 read-channels contents items scis rx same_scis same_rx =
     λ i. record (config_in contents) { channels = same_scis i; rx = fun_ext (λ s. fun_ext (λ an. same_rx s an)) i }
 
--- ---- whether a channel stands
+-- ---- whether a channel exists
 
 -- the test whether there is a place
 pub stands_by : (scis : List (List ℕ)) (sci : List ℕ) (place : Option ℕ) → IfSome place (λ k. IsPlace scis sci k)

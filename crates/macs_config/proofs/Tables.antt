@@ -7,7 +7,7 @@ use Rattle.macs_config.specs.Apply.{is_encoding}
 use Rattle.macs_config.specs.Tables.{put, put_at}
 use Rattle.macs_config.proofs.Channels.{bytes_eq-itself, same_octets}
 
--- what holds of what is put at a place, and of what stood at the others, holds at every place
+-- what holds of what is put at a place, and of what was at the others, holds at every place
 pub put_all : {X : Type 0} (P : X → Type 0) (f : ℕ → X) (at : ℕ) (x : X) (i : ℕ) → (i ≡ at → P x) → ((i == at) ≡ false → P (f i)) → P (put f at x i)
 put_all P f at x i this other = cond_both (i == at) x (f i) P (λ is. this (eqb-true i at is)) other
 
@@ -23,7 +23,7 @@ put-here f at x = ap (λ b. cond b x (f at)) (eq-eqb at at refl)
 pub put-other : {X : Type 0} (f : ℕ → X) (at i : ℕ) (x : X) → at ≢ i → put f at x i ≡ f i
 put-other f at i x differ = put_all (λ y. y ≡ f i) f at x i (λ same. absurd (differ (sym same))) (λ other. refl)
 
--- what stood there is put there
+-- what was there is put there
 pub put-same : {X : Type 0} (f : ℕ → X) (at : ℕ) (x : X) → f at ≡ x → put f at x ≡ f
 put-same f at x is = fun_ext (λ i. put_all (λ y. y ≡ f i) f at x i (λ same. sym is ∙ ap f (sym same)) (λ other. refl))
 
@@ -48,7 +48,7 @@ put_at-here f at x = ap (λ (b : Bool). cond b x (f at)) (bytes_eq-itself at)
 pub put_at-other : {X : Type 0} (f : List ℕ → X) (at sci : List ℕ) (x : X) → at ≢ sci → put_at f at x sci ≡ f sci
 put_at-other f at sci x differ = put_at_all (λ y. y ≡ f sci) f at x sci (λ same. absurd (differ (sym same))) (λ other. refl)
 
--- what stood there is put there
+-- what was there is put there
 pub put_at-same : {X : Type 0} (f : List ℕ → X) (at : List ℕ) (x : X) → f at ≡ x → put_at f at x ≡ f
 put_at-same f at x is =
     fun_ext (λ sci. put_at_all (λ y. y ≡ f sci) f at x sci (λ same. sym is ∙ ap f (sym same)) (λ other. refl))
@@ -57,7 +57,7 @@ twice : {X : Type 0} (b : Bool) (x y z : X) → cond b y (cond b x z) ≡ cond b
 twice true x y z = refl
 twice false x y z = refl
 
--- the second of two that are put at one place stands there
+-- the second of two that are put at one place is there
 pub put_at-twice : {X : Type 0} (f : List ℕ → X) (at : List ℕ) (x y : X) → put_at (put_at f at x) at y ≡ put_at f at y
 put_at-twice f at x y = fun_ext (λ sci. twice (bytes_eq sci at) x y (f sci))
 
@@ -82,14 +82,14 @@ put_rx-here f at number x = ap (λ g. g number) (put_at-here f at (put (f at) nu
 
 -- ---- associations by number
 
--- what holds of the one that is put, and of those that stood, holds of those that stand
+-- what holds of the one that is put, and of those that were there, holds of those that are there then
 pub put-associations : {A : Type 0} (P : ℕ → A → Type 0) (table : ℕ → Option A) (at : ℕ) (sa : Option A)
     → ((one : A) → sa ≡ Some one → P at one) → ((i : ℕ) (one : A) → table i ≡ Some one → P i one)
     → (i : ℕ) (one : A) → put table at sa i ≡ Some one → P i one
 put-associations P table at sa this others i one =
     put_all (λ x. x ≡ Some one → P i one) table at sa i (λ same is. subst (λ (n : ℕ). P n one) (sym same) (this one is)) (λ differ is. others i one is)
 
--- the encoding one stands where it stood, or is put
+-- the encoding one exists where it existed, or is put
 pub encoding-put : {A : Type 0} (encoding : Option ℕ) (table : ℕ → Option A) (at : ℕ) (sa : A)
     → IfSome encoding (λ an. IsSome (table an)) → IfSome encoding (λ an. IsSome (put table at (Some sa) an))
 encoding-put None table at sa stands = stands
@@ -104,7 +104,7 @@ encoding-kept (Some an) table at unused stands =
 
 -- ---- associations by SCI and number
 
--- what holds of the one that is put, and of those that stood, holds of those that stand
+-- what holds of the one that is put, and of those that were there, holds of those that are there then
 pub put-receive-associations : {A : Type 0} (P : List ℕ → ℕ → A → Type 0) (table : List ℕ → ℕ → Option A) (at : List ℕ) (number : ℕ) (sa : Option A)
     → ((one : A) → sa ≡ Some one → P at number one) → ((sci : List ℕ) (i : ℕ) (one : A) → table sci i ≡ Some one → P sci i one)
     → (sci : List ℕ) (i : ℕ) (one : A) → put_at table at (put (table at) number sa) sci i ≡ Some one → P sci i one
@@ -113,7 +113,7 @@ put-receive-associations P table at number sa this others sci i one =
     (λ same is. subst (λ (s : List ℕ). P s i one) (sym same) (put-associations (P at) (table at) number sa this (others at) i one is))
     (λ differ is. others sci i one is)
 
--- those of a channel that goes are gone, and the others stand
+-- those of a channel that goes are gone, and the others stay
 pub drop-receive-associations : {A : Type 0} (P : List ℕ → ℕ → A → Type 0) (table : List ℕ → ℕ → Option A) (at sci : List ℕ) (i : ℕ) (one : A)
     → (bytes_eq sci at ≡ false → table sci i ≡ Some one → P sci i one) → put_at table at (λ an. None) sci i ≡ Some one → P sci i one
 drop-receive-associations P table at sci i one others =

@@ -76,30 +76,30 @@ abbrev pub is_wrong_end_station : Identity → Command → Bool
 is_wrong_end_station identity (SetSciMode mode) = is_end_station mode && not (is_port_one identity.sci)
 is_wrong_end_station identity command = false
 
--- the receive channel of the command does not stand
+-- the receive channel of the command does not exist
 abbrev pub has_no_channel : Config → Command → Bool
 has_no_channel c (RxDrop sci) = not (has_channel c sci)
 has_no_channel c (RxInstall sci an key start offset) = not (has_channel c sci)
 has_no_channel c (RxRemove sci an) = not (has_channel c sci)
 has_no_channel c command = false
 
--- the receive channel that is to be added stands
+-- the receive channel that is to be added exists
 abbrev pub is_channel_taken : Config → Command → Bool
 is_channel_taken c (RxAdd sci) = has_channel c sci
 is_channel_taken c command = false
 
--- a receive channel is to be added, and as many stand as the edition takes
+-- a receive channel is to be added, and as many exist as the edition takes
 abbrev pub are_channels_full : Edition → Config → Command → Bool
 are_channels_full edition c (RxAdd sci) = nat_le edition.channels (length c.channels)
 are_channels_full edition c command = false
 
--- an association stands at the AN of an install
+-- there is an association at the AN of an install
 abbrev pub is_slot_taken : Config → Command → Bool
 is_slot_taken c (TxInstall an key start confidential offset) = is_some (c.tx an)
 is_slot_taken c (RxInstall sci an key start offset) = is_some (c.rx sci an)
 is_slot_taken c command = false
 
--- no association stands at the AN that is to be used or removed
+-- there is no association at the AN that is to be used or removed
 abbrev pub is_slot_empty : Config → Command → Bool
 is_slot_empty c (TxUse an) = is_none (c.tx an)
 is_slot_empty c (TxRemove an) = is_none (c.tx an)

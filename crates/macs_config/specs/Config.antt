@@ -79,7 +79,7 @@ default = record {
 abbrev pub is_among : List (List ℕ) → List ℕ → Bool
 is_among items item = list_any (λ other. bytes_eq other item) items
 
--- a receive channel of that SCI stands
+-- a receive channel of that SCI exists
 abbrev pub has_channel : Config → List ℕ → Bool
 has_channel c sci = is_among c.channels sci
 
@@ -125,7 +125,7 @@ are_distinct (item ∷ items) = not (is_among items item) && are_distinct items
 
 -- ---- what holds of every configuration
 
--- Associations that stand have keys that the edition takes, and that are spent. Two of them may have one key: a key is spent for a
+-- Associations that exist have keys that the edition takes, and that are spent. Two of them may have one key: a key is spent for a
 -- side and, on the receive side, for an SCI.
 pub record IsConfig (edition : Edition) (identity : Identity) (c : Config) : Type 0 where
   pub encoding_stands : IfSome c.encoding (λ an. IsSome (c.tx an))

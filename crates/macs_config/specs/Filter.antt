@@ -1,4 +1,4 @@
--- A filter beside a list of fingerprints, which tells most others apart from them at once.
+-- A filter next to a list of fingerprints, which tells most others apart from them at once.
 use Rattle.std.specs.Prelude.{◌≡◌, ℕ, ◌/◌, ◌==◌, Bool, true, List, get_or}
 use Rattle.std.specs.Int.{bit_at}
 use Rattle.macs_config.specs.Config.{is_spent}

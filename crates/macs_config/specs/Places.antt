@@ -2,7 +2,7 @@
 use Rattle.std.specs.Prelude.{◌≡◌, ◌<◌, ℕ, false, List, [], length, take, slice_index_or}
 use Rattle.macs_config.specs.Config.{is_among}
 
--- the first place at which that SCI stands
+-- the first place at which that SCI is
 pub record IsPlace (scis : List (List ℕ)) (sci : List ℕ) (place : ℕ) : Type 0 where
   pub within : place < length scis
   pub there : slice_index_or scis place [] ≡ sci

@@ -37,8 +37,8 @@ are_ordered place (part ∷ parts) = nat_le place (place_of part) && are_ordered
 abbrev pub are_new : List (List ℕ) → List (List ℕ) → Bool
 are_new spent fingerprints = are_distinct fingerprints && list_all (λ item. not (is_among spent item)) fingerprints
 
--- A part may follow what the parts in front of it made: its association or channel does not stand yet; its key is one that the
--- edition takes; its channel is not the own SCI and is one of as many as may stand, or stands, for an association; its
+-- A part may follow what the parts in front of it made: its association or channel does not exist yet; its key is one that the
+-- edition takes; its channel is not the own SCI and is one of as many as there may be, or exists, for an association; its
 -- fingerprints are new and fit.
 abbrev pub may_follow : Edition → Identity → Config → Part → Bool
 may_follow edition identity c (Settings validate replay mode encoding) = false
@@ -71,15 +71,15 @@ config_with_parts edition identity c (part ∷ parts) =
 abbrev pub every_an : List ℕ
 every_an = 0 ∷ 1 ∷ 2 ∷ 3 ∷ []
 
--- the key of the transmit association at an AN is spent, if one stands there
+-- the key of the transmit association at an AN is spent, if there is one
 abbrev pub is_tx_spent : Config → ℕ → Bool
 is_tx_spent c an = option_map_or (λ sa. is_spent c.spent_tx (tx_fingerprint sa.key)) (c.tx an) true
 
--- the key of the receive association of an SCI at an AN is spent for that SCI, if one stands there
+-- the key of the receive association of an SCI at an AN is spent for that SCI, if there is one
 abbrev pub is_rx_spent : Config → List ℕ → ℕ → Bool
 is_rx_spent c sci an = option_map_or (λ sa. is_spent c.spent_rx (rx_fingerprint sci sa.key)) (c.rx sci an) true
 
--- Every installed key is spent, the encoding association stands, and an end station's port is 00-01.
+-- Every installed key is spent, the encoding association exists, and an end station's port is 00-01.
 abbrev pub is_whole : Identity → Config → Bool
 is_whole identity c =
     list_all (is_tx_spent c) every_an

@@ -12,7 +12,7 @@ pub record ConfigValue : Type 0 where
   pub identity : Identity
   pub contents : Contents
 
--- the receive association of an SCI at an AN, None where none stands
+-- the receive association of an SCI at an AN, None where there is none
 abbrev pub rx_at : List Channel → List ℕ → ℕ → Option RxSa
 rx_at [] sci an = None
 rx_at (channel ∷ channels) sci an =

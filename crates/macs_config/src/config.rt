@@ -60,9 +60,9 @@ impl Config {
 
     /// The configuration that the parts of a snapshot make up. `None` where they are not in a
     /// snapshot's order, with settings once; an association, a channel or, on one side, a
-    /// fingerprint comes twice; a channel is the endpoint's own SCI, or one more than 8; more than 512
-    /// keys are spent on a side; a receive association has no channel; a key has 32 octets; a key that
-    /// stands is not spent; the encoding association does not stand; or the mode is that of an end
+    /// fingerprint comes twice; a channel is the endpoint's own SCI, or one more than 32; more than 512
+    /// keys are spent on a side; a receive association has no channel; an installed key
+    /// is not spent; the encoding association does not exist; or the mode is that of an end
     /// station, and the port of the endpoint's SCI is not 00-01.
     pub fn restore(identity: &Identity, parts: &[Part]) -> Option<Config>
         ensures restored { option_map config_of result ≡ config_of_parts this_edition identity.now parts.now }
@@ -142,7 +142,7 @@ impl Config {
         Ok(())
     }
 
-    /// What holds of every configuration; and nothing stands at an association number above 3.
+    /// What holds of every configuration; and there is nothing at an association number above 3.
     pub fn facts(&self)
         ensures config { IsConfig this_edition self.now.identity (config_of self.now) }
         ensures tx_numbers { (an : ℕ) → 4 ≤ an → (config_of self.now).tx an ≡ None }
@@ -186,14 +186,14 @@ impl Config {
         self.contents.encoding
     }
 
-    /// A transmit association, `None` where none stands at that number.
+    /// A transmit association, `None` where there is none at that number.
     pub fn tx(&self, an: An) -> Option<TxSa>
         ensures { result ≡ (config_of self.now).tx an }
     {
         self.contents.tx[an.get() as usize]
     }
 
-    /// Whether a receive channel of that SCI stands.
+    /// Whether a receive channel of that SCI exists.
     pub fn has_channel(&self, sci: Sci) -> bool
         ensures { result ≡ has_channel (config_of self.now) sci }
     {
@@ -211,7 +211,7 @@ impl Config {
         scis
     }
 
-    /// A receive association, `None` where none stands at that number of that channel.
+    /// A receive association, `None` where there is none at that number of that channel.
     pub fn rx(&self, sci: Sci, an: An) -> Option<RxSa>
         ensures { result ≡ (config_of self.now).rx sci an }
     {

@@ -7,7 +7,7 @@ use crate::spent_keys::SpentKeys;
 use arrayvec::ArrayVec;
 use macs_fields::{ASSOCIATIONS, An, Sci};
 
-/// How many receive channels may stand.
+/// How many receive channels there may be.
 pub const MAX_CHANNELS: usize = 32;
 
 /// A receive channel, with its associations by their numbers.
@@ -21,7 +21,7 @@ impl Channel {
     ghost use Rattle.std.specs.Prelude.{◌≡◌, ◌≤◌, ℕ, None, get_or};
     ghost use Rattle.macs_config.specs.Tables.{put};
 
-    /// Nothing stands at an association number above 3.
+    /// There is nothing at an association number above 3.
     fn facts(&self)
         ensures { (an : ℕ) → 4 ≤ an → get_or self.now.associations an None ≡ None }
     {
@@ -106,7 +106,7 @@ impl Contents {
         self.spent_rx.clear();
     }
 
-    /// Nothing stands at an association number above 3.
+    /// There is nothing at an association number above 3.
     pub(crate) fn facts(&self)
         ensures tx { (an : ℕ) → 4 ≤ an → (config_in self.now).tx an ≡ None }
         ensures rx { (sci : List ℕ) (an : ℕ) → 4 ≤ an → (config_in self.now).rx sci an ≡ None }
@@ -118,7 +118,7 @@ impl Contents {
         }
     }
 
-    /// The place of a receive channel among those that stand.
+    /// The place of a receive channel among those that exist.
     fn place(&self, sci: Sci) -> Option<usize>
         ensures stands { IfSome result (λ place. IsPlace (config_in self.now).channels sci place) }
         ensures none { IfNone result (has_channel (config_in self.now) sci ≡ false) }
@@ -131,7 +131,7 @@ impl Contents {
         None
     }
 
-    /// Whether a receive channel of that SCI stands.
+    /// Whether a receive channel of that SCI exists.
     pub(crate) fn has_channel(&self, sci: Sci) -> bool
         ensures { result ≡ has_channel (config_in self.now) sci }
     {
@@ -153,7 +153,7 @@ impl Contents {
         self.tx[an.get() as usize] = sa;
     }
 
-    /// Puts a receive association at a number of a channel that stands, or takes it away.
+    /// Puts a receive association at a number of a channel that exists, or takes it away.
     pub(crate) fn put_rx(&mut self, sci: Sci, an: An, sa: Option<RxSa>)
         requires { has_channel (config_in self.old) sci ≡ true }
         ensures { config_in self.new ≡ record (config_in self.old)
@@ -164,7 +164,7 @@ impl Contents {
         }
     }
 
-    /// Adds a receive channel that does not stand yet.
+    /// Adds a receive channel that does not exist yet.
     pub(crate) fn add_channel(&mut self, sci: Sci)
         requires free { has_channel (config_in self.old) sci ≡ false }
         requires room { length (config_in self.old).channels < this_edition.channels }
@@ -175,7 +175,7 @@ impl Contents {
         self.channels.insert(place, Channel { sci, associations });
     }
 
-    /// How many of the channels that stand come first, before the first that comes after an SCI.
+    /// How many of the channels that exist come first, before the first that comes after an SCI.
     fn place_after(&self, sci: Sci) -> usize
         ensures within { result ≤ length (config_in self.now).channels }
         ensures between { put_among sci (config_in self.now).channels ≡

@@ -14,7 +14,7 @@ pub trait PartSource {
     fn count(&self) -> usize
         ensures { result ≡ length (listed self.now) };
 
-    /// The part at a place, counted from 0; `None` where there is none, and behind the last place.
+    /// The part at a place, counted from 0; `None` where there is none, and after the last place.
     fn part(&self, at: usize) -> Option<Part>
         ensures { result ≡ get_or (listed self.now) at None };
 }

@@ -13,15 +13,15 @@ pub enum Refusal {
     OwnSci,
     /// The mode would be that of an end station, and the port of the endpoint's SCI is not 00-01.
     EndStationSci,
-    /// No such receive channel stands.
+    /// There is no such receive channel.
     NoChannel,
-    /// A receive channel of that SCI stands.
+    /// There is a receive channel of that SCI.
     ChannelTaken,
-    /// As many receive channels stand as may: 32.
+    /// There are as many receive channels as there may be: 32.
     ChannelsFull,
-    /// An association stands at that number.
+    /// There is an association at that number.
     SlotTaken,
-    /// No association stands at that number.
+    /// There is no association at that number.
     SlotEmpty,
     /// Frames go out under that association.
     InUse,

@@ -23,7 +23,7 @@ use crate::part_source::PartSource;
 use crate::spent_keys::{MAX_SPENT, SpentKeys};
 use macs_fields::{An, Sci};
 
-/// The place of the first parts behind the settings, in the order of a snapshot.
+/// The place of the first parts after the settings, in the order of a snapshot.
 const BEHIND_SETTINGS: u8 = 2;
 
 /// Makes it what the parts of a snapshot make up, and answers whether they make up something; where the
@@ -66,7 +66,7 @@ fn take_settings(contents: &mut Contents, first: Option<Part>) -> bool
     true
 }
 
-/// Adds the parts behind the settings in turn, and answers whether there is one at each place, none is out
+/// Adds the parts after the settings in turn, and answers whether there is one at each place, none is out
 /// of order, and each may follow those in front of it.
 fn add_all<P: PartSource>(identity: &Identity, contents: &mut Contents, parts: &P) -> bool
     ensures { config_with_listed this_edition identity.now 2 (config_in contents.old) (drop 1 (P.listed parts.now))
@@ -106,7 +106,7 @@ fn place_of(part: &Part) -> u8
     }
 }
 
-/// Adds a part, and answers whether it may follow what stands.
+/// Adds a part, and answers whether it may follow what is there.
 fn add(identity: &Identity, contents: &mut Contents, part: &Part) -> bool
     ensures test { result ≡ may_follow this_edition identity.now (config_in contents.old) part.now }
     ensures added { result ≡ true → config_in contents.new ≡ config_with_part (config_in contents.old) part.now }
@@ -120,7 +120,7 @@ fn add(identity: &Identity, contents: &mut Contents, part: &Part) -> bool
     }
 }
 
-/// Adds a transmit association, and answers whether none stood at its number and its key is one that
+/// Adds a transmit association, and answers whether there was none at its number and its key is one that
 /// this edition takes.
 fn add_tx(contents: &mut Contents, an: An, sa: TxSa) -> bool
     ensures test { result ≡ (is_none ((config_in contents.old).tx an) && takes_key this_edition sa.key) }
@@ -133,7 +133,7 @@ fn add_tx(contents: &mut Contents, an: An, sa: TxSa) -> bool
     may_follow
 }
 
-/// Adds a receive channel, and answers whether it is not the own one, did not stand, and fits.
+/// Adds a receive channel, and answers whether it is not the own one, did not exist, and fits.
 fn add_channel(identity: &Identity, contents: &mut Contents, sci: Sci) -> bool
     ensures test { result ≡ (not (bytes_eq sci identity.now.sci) && not (has_channel (config_in contents.old) sci)
         && nat_lt (length (config_in contents.old).channels) this_edition.channels) }
@@ -147,7 +147,7 @@ fn add_channel(identity: &Identity, contents: &mut Contents, sci: Sci) -> bool
     may_follow
 }
 
-/// Adds a receive association, and answers whether its channel stands, no association at its number,
+/// Adds a receive association, and answers whether its channel exists, there is no association at its number,
 /// and its key is one that this edition takes.
 fn add_rx(contents: &mut Contents, sci: Sci, an: An, sa: RxSa) -> bool
     ensures test { result ≡ (has_channel (config_in contents.old) sci && is_none ((config_in contents.old).rx sci an)
@@ -230,7 +230,7 @@ fn are_distinct(fingerprints: &[Fingerprint]) -> bool
     true
 }
 
-/// Whether every installed key is spent, the encoding association stands, and an end station's port
+/// Whether every installed key is spent, the encoding association exists, and an end station's port
 /// is 00-01.
 fn is_whole(identity: &Identity, contents: &Contents) -> bool
     ensures { result ≡ is_whole identity.now (config_in contents.now) }
@@ -276,7 +276,7 @@ fn are_keys_spent(contents: &Contents, sci: Sci) -> bool
     An::all().iter().all(|an| is_rx_spent(contents, sci, *an))
 }
 
-/// Whether the key of a receive association is spent; true where none stands.
+/// Whether the key of a receive association is spent; true where there is none.
 fn is_rx_spent(contents: &Contents, sci: Sci, an: An) -> bool
     ensures { result ≡ is_rx_spent (config_in contents.now) sci an }
 {
@@ -288,7 +288,7 @@ fn is_rx_spent(contents: &Contents, sci: Sci, an: An) -> bool
     }
 }
 
-/// Whether the association that frames go out under stands; true where there is none.
+/// Whether the association that frames go out under exists; true where there is none.
 fn encoding_stands(contents: &Contents) -> bool
     ensures { result ≡ option_map_or (λ an. is_some ((config_in contents.now).tx an)) (config_in contents.now).encoding true }
 {

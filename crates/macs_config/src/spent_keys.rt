@@ -79,7 +79,7 @@ impl SpentKeys {
         has_flag(&self.filter, fingerprint) && is_spent(self.fingerprints.as_slice(), fingerprint)
     }
 
-    /// Adds a fingerprint behind those that are spent.
+    /// Adds a fingerprint after those that are spent.
     pub(crate) fn push(&mut self, fingerprint: Fingerprint)
         requires { length self.old < max_spent }
         ensures { self.new ≡ self.old ++ fingerprint ∷ [] }
