@@ -1,4 +1,4 @@
--- A frame that waited is settled behind a refill as it would have been at once.
+-- A frame that waited is settled after a refill as it would have been at once.
 use Rattle.std.proofs.Common.{◌≡◌, ◌≢◌, ◌<◌, ◌+◌, ◌/◌, ◌==◌, ◌||◌, ◌⊎◌, inl, inr, ℕ, Bool, true, false, cond, List, [], ◌∷◌, Option, Some, None, IsSome, Result, Ok, Err, IfOk, refl, sym, ◌∙◌, ap, subst, arith}
 use Rattle.std.specs.Prelude.{max, IsSomeAnd}
 use Rattle.std.specs.Option.{option_and_then}

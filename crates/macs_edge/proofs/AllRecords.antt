@@ -30,11 +30,11 @@ record-once big left more rest a b x y =
 
 -- ---- records up to the end or a fault
 
--- no record is read behind so many: there is the end, or a fault
+-- no record is read after so many: there is the end, or a fault
 abbrev IsLast : Bool → ℕ → List ℕ → Type 0
 IsLast big count rest = (rest ≡ []) ⊎ ((fault : PcapFault) × (record_fault big count rest ≡ Some fault))
 
--- where a record stands it is read
+-- where there is a record it is read
 not_last : (big : Bool) (count : ℕ) (left rest : List ℕ) (taken : CaptureRecord) → BeginsWithRecord big left taken rest → count < max_records → ¬ IsLast big count left
 not_last big count left rest taken begins few (inl is) =
     let size : length (take 16 left) ≡ 0 = ap (λ (l : List ℕ). length (take 16 l)) is in
@@ -44,7 +44,7 @@ not_last big count left rest taken begins few (inr (fault, is)) =
     let none = begins-none big count left rest taken begins few in
     cc
 
--- records that were taken are the first of all, behind so many others
+-- records that were taken are the first of all, after so many others
 first-of-all : (big : Bool) (count : ℕ) (left rest end : List ℕ) (records all : List CaptureRecord) → count + length records ≤ max_records
     → BeginsWithRecords big left records rest → BeginsWithRecords big left all end → IsLast big (count + length all) end
     → (more : List CaptureRecord) × (all ≡ records ++ more) × BeginsWithRecords big rest more end
@@ -69,7 +69,7 @@ front-of-all big left rest end records all few stand every last =
     let size : length all ≡ 0 + length all = omega arith in
     first-of-all big 0 left rest end records all (omega (arith, few)) stand every (subst (λ (n : ℕ). IsLast big n end) size last)
 
--- where none can be read behind them they are all
+-- where none can be read after them they are all
 pub all-there : (big : Bool) (rest end : List ℕ) (count : ℕ) (records all more : List CaptureRecord) → length records ≡ count → length all ≤ max_records
     → IsLast big count rest → all ≡ records ++ more → BeginsWithRecords big rest more end → all ≡ records
 all-there big rest end count records all [] size few last split behind = split ∙ append-nil records

@@ -1,4 +1,4 @@
--- What a desk was told, found among the calls of the endpoint.
+-- What was reported to a desk, found among the calls of the endpoint.
 use Rattle.std.proofs.Common.{◌≡◌, ◌⊎◌, inl, inr, ◌++◌, ℕ, zero, suc, Bool, List, [], ◌∷◌, map, Result, Ok, refl, sym}
 use Rattle.std.proofs.Common.{◌∙◌, ap, subst, arith}
 use Rattle.std.specs.Prelude.{Contains, flat_map}
@@ -91,7 +91,7 @@ module _ {X Y : Type 0} where
     | inr later ↦ in-rear (f first) (flat_map f xs) y (of-flat f xs x y later has)
   ]
 
--- ---- what is told, and what a call and its answer say
+-- ---- what is reported, and what a call and its answer say
 
 is_done : (call : Call) (reply : Reply) (ticket : ℕ) (result : Result (Unit {0}) CommandFault)
     → Contains (done_by call reply) (record { ticket = ticket; end = end.Done result })

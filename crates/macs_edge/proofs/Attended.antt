@@ -49,7 +49,7 @@ attends-begun disk_of turns endpoint controlled common out back events answer ne
     (subst (λ (l : LaneValue). AttendsTurns disk_of turns (relay_of endpoint controlled common out l) events answer
     new) is_back took)
 
--- what is wanted where no turn follows is the end
+-- what the desk wants where no turn follows is the end
 end-of : {D : Type 0} (disk_of : D → Disk) (quiet : Bool) (order : Order) (old new : EndpointValue D)
     (told : List DeskEvent) → false ≡ goes_on order
     → Does disk_of order old told new → (Wanted quiet order ∷ told ≡ Wanted quiet End ∷ []) × (new ≡ old)

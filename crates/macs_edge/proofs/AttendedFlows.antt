@@ -1,4 +1,4 @@
--- What goes each way of a relay that is attended, and what its desk is told.
+-- What goes each way of a relay that is attended, and what is reported to its desk.
 use Rattle.std.proofs.Common.{◌≡◌, ◌++◌, inl, inr, ℕ, zero, suc, Bool, true, List, [], ◌∷◌, map, Result, Ok, Err}
 use Rattle.std.proofs.Common.{refl, sym, ap, ◌∙◌, subst, append-nil, append_assoc}
 use Rattle.std.specs.Prelude.{flat_map}
@@ -29,7 +29,7 @@ use Rattle.macs_edge.proofs.Matching.{failed-tickets, failed-told, matches-appen
 use Rattle.macs_edge.proofs.Matching.{matches-step, obeys-with, taken-append, told_of_step}
 use Rattle.macs_edge.proofs.Queueing.{step-waits}
 
--- what goes each way, and that the calls match what the desk is told
+-- what goes each way, and that the calls match what is reported to the desk
 pub record Attended {D : Type 0} (disk_of : D → Disk) (old : Relay D) (events : List DeskEvent) (new : Relay D)
     : Type 0 where
   pub goes : Goes disk_of old new
@@ -137,7 +137,7 @@ module _ {D : Type 0} (disk_of : D → Disk) where
 
   -- ---- the end
 
-  -- the end is wanted: no call is made
+  -- the desk wants the end: no call is made
   ends : (old new : Relay D) (events : List DeskEvent) (quiet : Bool) → Attended disk_of old events new
       → Attended disk_of old (events ++ Wanted quiet End ∷ []) new
   ends old new events quiet so_far = record {

@@ -1,4 +1,4 @@
--- One record behind others.
+-- One record after others.
 use Rattle.std.proofs.Common.{◌≡◌, ◌+◌, ◌<◌, ◌++◌, ℕ, Bool, true, false, cond, List, [], ◌∷◌, length, Option, Some, None, Ok, Err, refl, sym, ap, ◌∙◌, subst, arith, append_assoc, append-nil, length-append}
 use Rattle.std.specs.Io.KnownBytes.{Appends}
 use Rattle.std.proofs.KnownBytes.{Appends-nil, Appends-trans}
@@ -76,7 +76,7 @@ judges-more side old between new (one ∷ more) taken verdicts reply frame judge
       judges-more side next between new more taken rest reply frame later step settles,
     )
 
--- what is told in two parts is told
+-- what is reported in two parts is reported
 pub tells-more : {V T : Type 0} (tells : Tells V T) (a b d : Telling V T) (verdicts more : List Verdict)
     → TellsAll tells a verdicts b → TellsAll tells b more d → TellsAll tells a (verdicts ++ more) d
 tells-more tells a b d [] more first second = subst (λ (t : Telling _ _). TellsAll tells t more d) first second
@@ -240,7 +240,7 @@ module _ {D : Type 0} (disk_of : D → Disk) (side : Side) (big : Bool) where
         noted,
       )
 
--- ---- what was taken so far, and told
+-- ---- what was taken so far, and reported
 
 count_more : (records passed : List CaptureRecord) (taken : CaptureRecord) (frame : List ℕ) (s : Summary) (passes : Bool) → Counts records passed s
     → Counts (records ++ taken ∷ []) (passed ++ passed_record taken.stamp (cond passes (Some frame) None)) (one_more passes s)
@@ -272,7 +272,7 @@ module _ {D V T : Type 0} (disk_of : D → Disk) (tells : Tells V T) (side : Sid
         );
   }
 
-  -- so many records were taken, and the verdict on each was told
+  -- so many records were taken, and the verdict on each was reported
   abbrev pub HasTaken : Run D → Telling V T → ℕ → Summary → Run D → Telling V T → Type 0
   HasTaken old before count s between told =
       (records : List CaptureRecord) × (passed : List CaptureRecord) × (verdicts : List Verdict)

@@ -1,4 +1,4 @@
--- All that is to be drawn of the words on verdicts that are told.
+-- All that is to be drawn of the words on verdicts that are reported.
 use Rattle.std.proofs.Common.{◌≡◌, ◌≢◌, ◌≤◌, ◌⊎◌, ◌∙◌, ◌+◌, ◌++◌, inl, inr, ℕ, Bool, List, [], ◌∷◌, length, Option, Result}
 use Rattle.std.proofs.Common.{Ok, Err, ap, arith, refl, subst, sym}
 use Rattle.macs_disk.specs.Disk.{Disk}

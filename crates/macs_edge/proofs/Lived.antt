@@ -26,7 +26,7 @@ use Rattle.macs_edge.specs.declared.settling.Side.TheVariants.{Controlled, Commo
 use Rattle.macs_edge.proofs.Living.{lives-append}
 
 module _ {D : Type 0} (disk_of : D → Disk) where
-  -- calls behind calls
+  -- calls after calls
   behind : (old between new : EndpointValue D) → LivesOn disk_of old between → LivesOn disk_of between new → LivesOn disk_of old new
   behind old between new first second = (first.0 ++ second.0, lives-append disk_of old between new first.0 second.0 first.1 second.1)
 

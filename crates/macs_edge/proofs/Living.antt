@@ -1,4 +1,4 @@
--- Calls behind calls.
+-- Calls after calls.
 use Rattle.std.proofs.Common.{List, [], ◌∷◌, ◌++◌, subst}
 use Rattle.macs_disk.specs.Disk.{Disk}
 use Rattle.macs_endpoint.specs.Lives.{Lives, Transition}

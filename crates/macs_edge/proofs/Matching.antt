@@ -83,7 +83,7 @@ frame-ends Advances reply frame = absurd frame
 
 -- ---- a step
 
--- what a desk is told of the step of a turn, also where it is refused
+-- what is reported to a desk of the step of a turn, also where it is refused
 abbrev pub told_of_step : Result Progress StepFault → List DeskEvent
 told_of_step (Ok progress) = answers_of progress
 told_of_step (Err fault) = []
@@ -189,7 +189,7 @@ module _ {D : Type 0} (disk_of : D → Disk) where
         ∙ submit-waits disk_of a b command answer is;
   }
 
-  -- the calls that are made before a turn, none or one: they match what the desk is told, and no frame goes at them
+  -- the calls that are made before a turn, none or one: they match what is reported to the desk, and no frame goes at them
   pub record ObeysWith (old : EndpointValue D) (events : List DeskEvent) (new : EndpointValue D) : Type 0 where
     pub calls : List (Transition D)
     pub lives : Lives disk_of old calls new

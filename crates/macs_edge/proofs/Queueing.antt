@@ -107,7 +107,7 @@ module _ {D : Type 0} (disk_of : D → Disk) (old new : EndpointValue D) where
   stopped-submit command (Ok ticket) s t stopped is = absurd stopped
   stopped-submit command (Err fault) s t stopped is = submit-same s t is
 
-  -- a command that is taken comes behind the others
+  -- a command that is taken comes after the others
   pub submit-waits : (command : Command) (answer : Result ℕ SubmitFault)
       → IsCall disk_of old (Submits command) (Submitted answer) new
       → tickets_of old.waiting ++ ticket_in answer ≡ tickets_of new.waiting

@@ -1,4 +1,4 @@
--- One turn of a relay behind others.
+-- One turn of a relay after others.
 use Rattle.std.proofs.Common.{◌+◌, ℕ, Ok, sym, subst, add-one}
 use Rattle.macs_disk.specs.Disk.{Disk}
 use Rattle.macs_endpoint.specs.declared.progress.Step.{Step as Progress}

@@ -25,7 +25,7 @@ use Rattle.macs_edge.proofs.Once.{passes-front, passes-once}
 
 -- ---- the capture that an input becomes
 
--- behind a header that was read
+-- after a header that was read
 abbrev BecomesBehind : Side → State → Header → List ℕ → List ℕ → Type 0
 BecomesBehind side old header behind text =
     (records : List CaptureRecord) × (passed : List CaptureRecord) × (after : State) × AreAllRecords header.big behind records
@@ -145,7 +145,7 @@ module _ {D : Type 0} (disk_of : D → Disk) (side : Side) where
           some_once : (a b : List ℕ) → Some a ≡ Some b → a ≡ b
           some_once a b is = cc
 
-    -- the first of them, and nothing behind
+    -- the first of them, and nothing after
     front_written : (records passed : List CaptureRecord) (until new : Run D) → HasPassed disk_of side header.big between records passed until → new.sink ≡ until.sink
         → (logs : Logs) (text : List ℕ) → IfSome old.source.left (λ input. BecomesCapture side (state_of old.endpoint logs) input text → Sends old.sink.held new.sink.held text)
     front_written records passed until new has sink logs text = if_known old.source.left _ (λ input is becomes.

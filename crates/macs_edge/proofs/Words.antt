@@ -1,4 +1,4 @@
--- What is to be drawn from words that stand in what runs and relays promise, and what builds those that their laws ask for.
+-- What is to be drawn from words in what runs and relays promise, and what builds those that their laws ask for.
 use Rattle.std.proofs.Common.{◌≡◌, ◌<◌, ◌⊎◌, inl, inr, ◌+◌, ◌++◌, ℕ, zero, suc, List, [], ◌∷◌, length, Option, Some, None, Result, Ok, Err, refl, sym, ◌∙◌, ap, subst, arith, ◌≢◌, Bool, true, false, cond}
 use Rattle.macs_disk.specs.Disk.{Disk}
 use Rattle.macs_txsc.specs.declared.fault.TxFault.TheVariants.{NoNumber}

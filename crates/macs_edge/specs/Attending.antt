@@ -1,4 +1,4 @@
--- A relay that is attended: what a desk wants before each turn, and what it is told of its commands.
+-- A relay that is attended: what a desk wants before each turn, and what is reported to it of its commands.
 use Rattle.std.specs.Prelude.{◌≡◌, ◌⊎◌, ◌↔◌, ◌<◌, ◌++◌, ℕ, zero, suc, Bool, true, false, IsTrue, List, [], ◌∷◌, map}
 use Rattle.std.specs.Prelude.{Option, IfOk, Result, Ok, Err}
 use Rattle.std.specs.Option.{option_map}
@@ -29,13 +29,13 @@ with_events noted events = option_map (λ before. before ++ events) noted
 
 -- ---- before a turn
 
--- a turn follows, unless the end is wanted
+-- a turn follows, unless the desk wants the end
 abbrev pub goes_on : Order → Bool
 goes_on Go = true
 goes_on (Submit command) = true
 goes_on End = false
 
--- What is wanted is done, and the desk is told this of it: a command is submitted, and else nothing is done
+-- What the desk wants is done, and this is reported to it: a command is submitted, and else nothing is done
 abbrev pub Does : {D : Type 0} → (D → Disk) → Order → EndpointValue D → List DeskEvent → EndpointValue D → Type 0
 Does disk_of (Submit command) old told new = (answer : Result ℕ SubmitFault) × (told ≡ Took answer ∷ [])
     × IsSoundEndpoint old × IsCall disk_of old (Submits command) (Submitted answer) new
@@ -48,12 +48,12 @@ Obeys disk_of was_quiet old events follows new = (order : Order) × (told : List
 
 -- ---- turns
 
--- what the desk is told of a step: what became of the command that it is done with
+-- what is reported to the desk of a step: what became of the command that it is done with
 abbrev pub answers_of : Progress → List DeskEvent
 answers_of (step.Done ticket result) = Answered ticket (end.Done result) ∷ []
 answers_of progress = []
 
--- a turn, with what is done before it and what is told of it
+-- a turn, with what is done before it and what is reported of it
 abbrev pub TakesAttended : {D : Type 0} → (D → Disk) → Bool → Relay D → List DeskEvent → Progress → Relay D → Type 0
 TakesAttended {D} disk_of was_quiet old events progress new = (before : List DeskEvent) × (endpoint : EndpointValue D)
     × Obeys disk_of was_quiet old.endpoint before true endpoint

@@ -28,7 +28,7 @@ abbrev pub handed_in_by : DeskEvent → List Command
 handed_in_by (Wanted was_quiet (Submit command)) = command ∷ []
 handed_in_by event = []
 
--- what it was told of one
+-- what was reported to it of one
 abbrev pub told_by : DeskEvent → List (Result ℕ SubmitFault)
 told_by (Took answer) = answer ∷ []
 told_by event = []
@@ -38,7 +38,7 @@ abbrev pub ticket_in : Result ℕ SubmitFault → List ℕ
 ticket_in (Ok ticket) = ticket ∷ []
 ticket_in answer = []
 
--- what it was told became of one
+-- what became of one, as it was reported to it
 abbrev pub ended_by : DeskEvent → List Ended
 ended_by (Answered ticket what) = record { ticket = ticket; end = what } ∷ []
 ended_by event = []
@@ -81,8 +81,8 @@ all_failed waiting = map (λ (w : Waiting). record { ticket = w.ticket; end = en
 -- ---- the whole
 
 -- The frames go as those of a relay. The commands that the desk handed in were submitted, each as one call of the
--- endpoint, and the desk was told
--- what was answered. What it was told became of commands is what steps were done with, and after that those that
+-- endpoint, and each answer was reported to the desk:
+-- it is what was answered. What was reported to it as the end of commands is what steps were done with, and after that those that
 -- still wait have failed.
 -- And each command that was taken was answered once, in the order of tickets, after those that waited before
 pub record IsAttendedFlow {D : Type 0} (disk_of : D → Disk) (old : Relay D) (events : List DeskEvent) (new : Relay D)

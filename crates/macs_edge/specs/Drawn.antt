@@ -309,12 +309,12 @@ pub record TurnWords {D : Type 0} (disk_of : D → Disk) : Type 0 where
 
 -- ---- a desk
 
--- Before the first turn no event is noted, and none was quiet. Before each the desk is asked what is wanted, and given
--- whether the one before was quiet; a command is submitted then and its answer noted, and where the end is wanted no
+-- Before the first turn no event is noted, and none was quiet. Before each the desk is asked what it wants, and given
+-- whether the one before was quiet; a command is submitted then and its answer noted, and where it wants the end no
 -- turn follows. After it the desk is given what its step is done with. In the end as many turns were taken as there
--- are, or fewer, and the end was wanted; what still waits has failed. A relay that ends in a fault has the name of the
+-- are, or fewer, and it wanted the end; what still waits has failed. A relay that ends in a fault has the name of the
 -- fault of its last turn's step. Over a whole relay: a command is answered as kept, or as refused, only where a step is
--- done with its ticket so; what is noted of a command that was handed in is what `submit` answered; each that is wanted
+-- done with its ticket so; what is noted of a command that was handed in is what `submit` answered; each that it wants
 -- is submitted; and each that was taken is answered: once, in the order of tickets, after those that waited before.
 pub record DeskWords {D : Type 0} (disk_of : D → Disk) : Type 0 where
   pub none : (old new : Relay D) (events : List DeskEvent) (quiet : Bool)

@@ -26,7 +26,7 @@ pub record FaultWireValue (W : Type 0) : Type 0 where
   pub receives : CallsValue
   pub sends : CallsValue
 
--- what it tells, where this is what the wire behind it tells: the frames are those of the wire behind it, and its own failed calls
+-- what it reports, where this is what the wire behind it reports: the frames are those of the wire behind it, and its own failed calls
 -- are counted with those of that wire
 abbrev pub fault_wire_state : {W : Type 0} → (W → WireState) → FaultWireValue W → WireState
 fault_wire_state state wire = record {

@@ -16,7 +16,7 @@ waiting_in wire = frames_of wire.waiting.items
 abbrev pub sent_in : {A : Type 0} → MemWire A → List (List ℕ)
 sent_in wire = frames_of wire.sent.items
 
--- what it tells: no receive of it fails
+-- what it reports: no receive of it fails
 abbrev pub mem_wire_state : {A : Type 0} → MemWire A → WireState
 mem_wire_state wire = record {
   waiting = Some (waiting_in wire);

@@ -40,7 +40,7 @@ Passes side old (taken ∷ more) passed new =
     × Step old (call_on side taken.frame) reply between × Settles reply frame
     × (passed ≡ passed_record taken.stamp frame ++ rest) × Passes side between more rest new
 
--- these are all the capture records of an input: behind the last one is its end, or a fault
+-- these are all the capture records of an input: after the last one is its end, or a fault
 pub record AreAllRecords (big : Bool) (left : List ℕ) (records : List CaptureRecord) : Type 0 where
   pub few : length records ≤ max_records
   pub rest : List ℕ
@@ -90,13 +90,13 @@ pub record HasPassed {D : Type 0} (disk_of : D → Disk) (side : Side) (big : Bo
   pub sent : Appends old.sink.held new.sink.held (records_text big passed)
   pub writes : new.sink.failed ≡ old.sink.failed
 
--- a record is read, behind so many others, and its frame is settled
+-- a record is read, after so many others, and its frame is settled
 pub record TakesRecord {D : Type 0} (disk_of : D → Disk) (side : Side) (big : Bool) (count : ℕ) (old : Run D) (taken : CaptureRecord) (passed : Option (List ℕ)) (new : Run D) : Type 0 where
   pub room : ℕ
   pub reads : ReadsRecord big count room old.source new.source taken.frame (Ok (Some taken.stamp))
   pub settled : IsSettled disk_of old.endpoint (call_on side taken.frame) passed new.endpoint
 
--- The run ends behind so many records with a fault. A fault of the device: the next frame finds the endpoint stopped, or waits for a
+-- The run ends after so many records with a fault. A fault of the device: the next frame finds the endpoint stopped, or waits for a
 -- refill that is answered with it. A fault of the captures: the next record is not read, with this fault; or its frame passes and is
 -- not written whole
 abbrev pub Stops : {D : Type 0} → (D → Disk) → Side → Bool → ℕ → Run D → RunFault → Run D → Type 0
@@ -110,7 +110,7 @@ Stops disk_of side big count old (Pcap fault) new =
     ⊎ ((taken : CaptureRecord) × (frame : List ℕ) × TakesRecord disk_of side big count old taken (Some frame) new
     × WritesText {T = Unit {0}} old.sink new.sink (record_text big taken.stamp frame) (Err fault))
 
--- What becomes of the next record, behind so many others: there is none, at the end; it passes, or is left out, with this verdict, if there is
+-- What becomes of the next record, after so many others: there is none, at the end; it passes, or is left out, with this verdict, if there is
 -- one; or the run ends
 abbrev pub TakesNext : {D : Type 0} → (D → Disk) → Side → Bool → ℕ → Run D → Result (Option Bool) RunFault → Option Verdict → Run D → Type 0
 TakesNext disk_of side big count old (Ok None) verdict new =

@@ -29,7 +29,7 @@ AllRest progress out_before back_before out back = ⊥
 abbrev pub IsQuiet : {D : Type 0} → Progress → Relay D → Relay D → Type 0
 IsQuiet progress old new = AllRest progress old.to_common.tally old.to_controlled.tally new.to_common new.to_controlled
 
--- how often something slept, where it tells, and so many sleeps more
+-- how often something slept, where it reports, and so many sleeps more
 abbrev pub with_sleeps : Option ℕ → ℕ → Option ℕ
 with_sleeps slept more = option_map (λ before. before + more) slept
 

@@ -50,7 +50,7 @@ Means call reply out outcome.Dropped = Settles reply None
 Means call reply out outcome.Waiting = Waits reply
 Means call reply out outcome.Stopped = IsStopped call reply
 
--- A frame is handed in by these calls and answered with this at last: once; or, where it waits, once more behind a refill that is
+-- A frame is handed in by these calls and answered with this at last: once; or, where it waits, once more after a refill that is
 -- answered Ok
 abbrev pub HandsIn : {D : Type 0} → Call → List (Transition D) → Reply → Type 0
 HandsIn call (only ∷ []) reply = (only.call ≡ call) × (only.reply ≡ reply)
@@ -74,7 +74,7 @@ abbrev pub IsJudged : {D : Type 0} → (D → Disk) → EndpointValue D → Call
 IsJudged disk_of old call passed verdict new =
     (settled : IsSettled disk_of old call passed new) × (verdict ≡ verdict_of settled.reply)
 
--- A frame is handed in by these calls and not settled: the one call finds the endpoint stopped; or the frame waits, and the refill behind it
+-- A frame is handed in by these calls and not settled: the one call finds the endpoint stopped; or the frame waits, and the refill after it
 -- is answered with this fault
 abbrev pub HaltsIn : {D : Type 0} → Call → List (Transition D) → RefillFault → Type 0
 HaltsIn call (only ∷ []) fault = (only.call ≡ call) × IsStopped call only.reply × (fault ≡ refill.Stopped)
@@ -104,7 +104,7 @@ ending_of outcome.Dropped = Ok false
 ending_of outcome.Waiting = Ok false
 ending_of outcome.Stopped = Err refill.Stopped
 
--- A refill is made, and behind it the frame is handed in again, and whether it passes is answered, with the verdict, if there is one; or the
+-- A refill is made, and after it the frame is handed in again, and whether it passes is answered, with the verdict, if there is one; or the
 -- refill is refused
 abbrev pub HandsInAgain : {D : Type 0} → (D → Disk) → EndpointValue D → Call → Result Bool RefillFault → List ℕ → Option Verdict
     → EndpointValue D → Type 0

@@ -32,13 +32,13 @@ MayLeaveOut kind (Err error) most left =
 abbrev pub after_sparing : {S : Type 0} → SparedSocket S → SparedSocket S
 after_sparing old = record old { left = old.left - 1; has_sent = false }
 
--- after a receive that the socket behind is asked for, with this answer, beside what becomes of that socket
+-- after a receive that the socket behind is asked for, with this answer, besides what becomes of that socket
 pub record AfterAsking {S E : Type 0} (kind : E → ErrorKind) (answer : Result Arrived E) (old new : SparedSocket S) : Type 0 where
   pub most : new.most ≡ old.most
   pub left : MayLeaveOut kind answer old.most new.left
   pub has_sent : new.has_sent ≡ false
 
--- after a send, beside what becomes of the socket behind
+-- after a send, besides what becomes of the socket behind
 pub record AfterSending {S : Type 0} (old new : SparedSocket S) : Type 0 where
   pub most : new.most ≡ old.most
   pub left : new.left ≡ old.left

@@ -1,4 +1,4 @@
--- What is told of the frames of a run over a capture: the verdict of each, in order.
+-- What is reported of the frames of a run over a capture: the verdict of each, in order.
 use Rattle.std.specs.Prelude.{◌≡◌, ◌⊎◌, ◌++◌, ℕ, Bool, List, [], ◌∷◌, length, Option, Some, None, Result, Ok, Err}
 use Rattle.macs_disk.specs.Disk.{Disk}
 use Rattle.macs_rxsc.specs.declared.verdict.Verdict.{Verdict}
@@ -19,11 +19,11 @@ use Rattle.macs_edge.specs.declared.passing.RunFault.TheVariants.{Pcap}
 use Rattle.macs_edge.specs.declared.passing.Summary.{Summary}
 use Rattle.macs_edge.specs.declared.settling.Side.{Side}
 
--- what is done with a verdict: who is told it, with what, and what both become
+-- what is done with a verdict: what gets it, what that passes it on to, and what both become
 abbrev pub Tells : Type 0 → Type 0 → Type 1
 Tells V T = V → T → Verdict → V → T → Type 0
 
--- who is told, with what
+-- what gets a verdict, and what it passes it on to
 pub record Telling (V T : Type 0) : Type 0 where
   pub teller : V
   pub to : T
@@ -32,7 +32,7 @@ pub record Telling (V T : Type 0) : Type 0 where
 abbrev pub telling_of : {V T : Type 0} → V → T → Telling V T
 telling_of teller to = record { teller = teller; to = to }
 
--- these verdicts are told, one after another
+-- these verdicts are reported, one after another
 abbrev pub TellsAll : {V T : Type 0} → Tells V T → Telling V T → List Verdict → Telling V T → Type 0
 TellsAll tells old [] new = new ≡ old
 TellsAll {V} {T} tells old (verdict ∷ more) new =
@@ -80,7 +80,7 @@ JudgesRun {D} disk_of side old answer verdicts new =
     × WritesText {T = Unit {0}} old.sink between.sink (header_text header) (Ok tt)
     × (between.endpoint ≡ old.endpoint) × JudgesRecords disk_of side header.big between answer verdicts new)
 
--- such a run over records, and each of the verdicts is told
+-- such a run over records, and each of the verdicts is reported
 abbrev pub TellsRecords : {D V T : Type 0} → (D → Disk) → Tells V T → Side → Bool → Run D → Telling V T → Result Summary RunFault
     → Run D → Telling V T → Type 0
 TellsRecords disk_of tells side big old before answer new after =

@@ -1,4 +1,4 @@
--- What is to be drawn of the words on verdicts that are told.
+-- What is to be drawn of the words on verdicts that are reported.
 use Rattle.std.specs.Prelude.{◌≡◌, ◌≢◌, ◌⊎◌, ◌+◌, ℕ, Bool, List, [], ◌∷◌, length, Ok, Err}
 use Rattle.macs_disk.specs.Disk.{Disk}
 use Rattle.macs_rxsc.specs.declared.verdict.Verdict.{Verdict}
@@ -16,7 +16,7 @@ use Rattle.macs_edge.specs.declared.settling.Side.TheVariants.{Common}
 
 -- Where no record is taken there is no verdict. Else the first is that with which `receive` answers the frame of the
 -- first record, never that it is held back, and the others are those of the others: as many as there are records. Each
--- is told once, in their order. A run that is answered Ok took all records up to the end, and has a verdict on each, as
+-- is reported once, in their order. A run that is answered Ok took all records up to the end, and has a verdict on each, as
 -- many as it counts. One that ends in a fault has those on the records before it.
 pub record VerdictWords {D V T : Type 0} (disk_of : D → Disk) (tells : Tells V T) : Type 0 where
   pub none : (old new : State) (verdicts : List Verdict) → Judges Common old [] verdicts new

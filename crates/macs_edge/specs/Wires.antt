@@ -14,7 +14,7 @@ longest_frame = 9216
 abbrev pub saturated : ℕ → ℕ
 saturated n = min n (2 ^ 64 - 1)
 
--- What a wire tells of itself: the frames that it will give and those that it sent, where they are known; and how often a receive
+-- What a wire reports of itself: the frames that it will give and those that it sent, where they are known; and how often a receive
 -- and a send of it failed
 pub record WireState : Type 0 where
   pub waiting : Option (List (List ℕ))

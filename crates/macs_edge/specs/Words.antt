@@ -1,4 +1,4 @@
--- What is to be drawn from words that stand in what runs and relays promise, and what builds those that their laws ask for.
+-- What is to be drawn from words in what runs and relays promise, and what builds those that their laws ask for.
 use Rattle.std.specs.Prelude.{◌≡◌, ◌≢◌, ◌<◌, ◌≤◌, ◌⊎◌, ◌+◌, ◌-◌, ◌^◌, ◌++◌, ℕ, List, [], ◌∷◌, drop, length, min, Option, Some, None, Result, Ok, Err}
 use Rattle.std.specs.Option.{option_map}
 use Rattle.macs_disk.specs.Disk.{Disk}
@@ -95,7 +95,7 @@ pub record FlowWords {D : Type 0} (disk_of : D → Disk) : Type 0 where
 
 -- ---- what a wire gives
 
--- A wire that tells its frames gives the first that waits, and has the others left; none only where none waits; one
+-- A wire that reports its frames gives the first that waits, and has the others left; none only where none waits; one
 -- that is longer than 9,216 octets is taken and not given; and no receive fails as a send, nor a send as a receive.
 -- Without a frame the buffer is empty.
 pub record WireWords : Type 0 where
@@ -141,7 +141,7 @@ pub record SettlingWords {D : Type 0} (disk_of : D → Disk) : Type 0 where
 
 -- ---- what an input becomes
 
--- An input becomes a capture where it begins with a header, records come after it, as many as may be, with the end or a fault behind the last one, and these pass:
+-- An input becomes a capture where it begins with a header, records come after it, as many as may be, with the end or a fault after the last one, and these pass:
 -- the header, and then what passes.
 abbrev pub TheseBecomeCaptures : Type 0
 TheseBecomeCaptures = (side : Side) (old after : State) (input behind rest : List ℕ) (header : Header) (records passed : List CaptureRecord)

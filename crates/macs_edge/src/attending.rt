@@ -1,4 +1,4 @@
-//! A relay that is attended: commands between its turns, and an end where it is wanted.
+//! A relay that is attended: commands between its turns, and an end on request.
 
 ghost use Rattle.std.specs.Prelude.{◌≡◌, List};
 ghost use Rattle.macs_endpoint.specs.Lives.{LivesOn};
@@ -155,7 +155,7 @@ fn attend_turns<D: SectorDisk, P: Wire, C: Wire, K: Desk<D, P, C>>(
 
 /// Relays frames between two wires as `relay` does, in so many turns at most. Before each turn the
 /// desk is asked what it wants: that the relay goes on, that a command is submitted, or that the
-/// relay ends. An end that is wanted comes at once, with no further turn. After a turn whose step
+/// relay ends. A requested end comes at once, with no further turn. After a turn whose step
 /// is done with a command the desk is given the answer to that.
 ///
 /// At the end, also after a refused step, each command that still waits is answered as failed. So

@@ -31,7 +31,7 @@ impl Calls {
         Calls { fails_at, asked: 0 }
     }
 
-    /// Counts a call, and says whether it is the one that fails. A count that stands at its end has no next
+    /// Counts a call, and says whether it is the one that fails. A count that is at its end has no next
     /// number, so the call of the greatest number fails once.
     fn next_fails(&mut self) -> bool
         ensures asked { self.new ≡ asked_once_more self.old }
@@ -55,8 +55,8 @@ impl Calls {
     }
 }
 
-/// A wire in front of another. It fails the receive and the send of the numbers that `new` is told, and hands
-/// each other call to the wire behind it. A call that it fails does not reach that wire, and is counted beside
+/// A wire in front of another. It fails the receive and the send of the numbers that `new` is given, and hands
+/// each other call to the wire behind it. A call that it fails does not reach that wire, and is counted with
 /// that wire's failed calls.
 #[derive(Drop)]
 pub struct FaultWire<W> {
@@ -87,14 +87,14 @@ impl<W: Wire> FaultWire<W> {
         }
     }
 
-    /// The wire behind it, as it stands.
+    /// The wire behind it, as it is.
     pub fn inner(&self) -> &W
         ensures { result.now ≡ self.now.inner }
     {
         &self.wire
     }
 
-    /// The wire behind it, as it stands.
+    /// The wire behind it, as it is.
     pub fn into_inner(self) -> W
         ensures { result ≡ self.inner }
     {

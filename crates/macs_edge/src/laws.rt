@@ -96,7 +96,7 @@ pub fn drawn<D: SectorDisk>()
     ensures faults { FaultWords }
 {}
 
-/// What is to be drawn of verdicts that are told: which they are, of which frames, in which order, and how many.
+/// What is to be drawn of verdicts that are reported: which they are, of which frames, in which order, and how many.
 pub fn judged<D: SectorDisk, T, V: Verdicts<T>>()
     ensures { VerdictWords D.disk V.tells }
 {}

@@ -96,7 +96,7 @@ impl<A: Allocator + Copy> MemWire<A> {
         }
     }
 
-    /// A frame that the next receives give, behind those that wait. It fails as `Memory` alone, and changes
+    /// A frame that the next receives give, after those that wait. It fails as `Memory` alone, and changes
     /// nothing then.
     pub fn push(&mut self, frame: &[u8]) -> Result<(), WireFault>
         ensures pushed { OnOk result (mem_wire_state self.new
@@ -121,7 +121,7 @@ impl<A: Allocator + Copy> MemWire<A> {
         &self.sent
     }
 
-    /// Keeps a copy of a frame behind those that were sent, where there is memory for it.
+    /// Keeps a copy of a frame after those that were sent, where there is memory for it.
     fn keep(&mut self, frame: &[u8]) -> bool
         ensures kept { mem_wire_state self.new ≡ record (mem_wire_state self.old)
             { sent = Some (if result then sent_in self.old ++ frame.now ∷ [] else sent_in self.old) } }

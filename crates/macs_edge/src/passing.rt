@@ -54,8 +54,8 @@ impl From<RefillFault> for RunFault {
     }
 }
 
-/// Takes the next record, behind so many others, and says whether a frame passed; at the end there is
-/// none. The frame of the record stands in `frame` then, the one that passes in `out`, and the verdict in
+/// Takes the next record, after so many others, and says whether a frame passed; at the end there is
+/// none. The frame of the record is in `frame` then, the one that passes in `out`, and the verdict in
 /// `verdict`, if there is one.
 fn take_next<D: SectorDisk, R: Source, W: Sink, A: Allocator>(
     endpoint: &mut Endpoint<D>,
@@ -100,7 +100,7 @@ fn counted(summary: Summary, passes: bool) -> Summary
     }
 }
 
-/// Takes the records up to the end, or up to a fault, and tells the verdict on each.
+/// Takes the records up to the end, or up to a fault, and reports the verdict on each.
 fn run_records<D: SectorDisk, R: Source, W: Sink, A: Allocator, T, V: Verdicts<T>>(
     endpoint: &mut Endpoint<D>,
     side: Side,
@@ -140,7 +140,7 @@ fn run_records<D: SectorDisk, R: Source, W: Sink, A: Allocator, T, V: Verdicts<T
     Ok(summary)
 }
 
-/// Takes a whole capture, and tells the verdict on each frame.
+/// Takes a whole capture, and reports the verdict on each frame.
 fn run_telling<D: SectorDisk, R: Source, W: Sink, A: Allocator, T, V: Verdicts<T>>(
     alloc: A,
     endpoint: &mut Endpoint<D>,
@@ -249,7 +249,7 @@ pub fn run_validate<D: SectorDisk, R: Source, W: Sink, A: Allocator>(
     )
 }
 
-/// Does what `run_validate` does, and tells the verdict on each frame, in order, once what passes of it is
+/// Does what `run_validate` does, and reports the verdict on each frame, in order, once what passes of it is
 /// written. A frame at which the run ends has none. No verdict is kept.
 pub fn run_validate_each<D: SectorDisk, R: Source, W: Sink, A: Allocator, T, V: Verdicts<T>>(
     alloc: A,

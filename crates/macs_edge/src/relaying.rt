@@ -259,14 +259,14 @@ fn rest<I: Idle>(idle: &mut I, is_quiet: bool)
 /// Relays frames between two wires, in so many turns. In each turn a plain frame is taken from the
 /// controlled wire, protected, and sent on the common wire; then a frame is taken from the common wire, and
 /// sent on the controlled wire if it is delivered; then the work on the disk goes on by one `step`, where
-/// there is any: at most one device call stands between two frames. A frame that waits for packet numbers
+/// there is any: at most one device call comes between two frames. A frame that waits for packet numbers
 /// stays in its lane for the next turn, and no other is taken on its side. No frame is sent twice, not
 /// even after a failed send.
 ///
 /// Ends with the first turn whose step is refused, with the fault of the same name: the frames of that turn
-/// were handed in by then, and those that passed were sent. What a step tells of submitted commands is not
+/// were handed in by then, and those that passed were sent. What a step reports of submitted commands is not
 /// kept. No call waits: where no frame comes a turn is soon over. No memory of an allocator is taken: three
-/// frames stand in arrays.
+/// frames are in arrays.
 pub fn relay<D: SectorDisk, P: Wire, C: Wire>(
     endpoint: &mut Endpoint<D>,
     controlled: &mut P,

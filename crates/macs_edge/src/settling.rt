@@ -24,7 +24,7 @@ pub enum Side {
 /// What an answer means for the frame that was handed in.
 #[derive(Clone, Copy)]
 pub(crate) enum Outcome {
-    /// A frame passes: it stands in the buffer.
+    /// A frame passes: it is in the buffer.
     Passed,
     /// It is left out.
     Dropped,

@@ -1,22 +1,22 @@
-//! The verdicts of a run over a capture, told one by one.
+//! The verdicts of a run over a capture, reported one by one.
 
 ghost use Rattle.macs_edge.specs.Telling.{TellsAll, listed, telling_of};
 
 use macs_rxsc::Verdict;
 
-/// Who is told the verdict on each frame of a run, with what it is told to.
+/// What gets the verdict on each frame of a run, with what it passes it on to.
 pub trait Verdicts<T> {
     ghost use Rattle.macs_edge.specs.Telling.{Tells};
 
-    /// What it does with a verdict: what becomes of itself and of what it is told to.
+    /// What it does with a verdict: what becomes of itself and of what it passes it on to.
     ghost tells: { Tells Self T };
 
-    /// Is told the verdict on the next frame.
+    /// Gets the verdict on the next frame.
     fn tell(&mut self, to: &mut T, verdict: Verdict)
         ensures { tells self.old to.old verdict self.new to.new };
 }
 
-/// Nobody, who is told nothing that matters.
+/// Nobody: what is reported to it does not matter.
 #[derive(Drop)]
 pub(crate) struct Nobody;
 
@@ -28,7 +28,7 @@ impl Verdicts<Nobody> for Nobody {
     fn tell(&mut self, _to: &mut Nobody, _verdict: Verdict) {}
 }
 
-/// Tells a verdict, if there is one.
+/// Reports a verdict, if there is one.
 pub(crate) fn tell<T, V: Verdicts<T>>(told: &mut V, to: &mut T, verdict: Option<Verdict>)
     ensures { TellsAll V.tells (telling_of told.old to.old) (listed verdict) (telling_of told.new to.new) }
 {

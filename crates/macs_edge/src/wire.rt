@@ -9,13 +9,13 @@ use macs_frame::FrameBuf;
 pub enum Got {
     /// No frame waits.
     Nothing,
-    /// A frame of at most 9,216 octets: it stands in the buffer.
+    /// A frame of at most 9,216 octets: it is in the buffer.
     Frame,
     /// A frame of more than 9,216 octets. It is dropped.
     TooLong,
 }
 
-/// Why a wire does not give or take a frame. Of a wire that tells its frames: what it had to give it still
+/// Why a wire does not give or take a frame. Of a wire that reports its frames: what it had to give it still
 /// has, and the frame that it was given is not sent.
 #[derive(Clone, Copy, Debug, PartialEq, Eq)]
 pub enum WireFault {
@@ -23,15 +23,15 @@ pub enum WireFault {
     Receive,
     /// A send failed.
     Send,
-    /// Memory was wanting.
+    /// There was no memory.
     Memory,
 }
 
 /// Where frames come from and go to. A frame is that of Ethernet without FCS. No call waits. A wire counts
-/// its failed receives and its failed sends, each up to 2^64 - 1, and may tell which frames it will give
+/// its failed receives and its failed sends, each up to 2^64 - 1, and may report which frames it will give
 /// and which it sent.
 pub trait Wire {
-    /// What it tells of itself.
+    /// What it reports of itself.
     ghost state: { Self → WireState };
 
     /// Takes the next frame, where there is one. The buffer is empty unless a frame is answered.

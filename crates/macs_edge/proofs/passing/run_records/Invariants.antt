@@ -1,4 +1,4 @@
--- so many records were taken, so many of them passed, and the verdict of each was told
+-- so many records were taken, so many of them passed, and the verdict of each was reported
 use Rattle.std.proofs.Common.{◌^◌, ◌-◌}
 use Rattle.macs_edge.specs.Passing.{run_of}
 use Rattle.macs_edge.specs.Telling.{telling_of}
