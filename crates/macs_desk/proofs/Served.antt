@@ -1,4 +1,4 @@
--- What clients are told of their commands, event by event.
+-- What is reported to clients of their commands, event by event.
 use Rattle.std.proofs.Common.{◌≡◌, ◌++◌, inl, inr, ℕ, Bool, true, false, List, [], ◌∷◌, map, Option, Some, Result, Ok, Err}
 use Rattle.std.proofs.Common.{refl, sym, ap, ◌∙◌, append-nil, append_assoc}
 use Rattle.std.specs.Prelude.{flat_map}
@@ -82,7 +82,7 @@ if-asks true quiet full reports old new talk order (more, is, looks) =
     ∙ sym (ap (asking_after old) is)
 if-asks false quiet full reports old new talk order (is, go, same) = same ∙ sym (ap (asking_after old) is)
 
--- ---- a command is wanted where there is room for it alone
+-- ---- a command is asked for only where there is room for it
 
 unless-room : (full : Bool) (reports : Reports) (old new : Client) (talk : List Talk) (command : Command)
     → ListensUnless full reports old talk (Submit command) new → full ≡ false
@@ -135,7 +135,7 @@ one-more entries entry room = rw room refl
 
 -- ---- event by event
 
--- from these events on, with what is said at them: what is told of the commands that they answer, and what is under way then
+-- from these events on, with what is said at them: what is reported of the commands that they answer, and what is under way then
 record Served (old : DeskState) (events : List DeskEvent) (talks : List (List Talk)) (new : DeskState) (left : List ℕ)
     : Type 0 where
   told : List Told

@@ -59,7 +59,7 @@ abbrev pub Tells : Client → List ℕ → List Talk → Type 0
 Tells client text talk = (talk ≡ Said client text ∷ Said client (end_text 0) ∷ [])
     ⊎ (talk ≡ Said client (end_text 5) ∷ [])
 
--- What a request is answered at once, and what is wanted then. A command is answered when it is done
+-- What a request is answered at once, and what the desk wants then. A command is answered when it is done
 abbrev pub Answers : Reports → Client → Request → List Talk → Order → Type 0
 Answers reports client Show talk order = Tells client reports.shown talk × (order ≡ Go)
 Answers reports client Counters talk order = Tells client reports.counted talk × (order ≡ Go)

@@ -1,4 +1,4 @@
--- What clients are told over a whole relay: what became of each command that one of them gave, once, in the order of tickets.
+-- What is reported to clients over a whole relay: what became of each command that one of them gave, once, in the order of tickets.
 use Rattle.std.specs.Prelude.{◌≡◌, ◌++◌, ℕ, Bool, List, [], ◌∷◌, flat_map, map, Some, Ok}
 use Rattle.macs_edge.specs.Commanding.{Ended, ended_by, tickets_taken}
 use Rattle.macs_edge.specs.declared.attending.CommandEnd.{CommandEnd}
@@ -35,7 +35,7 @@ Speaks old (event ∷ events) (talk ∷ talks) new =
     (between : DeskState) × SpeaksAt old event talk between × Speaks between events talks new
 Speaks old events talks new = ⊥
 
--- ---- what clients are told
+-- ---- what is reported to clients
 
 -- a command that was taken: the client that gave it, its ticket, and what became of it
 pub record Told : Type 0 where

@@ -41,7 +41,7 @@ fn tell<C: Clients>(clients: &mut C, client: Client, report: Result<String, Allo
     }
 }
 
-/// Answers a request, where it is answered at once, and says what is wanted then.
+/// Answers a request, where it is answered at once, and says what the desk wants then.
 fn answer<D: SectorDisk, C: Clients>(
     alloc: Global,
     endpoint: &Endpoint<D>,
@@ -73,7 +73,7 @@ fn answer<D: SectorDisk, C: Clients>(
     }
 }
 
-/// Reads a line, and says what is wanted then.
+/// Reads a line, and says what the desk wants then.
 pub fn read<D: SectorDisk, C: Clients>(
     alloc: Global,
     endpoint: &Endpoint<D>,

@@ -18,7 +18,7 @@ pub const NO_REQUEST: &str = "end 2\n";
 /// That of a request for which there is no memory.
 pub const NO_MEMORY: &str = "end 5\n";
 
-/// An answer that takes no memory: a command that is kept is always told of.
+/// An answer that takes no memory: a command that is kept is always reported.
 pub type Reply = ArrayVec<u8, 48>;
 
 /// The answer of this text.

@@ -40,7 +40,7 @@ impl Queue {
         self.entries.is_full()
     }
 
-    /// One command more. Where 16 are under way it is left out, and nobody is told of it.
+    /// One command more. Where 16 are under way it is left out, and it is reported to nobody.
     pub fn join(&mut self, entry: UnderWay)
         ensures { entries_of self.new ≡ joined (entries_of self.old) entry }
     {
