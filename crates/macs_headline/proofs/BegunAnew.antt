@@ -1,4 +1,4 @@
--- What an opening makes of a journal: one of format two stays as it is, and one of format one is begun anew.
+-- What an opening makes of a journal: one of format two stays as it is, and one of format one is rewritten.
 use Rattle.std.proofs.Common.{◌≡◌, ◌≢◌, ◌⊎◌, inl, inr, false, Some, Result, Ok, Err, refl, sym, ◌∙◌, ap, subst, arith}
 use Rattle.std.proofs.lemmas.Bool.{cases_lt}
 use Rattle.macs_config.specs.Config.{this_edition}
@@ -48,7 +48,7 @@ left_by TooSmall old new is = inl is
 left_by Failed old new is = is
 left_by fault old new is = inr is
 
--- a journal of format two is none to begin anew
+-- a journal of format two is not one to start over
 none_of_two : (old : Disk) → HasFormat (now old).seen Two → HasNoneToMigrate old
 none_of_two old two c s to = not-old (now old).seen c s two to.is
 
@@ -57,7 +57,7 @@ none_at_last : (old : Disk) (c : Content) → HasJournal (now old).seen c → c.
 none_at_last old c found last other s to =
     to.next (ap (λ (c : Content). c.head.generation) (one_content (now old).seen other c to.is.found found) ∙ last)
 
--- ---- the journal that is begun anew
+-- ---- the journal that is rewritten
 
 -- whatever an image stands for, a journal that is found in it stands for that
 its_meaning : (image : Image) (c : Content) (s : Standing) → HasJournal image c → StandsFor this_edition image s → meaning_of this_edition c ≡ Some s

@@ -19,7 +19,7 @@ use Rattle.macs_headline.proofs.Ledger.{some_one}
 none_some : (c : Command) → ◌≡◌ {A = Option Command} None (Some c) → ⊥
 none_some c is = cc
 
--- what is in hand in a state is so in the one that it is equal to, but for what this function leaves alone
+-- what is under way in a state is so in the one that it is equal to, but for what this function leaves alone
 hand_in : (old new : State) → new.in_hand ≡ old.in_hand → (c : Command) → new.in_hand ≡ Some c → old.in_hand ≡ Some c
 hand_in old new same c hand = sym same ∙ hand
 

@@ -33,7 +33,7 @@ blank-is-new sectors large = record {
   closed = λ image left. (closed-gate image 0 0 (left.kept 1 refl), closed-gate image 1 0 (left.kept 515 refl));
 }
 
--- ---- an area written anew
+-- ---- an area rewritten
 
 bodies_other : (rs : List Record) (image : Image) (area place i : ℕ) → ((j : ℕ) → place ≤ j → j < place + length rs → i ≢ slot_body area j)
     → image_with_bodies image area place rs i ≡ image i
@@ -99,7 +99,7 @@ each_get [] j r are is = absurd (cc)
 each_get (x ∷ rs) zero r are is = let same : x ≡ r = cc in subst IsRecord same are.0
 each_get (x ∷ rs) (suc j) r are is = each_get rs j r are.1 is
 
--- what was written is found, behind the open head gate
+-- what was written is found, after the open head gate
 pub opened-found : (image : Image) (area : ℕ) (head : Head) (records : List Record) → IsArea area → IsHead head → head.count ≡ length records
     → length records ≤ slots → AllByRecursion IsRecord records → ((j : ℕ) → j < slots → ¬ IsGateOpen image area (j + 1))
     → IsPast (opened image area head records) (other_area area) head
@@ -148,7 +148,7 @@ records-found (r ∷ rs) image c room are finds =
     subst (λ (records : List Record). HasJournal (image_with_records more (content_with_record c r) rs) (record c { records = records }))
     (append_assoc c.records (r ∷ []) rs) found
 
--- sectors behind the area are not written
+-- sectors after the area are not written
 pub records-other : (rs : List Record) (image : Image) (c : Content) (i : ℕ) → length c.records + length rs ≤ slots → head_body c.area + 514 ≤ i
     → image_with_records image c rs i ≡ image i
 unfolding image_with_records

@@ -1,4 +1,4 @@
--- What is found while a journal begins anew, and what it stands for.
+-- What is found while a journal starts over, and what it stands for.
 use Rattle.std.proofs.Common.{◌≡◌, ◌≤◌, ◌<◌, ◌+◌, ℕ, zero, suc, List, [], ◌∷◌, ◌++◌, length, take, drop, replicate, Option, Some, None, refl, sym, ◌∙◌, ap, subst, arith, append-nil, append_assoc, take_all, true}
 use Rattle.std.specs.List.{AllByRecursion}
 use Rattle.std.specs.Option.{option_and_then}
@@ -42,7 +42,7 @@ module _ (image : Image) (c : Content) (finds : HasJournal image c) (area : ℕ)
       (subst (λ (a : ℕ). IsPast written a c.head) (sym area_is)
       (λ opens. absurd (closed (subst IsOpen (area-other image area head records (gate area 0) (omega arith) (λ j lt. omega arith)) opens))))
 
--- and behind it what begins anew is
+-- and after it what starts over is
 pub anew-found : (image : Image) (c : Content) (finds : HasJournal image c) (area : ℕ) → other_area c.area ≡ area → (records : List Record)
     → IsHead (next_head c.head (length records)) → length records ≤ slots → AllByRecursion IsRecord records
     → ((k : ℕ) → k ≤ slots → ¬ IsGateOpen image area k)
@@ -88,7 +88,7 @@ same-again zero r s is = refl
 same-again (suc n) r s is =
     ap (option_and_then (λ (next : Standing). standing_after_records next (replicate n r))) is ∙ same-again n r s is
 
--- a journal that begins anew stands for what its snapshot does
+-- a journal that starts over stands for what its snapshot does
 pub meaning-anew : (edition : Edition) (c : Content) (records : List Record) (s : Standing) → edition.format_two ≡ true
     → snapshot_of edition c.head.identity records ≡ Some s → meaning_of edition (compacted c records) ≡ Some s
 meaning-anew edition c records s takes_two is =

@@ -79,7 +79,7 @@ dropped_by sci item items true is later = later
 dropped_by sci item items false is later =
     ap (λ (b : Bool). b || is_among (filter (λ other. not (bytes_eq other sci)) items) sci) is ∙ later
 
--- the one that is dropped is there no more
+-- the one that is dropped is no longer there
 dropped : (sci : List ℕ) (items : List (List ℕ)) → is_among (filter (λ other. not (bytes_eq other sci)) items) sci ≡ false
 dropped sci [] = refl
 dropped sci (item ∷ items) = dropped_by sci item items (bytes_eq item sci) refl (dropped sci items)

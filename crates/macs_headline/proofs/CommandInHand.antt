@@ -1,4 +1,4 @@
--- Work on what is in hand at the end of a life began in a call that may begin it, and it is accepted.
+-- Work on what is under way at the end of a life began in a call that may begin it, and it is accepted.
 use Rattle.std.proofs.Common.{◌≡◌, ◌⊎◌, ◌&&◌, inl, inr, ℕ, Bool, true, false, cond, not, is_ok, List, [], ◌∷◌, Option, Some, None, Result, Ok, Err, refl, sym, ◌∙◌, ap, subst}
 use Rattle.std.proofs.lemmas.Bool.{false≢true}
 use Rattle.macs_config.specs.Apply.{apply}
@@ -34,9 +34,9 @@ use Rattle.macs_headline.proofs.Ledger.{some_one}
 none_some : (c : Command) → ◌≡◌ {A = Option Command} None (Some c) → ⊥
 none_some c is = cc
 
--- ---- what is in hand after an answer
+-- ---- what is under way after an answer
 
--- no reason holds to refuse what is in hand
+-- no reason holds to refuse what is under way
 abbrev IsAccepted : State → Type 0
 IsAccepted s = (c : Command) → s.in_hand ≡ Some c → refusal_at s c ≡ None
 
@@ -132,7 +132,7 @@ not_left true y is = absurd (false≢true is)
 not_left false y is = refl
 
 module _ (exchanges : List Exchange) (s : State) (waits : s.waiting ≡ waiting_at_end exchanges) (accepted : IsAccepted s) where
-  -- in hand after the last answer
+  -- under way after the last answer
   by_answers : (cut : Option Call) (c : Command) → s.in_hand ≡ Some c → WasBegun exchanges s cut c
   by_answers cut c is = record { begun = inl is; accepted = accepted c is }
 

@@ -112,7 +112,7 @@ by_submit old c (Err submit.QueueFull) new (many, is) = unchanged old new is
 by_submit old c (Err submit.TicketsSpent) new (few, spent, is) = unchanged old new is
 by_submit old c (Err submit.Stopped) new h = absurd h
 
--- the first one is taken in hand, and still waits
+-- the first one is started, and still waits
 taken_up : (old new : State) → TakesUp old new → IsLike old new
 taken_up old new (first, rest, waiting, idle, accepts, is) = record {
   edition = ap (λ (s : State). s.edition) is;

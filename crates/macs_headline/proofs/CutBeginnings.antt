@@ -1,4 +1,4 @@
--- A call that is cut short, and may begin a command that is not refused, has it in hand; each other one changes nothing.
+-- A call that is cut short, and may begin a command that is not refused, has it under way; each other one changes nothing.
 use Rattle.std.proofs.Common.{◌≡◌, ◌≢◌, ◌⊎◌, ◌&&◌, inl, inr, Bool, true, false, cond, not, is_ok, List, [], ◌∷◌, Option, Some, None, refl, sym, ◌∙◌, ap, subst}
 use Rattle.std.proofs.lemmas.Bool.{and_from, not_from_false}
 use Rattle.macs_config.specs.Apply.{Reason, answer_or_refusal, apply, config_after}

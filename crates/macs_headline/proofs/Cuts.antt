@@ -1,4 +1,4 @@
--- What a power loss inside a call leaves: the state before it, with its command in hand where work on it may have begun.
+-- What a power loss inside a call leaves: the state before it, with its command under way where work on it may have begun.
 use Rattle.std.proofs.Common.{◌≡◌, ◌⊎◌, ◌&&◌, inl, inr, ℕ, Bool, true, false, cond, not, List, [], ◌∷◌, Option, Some, None, Result, Ok, Err, is_ok, refl, sym, ◌∙◌, ap, subst, arith}
 use Rattle.macs_config.specs.Apply.{apply}
 use Rattle.macs_config.specs.Config.{Config, Edition, this_edition}
@@ -23,12 +23,12 @@ use Rattle.macs_endpoint.specs.State.{Advanced, AdvancedLong, Advances, Call, Co
 use Rattle.macs_endpoint.specs.Step.{AdvanceStep, CommandStep, Ends, RefillStep, Step, TakesUp, state_after_command, state_without_first}
 use Rattle.macs_endpoint.specs.Value.{EndpointValue, IsAtRest, IsBacked, IsKeeping, IsReserving, IsSoundEndpoint, disk_in, state_of}
 
--- ---- what is in hand
+-- ---- what is under way
 
 pub none_in_hand : (c : Command) → ◌≡◌ {A = Option Command} None (Some c) → ⊥
 none_in_hand c is = cc
 
--- while the endpoint runs, a command is in hand only where it is the first that waits
+-- while the endpoint runs, a command is under way only where it is the first that waits
 pub record IsSettled (s : State) : Type 0 where
   pub alone : s.stopped ≡ false → NoneWait s → s.in_hand ≡ None
   pub first : s.stopped ≡ false → (c : Command) → s.in_hand ≡ Some c → first_command s.waiting ≡ Some c
@@ -53,7 +53,7 @@ module _ {D : Type 0} (e : EndpointValue D) (logs : Logs) where
 
 -- ---- states that a restart does not tell apart
 
--- the same but for what is in hand or waits, for the tickets, and for whether it is stopped
+-- the same but for what is under way or waits, for the tickets, and for whether it is stopped
 record IsAlike (a b : State) : Type 0 where
   edition : a.edition ≡ b.edition
   identity : a.identity ≡ b.identity
@@ -100,7 +100,7 @@ module _ (edition : Edition) (sectors : ℕ) (image : Image) where
   abbrev FitsHere : State → Type 0
   FitsHere s = Fits edition sectors image s
 
-  -- nothing was in hand before a command
+  -- nothing was under way before a command
   fits_holding : (s : State) (command : Command) → s.in_hand ≡ None → FitsHere s → FitsHere (state_with_in_hand s command)
   fits_holding s command idle fits = record {
     found = fits.found;
@@ -155,7 +155,7 @@ module _ (edition : Edition) (sectors : ℕ) (image : Image) where
   during_alone : (s : State) (c : Command) → NoneWait s → FitsHere (state_taking s c) → FitsHere (state_during s (Commands c))
   during_alone s c none fits = subst (λ (w : List Waiting). FitsHere (state_taking_alone s c w)) (sym none) fits
 
-  -- while none is in hand
+  -- while none is under way
   during_first : (s : State) (first : Waiting) (rest : List Waiting) → s.waiting ≡ first ∷ rest → s.in_hand ≡ None → FitsHere (state_taking s first.command)
       → FitsHere (state_during s Advances)
   during_first s first rest waiting idle fits =
@@ -188,7 +188,7 @@ module _ (edition : Edition) (sectors : ℕ) (image : Image) where
     ];
   }
 
-  -- the command in hand was done, whatever waits then
+  -- the command under way was done, whatever waits then
   fits_done : (s : State) (rest : List Waiting) (c : Command) (config : Config) → s.in_hand ≡ Some c → apply s.edition s.identity s.config c ≡ Ok config
       → FitsHere (state_after_command (record s { waiting = rest }) c config) → FitsHere s
   fits_done s rest c config hand ok fits =
@@ -245,7 +245,7 @@ module _ (edition : Edition) (sectors : ℕ) (image : Image) where
   by_taking old new running (first, rest, waiting, idle, accepts, is) fits =
       during_first old first rest waiting idle (taken old first.command running accepts (subst FitsHere is fits))
 
-  -- the first one that waits took effect, in hand before or not
+  -- the first one that waits took effect, under way before or not
   by_done : (old : State) (first : Waiting) (rest : List Waiting) (config : Config) (in_hand : Option Command) → old.stopped ≡ false → IsSettled old
       → old.waiting ≡ first ∷ rest → old.in_hand ≡ in_hand → apply old.edition old.identity old.config first.command ≡ Ok config
       → FitsHere (state_after_command (state_without_first old rest) first.command config) → FitsHere (state_during old Advances)

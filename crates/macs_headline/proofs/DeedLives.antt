@@ -24,7 +24,7 @@ module _ {D : Type 0} where
   made (Living first turns last cut) life is = (is.0, ap (λ (l : Life). l ∷ []) (sym is.1))
   made PassingOn life is = absurd is
 
-  -- and that it is told
+  -- and that it is reported
   abbrev IsMade : List Life → Deed D → Type 0
   IsMade lives deed = ((seen : Image) → lives_of_deed seen deed ≡ []) ⊎ ((seen : Image) × (life : Life) × (lives_of_deed seen deed ≡ life ∷ []) × Contains lives life)
 

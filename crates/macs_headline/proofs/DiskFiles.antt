@@ -25,7 +25,7 @@ blank-file-is-new old new layout disk blank suited = record {
   zero : (image : Image) → MayLeave disk image → (i : ℕ) → i < 1028 → image i ≡ zero_sector
   zero image left i within = left.kept i (blank.clean i) ∙ blank.durable i ∙ blank.zeros i within
 
--- no sectors stand at the front
+-- no sectors are at the front
 no-place : (layout : Layout) → place layout 0 ≡ 0
 no-place Packed = refl
 no-place Spaced = refl

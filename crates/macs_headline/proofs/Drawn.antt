@@ -1,4 +1,4 @@
--- What is to be drawn from words that stand in conclusions.
+-- What is to be drawn from words in conclusions.
 use Rattle.std.proofs.Common.{◌≡◌, ◌≢◌, ◌⊎◌, ◌+◌, ◌-◌, ◌++◌, inl, inr, ℕ, suc, ◌==◌, Bool, true, false, cond, List, [], ◌∷◌, length, Ok, refl, sym, ◌∙◌, ap, subst, arith}
 use Rattle.std.specs.Prelude.{AllPairs, max, Contains, Option, Some, None}
 use Rattle.std.specs.List.{range_with_len}

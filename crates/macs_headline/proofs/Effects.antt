@@ -32,7 +32,7 @@ use Rattle.macs_endpoint.specs.State.{Advanced, AdvancedLong, Advances, Call, Co
 use Rattle.macs_endpoint.specs.Step.{AdvanceStep, CommandStep, Ends, ProtectStep, ReceiveStep, RefillStep, RunningStep, Step, SubmitStep, TakesUp, next_after, numbers_after}
 use Rattle.macs_headline.proofs.Places.{put_rx}
 
--- the state but for its edition, for whether it is stopped, and for what is in hand or waits
+-- the state but for its edition, for whether it is stopped, and for what is under way or waits
 pub record Core : Type 0 where
   pub identity : Identity
   pub config : Config
@@ -80,7 +80,7 @@ pub data Effect (edition : Edition) (old new : Core) : Type 0 where
 
 -- ---- what goes out
 
--- the association that frames go out under stands, with its next number
+-- the association that frames go out under exists, with its next number
 pub record IsOutgoing (side : TxSide) (encoding : Option ℕ) (o : Outgoing) : Type 0 where
   pub encoding_is : encoding ≡ Some o.an
   pub sa_is : side.tx o.an ≡ Some o.sa

@@ -1,4 +1,4 @@
--- A content is found in either format, where the head says so; and a journal of format one that begins anew means what it meant.
+-- A content is found in either format, where the head says so; and a journal of format one that starts over means what it meant.
 use Rattle.std.proofs.Common.{◌≡◌, ◌≢◌, ◌+◌, ℕ, List, [], length, take, drop, Option, Some, refl, sym, ◌∙◌, ap, subst, arith}
 use Rattle.std.specs.Prelude.{Contains}
 use Rattle.std.specs.Option.{option_and_then}
@@ -35,7 +35,7 @@ ranged head format is = record {
   rx_block = is.rx_block;
 }
 
--- which other areas are past is not told by the format
+-- the format does not say which other areas are past
 past_too : (image : Image) (area : ℕ) (head : Head) (format : Format) → IsPast image area head → IsPast image area (record head { format = format })
 past_too image area head format past opens =
     let e : HasEarlier image area head = past opens in
@@ -68,7 +68,7 @@ either-format image c format finds =
           (other-but image now at c.area c.head same stands.area (omega arith) (omega arith) finds.past);
     }
 
--- ---- a journal of format one that begins anew
+-- ---- a journal of format one that starts over
 
 pub anew-one : (edition : Edition) (c : Content) (s : Standing) (records : List Record) → ((r : Record) → Contains records r → ¬ HasLongKey r)
     → meaning_of edition c ≡ Some s → snapshot_of edition s.identity records ≡ Some s → meaning_of edition (content_in One (compacted c records)) ≡ Some s

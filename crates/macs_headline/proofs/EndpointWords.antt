@@ -75,7 +75,7 @@ one_raised t r old new next raise (one ∷ raises) is then first =
       is_next = then;
     })
 
--- what stands with a reservation that is in hand, or none
+-- the standing with a reservation that is under way, or none
 reserved_none : (s : Standing) (reserving : Option Raise) → reserving ≡ None → standing_with_reserved s reserving ≡ s
 reserved_none s None is = refl
 reserved_none s (Some raise) is = absurd (none-some raise (sym is))
@@ -104,7 +104,7 @@ rises used number s (raise ∷ raises) =
     let more = rises (slots_with_change used s) (generation_with_change used number) (standing_with_raise s raise) raises in
     omega (arith, one, more)
 
--- one change of a journal that does not begin anew
+-- one change of a journal that does not start over
 one_slot : (b : Bool) (used : ℕ) (s : Standing) → b ≡ false → (cond b (length (snapshot s) + 1) (used + 1) ≡ used + 1) × (cond b (523 + length (snapshot s)) 4 ≡ 4)
 one_slot true used s is = absurd (cc)
 one_slot false used s is = (refl, refl)
@@ -177,7 +177,7 @@ module _ {D : Type 0} (disk_of : D → Disk) where
         omega (arith, calls, four, most),
       )
 
-  -- a reservation that fails where none is in hand
+  -- a reservation that fails where none is under way
   refill_fault : (old new : EndpointValue D) → IsCall disk_of old Refills (Refilled (Err refill.Disk)) new → old.reserving ≡ None
       → (raise : Raise) × IsRefilled (tx_side (state_of old no_logs)) (rx_side (state_of old no_logs)) (standing_in old.store) (standing_in new.store) (Some raise)
   refill_fault old new call none = elim call.behaves.ceilings [

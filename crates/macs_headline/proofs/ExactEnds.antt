@@ -1,4 +1,4 @@
--- The state in which a life ends, exactly: that after the last answer, or that with one command in hand.
+-- The state in which a life ends, exactly: that after the last answer, or that with one command under way.
 use Rattle.std.proofs.Common.{◌≡◌, ◌&&◌, Bool, true, false, cond, not, is_ok, List, [], ◌∷◌, Option, Some, None, refl, ◌∙◌, ap}
 use Rattle.macs_config.specs.Apply.{Reason, answer_or_refusal, config_after}
 use Rattle.macs_config.specs.Config.{Config}

@@ -1,4 +1,4 @@
--- The disk on which the journal of the first edition begins anew, in an opening of this one that is cut short.
+-- The disk on which the journal of the first edition starts over, in an opening of this one that is cut short.
 use Rattle.std.proofs.Common.{◌≡◌, ◌≢◌, ◌<◌, ◌≤◌, ◌-◌, inl, inr, ℕ, zero, suc, true, false, List, ◌∷◌, take, refl, sym, ◌∙◌, ap, subst, arith}
 use Rattle.std.specs.Prelude.{slice_get}
 use Rattle.std.specs.List.{AllByRecursion}

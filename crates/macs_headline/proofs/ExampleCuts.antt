@@ -54,7 +54,7 @@ small_octets (x ∷ xs) is =
     let both = both_true (nat_lt x 256) (small xs) is in
     (let lt : x < 256 = ltb-true x 256 both.0 in omega (arith, lt), small_octets xs both.1)
 
--- octets, and zeros behind them
+-- octets, and zeros after them
 padded_range : (front : List ℕ) → All IsOctet front → All IsOctet (padded_sector front)
 padded_range front range =
     All-append IsOctet front (replicate (512 - length front) 0) range (All-replicate IsOctet (512 - length front) 0 (omega arith))

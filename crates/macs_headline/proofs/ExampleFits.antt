@@ -48,7 +48,7 @@ tx_first : (own : Bool)
 tx_first true = (9, refl, omega arith, omega arith, omega arith)
 tx_first false = refl
 
--- the command in hand was followed
+-- the command under way was followed
 pub fits-served : Fits this_edition example_sectors served_image first_end
 fits-served = record {
   found = served_standing;
@@ -84,7 +84,7 @@ tx_second : (own : Bool) → TxRises 4 (cond own (Some 10) (cond own (Some 9) (c
 tx_second true = (13, refl, omega arith, omega arith, omega arith)
 tx_second false = refl
 
--- the command in hand was not
+-- the command under way was not
 pub fits-cut : Fits this_edition example_sectors (cut_image 2) second_end
 fits-cut = record {
   found = full_standing;

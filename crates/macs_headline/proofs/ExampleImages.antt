@@ -71,7 +71,7 @@ narrow-found = records-found first_records new_image new_content (omega arith) f
 served_found : HasJournal served_image served_content
 served_found = record-found narrow_image narrow_content widened (omega arith) widened-range narrow-found
 
--- as the records leave it, ceiling upon ceiling
+-- as the records leave it, ceiling after ceiling
 abbrev pub served_standing : Standing
 served_standing = record {
   edition = this_edition;
@@ -137,7 +137,7 @@ full_meaning =
     meaning-more this_edition second_records served_content served_standing full_standing (omega arith) refl served_meaning
     (same-again 244 (kept.SetValidate served_config.validate) raised_standing refl ∙ ap Some raised_is)
 
--- ---- while the journal begins anew
+-- ---- while the journal starts over
 
 pub snapshot-size : length full_snapshot ≡ 6
 snapshot-size = ap length snapshot-is
@@ -218,7 +218,7 @@ served-is-config =
     (next_config c4 c5 narrow refl
     (next_config c3 c4 install_peer refl (next_config c2 c3 add_peer refl (next_config c1 c2 use_own refl (next_config default c1 install_own refl default_config)))))
 
--- what stood when the area was full, to an edition
+-- the standing when the area was full, to an edition
 abbrev pub full_to : Edition → Standing
 full_to edition = record full_standing { edition = edition }
 

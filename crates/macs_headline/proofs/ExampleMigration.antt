@@ -163,7 +163,7 @@ migrated_found = anew-found begun_image used_content begun_found 1 refl used_rec
 long_found : HasJournal long_image long_content
 long_found = records-found long_records migrated_image migrated_content (omega arith) long_ranges migrated_found
 
--- ---- the area is full, and the journal begins anew in the first one
+-- ---- the area is full, and the journal starts over in the first one
 
 repeated : length (replicate 248 (kept.SetValidate Strict)) ≡ 248
 repeated = length-replicate 248 (kept.SetValidate Strict)
@@ -549,7 +549,7 @@ b0 = opened_state long_standing long_end.logs
 abbrev spent_end : State
 spent_end = state_after_frame b0 (outgoing 9)
 
--- the command in which the power goes is in hand
+-- the command in which the power goes is under way
 abbrev filled_end : State
 filled_end = state_with_in_hand spent_end stay_strict
 
@@ -642,7 +642,7 @@ tx_long false = refl
 fits_begun : Fits this_edition example_sectors begun_image old_end
 fits_begun = record { found = used_standing this_edition; is_found = begun_is; restart = inl (old_resumed this_edition up_to_this) }
 
--- while the journal begins anew a power loss leaves the one or the other
+-- while the journal starts over a power loss leaves the one or the other
 fits_either : (image : Image) → HasEitherJournal used_content migrated_content image → Fits this_edition example_sectors image old_end
 fits_either image (inl found) = record {
   found = used_standing this_edition;
@@ -693,7 +693,7 @@ tx_filled false = refl
 again_is : StandingIs this_edition example_sectors again_image (Ok filled_standing)
 again_is = (omega arith, record { content = again_content; found = again_found; stands = again_meaning })
 
--- the command in hand was not followed
+-- the command under way was not followed
 fits_again : Fits this_edition example_sectors again_image filled_end
 fits_again = record {
   found = filled_standing;

@@ -62,7 +62,7 @@ s6 = state_after_frame s5 (outgoing 4)
 abbrev pub waits : ℕ → Command → Waiting
 waits ticket command = record { ticket = ticket; command = command }
 
--- the peer's channel is to be added: it waits, it is in hand, a frame goes out between, and it takes effect
+-- the peer's channel is to be added: it waits, it is under way, a frame goes out between, and it takes effect
 abbrev pub s7 : State
 s7 = state_with_waiting s6 add_peer
 
@@ -102,7 +102,7 @@ s14 = state_after_delivery s13 (arrival after_hold)
 abbrev pub s15 : State
 s15 = state_after_delivery s14 (arrival after_delivery)
 
--- the window is to be widened: it waits, and is in hand when the power goes, with a frame between
+-- the window is to be widened: it waits, and is under way when the power goes, with a frame between
 abbrev pub s16 : State
 s16 = state_with_waiting s15 widen
 
@@ -112,7 +112,7 @@ s17 = state_with_in_hand s16 widen
 abbrev pub first_end : State
 first_end = state_after_frame s17 (outgoing 6)
 
--- what it is once the command in hand was followed
+-- what it is once the command under way was followed
 abbrev pub first_followed : State
 first_followed = state_after_command first_end widen served_config
 
@@ -172,7 +172,7 @@ v1 = state_with_waiting v0 check_only
 abbrev pub fourth_end : State
 fourth_end = state_with_in_hand v1 check_only
 
--- what it is once the command in hand was followed
+-- what it is once the command under way was followed
 abbrev pub fourth_followed : State
 fourth_followed = state_after_command fourth_end check_only (checked_standing this_edition).config
 

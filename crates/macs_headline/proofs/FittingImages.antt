@@ -34,7 +34,7 @@ rx_by block (Some old) (Some later) none some =
 none_some : (c : Command) → ◌≡◌ {A = Option Command} None (Some c) → ⊥
 none_some c is = cc
 
--- a restart of the state after the command in hand is one of the state
+-- a restart of the state after the command under way is one of the state
 through : (s mid new : State) (c : Command) → s.in_hand ≡ Some c → Makes s c mid → Restart mid new → Restart s new
 through s mid new c hand makes (inl up) = inr (c, mid, hand, makes, up)
 through s mid new c hand makes (inr (d, last, held, made, up)) = absurd (none_some d (sym (ap (λ (t : State). t.in_hand) makes.2) ∙ held))

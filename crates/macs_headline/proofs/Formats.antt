@@ -65,7 +65,7 @@ open_head image zero is opens = inl opens
 open_head image (suc zero) is opens = inr opens
 open_head image (suc (suc n)) is opens = absurd (omega (arith, is))
 
--- a head gate reads open where something stands
+-- a head gate reads open where a standing is found
 found_open : (sectors : ℕ) (image : Image) (found : Standing) → StandingIs this_edition sectors image (Ok found) → HasOpenHead image
 found_open sectors image found (size, stands) =
     let journal = stands.found.stands in

@@ -1,4 +1,4 @@
--- One configuration is found after a life at whose end nothing is in hand, and one of two where a command is.
+-- One configuration is found after a life at whose end nothing is under way, and one of two where a command is.
 use Rattle.std.proofs.Common.{◌≡◌, ◌⊎◌, inl, inr, List, [], ◌∷◌, ◌++◌, Some, None, Ok, refl, sym, ◌∙◌, ap, subst, append-nil, append_assoc}
 use Rattle.macs_config.specs.Apply.{apply}
 use Rattle.macs_config.specs.Config.{Config, Edition}
@@ -70,7 +70,7 @@ acknowledged_make before exchanges after finds =
     subst (λ (kept : List Command). CommandsMake before.edition before.identity before.config kept after.config)
     (prefix_of_itself (acknowledged_commands exchanges) finds.kept finds.acknowledged finds.accepted) finds.made
 
--- or the command in hand behind it
+-- or the command under way after it
 with_one_more : (before : Standing) (exchanges : List Exchange) (command : Command) (after : Standing) (finds : FindsPrefix before exchanges (Some command) after)
     → (finds.kept ≡ acknowledged_commands exchanges) ⊎ (finds.kept ≡ acknowledged_commands exchanges ++ command ∷ [])
 with_one_more before exchanges command after finds = all_or_one_more (acknowledged_commands exchanges) finds.kept command finds.acknowledged finds.accepted

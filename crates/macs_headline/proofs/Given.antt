@@ -46,7 +46,7 @@ IsRxLedger b log c = IsLedger print_of (rx_keys c.config.rx) c.config.spent_rx (
 
 -- ---- bounds
 
--- a bound that begins with the association, and never falls while it stands
+-- a bound that begins with the association, and never falls while it exists
 pub record IsBound (b : Numbers → ℕ) : Type 0 where
   pub begins : (start : ℕ) → b (first_numbers start) ≡ start
   pub under_window : (window : ℕ) (n : Numbers) → b n ≤ b (numbers_under_window window n)

@@ -22,7 +22,7 @@ use Rattle.macs_headline.proofs.Answered.{history-on, life-on}
 use Rattle.macs_headline.proofs.Chains.{exchanges-on}
 use Rattle.macs_headline.proofs.Lists.{contains-cases, contains-front, contains-none, contains-rear}
 
--- a journal that an edition cannot begin anew
+-- a journal that an edition cannot start over
 pub at_last : (edition : Edition) (image : Image) (c : Content) (s : Standing) → HasJournal image c → meaning_of edition c ≡ Some s → c.head.format ≡ One
     → edition.format_two ≡ true → c.head.generation ≡ last_generation → IsAtLast edition image
 at_last edition image c s found stands one two last = record {

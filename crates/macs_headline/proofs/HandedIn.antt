@@ -1,4 +1,4 @@
--- What is in hand at the end of a life was given to a call of it.
+-- What is under way at the end of a life was given to a call of it.
 use Rattle.std.proofs.Common.{◌≡◌, ◌⊎◌, ◌+◌, ◌&&◌, inl, inr, ℕ, Bool, true, false, cond, not, is_ok, List, [], ◌∷◌, Option, Some, None, Result, Ok, Err, refl, sym, ◌∙◌, ap, subst}
 use Rattle.std.specs.Prelude.{Contains}
 use Rattle.std.proofs.lemmas.Bool.{false≢true}
@@ -37,7 +37,7 @@ first_on : (waiting : List Waiting) (ticket : ℕ) (c d : Command) → first_com
 first_on [] ticket c d is = absurd (none_some d is)
 first_on (first ∷ rest) ticket c d is = is
 
--- the first one that waits is in hand after it is taken up
+-- the first one that waits is under way after it is taken up
 taken_up : (old new : State) → TakesUp old new → first_command new.waiting ≡ new.in_hand
 taken_up old new (first, rest, waiting, idle, accepts, is) =
     ap (λ (s : State). first_command s.waiting) is ∙ ap first_command waiting ∙ sym (ap (λ (s : State). s.in_hand) is)
@@ -46,7 +46,7 @@ taken_up old new (first, rest, waiting, idle, accepts, is) =
 
 -- of commands that `command` answered with Disk this is known
 module _ (Failed : Command → Type 0) where
-  -- what is in hand is the first that waits; or the endpoint is stopped, none waits, and `command` answered it with Disk
+  -- what is under way is the first that waits; or the endpoint is stopped, none waits, and `command` answered it with Disk
   abbrev IsHeld : State → Type 0
   IsHeld s = (c : Command) → s.in_hand ≡ Some c → (first_command s.waiting ≡ Some c) ⊎ ((s.stopped ≡ true) × (s.waiting ≡ []) × Failed c)
 
@@ -59,7 +59,7 @@ module _ (Failed : Command → Type 0) where
   same_held : (old new : State) → new ≡ old → IsHeld old → IsHeld new
   same_held old new is held = subst (λ (s : State). IsHeld s) (sym is) held
 
-  -- an endpoint that ran has the same in hand, and the same waits
+  -- an endpoint that ran has the same under way, and the same waits
   alike : (old new : State) → old.stopped ≡ false → new.in_hand ≡ old.in_hand → new.waiting ≡ old.waiting → IsHeld old → IsHeld new
   alike old new running hand waiting held c is = elim (held c (sym hand ∙ is)) [
     | inl first ↦ inl (ap first_command waiting ∙ first)
@@ -169,7 +169,7 @@ module _ (Failed : Command → Type 0) where
 module _ (exchanges : List Exchange) (s : State) (waits : s.waiting ≡ waiting_at_end exchanges)
     (held : (c : Command) → s.in_hand ≡ Some c
     → (first_command s.waiting ≡ Some c) ⊎ ((s.stopped ≡ true) × (s.waiting ≡ []) × Contains exchanges (failing c))) where
-  -- in hand after the last answer
+  -- under way after the last answer
   by_answers : (cut : Option Call) (c : Command) → s.in_hand ≡ Some c → WasHandedIn exchanges cut c
   by_answers cut c is = elim (held c is) [
     | inl first ↦ inl (sym (ap first_command waits) ∙ first)

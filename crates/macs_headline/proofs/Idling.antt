@@ -16,7 +16,7 @@ use Rattle.macs_endpoint.specs.declared.turn.Turn.{Turn}
 use Rattle.macs_endpoint.specs.declared.turn.Turn.TheVariants as turn
 use Rattle.macs_headline.specs.Binding.{IdleFindsNoWork}
 
--- work is in hand, or none is
+-- work is under way, or none is
 pub in_hand_or_not : (hand : Change) → (hand ≡ Empty) ⊎ (¬ (hand ≡ Empty))
 in_hand_or_not Empty = inl refl
 in_hand_or_not (Renewing r) = inr (λ is. cc)

@@ -1,4 +1,4 @@
--- Places have keys, and bounds on numbers; a log has keys with numbers. Each key stands at one place, each number of the log is below the bound
+-- Places have keys, and bounds on numbers; a log has keys with numbers. Each key is at one place, each number of the log is below the bound
 -- of its key's place, and each key of a place or of the log is spent.
 use Rattle.std.proofs.Common.{◌≡◌, ◌<◌, ◌≤◌, ◌⊎◌, inl, inr, ℕ, true, sym, ◌∙◌, subst, arith, List}
 use Rattle.std.specs.Prelude.{Option, Some}

@@ -58,7 +58,7 @@ covered-passed sectors past ran new since passed honest size fits = record {
 
 -- ---- openings
 
--- an image that stands for the same as one that a program may come upon
+-- an image that stands for the same as one that a program may find
 fits_alike : (sectors : ℕ) (past : Past) (seen image : Image) → StandAlike this_edition seen image → FitsPast this_edition sectors past seen
     → FitsPast this_edition sectors past image
 fits_alike sectors (Blank identities) seen image alike (inl none) =

@@ -143,7 +143,7 @@ module _ {D : Type 0} (disk_of : D → Disk) where
         ]
       ]
 
--- ---- what is in hand at the end of a life
+-- ---- what is under way at the end of a life
 
 in_hand_or : (b : Bool) (s t : State) (c : Command) → s.in_hand ≡ t.in_hand
     → (cond b (state_with_in_hand s c) s).in_hand ≡ (cond b (state_with_in_hand t c) t).in_hand

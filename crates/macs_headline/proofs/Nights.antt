@@ -113,7 +113,7 @@ module _ (identity : Identity) (an : ℕ) (key : Key) where
   abbrev IsOurCommand : Command → Type 0
   IsOurCommand c = (c ≡ night_install an key) ⊎ (c ≡ TxUse an)
 
-  -- none stands but it
+  -- there is none but it
   record IsOurConfig (c : Config) : Type 0 where
     ours : (at : ℕ) (sa : TxSa) → c.tx at ≡ Some sa → (at ≡ an) × (sa ≡ our_association)
     mode : c.mode ≡ Explicit

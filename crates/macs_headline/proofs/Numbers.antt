@@ -126,7 +126,7 @@ beyond_rx found logs is sci key pn was = record {
 
 -- ---- what is skipped
 
--- the numbers of a transmit association that stays, over the command in hand
+-- the numbers of a transmit association that stays, over the command under way
 next_stays : (edition : Edition) (identity : Identity) (old : Config) (c : Command) (next : ℕ → Option ℕ) (an : ℕ) (before after : TxSa)
     → refusal_of edition identity old c ≡ None → old.tx an ≡ Some before → (config_after old c).tx an ≡ Some after → next_after c next an ≡ next an
 next_stays edition identity old (TxInstall at key start confidential offset) next an before after ok is js = elim (cases_eq an at) [
@@ -169,7 +169,7 @@ skips s new an before after next (inr (c, mid, hand, makes, up)) is js is_next =
 gone_or : {X : Type 0} {x : X} → ◌≡◌ {A = Option X} None (Some x) → ⊥
 gone_or is = cc
 
--- the numbers of a receive association that stays, over the command in hand: a new window moves the lowest alone
+-- the numbers of a receive association that stays, over the command under way: a new window moves the lowest alone
 numbers_stay : (edition : Edition) (identity : Identity) (old : Config) (c : Command) (numbers : List ℕ → ℕ → Option Numbers) (sci : List ℕ) (an : ℕ)
     (before after : RxSa) (n : Numbers) → refusal_of edition identity old c ≡ None → old.rx sci an ≡ Some before → (config_after old c).rx sci an ≡ Some after
     → numbers sci an ≡ Some n → (m : Numbers) × (numbers_after c numbers sci an ≡ Some m) × (m.next ≡ n.next) × (m.seen ≡ n.seen)
@@ -243,7 +243,7 @@ skips_received s found sci an before after old (inr (c, mid, hand, makes, up)) i
     (subst (λ (n : Option Numbers). RxRises mid.identity.rx_block n (found.numbers sci an)) mid_is (up.numbers sci an)) in
     moved_through s.identity.rx_block old stay.0 (found.numbers sci an) stay.2 stay.3 (moved s.identity.rx_block stay.0 (found.numbers sci an) rises)
 
--- ---- what the command in hand installs
+-- ---- what the command under way installs
 
 none_there : {X : Type 0} (o : Option X) → o ≡ None → IsSome o → ⊥
 none_there {X} o none is = false≢true (sym (ap (λ (x : Option X). is_some x) none) ∙ is)

@@ -1,4 +1,4 @@
--- What the words say that tell why an opening is refused, what it leaves, and which sectors are written; and that it is refused for one reason.
+-- What the words say that give the reason why an opening is refused, what it leaves, and which sectors are written; and that it is refused for one reason.
 use Rattle.std.proofs.Common.{◌≡◌, ◌≢◌, ◌⊎◌, ◌≤◌, ◌<◌, ◌+◌, ◌*◌, inl, inr, ℕ, refl, sym, ap, ◌∙◌, subst, arith}
 use Rattle.std.specs.Prelude.{None, Ok, Err}
 use Rattle.macs_config.specs.Config.{Edition, this_edition}

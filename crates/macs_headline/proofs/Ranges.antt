@@ -1,4 +1,4 @@
--- Next packet numbers stay within 1 and 2^32, and commands in hand and those that wait in their ranges.
+-- Next packet numbers stay within 1 and 2^32, and commands under way and those that wait in their ranges.
 use Rattle.std.proofs.Common.{◌≡◌, ◌<◌, ◌≤◌, ◌+◌, ◌%◌, ◌^◌, ◌==◌, inl, inr, ℕ, refl, sym, ◌∙◌, ap, subst, arith, List, [], ◌∷◌, length, Bool, true, false, cond, Result, Ok, Err}
 use Rattle.std.specs.Prelude.{Option, Some, None, IfSome, not, ◌&&◌, is_ok, slice_index}
 use Rattle.std.specs.List.{AllByRecursion}
@@ -197,7 +197,7 @@ module _ (edition : Edition) where
       same_range (state_with_in_hand old first.command) new is
       (hand_range old first.command (first_command old first rest waiting ranged).0 ranged)
 
-  -- it waits no more
+  -- it no longer waits
   without_first : (old : State) (rest : List Waiting) → AreCommands rest → IsRanged edition old → IsRanged edition (state_without_first old rest)
   without_first old rest are ranged = record {
     same = ranged.same;

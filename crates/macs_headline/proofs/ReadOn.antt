@@ -1,4 +1,4 @@
--- How an edition reads a journal with a record more, one that begins anew, and a ceiling that is raised.
+-- How an edition reads a journal with a record more, one that starts over, and a ceiling that is raised.
 use Rattle.std.proofs.Common.{◌≡◌, ◌<◌, ◌≤◌, ◌⊎◌, inl, inr, ℕ, Bool, true, cond, not, List, [], ◌∷◌, ◌++◌, length, take, drop, Option, Some, None, refl, ◌∙◌, ap}
 use Rattle.std.specs.Option.{option_and_then}
 use Rattle.std.proofs.lemmas.Bool.{and_from, and_parts, lt-ltb}

@@ -31,7 +31,7 @@ none_open image closed (inr opens) = closed.1 opens
 abbrev HasFailed : Disk → Disk → Type 0
 HasFailed old new = (old.failures < new.failures) ⊎ (new.worn ≡ true)
 
--- one of the calls failed, and others came before or behind it
+-- one of the calls failed, and others came before or after it
 failed_then : (old mid new : Disk) → FailsOnce old mid → Works mid new → HasFailed old new
 failed_then old mid new (inl once) works = inl (let rose = works.failures in omega (arith, once, rose))
 failed_then old mid new (inr worn) works = inr (works.worn worn)
@@ -61,7 +61,7 @@ module _ {D : Type 0} (disk_of : D → Disk) (sound : (it : D) → IsHonest (dis
       let closed = is_new.closed (now (disk_of old)).seen (sound old is_new.honest).fit in
       absurd (none_open (now (disk_of old)).seen closed (format.device.taken taken honest).0)
 
-  -- a journal of format two does not begin anew
+  -- a journal of format two does not start over
   none_spent : IsHonest (disk_of mid) → HasFormat (now (disk_of mid)).seen Two → fault ≡ variant.GenerationsSpent → ⊥
   none_spent honest two spent =
       let last = (spent-for disk_of mid left fault (opening.refused.works.honest ∙ honest) opening.refused spent).1 in

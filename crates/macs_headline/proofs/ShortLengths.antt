@@ -8,7 +8,7 @@ use Rattle.macs_frame.specs.declared.tag.SecTag.{SecTag}
 use Rattle.macs_frame.specs.Opening.{clear_of, hidden_of, iv_of}
 use Rattle.macs_frame.specs.Protection.{header_of, protected_frame, short_of, user_data, written_tag}
 
--- what stands behind the addresses
+-- what is after the addresses
 behind_addresses : (a rest : List ℕ) (k : ℕ) → length a ≡ 12 → get_or (a ++ rest) (12 + k) 0 ≡ get_or rest k 0
 behind_addresses a rest k h = get_or-append_right a rest 12 (12 + k) 0 h (omega arith) ∙ ap (λ (n : ℕ). get_or rest n 0) (omega arith)
 

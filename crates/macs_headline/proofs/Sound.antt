@@ -40,7 +40,7 @@ sound-steps old (e ∷ es) new steps is =
     let mid = steps.0 in
     sound-steps mid es new steps.2 (sound-effect old.edition (core old) (core mid) (effect-of old e.call e.reply mid steps.1) is)
 
--- a command that is in hand changes nothing else
+-- a command that is under way changes nothing else
 either_core : (b : Bool) (x y s : State) → core x ≡ core s → core y ≡ core s → core (cond b x y) ≡ core s
 either_core true x y s is other = is
 either_core false x y s is other = other

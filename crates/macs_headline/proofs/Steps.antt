@@ -62,7 +62,7 @@ by_submit old c (Err submit.Stopped) a b h also = absurd h
 
 -- ---- steps
 
--- a command that is taken up is in hand, and nothing else changes
+-- a command that is taken up is under way, and nothing else changes
 taken_up : (old new : State) → TakesUp old new → (c : Command) × (new ≡ state_with_in_hand old c)
 taken_up old new (first, rest, waiting, idle, accepts, is) = (first.command, is)
 

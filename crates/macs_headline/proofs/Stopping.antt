@@ -161,7 +161,7 @@ stay old [] new same stopped = ap (λ (s : State). s.stopped) same ∙ stopped
 stay old (e ∷ exchanges) new (mid, step, steps) stopped =
     stay mid exchanges new steps (ap (λ (s : State). s.stopped) (stays old e.call e.reply mid step stopped).1 ∙ stopped)
 
--- one after another that told a fault
+-- one after another that reported a fault
 stopped_by : (old : State) (exchanges : List Exchange) (new : State) → Steps old exchanges new → HadFault exchanges → new.stopped ≡ true
 stopped_by old [] new same had = absurd (contains-none had.0 had.1)
 stopped_by old (first ∷ exchanges) new (mid, step, steps) (e, among, told) = elim (contains-cases first exchanges e among) [
@@ -170,7 +170,7 @@ stopped_by old (first ∷ exchanges) new (mid, step, steps) (e, among, told) = e
   | inr later ↦ stopped_by mid exchanges new steps (e, later, told)
 ]
 
--- a stopped endpoint was stopped at first, or a call of it told a fault
+-- a stopped endpoint was stopped at first, or a call of it reported a fault
 fault_of : (old : State) (exchanges : List Exchange) (new : State) → Steps old exchanges new → new.stopped ≡ true → (old.stopped ≡ true) ⊎ HadFault exchanges
 fault_of old [] new same stopped = inl (sym (ap (λ (s : State). s.stopped) same) ∙ stopped)
 fault_of old (e ∷ exchanges) new (mid, step, steps) stopped = elim (fault_of mid exchanges new steps stopped) [

@@ -70,7 +70,7 @@ by_submit old c (Err submit.QueueFull) new (many, is) = alike old new (ap (λ (s
 by_submit old c (Err submit.TicketsSpent) new (few, spent, is) = alike old new (ap (λ (s : State). s.tickets) is) (ap (λ (s : State). s.waiting) is)
 by_submit old c (Err submit.Stopped) new h = absurd h
 
--- the first one is taken in hand, and waits still
+-- the first one is started, and still waits
 taken_up : (old new : State) → TakesUp old new → (new.tickets ≡ old.tickets) × (new.waiting ≡ old.waiting)
 taken_up old new (first, rest, waiting, idle, accepts, is) = (ap (λ (s : State). s.tickets) is, ap (λ (s : State). s.waiting) is)
 

@@ -24,7 +24,7 @@ use Rattle.macs_endpoint.specs.declared.turn.Turn.{Turn}
 use Rattle.macs_endpoint.specs.declared.turn.Turn.TheVariants as turn
 use Rattle.macs_headline.proofs.Cuts.{cut-call, fits_running, none_in_hand}
 
--- a command that is taken up is in hand
+-- a command that is taken up is under way
 takes_one : (s mid : State) → TakesUp s mid → mid.in_hand ≡ None → ⊥
 takes_one s mid (first, rest, waiting, idle, accepts, is) none = none_in_hand first.command (sym none ∙ ap (λ (t : State). t.in_hand) is)
 
@@ -116,7 +116,7 @@ module _ {D : Type 0} (disk_of : D → Disk) (last after : EndpointValue D) (log
 
 -- ---- where a step takes nothing up by itself
 
--- a command is in hand, none waits, or the endpoint is stopped
+-- a command is under way, none waits, or the endpoint is stopped
 during_held : (s : State) (c : Command) (in_hand : Option Command) → in_hand ≡ Some c → state_taking_first s in_hand s.waiting ≡ s
 during_held s c None is = absurd (none_in_hand c is)
 during_held s c (Some held) is = refl

@@ -135,7 +135,7 @@ module _ (s : State) (frame : List ℕ) where
   no_cause [] none = tt
   no_cause (k ∷ ks) none = (λ has. none.0 ((cause k).1 has), no_cause ks none.1)
 
-  -- ---- what each verdict tells
+  -- ---- what each verdict reports
 
   by_choice : (b : Bool) (reason : Reason) (kind : Kind) → reason_told (Delivered kind) ≡ Some reason
       → reason_told (cond b (Discarded reason) (Delivered kind)) ≡ Some reason

@@ -89,7 +89,7 @@ module _ (identity : Identity) (sci : List ℕ) (an : ℕ) (key : Key) where
   abbrev IsOurCommand : Command → Type 0
   IsOurCommand c = (c ≡ RxAdd sci) ⊎ (c ≡ watch_install sci an key)
 
-  -- none stands but it, and replay protection is on with window 0
+  -- there is none but it, and replay protection is on with window 0
   record IsOurConfig (c : Config) : Type 0 where
     ours : (at : List ℕ) (number : ℕ) (sa : RxSa) → c.rx at number ≡ Some sa → (at ≡ sci) × (number ≡ an) × (sa ≡ our_association)
     replay : c.replay ≡ record { on = true; window = 0 }

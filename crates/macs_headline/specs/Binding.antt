@@ -127,7 +127,7 @@ ChainsAnswer {D} disk_of = (old : D) (links : List (Link D)) (link : Link D) (fi
     (turn : Transition D) → Contains links link → link.deed ≡ Living first turns last cut → Contains turns turn
     → Contains (exchanges_of_lives (lives_of_links disk_of old links)) (exchange_of turn)
 
--- What a chain's lives tell of a deed: a `format` with whether it answered Ok, or one that was cut short; an opening that was refused with its fault; and
+-- What a chain's lives report of a deed: a `format` with whether it answered Ok, or one that was cut short; an opening that was refused with its fault; and
 -- what an endpoint did, with its answers and the call that is cut short, also where it answered no call.
 pub record IsTold {D : Type 0} (lives : List Life) (deed : Deed D) : Type 0 where
   pub formatted : (identity : Identity) → deed ≡ Formatting identity (Ok tt) → Contains lives (Formats this_edition identity true)
@@ -138,7 +138,7 @@ pub record IsTold {D : Type 0} (lives : List Life) (deed : Deed D) : Type 0 wher
   pub served : (first last : EndpointValue D) (turns : List (Transition D)) (cut : Option Call) → deed ≡ Living first turns last cut
       → (image : Image) × Contains lives (Serves this_edition image (map exchange_of turns) cut)
 
--- so each deed of a chain is told
+-- so each deed of a chain is reported
 abbrev pub ChainsTell : {D : Type 0} → (D → Disk) → Type 0
 ChainsTell {D} disk_of = (old : D) (links : List (Link D)) (link : Link D) → Contains links link → IsTold (lives_of_links disk_of old links) link.deed
 
@@ -152,7 +152,7 @@ IsLifeOf OpeningCut life = ⊥
 IsLifeOf (Living first turns last cut) life = (image : Image) × (life ≡ Serves this_edition image (map exchange_of turns) cut)
 IsLifeOf PassingOn life = ⊥
 
--- a chain tells of nothing else: each of its lives is what one of its deeds is
+-- a chain reports nothing else: each of its lives is what one of its deeds is
 abbrev pub LivesAreDeeds : {D : Type 0} → (D → Disk) → Type 0
 LivesAreDeeds {D} disk_of = (old : D) (links : List (Link D)) (life : Life) → Contains (lives_of_links disk_of old links) life
     → (link : Link D) × Contains links link × IsLifeOf link.deed life
@@ -195,7 +195,7 @@ cut_beginning (Some Advances) None (Some (ToKeep first)) = Some Advances
 cut_beginning (Some Advances) reserving next = None
 cut_beginning cut reserving next = cut
 
--- The state in which a life ends, after these logs: with the command in hand that may have begun in the call that was cut short
+-- The state in which a life ends, after these logs: with the command under way that may have begun in the call that was cut short
 abbrev pub state_left : {D : Type 0} → EndpointValue D → Logs → Option Call → State
 state_left e logs cut = state_at_end (state_of e logs) (cut_beginning cut e.reserving (next_piece e))
 
@@ -218,7 +218,7 @@ LivesFitUnbegun {D} disk_of = (disk new : D) (before : List Life) (first last : 
     → Fits later (disk_of disk).sectors image (state_of last at.logs))
 
 -- Work on this command may have begun in the call that was cut short: in `command`, which was given it while none waited; or in a step, where no command was
--- in hand, no ceiling was being raised, and to keep this command was the next piece of work. In no other call.
+-- under way, no ceiling was being raised, and to keep this command was the next piece of work. In no other call.
 abbrev pub MayBeginIn : {D : Type 0} → EndpointValue D → Option Call → Command → Type 0
 MayBeginIn e (Some (Commands given)) command = (e.waiting ≡ []) × (given ≡ command)
 MayBeginIn e (Some Advances) command =
@@ -231,7 +231,7 @@ pub record MayHaveBegun {D : Type 0} (e : EndpointValue D) (cut : Option Call) (
   pub accepted : refusal_at (state_of e no_logs) command ≡ None
   pub begun : MayBeginIn e cut command
 
--- The state in which a life ends: where work on a command may have begun, the state after the last answer with this command in hand; else that state as it is.
+-- The state in which a life ends: where work on a command may have begun, the state after the last answer with this command under way; else that state as it is.
 pub record IsExactEnd {D : Type 0} (e : EndpointValue D) (logs : Logs) (cut : Option Call) : Type 0 where
   pub begun : (command : Command) → MayHaveBegun e cut command → state_left e logs cut ≡ state_with_in_hand (state_of e logs) command
   pub unbegun : ((command : Command) → ¬ MayHaveBegun e cut command) → state_left e logs cut ≡ state_of e logs
@@ -241,7 +241,7 @@ abbrev pub LivesEndExactly : {D : Type 0} → (D → Disk) → Type 0
 LivesEndExactly {D} disk_of = (disk : D) (first last : EndpointValue D) (turns : List (Transition D)) (logs : Logs) (cut : Option Call)
     → LivesFrom disk_of disk first turns last → IsExactEnd last logs cut
 
--- Each image that the disk may leave after a life stands, to this edition and to each larger one, for the configuration after a prefix of the
+-- To this edition and to each larger one, each image that the disk may leave after a life stands for the configuration after a prefix of the
 -- life's accepted commands that holds every acknowledged one.
 abbrev pub LivesKeepCommands : {D : Type 0} → (D → Disk) → Type 0
 LivesKeepCommands {D} disk_of = (disk new : D) (before : List Life) (first last : EndpointValue D) (turns : List (Transition D)) (cut : Option Call)
@@ -323,7 +323,7 @@ CutDeliveriesAreBelow {D} disk_of = (disk new : D) (before : List Life) (first l
 
 -- ---- steps that find no work
 
--- a step that is answered Idle: no command waits, no ceiling is needed, no work is in hand, and nothing changes
+-- a step that is answered Idle: no command waits, no ceiling is needed, no work is under way, and nothing changes
 abbrev pub IdleFindsNoWork : {D : Type 0} → (D → Disk) → Type 0
 IdleFindsNoWork {D} disk_of = (last after : EndpointValue D) → IsCall disk_of last Advances (Advanced (Ok Idle)) after
     → (last.waiting ≡ []) × (raise_in last ≡ None) × IsIdle last.store × (after ≡ last)
@@ -383,7 +383,7 @@ pub record RefusalsAreOne {D : Type 0} (disk_of : D → Disk) : Type 0 where
 abbrev pub IsUnwritten : Disk → Disk → Type 0
 IsUnwritten old new = (k : ℕ) → old.clock ≤ k → k ≤ new.clock → (new.past k ≡ now old) ⊎ (new.past k ≡ state_after_sync (now old))
 
--- A journal that was begun anew, once: in the other area, in the next generation and in format two, of the same endpoint. Its records are those of a snapshot
+-- A journal that was rewritten, once: in the other area, in the next generation and in format two, of the same endpoint. Its records are those of a snapshot
 -- of what the one before it stood for, with the ceilings of that.
 pub record IsBegunAnew (before after : Content) (s : Standing) : Type 0 where
   pub area : after.area ≡ 1 - before.area
@@ -398,9 +398,9 @@ abbrev pub StandsAsRead : Disk → Image → Type 0
 StandsAsRead old image = (s : Standing) × StandsFor this_edition (now old).seen s × StandsFor this_edition image s
 
 -- What an opening makes of the journal of an honest disk. Whatever it answers, and wherever it is cut short, what is left could be left before, or stands for
--- the same; and where a journal of format one was there, and has a next generation, that one is left, or the one that was begun anew. An opening of a journal
--- of format two writes nothing, nor does one that is refused for what stands on the disk. After Ok nothing is pending, each image is in format two, and a
--- journal of format one was begun anew, which was not in the last generation. Each image is in format two after a `format` that answers Ok, too, and after
+-- the same; and where a journal of format one was there, and has a next generation, that one is left, or the one that was rewritten. An opening of a journal
+-- of format two writes nothing, nor does one that is refused for what is on the disk. After Ok nothing is pending, each image is in format two, and a
+-- journal of format one was rewritten, which was not in the last generation. Each image is in format two after a `format` that answers Ok, too, and after
 -- each call of an endpoint.
 pub record OpeningsBeginAnew {D : Type 0} (disk_of : D → Disk) : Type 0 where
   pub alike : (disk : D) (result : Result (EndpointValue D) (RecoverRefused D)) → IsHonest (disk_of disk) → IsOpening disk_of disk result
@@ -433,7 +433,7 @@ pub record OpeningsBeginAnew {D : Type 0} (disk_of : D → Disk) : Type 0 where
 -- What a call's contract says makes a deed: a `format` that was answered, and one in which the medium was passed on; an opening that was refused,
 -- and one in which it was passed on; an endpoint that gave its disk back, and one in a call of which it was passed on; and a disk with which
 -- nothing was done. A life begins with an opening and goes on with each call; a chain begins with nothing and goes on with each deed. The disk after an opening
--- is that of the endpoint, or the one that a refusal gives back; and what a chain tells of a call is the call and its answer.
+-- is that of the endpoint, or the one that a refusal gives back; and what a chain reports of a call is the call and its answer.
 pub record CallsAreDeeds {D : Type 0} (disk_of : D → Disk) : Type 0 where
   pub formatted : (old new : D) (identity : Identity) (result : Result (Unit {0}) JournalFault) → IsFormat disk_of old identity result new
       → Does disk_of old (Formatting identity result) new

@@ -24,10 +24,10 @@ use Rattle.macs_headline.specs.Moments.{WasGiven, WasUsed}
 use Rattle.macs_headline.specs.NumbersMoved.{IsFrameCall, state_but_numbers}
 use Rattle.macs_headline.specs.Steps.{IsToldWhole, LeavesOpen, state_but_hand}
 
--- A plain frame and a received one are handed in by frame calls. Only `Worked` and `Disk` of a step leave open what is in hand; a larger edition may answer
--- otherwise only where ChannelsFull or LongKey was; and GenerationsSpent is told of a command, a refill, a step, and a command that waited. What `IsExact`
+-- A plain frame and a received one are handed in by frame calls. Only `Worked` and `Disk` of a step leave open what is under way; a larger edition may answer
+-- otherwise only where ChannelsFull or LongKey was; and GenerationsSpent is answered to a command, a refill, a step, and a command that waited. What `IsExact`
 -- says of each answer is all of it, but of Ok, of `Stopped`, and of received frames; so of a refusal as LongKey. Each entry of the two lists was used, or
--- given. Two states that are one but for what is in hand, or but for numbers and logs, differ in nothing else. What waits after a command was submitted is
+-- given. Two states that are one but for what is under way, or but for numbers and logs, differ in nothing else. What waits after a command was submitted is
 -- what waited, and then that command, whatever it is, under its ticket.
 pub record CasesAre : Type 0 where
   pub sent : (plain : List ℕ) → IsFrameCall (Protects plain)

@@ -52,11 +52,11 @@ acknowledged_from waiting (e ∷ exchanges) =
 abbrev pub acknowledged_commands : List Exchange → List Command
 acknowledged_commands exchanges = acknowledged_from [] exchanges
 
--- those whose work on the disk began: the acknowledged ones, and then the one that is in hand at the end of the life, if one is
+-- those whose work on the disk began: the acknowledged ones, and then the one that is under way at the end of the life, if one is
 abbrev pub accepted_commands : List Exchange → (in_hand : Option Command) → List Command
 accepted_commands exchanges in_hand = acknowledged_commands exchanges ++ option_to_list in_hand
 
--- ---- the command in hand
+-- ---- the command under way
 
 -- those that wait after these calls, where these waited at first
 abbrev pub waiting_from : List Waiting → List Exchange → List Waiting
@@ -78,7 +78,7 @@ WasHandedIn exchanges cut command =
     (first_command (waiting_at_end exchanges) ≡ Some command)
     ⊎ ((waiting_at_end exchanges ≡ []) × (Contains exchanges (failing command) ⊎ (cut ≡ Some (Commands command))))
 
--- At whatever moment a life ends, in the midst of a call or not: what is in hand there was so given to a call of that life.
+-- At whatever moment a life ends, in the middle of a call or not: what is under way there was so given to a call of that life.
 abbrev pub InHandWasGiven : ℕ → Type 0
 InHandWasGiven sectors = (last : State) (m : Moment sectors last) (cut : Option Call) (command : Command)
     → (state_at_end last cut).in_hand ≡ Some command → WasHandedIn m.exchanges cut command
@@ -97,7 +97,7 @@ CommandsMake edition identity old (command ∷ commands) new =
 abbrev pub IsPrefix : {X : Type 0} → (xs ys : List X) → Type 0
 IsPrefix {X} xs ys = (rest : List X) × (xs ++ rest ≡ ys)
 
--- What is found after a life that itself found `before` and ended with this command in hand, or none: the configuration after some of its
+-- What is found after a life that itself found `before` and ended with this command under way, or none: the configuration after some of its
 -- commands, a prefix of those that were accepted that holds every acknowledged one.
 pub record FindsPrefix (before : Standing) (exchanges : List Exchange) (in_hand : Option Command) (after : Standing) : Type 0 where
   pub identity : after.identity ≡ before.identity
@@ -106,8 +106,8 @@ pub record FindsPrefix (before : Standing) (exchanges : List Exchange) (in_hand 
   pub accepted : IsPrefix kept (accepted_commands exchanges in_hand)
   pub made : CommandsMake before.edition before.identity before.config kept after.config
 
--- Where nothing was in hand at its end, one configuration is found after a life, under one identity: each acknowledged command took effect, and no other did.
--- Where a command was in hand, it is that configuration, or what the command makes of it.
+-- Where nothing was under way at its end, one configuration is found after a life, under one identity: each acknowledged command took effect, and no other did.
+-- Where a command was under way, it is that configuration, or what the command makes of it.
 pub record FindsOne : Type 0 where
   pub none_in_hand : (before a b : Standing) (exchanges : List Exchange) → FindsPrefix before exchanges None a → FindsPrefix before exchanges None b
       → (a.config ≡ b.config) × (a.identity ≡ b.identity)
@@ -116,7 +116,7 @@ pub record FindsOne : Type 0 where
       → ((after.config ≡ without.config) ⊎ (apply before.edition before.identity without.config command ≡ Ok after.config))
       × (after.identity ≡ without.identity)
 
--- At whatever moment a life ends, in the midst of a call or not, and whatever edition opens the disk next: in every image that it may come
+-- At whatever moment a life ends, in the middle of a call or not, and whatever edition opens the disk next: in every image that it may come
 -- upon it finds such a prefix.
 abbrev pub CommandsKept : ℕ → Type 0
 CommandsKept sectors = (last : State) (m : Moment sectors last) (cut : Option Call) (later : Edition) (image : Image) (after : Standing)

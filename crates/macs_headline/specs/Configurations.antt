@@ -13,8 +13,8 @@ use Rattle.macs_headline.specs.Commands.{CommandsMake, IsPrefix, WasHandedIn, ac
 use Rattle.macs_headline.specs.History.{Formats, Life, Past, Refuses, Serves, state_at_end}
 use Rattle.macs_headline.specs.Moments.{IsFoundAfter, Moment}
 
--- The commands of a life that are kept: a prefix of those that were accepted that holds every acknowledged one. The one in hand is the one at its end, which
--- comes after a moment of some history, with this edition, this image and these answers, whatever lives came before it; if one was, it was given to a call of
+-- The commands of a life that are kept: a prefix of those that were accepted that holds every acknowledged one. The one under way is the one at its end, which
+-- comes after a moment of some history, with this edition, this image and these answers, whatever lives came before it; if there was one, it was given to a call of
 -- this life, and work on it had begun, or may have in the call that was cut short.
 pub record AreKept (sectors : ℕ) (edition : Edition) (image : Image) (exchanges : List Exchange) (cut : Option Call) (kept : List Command) : Type 0 where
   pub last : State

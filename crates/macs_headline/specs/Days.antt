@@ -19,7 +19,7 @@ use Rattle.macs_headline.specs.declared.day.Day.{Day}
 abbrev pub exchange_with : Call → Reply → Exchange
 exchange_with call reply = record { call = call; reply = reply }
 
--- The calls of a day, with what they answered: for a command, for one that waits, and for a plain frame between two steps, with what stands in
+-- The calls of a day, with what they answered: for a command, for one that waits, and for a plain frame between two steps, with what is in
 -- `out` then
 abbrev pub exchanges_of_day : {D : Type 0} → (install select : Command) → (plain out : List ℕ) → Day D → List Exchange
 exchanges_of_day install select plain out day =
@@ -42,7 +42,7 @@ pub record IsServedDay {D : Type 0} (disk_of : D → Disk) (first : EndpointValu
   pub lives : Lives disk_of first turns last
   pub given : day.disk ≡ device_in last
 
--- A disk was formatted and opened, and an endpoint, which began with what stood there, answered these calls and gave the disk back: all as their
+-- A disk was formatted and opened, and an endpoint, which began with what was there, answered these calls and gave the disk back: all as their
 -- contracts say. That is the history of the disk.
 pub record IsDay {D : Type 0} (disk_of : D → Disk) (old : D) (identity : Identity) (install select : Command) (plain out : List ℕ) (day : Day D) : Type 0 where
   pub between : D

@@ -1,4 +1,4 @@
--- Which lives the deeds of a chain make, deed by deed, and that what is told of a deed is its life.
+-- Which lives the deeds of a chain make, deed by deed, and that what is reported of a deed is its life.
 use Rattle.std.specs.Prelude.{◌≡◌, ◌⊎◌, ◌++◌, false, is_ok, List, [], ◌∷◌, map, Contains, Option, Result}
 use Rattle.macs_config.specs.Config.{this_edition}
 use Rattle.macs_config.specs.Identity.{Identity}
@@ -28,7 +28,7 @@ pub record DeedsMakeLives {D : Type 0} (disk_of : D → Disk) : Type 0 where
   pub served : (seen : Image) (deed : Deed D) (first last : EndpointValue D) (turns : List (Transition D)) (cut : Option Call)
       → deed ≡ Living first turns last cut → lives_of_deed seen deed ≡ Serves this_edition seen (map exchange_of turns) cut ∷ []
   pub passed_on : (seen : Image) (deed : Deed D) → deed ≡ PassingOn → lives_of_deed seen deed ≡ []
-  -- the life that a deed is, is the one that it makes; and of a deed that makes one it is told
+  -- the life that a deed is, is the one that it makes; and where a deed that makes one is reported, it is among the lives
   pub is_life : (deed : Deed D) (life : Life) → IsLifeOf deed life → (seen : Image) × (lives_of_deed seen deed ≡ life ∷ [])
   pub told : (lives : List Life) (deed : Deed D) → IsTold lives deed
       → ((seen : Image) → lives_of_deed seen deed ≡ []) ⊎ ((seen : Image) × (life : Life) × (lives_of_deed seen deed ≡ life ∷ []) × Contains lives life)

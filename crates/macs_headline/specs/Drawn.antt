@@ -1,4 +1,4 @@
--- The headline on words that stand in what its clauses conclude: what is to be drawn from each of them.
+-- The headline on words in what its clauses conclude: what is to be drawn from each of them.
 use Rattle.std.specs.Prelude.{◌≡◌, ◌≢◌, ◌⊎◌, ◌↔◌, ◌≤◌, ◌+◌, ◌++◌, ◌-◌, ◌^◌, ℕ, true, false, List, [], ◌∷◌, length, map, max, Bool, Contains, Option, Some, None, Ok}
 use Rattle.std.specs.List.{range_with_len}
 use Rattle.macs_config.specs.Config.{Config, Edition, default, this_edition}
@@ -88,12 +88,12 @@ pub record NumberWords : Type 0 where
       → (frame : List ℕ) × (call ≡ Receives frame) × (channel_of (rx_side s) frame ≡ Some sci) × ((tag_of frame).an ≡ an) × ((tag_of frame).pn ≡ pn)
       × (¬ RxStepHolds (rx_side s) frame NotVerified)
 
--- A restart begins with the logs as they were, runs, and has nothing in hand, no command that waits and no ticket given. What is in hand was given to a call of
+-- A restart begins with the logs as they were, runs, and has nothing under way, no command that waits and no ticket given. What is under way was given to a call of
 -- its life, and is accepted. Of each life in which an endpoint served, first or later, the commands that are kept make the next configuration, from which the
 -- other lives go on, and it opened what stands for the one before; no other life makes anything. So what is found is made of the first configuration, under
 -- the identity that is found. Those commands are a prefix of those that were accepted which
--- holds every acknowledged one; the one in hand is that at the end of such a life, with these answers, was begun and was given to a call of it. Lives that left a disk unformatted are formats that did not answer Ok, and openings that were refused. A past that is as
--- before admits the same images, either way, and has the same logs. A journal that is to begin anew is not in generation 2^64 - 1. What the two sides of an
+-- holds every acknowledged one; the one under way is that at the end of such a life, with these answers, was begun and was given to a call of it. Lives that left a disk unformatted are formats that did not answer Ok, and openings that were refused. A past that is as
+-- before admits the same images, either way, and has the same logs. A journal that is to start over is not in generation 2^64 - 1. What the two sides of an
 -- endpoint have is its configuration, with its numbers.
 pub record LifeWords (sectors : ℕ) : Type 0 where
   pub restarted : (old new : State) → Restart old new → (new.logs ≡ old.logs) × (new.stopped ≡ false) × (new.in_hand ≡ None) × (new.waiting ≡ [])

@@ -117,7 +117,7 @@ content_in format c = record c { head = record c.head { format = format } }
 
 -- How an edition reads a disk, whatever is installed. A journal that is found stands for what its content means; and with the head of either format in its
 -- place, the same content is found in that format. A new one of format one means a new endpoint. With one record more, which its format has, a content means
--- what the record makes of what it meant; and a journal that begins anew, with records that stand for what it meant, means that: in format two, where the
+-- what the record makes of what it meant; and a journal that starts over, with records that stand for what it meant, means that: in format two, where the
 -- edition reads it, and in format one, where no record has a long key. A snapshot of what a content means, whose associations are at the numbers 0 to 3, is
 -- such records. A record that raises the ceiling of an association does so, and one that does not raise it is refused.
 pub record EditionsRead : Type 0 where

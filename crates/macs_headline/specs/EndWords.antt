@@ -9,8 +9,8 @@ use Rattle.macs_endpoint.specs.declared.queue.Waiting.{Waiting}
 use Rattle.macs_headline.specs.Binding.{IsExactEnd, MayHaveBegun, state_left}
 use Rattle.macs_headline.specs.Refused.{refusal_at}
 
--- An endpoint that runs ends with a command in hand that no reason holds to refuse: in `command`, where none waited, the one that was given; in a step, where
--- none was in hand, no ceiling was being raised, and to keep the first that waits was next, that one. Else nothing changes: where work on no command may have
+-- An endpoint that runs ends with a command under way that no reason holds to refuse: in `command`, where none waited, the one that was given; in a step, where
+-- none was under way, no ceiling was being raised, and to keep the first that waits was next, that one. Else nothing changes: where work on no command may have
 -- begun; so in each other call, and between two; in `command` while one waits; in a step while a ceiling is being raised, or where to raise one is next; and
 -- once it is stopped.
 pub record EndWords (D : Type 0) : Type 0 where

@@ -1,5 +1,5 @@
 -- What is to be drawn of the endpoint's contracts on openings, on ceilings and refills, on commands that are kept, on turns, on counters, and on events that are
--- served: words that stand in what these promise, and in no law of the endpoint.
+-- served: words in what these promise, and in no law of the endpoint.
 use Rattle.std.specs.Prelude.{◌≡◌, ◌≢◌, ◌<◌, ◌≤◌, ◌⊎◌, ◌+◌, ◌-◌, ◌*◌, ◌++◌, true, ℕ, List, [], ◌∷◌, length, map, Option, Some, None, Result, Ok, Err}
 use Rattle.arrayvec.specs.ArrayVec.{ArrayVec}
 use Rattle.macs_config.specs.Identity.{Identity}
@@ -56,7 +56,7 @@ use Rattle.macs_endpoint.specs.declared.progress.Step.{Step as Progress}
 use Rattle.macs_endpoint.specs.declared.turn.Turn.TheVariants.{Command as CommandTurn, Reservation}
 use Rattle.macs_headline.specs.Stopping.{TellsFault, TellsStopped}
 
--- An opening that succeeds counts no failed device call, begins with a reservation's turn, and has counted nothing. A disk that is too small is told so, by an
+-- An opening that succeeds counts no failed device call, begins with a reservation's turn, and has counted nothing. A disk that is too small is reported so, by an
 -- opening and by a `format`, and is as it was; and no other is.
 pub record OpeningsCount {D : Type 0} (disk_of : D → Disk) : Type 0 where
   pub failures : (disk : D) (first : EndpointValue D) → IsOpening disk_of disk (Ok first) → (disk_in disk_of first).failures ≡ (disk_of disk).failures
@@ -74,11 +74,11 @@ pub record OpeningsCount {D : Type 0} (disk_of : D → Disk) : Type 0 where
 
 -- A ceiling that the transmit side needs comes first. A command that is kept leaves the turn to a reservation, and a refill that finished one to a command.
 -- After a refill nothing was raised where nothing is needed first, and else nothing, or that, and then the others so. A command that is answered as
--- GenerationsSpent leaves what stands, with the reservation that was in hand; and a refill that is answered as Disk, where none was in hand, what was raised so.
--- One that is answered as Ok leaves what was raised so, the reservation in hand first, until none is needed; and its
+-- GenerationsSpent leaves the standing, with the reservation that was under way; and a refill that is answered as Disk, where none was under way, what was raised so.
+-- One that is answered as Ok leaves what was raised so, the reservation under way first, until none is needed; and its
 -- slots and device calls are those of ceilings that were raised so. A refill, and a command that is kept, of an
--- endpoint with no work in hand, make four device calls at most for each slot that they use, where the journal does not
--- begin anew; and the command uses one.
+-- endpoint with no work under way, make four device calls at most for each slot that they use, where the journal does not
+-- start over; and the command uses one.
 pub record CeilingsAreRaised {D : Type 0} (disk_of : D → Disk) : Type 0 where
   pub none : (t : TxSide) (r : RxSide) (old new : Standing) (next : Option Raise) → IsRefilled t r old new next → first_raise old t r ≡ None → new ≡ old
   pub one : (t : TxSide) (r : RxSide) (old new : Standing) (next : Option Raise) (raise : Raise) → IsRefilled t r old new next
@@ -127,8 +127,8 @@ pub record CallsAreCounted {D : Type 0} (disk_of : D → Disk) : Type 0 where
       → rxsc.counters_of new.rx ≡ rxsc.counters_of old.rx
 
 -- Of events that are served: since the calls before it were answered, a power loss leaves at each moment an image that fits the state before one of the calls that
--- are left, with its command in hand, or the one after the last. No more calls are made than turns were given, and as many where those are spent; Ended comes with
--- a turn left, and no event. A source that tells its events gave those of the calls, in their order, and a sink that tells its answers took theirs. Halted is
+-- are left, with its command under way, or the one after the last. No more calls are made than turns were given, and as many where those are spent; Ended comes with
+-- a turn left, and no event. A source that reports its events gave those of the calls, in their order, and a sink that reports its answers took theirs. Halted is
 -- the end where the last answer says that a device call failed, and no other one does. An operator's command is
 -- submitted, a frame from the controlled side is protected, one from the common side is received, and where there is
 -- time for work a step is made; each answer has what the call was answered. A device call failed, now or before, where

@@ -23,7 +23,7 @@ use Rattle.macs_headline.specs.Images.{image_with_next_body}
 abbrev pub disk_through : (ℕ → DiskState) → (calls : ℕ) → Disk
 disk_through states calls = record { sectors = example_sectors; past = states; clock = calls; failures = 0; honest = true; worn = false }
 
--- the place behind a content
+-- the place after a content
 abbrev pub place_behind : Content → Place
 place_behind c = record { area = c.area; head = c.head; free = length c.records }
 
@@ -46,7 +46,7 @@ append_states image c r (suc zero) = state_after_write (settled_state image) (fr
 append_states image c r (suc (suc zero)) = settled_state (image_with_next_body image c r)
 append_states image c r (suc (suc (suc n))) = state_after_write (settled_state (image_with_next_body image c r)) (free_gate c) open_gate
 
--- and what is in hand then: the call that is left makes the gate durable
+-- and what is under way then: the call that is left makes the gate durable
 abbrev pub append_in_hand : Record → Hand
 append_in_hand r = hand.Append (record { sector = sector_of r; stage = GateSync })
 
@@ -62,7 +62,7 @@ working_disk = disk_through (append_states last_image last_content checked) 3
 abbrev pub killed_disk : Disk
 killed_disk = disk_through (λ k. now working_disk) 0
 
--- ---- a journal that begins anew
+-- ---- a journal that starts over
 
 -- a write to a sector
 pub record Write : Type 0 where
@@ -94,7 +94,7 @@ compaction_states image c records calls = state_after_writes (settled_state imag
 abbrev pub compacting_disk : Disk
 compacting_disk = disk_through (compaction_states full_image full_content full_snapshot) 261
 
--- and what is in hand then: the call that is next writes the snapshot's third body
+-- and what is under way then: the call that is next writes the snapshot's third body
 abbrev pub compaction_in_hand : Hand
 compaction_in_hand = hand.Compact (record { head = next_head full_content.head (length full_snapshot); stage = Body 2 })
 

@@ -74,17 +74,17 @@ full_content = content_with_records served_content second_records
 abbrev pub full_image : Image
 full_image = image_with_records served_image served_content second_records
 
--- the snapshot with which the journal begins anew
+-- the snapshot with which the journal starts over
 abbrev pub full_snapshot : List Record
 full_snapshot = snapshot full_standing
 
--- The life ended while the journal began anew: so many bodies of the snapshot were written, and no head gate.
+-- The life ended while the journal started over: so many bodies of the snapshot were written, and no head gate.
 abbrev pub cut_image : (count : ℕ) → Image
 cut_image count = image_while_compacted full_image full_content (length full_snapshot) (take count full_snapshot)
 
 -- ---- after the third life
 
--- the journal that began anew, in generation 2
+-- the journal that started over, in generation 2
 abbrev pub anew_content : Content
 anew_content = compacted full_content full_snapshot
 

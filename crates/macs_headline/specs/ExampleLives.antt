@@ -95,7 +95,7 @@ first_exchanges =
 
 -- The next frame goes out with number 9; an association in use is not removed; neither key is installed again. The peer's frame is late; without
 -- replay protection it is Delayed, and with it late again. A command is given until the area is full. Then the power goes in `remove_peer`, while the
--- journal begins anew.
+-- journal starts over.
 abbrev pub second_exchanges : List Exchange
 second_exchanges =
     unsent (protect.Tx NoNumber) ∷ refilled ∷ sent 9
@@ -103,7 +103,7 @@ second_exchanges =
     ∷ received (Discarded Late) [] ∷ obeyed unguard ∷ received (Delivered Delayed) example_plain ∷ obeyed guard ∷ received (Discarded Late) []
     ∷ replicate 244 (obeyed stay_strict)
 
--- The journal begins anew with `remove_peer`; frame 13 goes out; a device call fails in `check_only`.
+-- The journal starts over with `remove_peer`; frame 13 goes out; a device call fails in `check_only`.
 abbrev pub third_exchanges : List Exchange
 third_exchanges =
     obeyed remove_peer ∷ unsent (protect.Tx NoNumber) ∷ refilled ∷ sent 13
@@ -147,9 +147,9 @@ own_use pn = record { key = own_key; pn = pn }
 abbrev pub peer_delivery : Kind → Delivery
 peer_delivery kind = record { sci = peer_sci; key = peer_key; pn = 5; kind = kind }
 
--- This is a history: nine frames went out under one key, one frame was delivered twice in one life and once in the next, and the journal began anew.
--- Where a life was cut short its disk had work in hand, as a journal has it, and was left so: a power loss may leave the image that the next life
--- opens, and the killed program left what reads give, with the gate pending. While the journal begins anew its disk stands for what it stood for,
+-- This is a history: nine frames went out under one key, one frame was delivered twice in one life and once in the next, and the journal started over.
+-- Where a life was cut short its disk had work under way, as a journal has it, and was left so: a power loss may leave the image that the next life
+-- opens, and the killed program left what reads give, with the gate pending. While the journal starts over its disk stands for what it stood for,
 -- however many bodies are written. Before the later edition opens it, its disk has this history to both editions. The life before the last found the disk
 -- without the command that failed, and the last one finds it.
 pub record IsWorkedHistory : Type 0 where

@@ -1,4 +1,4 @@
--- A disk that the first edition of the program formatted: what it is to this one, whose opening begins its journal anew.
+-- A disk that the first edition of the program formatted: what it is to this one, whose opening starts its journal over.
 use Rattle.std.specs.Prelude.{◌≡◌, true, List, [], ◌∷◌, ◌++◌, fold, map, replicate, take, length, None, Some, Ok}
 use Rattle.macs_aes.specs.declared.keys.Key.TheVariants.{Long}
 use Rattle.macs_config.specs.Apply.{config_after}
@@ -84,7 +84,7 @@ pub record IsOldDisk (disk : Disk) : Type 0 where
   pub size : disk.sectors ≡ example_sectors
   pub settled : now disk ≡ settled_state used_image
 
--- ---- its journal begins anew
+-- ---- its journal starts over
 
 -- the configuration that it has
 abbrev pub used_config : Config
@@ -107,7 +107,7 @@ begun_image = image_while_compacted used_image used_content 3 (take 2 used_recor
 abbrev pub beginning_disk : Disk
 beginning_disk = disk_through (compaction_states used_image used_content used_records) 261
 
--- and what is in hand then: the call that is next writes the snapshot's third body
+-- and what is under way then: the call that is next writes the snapshot's third body
 abbrev pub beginning_in_hand : Hand
 beginning_in_hand = hand.Compact (record { head = next_head used_content.head (length used_records); stage = Body 2 })
 
@@ -121,7 +121,7 @@ migrated_image = compacted_image begun_image used_content used_records
 
 -- ---- lives of this edition
 
--- Behind that opening a frame goes out under the key of 128 bits, with number 5. The peer's association is installed, under one of 256 bits; its frame is
+-- After that opening a frame goes out under the key of 128 bits, with number 5. The peer's association is installed, under one of 256 bits; its frame is
 -- held back until its number is reserved, and then delivered. Then the power goes.
 abbrev pub long_exchanges : List Exchange
 long_exchanges =
@@ -145,7 +145,7 @@ long_image = image_with_records migrated_image migrated_content long_records
 abbrev pub long_config : Config
 long_config = fold config_after used_config (add_peer ∷ install_peer ∷ [])
 
--- what stands
+-- the standing
 abbrev pub long_standing : Standing
 long_standing = record {
   edition = this_edition;
@@ -159,7 +159,7 @@ long_standing = record {
 abbrev pub front_exchanges : List Exchange
 front_exchanges = refused install_own_again KeySpent ∷ refused install_peer_again KeySpent ∷ refilled ∷ sent 9 ∷ []
 
--- Then a command is given until the area is full, and the power goes in the next one, when the journal has begun anew.
+-- Then a command is given until the area is full, and the power goes in the next one, when the journal has started over.
 abbrev pub spent_exchanges : List Exchange
 spent_exchanges = front_exchanges ++ replicate 248 (obeyed stay_strict)
 
@@ -175,7 +175,7 @@ filled_content = content_with_records long_content filled_records
 abbrev pub filled_image : Image
 filled_image = image_with_records long_image long_content filled_records
 
--- what stands
+-- the standing
 abbrev pub filled_standing : Standing
 filled_standing = record {
   edition = this_edition;
@@ -192,7 +192,7 @@ filled_snapshot = snapshot filled_standing
 abbrev pub closed_image : Image
 closed_image = put_sector (put_sector (put_sector filled_image (gate 0 0) closed_gate) (gate 0 2) closed_gate) (gate 0 3) closed_gate
 
--- and the journal begins anew there
+-- and the journal starts over there
 abbrev pub again_content : Content
 again_content = compacted filled_content filled_snapshot
 
@@ -213,9 +213,9 @@ later_lives =
     ∷ []
 
 -- Such is each honest disk of that size with that image and nothing pending. It has that history to the edition that formatted it, and so to this one. To this
--- one it is to begin anew. Three bodies into that it has that history still, whatever a power loss leaves of it; and once it is done it stands for what it
--- stood for, in the second area and in format two. So lives of this edition go on from it: after the first of them keys of both lengths stand side by side, and
--- the journal begins anew once more, in the first area. Over all of them four frames went out under the short key, and one was delivered under the long one.
+-- one it is one to start over. Three bodies into that it still has that history, whatever a power loss leaves of it; and once it is done it stands for what it
+-- stood for, in the second area and in format two. So lives of this edition go on from it: after the first of them keys of both lengths are side by side, and
+-- the journal starts over once more, in the first area. Over all of them four frames went out under the short key, and one was delivered under the long one.
 pub record IsWorkedMigration : Type 0 where
   pub as_old : (disk : Disk) → IsHonest disk → disk.sectors ≡ example_sectors → now disk ≡ settled_state used_image → IsOldDisk disk
   pub formatted : (disk : Disk) → IsOldDisk disk → HasHistory first_edition disk old_lives

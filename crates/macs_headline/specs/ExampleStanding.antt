@@ -1,4 +1,4 @@
--- What stands in the example of a history.
+-- The standing in the example of a history.
 use Rattle.std.specs.Prelude.{[], ◌∷◌, fold, Some}
 use Rattle.macs_config.specs.Apply.{config_after}
 use Rattle.macs_config.specs.Config.{Config, Edition, default, this_edition}
@@ -9,7 +9,7 @@ use Rattle.macs_headline.specs.Example.{add_peer, check_only, example_identity, 
 abbrev pub served_config : Config
 served_config = fold config_after default (install_own ∷ use_own ∷ add_peer ∷ install_peer ∷ narrow ∷ widen ∷ [])
 
--- what stands when the second life ends, in a program of this edition
+-- the standing when the second life ends, in a program of this edition
 abbrev pub full_standing : Standing
 full_standing = record {
   edition = this_edition;
@@ -18,7 +18,7 @@ full_standing = record {
   ceilings = ceilings_with_rx (ceilings_with_tx no_ceilings 0 (Some 13)) peer_sci 0 (Some 9);
 }
 
--- what stands when the third life ends, to an edition
+-- the standing when the third life ends, to an edition
 abbrev pub last_standing : Edition → Standing
 last_standing edition = record {
   edition = edition;

@@ -13,7 +13,7 @@ use Rattle.macs_disk.specs.declared.file_fault.FileFault.TheVariants as fault
 -- None failed, one did, or only interrupted ones did, where the list is as before, has that one more, or some with that
 -- kind alone. An error's fault is out of memory exactly where its kind is, and is no length and no device's else. A
 -- file is not measured for its length, or for the claim or the measuring, which failed alone; not settled for a sync or
--- a reading anew; and what is read or written fails for the call that failed last, behind interrupted ones, or where
+-- a rereading; and what is read or written fails for the call that failed last, after interrupted ones, or where
 -- one moved nothing.
 pub record FailureWords : Type 0 where
   pub answered : (before : List FailedCall) (after : Option (List FailedCall)) (call : FileCall) (kind : ErrorKind

@@ -16,8 +16,8 @@ use Rattle.macs_headline.specs.History.{Blank, FitsPast, Formatted}
 use Rattle.macs_headline.specs.Numbers.{IsMoved, IsSkipped}
 
 -- An image fits a state that stands for its identity and its configuration, in a program of no smaller edition, with numbers that moved no further than a
--- restart moves them, and none where there was none. What fits the state after the command in hand fits the state. A program may come upon each image that fits
--- the state in which the lives ended; and while the disk is not formatted for sure, upon each in which no head gate is open, and upon each that stands to it
+-- restart moves them, and none where there was none. What fits the state after the command under way fits the state. A program may come upon each image that fits
+-- the state in which the lives ended; and while the disk is not formatted for sure, upon each in which no head gate is open, and upon each that stands to that program
 -- for a new endpoint of an identity that was handed in.
 pub record RestartsFit (sectors : ℕ) : Type 0 where
   pub kept : (s : State) (edition : Edition) (image : Image) (found : Standing) → StandingIs edition sectors image (Ok found) → IsUpTo s.edition edition

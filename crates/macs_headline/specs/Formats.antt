@@ -21,7 +21,7 @@ FormatsOnce sectors = (lives : List Life) (past : Past) → IsHistory sectors li
     → before ++ Formats edition identity true ∷ after ≡ lives → AreUnformatted before
 
 -- An opening is refused as Disk; or as NotFormatted, and then no `format` of the lives before it answered Ok, and no opening of them succeeded; or since a
--- journal of a format that the edition begins anew is in the last generation.
+-- journal of a format that the edition starts over is in the last generation.
 abbrev pub RefusedByHistory : ℕ → Type 0
 RefusedByHistory sectors = (lives : List Life) (past : Past) → IsHistory sectors lives past → (edition : Edition) (image : Image) (fault : JournalFault) (new : Past)
     → Leads sectors past (Refuses edition image fault) new → (fault ≡ Disk) ⊎ (((fault ≡ NotFormatted) × AreUnformatted lives) ⊎ IsSpentFor edition image fault)

@@ -37,7 +37,7 @@ logs_of (Formatted s) = s.logs
 abbrev pub formatted_state : Edition → Identity → State
 formatted_state edition identity = opened_state (new_standing edition identity) no_logs
 
--- the state that a life ends in, in the midst of a call or not
+-- the state that a life ends in, in the middle of a call or not
 abbrev pub state_at_end : State → Option Call → State
 state_at_end s None = s
 state_at_end s (Some call) = state_during s call
@@ -69,8 +69,8 @@ FormatLeads (Blank identities) edition identity false new = new ≡ Blank (ident
 FormatLeads (Formatted s) edition identity true new = ⊥
 FormatLeads (Formatted s) edition identity false new = new ≡ Formatted s
 
--- One life leads from old to new. An opening is refused for what stands on the disk, or for a device call that failed, and changes nothing; one
--- that is not makes the disk formatted for sure. What stands may be a journal in the last generation, of a format that the edition begins anew.
+-- One life leads from old to new. An opening is refused for what is on the disk, or for a device call that failed, and changes nothing; one
+-- that is not makes the disk formatted for sure. What is there may be a journal in the last generation, of a format that the edition starts over.
 abbrev pub Leads : ℕ → Past → Life → Past → Type 0
 Leads sectors old (Formats edition identity is_ok) new = FormatLeads old edition identity is_ok new
 Leads sectors old (Refuses edition image fault) new =

@@ -17,7 +17,7 @@ use Rattle.macs_journal.specs.Found.{Content, content_with_record}
 abbrev pub blank_image : Image
 blank_image i = zero_sector
 
--- ---- an area written anew
+-- ---- an area rewritten
 
 -- the bodies of these records, in the slots of an area from a place on
 unfoldable pub image_with_bodies : Image → (area place : ℕ) → List Record → Image
@@ -61,7 +61,7 @@ image_with_records image c (r ∷ rs) = image_with_records (image_with_record im
 abbrev pub content_with_records : Content → List Record → Content
 content_with_records c rs = record c { records = c.records ++ rs }
 
--- ---- a journal that begins anew
+-- ---- a journal that starts over
 
 -- The body of the next head and the first bodies of a snapshot are written in the other area, of so many records in all.
 abbrev pub image_while_compacted : Image → Content → (count : ℕ) → List Record → Image

@@ -11,7 +11,7 @@ use Rattle.macs_endpoint.specs.State.{Logs, State}
 use Rattle.macs_endpoint.specs.Step.{Exchange}
 use Rattle.macs_headline.specs.History.{FitsPast, IsHistory, IsLifeSoFar, Life, Past, formatted_state}
 
--- A moment of a history: behind these lives one is under way, in which the endpoint is in this state.
+-- A moment of a history: after these lives one is under way, in which the endpoint is in this state.
 pub record Moment (sectors : ℕ) (s : State) : Type 0 where
   pub lives : List Life
   pub past : Past

@@ -76,7 +76,7 @@ pub record NeedsAreInOrder : Type 0 where
 
 -- A command leaves the turn to a reservation, whatever it is answered but Stopped and Busy; so does a step that is done
 -- with one. A step that made a reservation, or that the journal has no room for, leaves it to a command, and so does a
--- refill that found one in hand. Other steps and refills, those that fail or are not begun included, frames, and
+-- refill that found one under way. Other steps and refills, those that fail or are not begun included, frames, and
 -- commands that are to wait or are not begun leave the turn as it was.
 pub record TurnsAreUsed {D : Type 0} (disk_of : D → Disk) : Type 0 where
   pub command : (old new : EndpointValue D) (command : Command) (result : Result (Unit {0}) CommandFault)

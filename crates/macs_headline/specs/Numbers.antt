@@ -18,7 +18,7 @@ use Rattle.macs_headline.specs.Moments.{IsFoundAfter, Moment, WasGiven, WasUsed}
 
 -- ---- nothing is forgotten
 
--- All that was used and delivered stands in later logs, behind what came since.
+-- All that was used and delivered is in later logs, after what came since.
 pub record AreHeldIn (old new : Logs) : Type 0 where
   pub used_since : List Use
   pub used : used_since ++ old.used ≡ new.used
@@ -109,7 +109,7 @@ SkipsFewReceived sectors = (s : State) (edition : Edition) (image : Image) (foun
     → s.config.rx sci an ≡ Some before → found.config.rx sci an ≡ Some after → s.numbers sci an ≡ Some old
     → IsSomeAnd ((opened_state found s.logs).numbers sci an) (λ new. IsMoved s.identity.rx_block old new)
 
--- An association that the command in hand installs, and that an opening finds, begins where the command says: a transmit association with that next packet
+-- An association that the command under way installs, and that an opening finds, begins where the command says: a transmit association with that next packet
 -- number, or one at most a block and a half above, and at most 2^32; a receive association with next and lowest there, and nothing seen.
 abbrev pub BeginAsAsked : ℕ → Type 0
 BeginAsAsked sectors = (s : State) (edition : Edition) (image : Image) (found : Standing) → Fits edition sectors image s

@@ -96,7 +96,7 @@ FramesChangeFew sectors = (s : State) → Moment sectors s → (call : Call) (re
 
 -- ---- over a restart
 
--- Where nothing is in hand, an association that has no packet number has none after a restart, whatever opens the disk.
+-- Where nothing is under way, an association that has no packet number has none after a restart, whatever opens the disk.
 abbrev pub NoneAppear : ℕ → Type 0
 NoneAppear sectors = (s : State) (edition : Edition) (image : Image) (found : Standing) → Fits edition sectors image s → StandingIs edition sectors image (Ok found)
     → s.in_hand ≡ None

@@ -38,7 +38,7 @@ pub record OneChangeComes : Type 0 where
   pub numbers : (s new : State) (c : Command) → AreSet s c new → (sci : List ℕ) (an : ℕ) (later : Option Numbers)
       → SetsNumbers c sci an (s.numbers sci an) later → new.numbers sci an ≡ later
 
--- Two states after a call that was answered so are one where the answer leaves nothing open, and else where the same command is in hand.
+-- Two states after a call that was answered so are one where the answer leaves nothing open, and else where the same command is under way.
 pub record OneStateComes : Type 0 where
   pub settled : (reply : Reply) (a b : State) → AreOne reply a b → ¬ LeavesOpen reply → a ≡ b
   pub open_ones : (reply : Reply) (a b : State) → AreOne reply a b → a.in_hand ≡ b.in_hand → a ≡ b

@@ -1,4 +1,4 @@
--- What the words say that tell why an opening is refused, what it leaves, and which sectors are written.
+-- What the words say that give the reason why an opening is refused, what it leaves, and which sectors are written.
 use Rattle.std.specs.Prelude.{◌≡◌, ◌≢◌, ◌⊎◌, ◌↔◌, ◌≤◌, ◌<◌, ◌+◌, ◌*◌, ◌-◌, ◌^◌, ◌==◌, if◌then◌else◌, ℕ, true, length, Some, None, Ok}
 use Rattle.macs_config.specs.Config.{Edition, this_edition}
 use Rattle.macs_disk.specs.Disk.{Disk, MayLeave, now}
@@ -23,7 +23,7 @@ use Rattle.macs_store.specs.Standing.{Standing}
 use Rattle.macs_headline.specs.Binding.{IsUnwritten, StandsAsRead}
 
 -- Where nothing is written, the disk is at each moment as it was, or all that reads gave is durable and nothing is pending; and an image that is left at any
--- moment on the way could be left before, or is what reads give. What stands as what was read does stands for whatever that stands for.
+-- moment on the way could be left before, or is what reads give. What stands for the same as what was read stands for whatever that stands for.
 pub record OpeningWords : Type 0 where
   pub unwritten : (old new : Disk) (k : ℕ) (image : Image) → IsUnwritten old new → old.clock ≤ k → k ≤ new.clock → IsImage (new.past k) image
       → MayLeave old image ⊎ ((i : ℕ) → image i ≡ (now old).seen i)
@@ -52,10 +52,10 @@ pub record RefusalWords : Type 0 where
       → StandingIs edition sectors image (Ok s) → fault ≡ GenerationsSpent
 
 -- Which sectors a `format` writes to: 0, 1 and 2, which are for the head, its gate and the first record, and each gate of the first area that reads open.
--- Those of a journal that begins anew in an area: its first two, the bodies of so many slots, and each gate of it that reads open. An opening is refused for
+-- Those of a journal that starts over in an area: its first two, the bodies of so many slots, and each gate of it that reads open. An opening is refused for
 -- what `RefusalWords` names, or as Disk; where it writes nothing the disk is as it was if it is too small, as a sync leaves it if that is refused which is on
--- it, and one or the other if a device call failed; and no failed call is counted unless one is told. While a journal begins anew, each image that is left
--- before its head gate is written has the journal as it was. The gates of an area that begins anew are open at the head, and closed where they read open. To
+-- it, and one or the other if a device call failed; and no failed call is counted unless one is reported. While a journal starts over, each image that is left
+-- before its head gate is written has the journal as it was. The gates of an area that starts over are open at the head, and closed where they read open. To
 -- keep a change takes 4 device calls at most; or, where all 256 slots are used, 523 and one for each record of a snapshot.
 pub record JournalWords : Type 0 where
   pub format_writes : (seen : Image) (i : ℕ) → FormatWrites seen i → (i ≤ 2) ⊎ ((k : ℕ) × (k < 257) × (i ≡ 2 * k + 1) × IsOpen (seen i))

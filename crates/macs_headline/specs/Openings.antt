@@ -13,11 +13,11 @@ use Rattle.macs_endpoint.specs.State.{State}
 use Rattle.macs_headline.specs.History.{Blank, FitsPast, Formats, Formatted, Leads, Past, Refuses, logs_of}
 use Rattle.macs_headline.specs.Moments.{IsFoundAfter}
 
--- since a journal of a format that the edition begins anew is in the last generation
+-- since a journal of a format that the edition starts over is in the last generation
 abbrev pub IsSpentFor : Edition → Image → JournalFault → Type 0
 IsSpentFor edition image fault = (fault ≡ GenerationsSpent) × IsAtLast edition image
 
--- That is told as GenerationsSpent, and is a journal of format one, in generation 2^64 - 1, and the edition reads areas of format two.
+-- That is answered as GenerationsSpent, and is a journal of format one, in generation 2^64 - 1, and the edition reads areas of format two.
 abbrev pub SpentAreLast : Type 0
 SpentAreLast = (edition : Edition) (image : Image) (fault : JournalFault) → IsSpentFor edition image fault
     → (fault ≡ GenerationsSpent) × (c : Content) × HasJournal image c × (c.head.format ≡ One) × (edition.format_two ≡ true) × (c.head.generation ≡ 2 ^ 64 - 1)

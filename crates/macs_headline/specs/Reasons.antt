@@ -15,9 +15,9 @@ abbrev pub IsNoOffset : ℕ → Type 0
 IsNoOffset offset = (offset ≢ 0) × (offset ≢ 30) × (offset ≢ 50)
 
 -- What holds of a command that is refused so. An install begins with packet number 0; its offset is no choice, or is not 0 without confidentiality; an
--- association stands at its AN; its key is spent, on the receive side for its SCI; 512 keys are spent on its side; its key is none that the edition takes. A
--- channel is to be added under the endpoint's own SCI, or one that stands, or as many stand as the edition takes; or the channel that is named does not stand.
--- ES is to be set, and the port of the endpoint's SCI is not 00-01 (9.5). No association stands at the AN that is to be used or removed; or frames go out under
+-- association exists at its AN; its key is spent, on the receive side for its SCI; 512 keys are spent on its side; its key is none that the edition takes. A
+-- channel is to be added under the endpoint's own SCI, or one that exists, or as many exist as the edition takes; or the channel that is named does not exist.
+-- ES is to be set, and the port of the endpoint's SCI is not 00-01 (9.5). There is no association at the AN that is to be used or removed; or frames go out under
 -- the one that is to be removed.
 abbrev pub IsReasonOf : Edition → Identity → Config → Command → Reason → Type 0
 IsReasonOf edition identity c (TxInstall an key start confidential offset) (Named StartRange) = start ≡ 0

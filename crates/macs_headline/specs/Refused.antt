@@ -31,15 +31,15 @@ refusal_at s command = refusal_of s.edition s.identity s.config command
 abbrev pub fault_at : State → List ℕ → Option TxFault
 fault_at s plain = first (tx_faults (tx_side s) plain)
 
--- The first command that waits is taken in hand: none was, and no reason holds to refuse it.
+-- The first command that waits is started: none was under way, and no reason holds to refuse it.
 abbrev pub TakesFirst : State → State → Type 0
 TakesFirst old new = (w : Waiting) × (rest : List Waiting) × (old.waiting ≡ w ∷ rest) × (old.in_hand ≡ None) × (refusal_at old w.command ≡ None)
     × (new ≡ state_with_in_hand old w.command)
 
 -- What an answer says of reasons, and what a refusal leaves. A command is refused for the first reason that holds, is done only where none does, and is
--- answered Busy where one waits, and there alone; only one that is not refused is in hand after a device fault. The first that waits is refused so where it
--- is not in hand, and leaves the queue; once it is done nothing is in hand. A refill is Busy where one waits, and there alone. A step that is answered
--- Idle, or ends a reservation, changes nothing; one that goes on with work, or whose device call fails, may have taken the first that waits in hand.
+-- answered Busy where one waits, and there alone; only one that is not refused is under way after a device fault. The first that waits is refused so where it
+-- is not under way, and leaves the queue; once it is done nothing is under way. A refill is Busy where one waits, and there alone. A step that is answered
+-- Idle, or ends a reservation, changes nothing; one that goes on with work, or whose device call fails, may have started the first that waits.
 -- A plain frame is refused for its first fault, or for want of a number where it has none; nothing is in `out` then. A refusal changes nothing else.
 abbrev pub IsExact : State → Call → Reply → State → Type 0
 IsExact old (Commands command) (Ran (Ok done)) new = (old.waiting ≡ []) × (refusal_at old command ≡ None)
@@ -122,7 +122,7 @@ RefusalsAreExact sectors = (s : State) → Moment sectors s → (call : Call) (r
 -- ---- limits
 
 -- The numbers by which other clauses say how many commands may wait, how many tickets a life has, how many spent keys a side, and up to which generation a
--- journal begins anew: 16, 2^64 - 1, 512 and 2^64 - 1 (`CommandsWait`, `IsReasonOf`, `IsAtLast`). The first edition takes 8
+-- journal starts over: 16, 2^64 - 1, 512 and 2^64 - 1 (`CommandsWait`, `IsReasonOf`, `IsAtLast`). The first edition takes 8
 -- receive channels, no long keys and no areas of format two; this one takes 32, and both. A block, of which a ceiling is ahead, has 1 to 65,536 packet numbers.
 pub record LimitsAre : Type 0 where
   pub first_one : (first_edition.channels ≡ 8) × (first_edition.long_keys ≡ false) × (first_edition.format_two ≡ false)

@@ -26,17 +26,17 @@ use Rattle.macs_headline.specs.Stopping.{TellsStopped}
 
 -- ---- one state
 
--- An answer after which the first command that waits may be in hand, or not yet: work went on, or its device call failed.
+-- An answer after which the first command that waits may be under way, or not yet: work went on, or its device call failed.
 abbrev pub LeavesOpen : Reply → Type 0
 LeavesOpen (Advanced (Ok Worked)) = Unit {0}
 LeavesOpen (Advanced (Err step.Disk)) = Unit {0}
 LeavesOpen reply = ⊥
 
--- the state but for what is in hand
+-- the state but for what is under way
 abbrev pub state_but_hand : State → State
 state_but_hand s = record s { in_hand = None }
 
--- Two states after a call that was answered so are one, but for what is in hand after an answer that leaves it open.
+-- Two states after a call that was answered so are one, but for what is under way after an answer that leaves it open.
 pub record AreOne (reply : Reply) (a b : State) : Type 0 where
   pub but_hand : state_but_hand a ≡ state_but_hand b
   pub settled : (¬ LeavesOpen reply) → a ≡ b

@@ -1,4 +1,4 @@
--- The headline on device faults: an endpoint that told one is stopped, until its disk is opened again.
+-- The headline on device faults: an endpoint that reported one is stopped, until its disk is opened again.
 use Rattle.std.specs.Prelude.{◌≡◌, ◌↔◌, ℕ, List, [], Contains, Err}
 use Rattle.macs_endpoint.specs.State.{Advanced, Call, Protected, Ran, Received, Refilled, Reply, State, Submitted}
 use Rattle.macs_endpoint.specs.Step.{Exchange, Step}

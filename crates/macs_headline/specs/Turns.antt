@@ -38,7 +38,7 @@ pub record TurnsAreCounted (D : Type 0) : Type 0 where
   pub none_sent : (an : ℕ) (e : EndpointValue D) → frames_sent an e [] ≡ 0
 
 -- An association stays over no calls, and over one more that neither installs it, removes it, nor drops its channel. Work lasts over no calls, and over one more
--- before which it is in hand, and after which the endpoint runs. No command is done with, a ceiling is needed, and none is raised, by no calls, and by one more
+-- before which it is under way, and after which the endpoint runs. No command is done with, a ceiling is needed, and none is raised, by no calls, and by one more
 -- whose answer says so, or before which one is needed. An association is the one that frames go out under where it is so configured and has a number.
 pub record TurnsAreBuilt (D : Type 0) : Type 0 where
   pub tx_none : (an : ℕ) (e : EndpointValue D) → TxStays an e []

@@ -23,7 +23,7 @@ use Rattle.macs_headline.specs.Received.{IsOfChannel}
 abbrev pub behind_tag : List ℕ → ℕ
 behind_tag frame = if has_bit (slice_index frame 14) 0x20 then 28 else 20
 
--- the place of the first octet behind Secure Data: SL octets behind their first one, or 16 before the end of the frame where SL is 0 (9.7 and 9.11)
+-- the place of the first octet after Secure Data: SL octets after their first one, or 16 before the end of the frame where SL is 0 (9.7 and 9.11)
 abbrev pub behind_data : List ℕ → ℕ
 behind_data frame = if slice_index frame 15 == 0 then length frame - 16 else behind_tag frame + slice_index frame 15
 
@@ -74,7 +74,7 @@ IsCauseOf s frame NotValid = (sci plain : List ℕ) (sa : RxSa) → IsOfChannel 
 abbrev pub causes_in_order : List Reason
 causes_in_order = Runt ∷ Oversize ∷ NoTag ∷ BadTag ∷ ForKay ∷ NoSci ∷ NotUsingSa ∷ Late ∷ NotValid ∷ []
 
--- the reason that a verdict tells, which one of a frame that verifies does not
+-- the reason that a verdict gives; that of a frame that verifies gives none
 abbrev pub reason_told : Verdict → Option Reason
 reason_told (Discarded reason) = Some reason
 reason_told (Delivered Untagged) = Some NoTag
@@ -83,7 +83,7 @@ reason_told (Delivered UnusedSa) = Some NotUsingSa
 reason_told (Delivered Invalid) = Some NotValid
 reason_told verdict = None
 
--- A frame has the reason that its verdict tells, and none that comes before it; one that is delivered as verified, or held back, has none. A SecTAG names the
+-- A frame has the reason that its verdict reports, and none that comes before it; one that is delivered as verified, or held back, has none. A SecTAG names the
 -- SCI that it spells out, or that of its source address; its AN are the lowest two bits of octet 14, and its PN is in octets 16 to 19 (9.6 and 9.8). E and C
 -- are the bits of octet 14 with the values 8 and 4 (9.5), and an octet has the bit of value 2^k where k halvings of it leave an odd number. What verifies, or
 -- is given bare, are the octets from the first one after the SecTAG to the last one before the ICV (9.10 and 9.11).

@@ -12,9 +12,9 @@ use Rattle.macs_headline.specs.Refused.{IsExact, refusal_at}
 
 -- While a command waits, `command` is answered Busy, of an endpoint that runs, and nothing else. Sixteen wait at most, and a life gives at most 2^64 - 1
 -- tickets; where sixteen wait, `submit` is answered QueueFull. The ticket that it gives is one more than how many were given. After `command` was answered Ok
--- nothing is in hand. What is said of Ok of `command` is that none waited and no reason held to refuse it; of Ok of `submit` that fewer than sixteen waited and
+-- nothing is under way. What is said of Ok of `command` is that none waited and no reason held to refuse it; of Ok of `submit` that fewer than sixteen waited and
 -- a ticket was left, and that the command waits now; and of a step that is done with a command that it was the first that waited, under that ticket, that no
--- reason held to refuse it, and that nothing is in hand now.
+-- reason held to refuse it, and that nothing is under way now.
 pub record CommandsWait (sectors : ℕ) : Type 0 where
   pub busy : (s new : State) (command : Command) (reply : Reply) → s.stopped ≡ false → s.waiting ≢ [] → Step s (Commands command) reply new
       → reply ≡ Ran (Err ran.Busy)

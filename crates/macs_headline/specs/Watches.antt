@@ -52,7 +52,7 @@ pub record IsWatch {D : Type 0} (sci : List ℕ) (an : ℕ) (key evening first m
 
 -- ---- the calls of the two lives
 
--- those of the evening, with what they answered and the endpoint after each; `early` stood in `out` when the frame was first handed in
+-- those of the evening, with what they answered and the endpoint after each; `early` was in `out` when the frame was first handed in
 abbrev pub evening_turns : {D : Type 0} → (sci : List ℕ) (an : ℕ) (key : Key) (frame early out : List ℕ) → Evening → (one two three four last : EndpointValue D)
     → List (Transition D)
 evening_turns sci an key frame early out evening one two three four last =

@@ -74,7 +74,7 @@ pub record CommandWords : Type 0 where
 
 -- A frame goes out under an association where `protect` answered its number, and it is the one in use; one comes in under an association where `receive` was
 -- given a frame that names it, by channel and AN, of an endpoint that runs. A packet number that is another one after a call is that of an association under
--- which a frame went out, or came in so, or one that a command sets which takes effect. A number was seen where it stands as the greatest that was. Work on a command may
+-- which a frame went out, or came in so, or one that a command sets which takes effect. A number was seen where it is kept as the greatest that was. Work on a command may
 -- begin in a step, on the first that waits, and in `command`, on its own, where none waits. A plain frame that goes out has no fault; and one that has none but
 -- that there is no number, is under an association in use with a next number.
 pub record CallWords : Type 0 where
@@ -112,7 +112,7 @@ pub record ReplyWords : Type 0 where
   pub refused_long : (call : Call) → IsReplyOf call RefusedLong → (c : Command) × (call ≡ Commands c)
   pub advanced_long : (call : Call) (ticket : ℕ) → IsReplyOf call (AdvancedLong ticket) → call ≡ Advances
 
--- One thing comes of it: of a frame and the step that settles it one verdict; of a journal that begins anew, and what it stands for, one journal; and where a
+-- One thing comes of it: of a frame and the step that settles it one verdict; of a journal that starts over, and what it stands for, one journal; and where a
 -- device call failed, one failure more is counted, unless the disk is worn.
 pub record OneComesOfIt : Type 0 where
   pub verdict : (side : RxSide) (frame : List ℕ) (step : RxStep) (a b : Verdict) → IsVerdictOf side frame step a → IsVerdictOf side frame step b → a ≡ b

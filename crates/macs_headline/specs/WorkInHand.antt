@@ -1,4 +1,4 @@
--- The headline on the work that an endpoint has in hand: what a step of it does, and which calls leave it as it was.
+-- The headline on the work that an endpoint has under way: what a step of it does, and which calls leave it as it was.
 use Rattle.std.specs.Prelude.{◌≡◌, ◌≢◌, ◌⊎◌, ◌≤◌, ◌+◌, ℕ, false, List, Some, None, Result, Ok, Err}
 use Rattle.macs_config.specs.declared.command.Command.{Command}
 use Rattle.macs_config.specs.declared.refusal.Refusal.{Refusal}
@@ -25,9 +25,9 @@ use Rattle.macs_endpoint.specs.declared.progress.Step.TheVariants.{Done, Idle, R
 use Rattle.macs_endpoint.specs.declared.queue.Waiting.{Waiting}
 use Rattle.macs_rxsc.specs.declared.verdict.Verdict.{Verdict}
 
--- What a step does of an endpoint that runs. Where no work is in hand and none is next, it answers Idle, and nothing changes. Where to raise a ceiling is next,
+-- What a step does of an endpoint that runs. Where no work is under way and none is next, it answers Idle, and nothing changes. Where to raise a ceiling is next,
 -- that begins; or no change is kept any more; or a device call fails. Where to keep a command is next, that begins; or the command is refused, or no change is
--- kept any more; or a device call fails. Where work is in hand, it goes on, with fewer device calls left; or it is done with its last one; or that fails. In a
+-- kept any more; or a device call fails. Where work is under way, it goes on, with fewer device calls left; or it is done with its last one; or that fails. In a
 -- step that is answered Worked or Reserved, or Ok of a command, the clock of the disk goes on by one, and in each other by one at most.
 pub record StepsWork {D : Type 0} (disk_of : D → Disk) : Type 0 where
   pub none_next : (last after : EndpointValue D) (result : Result Progress StepFault) → IsCall disk_of last Advances (Advanced result) after
@@ -57,9 +57,9 @@ pub record StepsWork {D : Type 0} (disk_of : D → Disk) : Type 0 where
       → (disk_in disk_of after).clock ≡ (disk_in disk_of last).clock + 1
 
 -- Which calls leave the store as it was, and with it the disk and its clock: those with a frame, and `submit`; each refusal of `command`, of `refill` and of a
--- step, and of a command that waited, but that a device call failed, and where no change is kept any more, as long as no work was in hand; and a refill where
--- no work is in hand and no ceiling is needed. After a `command` and a `refill` that went to their end, or found that no change is kept any more, no work is in
--- hand. This program refuses no command for the length of its key.
+-- step, and of a command that waited, but that a device call failed, and where no change is kept any more, as long as no work was under way; and a refill where
+-- no work is under way and no ceiling is needed. After a `command` and a `refill` that went to their end, or found that no change is kept any more, no work is
+-- under way. This program refuses no command for the length of its key.
 pub record CallsAreStill {D : Type 0} (disk_of : D → Disk) : Type 0 where
   pub sent : (last after : EndpointValue D) (plain out : List ℕ) (result : Result ℕ ProtectFault) → IsCall disk_of last (Protects plain) (Protected result out) after
       → after.store ≡ last.store

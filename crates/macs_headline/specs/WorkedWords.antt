@@ -37,8 +37,8 @@ abbrev pub given_as : Kind → Delivery
 given_as kind = record { sci = 2 ∷ 0 ∷ 0 ∷ 0 ∷ 0 ∷ 7 ∷ 0 ∷ 1 ∷ []; key = replicate 32 2; pn = 5; kind = kind }
 
 -- The worked history has ten lives, of which five answered calls, 297 in all; nine frames went out under one key, and one frame of the peer was delivered three
--- times. Three of its disks had work in hand: an append that a power loss left with its gate open, a compaction of a journal of 256 records, which stands for
--- the same however many of its bodies are written and began the journal anew in generation 2, and an append whose program was killed. That one's medium was
+-- times. Three of its disks had work under way: an append that a power loss left with its gate open, a compaction of a journal of 256 records, which stands for
+-- the same however many of its bodies are written and started the journal over in generation 2, and an append whose program was killed. That one's medium was
 -- passed on with the gate pending, which is read as written, and has the history so far to this edition and to a larger one.
 pub record WorkedWords : Type 0 where
   pub calls : map calls_in example_lives ≡ 0 ∷ 0 ∷ 0 ∷ 0 ∷ 28 ∷ 255 ∷ 0 ∷ 6 ∷ 4 ∷ 4 ∷ []
@@ -60,8 +60,8 @@ pub record WorkedWords : Type 0 where
       × StandingIs later_edition 1028 ended_image (Ok (checked_standing later_edition))
 
 -- The worked migration has two lives of the first edition and three of this one, with 265 answered calls in all; four frames went out under the short key, and
--- one was delivered under the long one. The disk that the first edition left has that history to this one too, also in the midst of beginning its journal anew; what it stands for is
--- the same before that and after it, in the second area and in format two, and the journal begins anew once more.
+-- one was delivered under the long one. The disk that the first edition left has that history to this one too, also in the middle of starting its journal over; what it stands for is
+-- the same before that and after it, in the second area and in format two, and the journal starts over once more.
 pub record MigrationWords : Type 0 where
   pub calls : map calls_in (old_lives ++ later_lives) ≡ 0 ∷ 4 ∷ 7 ∷ 252 ∷ 2 ∷ []
   pub history : IsWorkedMigration → (last : State) × IsHistory 1028 (old_lives ++ later_lives) (Formatted last)

@@ -134,23 +134,23 @@ pub fn headline()
     ensures skips_few { (sectors : ℕ) → SkipsFew sectors }
     // Of a receive association it skips at most a block beyond what was seen, and nothing where nothing was.
     ensures skips_few_received { (sectors : ℕ) → SkipsFewReceived sectors }
-    // What the command in hand installs, and an opening finds, begins where the command says.
+    // What the command under way installs, and an opening finds, begins where the command says.
     ensures begin_as_asked { (sectors : ℕ) → BeginAsAsked sectors }
     // An opening finds a prefix of the accepted commands that holds every acknowledged one.
     ensures commands_kept { (sectors : ℕ) → CommandsKept sectors }
-    // Where nothing was in hand, that is one configuration; where a command was, that one or what the command makes of it.
+    // Where nothing was under way, that is one configuration; where a command was, that one or what the command makes of it.
     ensures finds_one { FindsOne }
-    // What is in hand where a life ends was given to a call of that life.
+    // What is under way where a life ends was given to a call of that life.
     ensures in_hand_was_given { (sectors : ℕ) → InHandWasGiven sectors }
-    // It is accepted, and where it was not in hand before the call that was cut short, that is a step or `command`.
+    // It is accepted, and where it was not under way before the call that was cut short, that is a step or `command`.
     ensures in_hand_was_begun { (sectors : ℕ) → InHandWasBegun sectors }
     // And work on a command begins in a step or in `command`, and in no other call that is answered.
     ensures others_begin_none { OthersBeginNone }
     // Whichever call is cut short, nothing else changes.
     ensures cuts_change_none { CutsChangeNone }
-    // Where a call is cut short that may begin a command, that one is in hand, whatever it installs.
+    // Where a call is cut short that may begin a command, that one is under way, whatever it installs.
     ensures cuts_begin { CutsBegin }
-    // And where a call that is cut begins none, all is as it was, with what was in hand.
+    // And where a call that is cut begins none, all is as it was, with what was under way.
     ensures cuts_keep { CutsKeep }
     // Over all lives: it finds what the kept commands of each make of the first configuration, and the identity of the `format` that answered Ok.
     ensures configuration_is { (sectors : ℕ) → ConfigurationIs sectors }
@@ -200,7 +200,7 @@ pub fn headline()
     ensures held_are_ahead { (sectors : ℕ) → HeldAreAhead sectors }
     // The greatest number that was seen on an association is that of a frame that verified there.
     ensures seen_are_verified { (sectors : ℕ) → SeenAreVerified sectors }
-    // The state before a call, the call and its answer settle the state after it, but for what is in hand.
+    // The state before a call, the call and its answer settle the state after it, but for what is under way.
     ensures steps_are_one { StepsAreOne }
     // Each call is answered by a reply of its own function.
     ensures replies { RepliesAreOfCalls }
@@ -212,14 +212,14 @@ pub fn headline()
     ensures reasons_are_named { ReasonsAreNamed }
     // A plain frame that is refused for a fault has it, and none before it; and one that goes out has none of the first five.
     ensures faults_are_named { (sectors : ℕ) → FaultsAreNamed sectors }
-    // How many commands may wait, how many tickets and spent keys there are, how often a journal begins anew, and what
+    // How many commands may wait, how many tickets and spent keys there are, how often a journal starts over, and what
     // this edition and the first one take.
     ensures limits { LimitsAre }
     // After a device fault each call is answered that the endpoint is stopped, and changes nothing; before one none is.
     ensures stopped_stays { (sectors : ℕ) → StoppedStays sectors }
     // After `format` has answered Ok an opening is refused for the disk alone, or for a last generation in an older format.
     ensures refused_for_disk_or_spent { (sectors : ℕ) → RefusedForDiskOrSpent sectors }
-    // That is told as GenerationsSpent, and is generation 2^64 - 1 of a journal of format one.
+    // That is answered as GenerationsSpent, and is generation 2^64 - 1 of a journal of format one.
     ensures spent_are_last { SpentAreLast }
     // Before that it may also find no journal.
     ensures refused_for_disk_or_blank { (sectors : ℕ) → RefusedForDiskOrBlank sectors }
@@ -328,7 +328,7 @@ pub fn endpoint_words<D: SectorDisk>()
 {}
 
 /// What comes first in an order, of faults, reasons or steps: the first one, where it holds; else
-/// what comes first of those behind it; and nothing else.
+/// what comes first of those after it; and nothing else.
 pub fn first_in_order<R>()
     // The first one, where it holds.
     ensures front { (holds : R → Bool) (first : R) (rest : List R) → IsTrue (holds first)
@@ -414,9 +414,9 @@ pub fn histories<D: SectorDisk>()
     ensures answers { ChainsAnswer D.disk }
     // And so is what `format` answered, also one that was cut short, for what an opening was refused, and what an endpoint did.
     ensures told { ChainsTell D.disk }
-    // And nothing else is told: each of the lives is what one of the deeds is.
+    // And nothing else is reported: each of the lives is what one of the deeds is.
     ensures told_alone { LivesAreDeeds D.disk }
-    // Each deed makes the life that is told of it, over the image that reads gave, or none.
+    // Each deed makes the life that is reported of it, over the image that reads gave, or none.
     ensures made { DeedsMakeLives D.disk }
     // From a disk that is new they are one.
     ensures from_new { NewDeedsAreHistories D.disk }
@@ -433,8 +433,8 @@ pub fn histories<D: SectorDisk>()
     ensures refusals { RefusalsAreFailures D.disk }
     // Which of these it is, is settled by what is on the disk.
     ensures refused_as { RefusalsAreOne D.disk }
-    // An opening of a journal of format two writes nothing, nor does one that is refused for what stands on the disk.
-    // One of format one is begun anew, once, and what it stands for stays, wherever that is cut short.
+    // An opening of a journal of format two writes nothing, nor does one that is refused for what is on the disk.
+    // One of format one is rewritten, once, and what it stands for stays, wherever that is cut short.
     ensures begun_anew { OpeningsBeginAnew D.disk }
     // A step is answered Idle only where there is no work.
     ensures idle { IdleFindsNoWork D.disk }
@@ -453,7 +453,7 @@ pub fn histories<D: SectorDisk>()
     ensures fit { LivesFit D.disk }
     // It has begun none where a ceiling is being raised, or where to raise one is next.
     ensures fit_unbegun { LivesFitUnbegun D.disk }
-    // That state is the one after the last answer, with a command in hand only where the call may have begun it.
+    // That state is the one after the last answer, with a command under way only where the call may have begun it.
     ensures fit_exactly { LivesEndExactly D.disk }
     // What it acknowledged is kept.
     ensures commands { LivesKeepCommands D.disk }
@@ -480,7 +480,7 @@ pub fn worked_history()
 }
 
 /// A disk that the first edition of the program formatted, and from which it sent a frame, has that history to this
-/// one too, whose opening begins its journal anew: what it stands for does not change, and lives go on from it with
+/// one too, whose opening starts its journal over: what it stands for does not change, and lives go on from it with
 /// keys of both lengths.
 pub fn worked_migration()
     ensures { IsWorkedMigration }
@@ -504,7 +504,7 @@ pub fn failed_calls()
     ensures { FailureWords }
 {}
 
-/// What a sync, a write, a read and a reading anew of a file that behaves may leave: after a sync that
+/// What a sync, a write, a read and a rereading of a file that behaves may leave: after a sync that
 /// failed the file is in doubt.
 pub fn file_calls()
     ensures { FileCallWords }

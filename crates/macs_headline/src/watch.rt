@@ -61,7 +61,7 @@ pub fn a_watch<D: PowerLoss>(
     requires new { IsNewDisk (D.disk disk) }
     ensures opened { IfOk result (λ watch. IsWatch sci an (octets_of_key key) evening.now first.new.items morning.now second.new.items watch) }
     // Refused only by an opening: by the first one, where a device call failed or the disk is worn; or by the
-    // second one, as `Disk`, behind the calls of the evening and the power loss.
+    // second one, as `Disk`, after the calls of the evening and the power loss.
     ensures refused { IfErr result (λ refused. IsRefusedWatch D.disk disk identity.now sci an key evening.now first.new.items refused) }
 {
     let formatted = format(&mut disk, identity);
