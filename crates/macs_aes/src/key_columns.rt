@@ -11,7 +11,7 @@ use std::marker::Model;
 /// The words of all round keys by columns: word 4 i + c is word i of column c, counted from the left. In
 /// clauses it is the list of all words in their own order.
 ///
-/// So the words of one round stand apart, and are added to a state one by one. Side by side they would be
+/// So the words of one round are kept apart, and are added to a state one by one. Side by side they would be
 /// added as one vector, and a block would take one and a half times as long.
 #[derive(Drop)]
 pub(crate) struct KeyColumns {
