@@ -1,4 +1,4 @@
-//! What a program in C says of a frame, and is told of one.
+//! What a program in C says of a frame, and what is reported to it of one.
 
 ghost use Rattle.std.specs.Prelude.{◌≡◌, ◌↔◌, IfSome, IsSome, true};
 ghost use Rattle.macs_fields.specs.Fields.{octets_of};
