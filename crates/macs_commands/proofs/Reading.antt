@@ -44,7 +44,7 @@ not_all (boolean b) ds e = refl
 not_all (datetime dt) ds e = refl
 not_all (array xs) ds e = refl
 
--- the value in hand is the first of those that are left
+-- the current value is the first of those that are left
 pub one_left : (vs : List Value) (i : ℕ) (value : Value) (ms : Members) → i < length vs → value ≡ get_or vs i value → as_table (view value) ≡ Some ms → items_view (drop i vs) ≡ item (table ms) (items_view (drop (i + 1) vs))
 one_left vs i value ms within same e =
     items_view-drop vs i value within ∙ ap (λ v. item (view v) (items_view (drop (i + 1) vs))) (sym same) ∙ ap (λ x. item x (items_view (drop (i + 1) vs))) (is_table_of (view value) ms e)

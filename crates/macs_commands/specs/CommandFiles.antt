@@ -35,7 +35,7 @@ are_tables no_items = true
 are_tables (item (table _) items) = are_tables items
 are_tables (item other items) = false
 
--- a command, and those behind it
+-- a command, and those after it
 abbrev pub before : Result Command ConfigFault → Result (List Command) ConfigFault → Result (List Command) ConfigFault
 before (Err fault) rest = Err fault
 before (Ok command) (Err fault) = Err fault

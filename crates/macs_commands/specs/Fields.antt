@@ -1,4 +1,4 @@
--- What stands at a key of a table: a number, a flag, a text, a mode, an association number, an SCI or a key.
+-- What is at a key of a table: a number, a flag, a text, a mode, an association number, an SCI or a key.
 use Rattle.std.specs.Prelude.{◌-◌, ◌^◌, ℕ, nat_le, pos, codes, if◌then◌else◌, Bool, List, Option, Some, None, option_and_then, Ok, Err}
 use Rattle.std.specs.Str.{bytes_eq}
 use Rattle.std.specs.Option.{option_map}

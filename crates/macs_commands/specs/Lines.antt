@@ -56,13 +56,13 @@ keys_of word.RxRemove = 3
 
 -- ---- lines
 
--- the value, or else the name of the key where it should stand
+-- the value, or else the name of the key that it should be at
 abbrev pub required : {X : Type 0} → KeyName → Option X → Result X KeyName
 required name (Some x) = Ok x
 required name None = Err name
 
 infixl 10 ◌>>=◌
--- the first of two readings, and behind it the second
+-- the first of two readings, and after it the second
 abbrev pub ◌>>=◌ : {X Y : Type 0} → Result X KeyName → (X → Result Y KeyName) → Result Y KeyName
 Ok x >>= f = f x
 Err name >>= f = Err name

@@ -18,7 +18,7 @@ pub enum KeyName {
 /// a table `Word`, `Key` and `Extra` in this order. Tables are counted from 1.
 #[derive(Clone, Copy, Debug, PartialEq, Eq)]
 pub enum ConfigFault {
-    /// A key besides `command` stands outside the tables, or `command` is no array of tables.
+    /// A key besides `command` is outside the tables, or `command` is no array of tables.
     Shape,
     /// A table has no key `do`, or no command has this word.
     Word { at: usize },

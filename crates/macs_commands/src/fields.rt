@@ -1,4 +1,4 @@
-//! What stands at a key of a command's table.
+//! What is at a key of a command's table.
 
 ghost use Rattle.std.specs.Prelude.{◌≡◌, ◌<◌, codes, option_map};
 ghost use Rattle.toml.specs.Data.{get_member};

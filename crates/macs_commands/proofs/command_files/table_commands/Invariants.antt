@@ -1,4 +1,4 @@
--- The commands so far stand before those of the values that are left.
+-- The commands so far come before those of the values that are left.
 use Rattle.std.proofs.Common.{◌≡◌, drop, ◌+◌}
 use Rattle.toml.specs.View.{items_view}
 use Rattle.macs_commands.specs.CommandFiles.{table_commands}
