@@ -22,7 +22,7 @@ after-silence (Some all) held kept (Some link) new (before, was, begins) (left, 
     subst (λ (o : Option Link). BeginsWith (Some all) [] (unread kept o)) (sym is)
     (kept ++ left.coming, refl, begins ∙ sym e ∙ sym stays)
 
--- a line behind what was read
+-- a line after what was read
 pub line-behind : (start mid new : Option (List ℕ)) (text line : List ℕ) → BeginsWith start text mid
     → BeginsWithLine mid line new
     → BeginsWith start (text ++ (line ++ 10 ∷ [])) new
@@ -32,7 +32,7 @@ line-behind (Some all) (Some rest) new text line (before, was, begins) (left, is
     let e : rest ≡ before = ap (λ (o : Option (List ℕ)). elim o [ None ↦ [] | Some t ↦ t ]) was in
     (left, is, begins ∙ ap (λ (l : List ℕ). text ++ l) (sym e ∙ cut ∙ sym (append_assoc line (10 ∷ []) left)) ∙ sym (append_assoc text (line ++ 10 ∷ []) left))
 
--- the line that ends an answer behind its text
+-- the line that ends an answer after its text
 pub end-behind : (start mid new : Option (List ℕ)) (text line : List ℕ) (status : ℕ) → BeginsWith start text mid
     → BeginsWithLine mid line new
     → line ≡ end_line status → BeginsWithAnswer start text status new

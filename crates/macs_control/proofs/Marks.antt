@@ -1,4 +1,4 @@
--- Digits behind a mark.
+-- Digits after a mark.
 use Rattle.std.proofs.Common.{◌≡◌, ◌∙◌, ℕ, List, [], ◌∷◌, ◌++◌, codes, ap}
 use Rattle.macs_control.specs.Signals.{HasDigits}
 

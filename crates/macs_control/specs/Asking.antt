@@ -16,18 +16,18 @@ abbrev pub unread : List ℕ → Option Link → Option (List ℕ)
 unread held None = None
 unread held (Some link) = Some (held ++ link.coming)
 
--- the octets that begin with a line, and those behind it
+-- the octets that begin with a line, and those after it
 abbrev pub BeginsWithLine : Option (List ℕ) → List ℕ → Option (List ℕ) → Type 0
 BeginsWithLine None line rest = ⊤
 BeginsWithLine (Some all) line rest = (left : List ℕ) × (rest ≡ Some left) × (all ≡ line ++ 10 ∷ left) × HasNoFeed line
 
--- the octets that begin with a text and the line that ends an answer, and those behind it
+-- the octets that begin with a text and the line that ends an answer, and those after it
 abbrev pub BeginsWithAnswer : Option (List ℕ) → List ℕ → ℕ → Option (List ℕ) → Type 0
 BeginsWithAnswer None text status rest = ⊤
 BeginsWithAnswer (Some all) text status rest =
     (left : List ℕ) × (rest ≡ Some left) × (all ≡ text ++ (end_line status ++ 10 ∷ left))
 
--- the octets that begin with a text, and those behind it
+-- the octets that begin with a text, and those after it
 abbrev pub BeginsWith : Option (List ℕ) → List ℕ → Option (List ℕ) → Type 0
 BeginsWith None text rest = ⊤
 BeginsWith (Some all) text rest = (left : List ℕ) × (rest ≡ Some left) × (all ≡ text ++ left)

@@ -32,7 +32,7 @@ GivesOctets (Some old) new octets true = new ≡ Some (record old { given = old.
 GivesOctets (Some old) new octets false =
     (some rest : List ℕ) × (octets ≡ some ++ rest) × (new ≡ Some (record old { given = old.given ++ some }))
 
--- Octets that came are put behind those that are held; or none, and nothing changes
+-- Octets that came are put after those that are held; or none, and nothing changes
 abbrev pub Fills : List ℕ → Option Link → Taken → List ℕ → Option Link → Type 0
 Fills held None taken kept new = ⊤
 Fills held (Some old) (Octets count) kept new =
@@ -40,7 +40,7 @@ Fills held (Some old) (Octets count) kept new =
     × (new ≡ Some (record old { coming = rest }))
 Fills held (Some old) other kept new = (kept ≡ held) × (new ≡ Some old)
 
--- What is heard of a client that sent `text` more than was heard: its first line, and then what comes behind that; or
+-- What is heard of a client that sent `text` more than was heard: its first line, and then what comes after that; or
 -- no line is whole, and nothing is lost; or it is gone
 abbrev pub HearsOf : List ℕ → Hearing → List ℕ → Type 0
 HearsOf text (hears.Line line) left = (text ≡ line.items ++ 10 ∷ left) × HasNoFeed line.items

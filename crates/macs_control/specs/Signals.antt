@@ -2,7 +2,7 @@
 use Rattle.std.specs.Prelude.{◌≡◌, ◌++◌, ◌/◌, ◌%◌, ◌==◌, ℕ, Bool, true, List, ◌∷◌, codes}
 use Rattle.std.specs.Str.Parse.{digits_value, without_leading_plus}
 
--- what comes behind the mark of the signals that wait for the process as a whole, up to the end of the line
+-- what comes after the mark of the signals that wait for the process as a whole, up to the end of the line
 abbrev pub HasDigits : List ℕ → List ℕ → Type 0
 HasDigits status digits = (front back : List ℕ) × (status ≡ front ++ (codes "ShdPnd:\t" ++ (digits ++ 10 ∷ back)))
 

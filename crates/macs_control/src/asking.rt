@@ -32,7 +32,7 @@ impl From<AllocError> for AskFault {
     }
 }
 
-/// An answer: its lines, each with its end, and the status that comes behind them.
+/// An answer: its lines, each with its end, and the status that comes after them.
 #[derive(Drop)]
 pub struct Answer {
     pub text: Vec<u8>,
@@ -56,7 +56,7 @@ fn status_in(alloc: Global, line: &Line) -> Result<Option<u8>, AskFault>
     Ok(status)
 }
 
-/// Puts a line and its end behind a text.
+/// Puts a line and its end after a text.
 fn put_line(text: &mut Vec<u8>, line: &Line) -> Result<(), AllocError>
     ensures { OnOk result (text.new.items ≡ text.old.items ++ (line.now.items ++ 10 ∷ [])) }
 {

@@ -1,4 +1,4 @@
-//! Whoever started the program is told how far it is (sd_notify(3)).
+//! How far the program is, reported to whoever started it (sd_notify(3)).
 
 ghost use Rattle.std.specs.Prelude.{◌≡◌, ◌≤◌, ◌+◌, ◌∷◌, length, take, IfSome};
 ghost use Rattle.macs_control.specs.Notices.{HasAddress, name_octets};
@@ -63,7 +63,7 @@ pub(crate) fn address_of(name: &[u8]) -> Option<LocalAddress>
     })
 }
 
-/// Who is told how far the program is: the socket that `NOTIFY_SOCKET` names, if there is one.
+/// Where it is reported how far the program is: the socket that `NOTIFY_SOCKET` names, if there is one.
 #[derive(Clone, Copy)]
 pub struct Notifier {
     address: Option<LocalAddress>,
@@ -98,19 +98,19 @@ impl Notifier {
         }
     }
 
-    /// Tells it a text.
+    /// Sends it a text.
     fn tell(&self, text: &[u8]) {
         if let Some(address) = &self.address {
             send_to(address, text);
         }
     }
 
-    /// Tells it that the program serves.
+    /// Reports to it that the program serves.
     pub fn ready(&self) {
         self.tell(b"READY=1");
     }
 
-    /// Tells it that the program ends.
+    /// Reports to it that the program ends.
     pub fn stopping(&self) {
         self.tell(b"STOPPING=1");
     }

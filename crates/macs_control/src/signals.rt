@@ -10,13 +10,13 @@ use std::rt::Files;
 /// What Linux says of this process (proc(5)).
 const STATUS: &str = "/proc/self/status";
 
-/// What stands before the signals that wait for the process as a whole, in 16 hex digits.
+/// What is before the signals that wait for the process as a whole, in 16 hex digits.
 const MARK: &str = "ShdPnd:\t";
 
 /// The weight of SIGTERM (15) among them.
 const TERM: u64 = 16_384;
 
-/// The digits behind the mark, up to the end of the line.
+/// The digits after the mark, up to the end of the line.
 fn digits_in(status: &str) -> Option<&str>
     ensures { IfSome result (λ digits. HasDigits status.now digits.now) }
 {
