@@ -39,7 +39,7 @@ first-map-append Holds name [] more f first = absurd first
 first-map-append Holds name (q ∷ qs) more f (inl here) = inl (here.0, ap name here.1)
 first-map-append Holds name (q ∷ qs) more f (inr later) = inr (later.0, first-map-append Holds name qs more f later.1)
 
--- where none of a list holds, the first refusal behind it is the first
+-- where none of a list holds, the first refusal after it is the first
 pub first-behind : {Q R : Type 0} (Holds : R → Type 0) (name : Q → R) (refusals : List Q) (more : List R) (f : R)
     → NoneHolds (λ q. Holds (name q)) refusals → IsFirst Holds more f → IsFirst Holds (map name refusals ++ more) f
 first-behind Holds name [] more f none first = first
