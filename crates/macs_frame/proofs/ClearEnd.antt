@@ -31,7 +31,7 @@ drop-slice_range o start end frame order = elim (cases_lt o (end - start)) [
       ∙ ap (λ (k : ℕ). take k (drop end frame)) (sym z) ∙ ap (λ (k : ℕ). slice_range frame k end) (sym n)
 ]
 
--- what stands in front of a range, and the range
+-- what is in front of a range, and the range
 pub take-append-slice_range : (start end : ℕ) (frame : List ℕ) → start ≤ end → take start frame ++ slice_range frame start end ≡ take end frame
 take-append-slice_range start end frame order =
     let n : end ≡ start + (end - start) = omega arith in

@@ -12,7 +12,7 @@ use Rattle.macs_frame.specs.Tag.{IsForKay, Tag, TagFaultHolds, tag_faults}
 use Rattle.macs_fields.proofs.FirstRefusal.{first-map-append, first-behind, none-map-append}
 use Rattle.macs_frame.proofs.Readings.{verified_by_its_parts}
 
--- the faults behind those of the tag
+-- the faults after those of the tag
 abbrev later_faults : List OpenFault
 later_faults = OtherSci ∷ NotValid ∷ []
 

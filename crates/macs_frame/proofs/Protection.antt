@@ -23,7 +23,7 @@ no_octet : (c : List ℕ) → length c ≡ 0 → c ≡ []
 no_octet [] h = refl
 no_octet (x ∷ c) h = absurd (omega arith)
 
--- with the ciphertext behind them the octets in the clear are the same
+-- with the ciphertext after them the octets in the clear are the same
 clear_again : (e : Bool) (o : ℕ) (u c : List ℕ) → length c ≡ length (hidden_of e o u) → clear_of e o (clear_of e o u ++ c) ≡ clear_of e o u
 clear_again true o u c h = elim (cases_lt o (length u)) [
   | inl lt ↦ take_at (take o u) c o (omega (arith, length-take o u))

@@ -6,7 +6,7 @@ use Rattle.macs_frame.specs.Opening.{clear_of, hidden_of, iv_of}
 use Rattle.macs_frame.specs.Protection.{header_of, protected_frame, user_data}
 use Rattle.macs_frame.specs.declared.tag.SecTag.{SecTag}
 
--- what stands in front stays, and what it stands in front of is sealed
+-- what is in front stays, and what it is in front of is sealed
 sealed_behind : (key iv front hidden buffer after icv : List ℕ) (start : ℕ) → buffer ≡ front ++ hidden → length front ≡ start
     → (drop start after, icv) ≡ seal key iv (take start buffer) (drop start buffer) → take start after ≡ take start buffer
     → after ++ icv ≡ front ++ (seal key iv front hidden).0 ++ (seal key iv front hidden).1

@@ -61,7 +61,7 @@ bits Implicit false false an h = four (Bits Implicit false false) (search rules)
 
 -- ---- the fields of a frame
 
--- the SCI stands where the tag spells it out
+-- the SCI is there where the tag spells it out
 abbrev SciAt : ScName → List ℕ → Type 0
 SciAt (Explicit sci) frame = sci_of frame ≡ sci
 SciAt EndStation frame = Unit {0}
@@ -158,7 +158,7 @@ read_back frame tag n r is some fits =
 
 -- ---- the written octets
 
--- what stands behind the addresses
+-- what is after the addresses
 past : (a rest : List ℕ) (k : ℕ) → length a ≡ 12 → get_or (a ++ rest) (12 + k) 0 ≡ get_or rest k 0
 past a rest k h = get_or-append_right a rest 12 (12 + k) 0 h (omega arith) ∙ ap (λ (n : ℕ). get_or rest n 0) (omega arith)
 
@@ -179,7 +179,7 @@ length-sci_octets Implicit is = refl
 pub length-written_tag : (tag : SecTag) (n : ℕ) → IsName tag.name → length (written_tag tag n) ≡ tag_octets tag.name
 length-written_tag tag n is = omega (arith, length-sci_octets tag.name is)
 
--- addresses, a written tag and what comes behind it
+-- addresses, a written tag and what comes after it
 reads : (addresses : List ℕ) (tag : SecTag) (n : ℕ) (more : List ℕ) → length addresses ≡ 12 → IsWritten tag → length more ≡ n + 16
     → Reads (addresses ++ (written_tag tag n ++ more)) tag n
 reads a tag n more la is lm = record {

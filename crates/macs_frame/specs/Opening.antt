@@ -26,7 +26,7 @@ iv_of sci number = sci ++ to_be_bytes w32 number
 abbrev pub secure_data : List ℕ → Parts → List ℕ
 secure_data frame parts = slice_range frame parts.start parts.end
 
--- the ICV: the 16 octets behind Secure Data (9.11)
+-- the ICV: the 16 octets after Secure Data (9.11)
 abbrev pub icv_of : List ℕ → Parts → List ℕ
 icv_of frame parts = slice_range frame parts.end (parts.end + 16)
 

@@ -59,7 +59,7 @@ pn_of frame = from_be_bytes w32 (slice_range frame 16 20)
 abbrev pub sci_of : List ℕ → List ℕ
 sci_of frame = slice_range frame 20 28
 
--- the place of the first octet of Secure Data: 28 behind a SecTAG with an SCI, which has 16 octets, else 20 behind one of 8 (9.3)
+-- the place of the first octet of Secure Data: 28 after a SecTAG with an SCI, which has 16 octets, else 20 after one of 8 (9.3)
 abbrev pub start_of : List ℕ → ℕ
 start_of frame = if has_sci (control frame) then 28 else 20
 
@@ -73,11 +73,11 @@ Agrees octets start short =
     ((short ≡ 0) × (start + 48 + 16 ≤ octets))
     ⊎ ((short ≢ 0) × ((octets ≡ start + short + 16) ⊎ ((octets ≡ 60) × (start + short + 16 < 60))))
 
--- where Secure Data from start on end: 16 octets before the frame's end where SL is 0, else SL octets behind start
+-- where Secure Data from start on end: 16 octets before the frame's end where SL is 0, else SL octets after start
 abbrev pub end_at : ℕ → ℕ → ℕ → ℕ
 end_at octets start short = if short == 0 then octets - 16 else start + short
 
--- the place of a frame's first octet behind its Secure Data, where the ICV begins (9.11)
+-- the place of a frame's first octet after its Secure Data, where the ICV begins (9.11)
 abbrev pub end_of : List ℕ → ℕ
 end_of frame = end_at (length frame) (start_of frame) (short_length frame)
 

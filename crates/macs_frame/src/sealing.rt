@@ -68,7 +68,7 @@ fn seal_from(key: &GcmKey, iv: &[u8; 12], octets: &mut [u8], start: usize) -> [u
 
 /// Protects a plain frame of 14 octets or more under a key, by GCM-AES-128 where that has 128 bits and
 /// by GCM-AES-256 where it has 256 (14.5 and 14.6), and writes the protected frame to `out` in place of
-/// what stood there. The tag names the association, the packet number and the channel, and its
+/// what was there. The tag names the association, the packet number and the channel, and its
 /// `encrypted` is its `changed`: with both set User Data are encrypted from `offset` on, else all of
 /// them stay in the clear. `sci` is the transmit channel's, which enters the initialisation vector. The
 /// protected frame has at most 9,216 octets: it is 32 octets longer than the plain one where the tag

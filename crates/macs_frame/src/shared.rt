@@ -17,7 +17,7 @@ pub(crate) fn iv_of(sci: Sci, number: Pn) -> [u8; 12]
     [a, b, c, d, e, f, g, h, i, j, k, l]
 }
 
-/// Of the octets from `start` up to `end` behind a SecTAG, where those in the clear end; the others
+/// Of the octets from `start` up to `end` after a SecTAG, where those in the clear end; the others
 /// are encrypted (14.5 and 14.6).
 pub(crate) fn clear_end(tag: &SecTag, offset: Offset, start: usize, end: usize) -> usize
     requires { start ≤ end }
