@@ -23,7 +23,7 @@ fn seals_frames(rt: HostRuntime) {
     }
 }
 
-/// What a SecTAG says, the octets of Secure Data behind it, and how it is written behind one octet
+/// What a SecTAG says, the octets of Secure Data after it, and how it is written after one octet
 /// that stays.
 struct Written {
     fields: Fields,
