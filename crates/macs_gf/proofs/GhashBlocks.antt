@@ -17,7 +17,7 @@ length-padded octets =
     let zeros : ℕ = (16 - length octets % 16) % 16 in
     omega (arith, length-append octets (replicate zeros 0), length-replicate {A = ℕ} zeros 0)
 
--- behind whole blocks a string is padded as by itself
+-- after whole blocks a string is padded as by itself
 pub padded-append : (front octets : List ℕ) → length front % 16 ≡ 0 → padded_string (front ++ octets) ≡ front ++ padded_string octets
 padded-append front octets whole =
     let zeros : ℕ → ℕ = λ (n : ℕ). (16 - n % 16) % 16 in
@@ -68,7 +68,7 @@ block_at-append_left front octets i inside =
     ap (take 16) (drop-append-le (16 * i) front octets (omega arith)) ∙ take-append-le 16 rest octets long in
     ap (from_be_bytes w128) (block_octets (front ++ octets) i ∙ same ∙ sym (block_octets front i))
 
--- a block behind n whole blocks
+-- a block after n whole blocks
 pub block_at-append_right : (front octets : List ℕ) (n i : ℕ) → length front ≡ 16 * n → n ≤ i → block_at (front ++ octets) i ≡ block_at octets (i - n)
 block_at-append_right front octets n i size behind =
     let place : 16 * i ≡ 16 * n + 16 * (i - n) = omega arith in
@@ -87,7 +87,7 @@ pub get_or-blocks_of : (octets : List ℕ) (i : ℕ) → i < length octets / 16 
 unfolding blocks_of
 get_or-blocks_of octets i below = get_or-map-range_with_len (block_at octets) 0 (length octets / 16) i i 0 below (omega arith)
 
--- the blocks of a string behind whole blocks
+-- the blocks of a string after whole blocks
 pub blocks_of-append : (front octets : List ℕ) → length front % 16 ≡ 0 → blocks_of (front ++ octets) ≡ blocks_of front ++ blocks_of octets
 blocks_of-append front octets whole =
     let n : ℕ = length front / 16 in

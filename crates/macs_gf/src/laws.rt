@@ -73,7 +73,7 @@ pub fn ghash_from_state(h: u128, y: u128, blocks: &[u128])
         ghash_from h y blocks.now ≡ bit_xor (block_product y power) (ghash h blocks.now) }
 {}
 
-/// Behind whole blocks of 16 octets a string is padded, and cut into blocks, as by itself (SP
+/// After whole blocks of 16 octets a string is padded, and cut into blocks, as by itself (SP
 /// 800-38D, 7.1).
 pub fn padding_splits()
     ensures padded { (front octets : List ℕ) → length front % 16 ≡ 0

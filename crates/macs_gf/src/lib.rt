@@ -1,6 +1,6 @@
 //! Products in the two fields of AES-GCM: the field of 256 elements that AES computes in (FIPS 197
-//! (2001), 4.2) and the field of 2^128 elements that GHASH computes in (NIST SP 800-38D, 6.3). Beside
-//! them stand the definitions of GHASH (6.4) and of the string that GCM hashes (7.1), for the crates
+//! (2001), 4.2) and the field of 2^128 elements that GHASH computes in (NIST SP 800-38D, 6.3). With
+//! them are the definitions of GHASH (6.4) and of the string that GCM hashes (7.1), for the crates
 //! above.
 //!
 //! An octet of AES is a `u8`, whose bit i is the coefficient of x^i. A block of GHASH is a `u128`,
