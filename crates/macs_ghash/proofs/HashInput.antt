@@ -73,7 +73,7 @@ block_more old new f n k below held is others j h = elim (cases_lt j k) [
       rw same is
 ]
 
--- one block more behind the zero blocks
+-- one block more after the zero blocks
 pub block_more_behind : (old new f : ℕ → ℕ) (m n k : ℕ) → n + k < m → ((j : ℕ) → j < k → old (n + j) ≡ f j) → new (n + k) ≡ f k
     → ((l : ℕ) → l < m → l ≢ n + k → new l ≡ old l)
     → (j : ℕ) → j < k + 1 → new (n + j) ≡ f j

@@ -129,7 +129,7 @@ last_first_at x n g (suc j) le h k =
     let size : length (take (16 * n) LAST) ≡ 16 * n = length-take-le (16 * n) LAST (omega arith) in
     none_there x (take (16 * n) LAST) (16 * g + suc j) (omega arith) (last_at n g (suc j) le h k)
 
--- ---- octets behind others
+-- ---- octets after others
 
 pub pushed_equal : (x y : ℕ) (f g : ℕ → ℕ) (j : ℕ) → x ≡ y → ((i : ℕ) → i < j → f i ≡ g i) → pushed x f j ≡ pushed y g j
 unfolding pushed

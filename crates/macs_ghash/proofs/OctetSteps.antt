@@ -43,7 +43,7 @@ sum_one : (f : ℕ → ℕ) → sum_of f 1 ≡ f 0
 unfolding sum_of
 sum_one f = xor_zero_l (f 0)
 
--- octets behind another
+-- octets after another
 pushed_sum : (x : ℕ) (f : ℕ → ℕ) → block_of_octets (pushed x f) ≡ bit_xor (octet_placed 0 x) (sum_of (λ k. octet_placed (k + 1) (f k)) 15)
 unfolding block_of_octets pushed
 pushed_sum x f =

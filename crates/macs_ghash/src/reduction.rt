@@ -5,7 +5,7 @@ ghost use Rattle.std.specs.Prelude.{◌≡◌};
 ghost use Rattle.macs_gf.specs.Gf128.{times_power};
 
 /// The product of x^128 and a block: the block times 1 + x + x^2 + x^7. What the shifts to the
-/// right lose comes back at the left first, since it stands beyond x^127 too.
+/// right lose comes back at the left first, since it is beyond x^127 too.
 #[inline(always)]
 pub(crate) fn overflow(block: u128) -> u128
     ensures { result ≡ times_power 128 block }

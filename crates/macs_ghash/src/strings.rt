@@ -109,7 +109,7 @@ pub(crate) fn input_blocks<const M: usize>(aad: &[u8], text: &[u8], i: usize) ->
     }
 }
 
-/// The first blocks of the string that is hashed, behind as many zero blocks as M octets have room
+/// The first blocks of the string that is hashed, after as many zero blocks as M octets have room
 /// for.
 #[inline(always)]
 pub(crate) fn behind_zeros<const M: usize>(aad: &[u8], text: &[u8], count: usize) -> [u8; M]
