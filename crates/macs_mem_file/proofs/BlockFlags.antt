@@ -27,7 +27,7 @@ pub record Spoiled (block n : ℕ) (flags : List Bool) (left : Left) (first writ
   pub kept : (p : ℕ) → flag_in block flags p ≡ false → octet_at now p ≡ octet_at first p
   pub octets : are_octets first → are_octets written → are_octets now
 
--- an octet stands before a block, in it or behind it
+-- an octet is before a block, in it or after it
 next-front : (n block : ℕ) → (n + 1) * block ≡ n * block + block
 next-front n block = let step : n + 1 ≡ suc n = omega arith in rw step (suc-mul n block)
 

@@ -216,7 +216,7 @@ kept_reread block cache device durable dirty pending true false kept shows = rec
 kept_reread block cache device durable dirty pending false true kept shows = kept
 kept_reread block cache device durable dirty pending false false kept shows = kept
 
--- a clean file whose clean pages were dropped was read anew
+-- a clean file whose clean pages were dropped was read again
 pub pressed_reread : (file pressed : FileState) → file.is_clean ≡ true → pressed ≡ file_pressed file pressed.seen
     → ((p : ℕ) → pressed.seen p ≡ file.durable p)
     → record pressed { is_sure = pressed.is_sure || pressed.is_clean } ≡ file_reread file

@@ -5,7 +5,7 @@ use Rattle.macs_disk.specs.CallLists.{flag_at}
 use Rattle.macs_mem_file.specs.declared.blocks.Left.{Left}
 use Rattle.macs_mem_file.specs.declared.blocks.Left.TheVariants.{Durable, Written, Half, Zeros}
 
--- an octet of a list, and zeros behind it
+-- an octet of a list, and zeros after it
 abbrev pub octet_at : List ℕ → ℕ → ℕ
 octet_at octets p = get_or octets p 0
 

@@ -1,5 +1,5 @@
--- That a file in memory is sound. It stands here and not among the proofs, since what a ghost item cites of its own crate
--- stands in its specs.
+-- That a file in memory is sound. It is here and not among the proofs, since what a ghost item cites of its own crate
+-- is in its specs.
 use Rattle.std.proofs.Common.{◌≡◌, ◌<◌, ◌+◌, ◌*◌, ◌/◌, ℕ, Bool, List, ap, ◌∙◌, arith}
 use Rattle.std.proofs.Math.Nat.{div-eq_of_lt-le, mul_comm, add-mul}
 use Rattle.macs_disk.specs.Files.{IsSoundFile}

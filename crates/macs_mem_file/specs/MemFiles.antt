@@ -40,11 +40,11 @@ octets_in Octets4096 = 4096
 abbrev pub file_pressed : FileState → (ℕ → ℕ) → FileState
 file_pressed file octets = record file { seen = octets }
 
--- the file that its program let go of and opened again: it is not claimed, nor sure before it was synced and read anew
+-- the file that its program let go of and opened again: it is not claimed, nor sure before it was synced and read again
 abbrev pub file_closed : FileState → FileState
 file_closed file = record file { is_sure = false; is_claimed = false }
 
--- the file that a power loss left with so many octets, and with these. It is not sure before it was synced and read anew.
+-- the file that a power loss left with so many octets, and with these. It is not sure before it was synced and read again.
 abbrev pub file_after_loss : FileState → ℕ → (ℕ → ℕ) → FileState
 file_after_loss file size octets =
     record {

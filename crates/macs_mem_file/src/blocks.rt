@@ -220,7 +220,7 @@ pub(crate) fn mark<A: Allocator>(flags: &mut Vec<bool, A>, block: usize, from: u
     }
 }
 
-/// Takes down all flags behind the first so many that are up.
+/// Takes down all flags after the first so many that are up.
 pub(crate) fn keep_first<A: Allocator>(flags: &mut Vec<bool, A>, count: usize)
     ensures length { length flags.new.items ≡ length flags.old.items }
     ensures fewer { (n : ℕ) → flag_at flags.old.items n ≡ false → flag_at flags.new.items n ≡ false }

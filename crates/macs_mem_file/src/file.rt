@@ -18,7 +18,7 @@ use std::io::ErrorKind;
 /// The kernel keeps the file's pages of 4,096 octets in a cache, which reads and writes go to. A sync writes
 /// the pages that are dirty to the device, and has the device make them durable. Where it fails the
 /// kernel takes the pages to be clean all the same: reads go on giving them, and no later sync writes
-/// them. The failure is told once. Pages that are clean may be dropped at any moment, and are read from
+/// them. The failure is reported once. Pages that are clean may be dropped at any moment, and are read from
 /// the device when they are next asked for.
 ///
 /// A test chooses the call that fails, when memory is short and clean pages are dropped (`press`), when the
@@ -41,7 +41,7 @@ pub struct MemFile<A: Allocator = Global> {
     durable_size: u64,
     /// Nothing is pending.
     is_clean: bool,
-    /// The file was read anew, and no sync has failed since.
+    /// The file was read again, and no sync has failed since.
     is_sure: bool,
     /// It was claimed since it was opened.
     is_claimed: bool,
@@ -267,7 +267,7 @@ impl<A: Allocator> DiskFile for MemFile<A> {
         Ok(self.size)
     }
 
-    // It reads nothing behind the file's end.
+    // It reads nothing after the file's end.
     fn read_at(&mut self, at: u64, into: &mut [u8]) -> io::Result<usize>
         ensures bound { IfOk result (λ count. count ≤ length into.new) }
         ensures steady { (file_of self.new).behaves ≡ (file_of self.old).behaves }
