@@ -1,9 +1,9 @@
--- What stands in front of a list.
+-- What is in front of a list.
 use Rattle.std.proofs.Common.{◌≡◌, ◌∙◌, ◌≤◌, ℕ, ◌+◌, List, ◌++◌, length, take, ap, arith, subst, length-append, take_all, Option}
 use Rattle.std.proofs.Math.Seq.{take-append_seam}
 use Rattle.std.specs.Io.KnownBytes.{Consumes}
 
--- a part of known length that stands in front
+-- a part of known length that is in front
 pub front : (left part rest : List ℕ) (n : ℕ) → length part ≡ n → left ≡ part ++ rest → take n left ≡ part
 front left part rest n size e = subst (λ (k : ℕ). take k left ≡ part) size (ap (take (length part)) e ∙ take-append_seam part rest)
 

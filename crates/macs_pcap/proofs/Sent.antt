@@ -41,7 +41,7 @@ joined before between after first second (Err fault) sent steady writes =
       write = record { done = tt; failed = writes.write.failed; names = writes.write.names };
     }
 
--- behind a first part, the second one is written, or its front
+-- after a first part, the second one is written, or its front
 pub both-sent : (before between after : SinkState) (octets first second : List ℕ) (answer : Result (Unit {0}) PcapFault) → octets ≡ first
     → Appends before.held between.held octets → between.failed ≡ before.failed → WritesText between after second answer
     → WritesText before after (first ++ second) answer
@@ -49,7 +49,7 @@ both-sent before between after octets first second answer same sent steady write
     text-sent before after (octets ++ second) (first ++ second) answer (ap (λ (l : List ℕ). l ++ second) same)
     (joined before between after octets second answer sent steady writes)
 
--- where the first part is cut, what was to stand behind it is not begun
+-- where the first part is cut, what was to come after it is not begun
 pub first-cut : (before after : SinkState) (octets first second : List ℕ) (sent answer : Result (Unit {0}) PcapFault) → octets ≡ first
     → WritesText before after octets sent → IsErr sent → IsErr answer → IfErr answer (λ fault. fault ≡ Write)
     → WritesText before after (first ++ second) answer

@@ -68,7 +68,7 @@ record_header-taken (Some left) (Some rest) big found octets header is taken sta
       split ∙ ap (λ (l : List ℕ). l ++ rest) same,
     )
 
--- a fault of a record header is the first of the octets where its capture record should stand
+-- a fault of a record header is the first of the octets where its capture record should be
 faulted-by : (big : Bool) (count : ℕ) (left : List ℕ) (fault : PcapFault) → 16 ≤ length left → record_header_fault big count (take 16 left) ≡ Some fault
     → record_fault big count left ≡ Some fault
 faulted-by big count left fault enough is =
@@ -101,7 +101,7 @@ left-behind None after big header taken = (replicate 16 0, refl, tt)
 left-behind (Some left) None big header taken = absurd taken
 left-behind (Some left) (Some rest) big header taken = (take 16 left, taken.0.octets, taken.3)
 
--- the record header was taken, and nothing behind it
+-- the record header was taken, and nothing after it
 pub record_header-left : (before after : SourceState) (big : Bool) (header : RecordHeader) → HoldsOfLeft before.left after.left (TakesRecordHeader big (Some header)) → LeavesFrame before after
 record_header-left before after big header taken = left-behind before.left after.left big header taken
 
@@ -109,7 +109,7 @@ record_header-left before after big header taken = left-behind before.left after
 memory-alone : (fault : PcapFault) → (fault ≡ CutFile) ⊎ (fault ≡ Read) ⊎ (fault ≡ Memory) → IsOfRecordHeader fault → fault ≡ Memory
 memory-alone fault names is = search rules
 
--- at a fault of a frame that is found before it is read, the record header was taken, and nothing behind it
+-- at a fault of a frame that is found before it is read, the record header was taken, and nothing after it
 pub frame-unread : (before between after : SourceState) (big : Bool) (found : Option RecordHeader) (header : RecordHeader) (fault : PcapFault)
     (answer : Result (Option Stamp) PcapFault) → found ≡ Some header → HoldsOfLeft before.left between.left (TakesRecordHeader big found)
     → (fault ≡ CutFile) ⊎ (fault ≡ Read) ⊎ (fault ≡ Memory) → (fault ≡ Memory → after ≡ between) → answer ≡ Err fault
@@ -119,7 +119,7 @@ frame-unread before between after big found header fault answer is-found taken n
     (record_header-left before between big header (subst (λ (h : Option RecordHeader). HoldsOfLeft before.left between.left (TakesRecordHeader big h)) is-found taken)) in
     rw is-answer unread
 
--- behind the record header stand so many octets
+-- so many octets are after the record header
 pub sound-none : (big : Bool) (count : ℕ) (left : List ℕ) → IsSoundRecordHeader big (take 16 left) → count < max_records → 16 + kept_in big (take 16 left) ≤ length left
     → record_fault big count left ≡ None
 sound-none big count left sound few enough = search rules

@@ -33,9 +33,9 @@ nanos-read true false rest = refl
 nanos-read false true rest = refl
 nanos-read false false rest = refl
 
--- ---- the fields behind it
+-- ---- the fields after it
 
--- where the fields stand in octets that are a header's, each part by a name
+-- where the fields are in octets that are a header's, each part by a name
 record Placed (h : Header) (octets : List ℕ) : Type 0 where
   major : number_at h.big 2 4 octets ≡ major_version
   minor : number_at h.big 2 6 octets ≡ minor_version

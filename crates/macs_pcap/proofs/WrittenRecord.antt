@@ -81,7 +81,7 @@ record-read big taken rest fits =
       octets = split ∙ ap (λ (l : List ℕ). l ++ (taken.frame ++ rest)) (sym same);
     }
 
--- a capture record that stands somewhere has no fault
+-- a capture record that is somewhere has no fault
 pub begins-none : (big : Bool) (count : ℕ) (left rest : List ℕ) (taken : CaptureRecord) → BeginsWithRecord big left taken rest → count < max_records
     → record_fault big count left ≡ None
 begins-none big count left rest taken begins few =

@@ -15,7 +15,7 @@ pub record IsCaptureRecord (taken : CaptureRecord) : Type 0 where
   pub fraction : taken.stamp.fraction < 2 ^ 32
   pub short : length taken.frame ≤ longest
 
--- these capture records stand in front of `left`, one after another, and `rest` stands behind them
+-- these capture records are in front of `left`, one after another, and `rest` comes after them
 abbrev pub BeginsWithRecords : Bool → List ℕ → List CaptureRecord → List ℕ → Type 0
 BeginsWithRecords big left [] rest = rest ≡ left
 BeginsWithRecords big left (taken ∷ more) rest =

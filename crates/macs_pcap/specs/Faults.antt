@@ -18,11 +18,11 @@ field_fault octets =
     else if not (is_of_ethernet octets) then Some NotEthernet
     else None
 
--- of the octets where a header should stand
+-- of the octets where a header should be
 abbrev pub header_fault : List ℕ → Option PcapFault
 header_fault left = if nat_lt (length left) 24 then Some CutFile else field_fault (take 24 left)
 
--- of the 16 octets of a record header, behind so many capture records
+-- of the 16 octets of a record header, after so many capture records
 abbrev pub record_header_fault : Bool → ℕ → List ℕ → Option PcapFault
 record_header_fault big count header =
     if nat_le max_records count then Some TooManyRecords
@@ -30,11 +30,11 @@ record_header_fault big count header =
     else if nat_lt (kept_in big header) (original_in big header) then Some CutRecord
     else None
 
--- of the octets behind a record header, where its frame should stand
+-- of the octets after a record header, where its frame should be
 abbrev pub frame_fault : ℕ → ℕ → Option PcapFault
 frame_fault kept octets = if nat_lt octets kept then Some CutFile else None
 
--- of the octets where a capture record should stand, behind so many; none where there is no octet, which is the end
+-- of the octets where a capture record should be, after so many; none where there is no octet, which is the end
 abbrev pub record_fault : Bool → ℕ → List ℕ → Option PcapFault
 record_fault big count left =
     if length left == 0 then None

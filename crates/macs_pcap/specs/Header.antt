@@ -64,7 +64,7 @@ header_in octets = record {
   sigfigs = number_at (is_big octets) 4 12 octets;
 }
 
--- a header stands in front of `left` and says this, and `rest` stands behind it
+-- a header is in front of `left` and says this, and `rest` comes after it
 pub record BeginsWithHeader (left : List ℕ) (header : Header) (rest : List ℕ) : Type 0 where
   pub says : header ≡ header_in (take 24 left)
   pub octets : left ≡ take 24 left ++ rest

@@ -52,12 +52,12 @@ pub record ReadsHeader (before after : SourceState) (answer : Result Header Pcap
 
 -- ---- capture records
 
--- what stands in front, by what is answered: nothing at all, at the end, or a capture record with this frame
+-- what is in front, by what is answered: nothing at all, at the end, or a capture record with this frame
 abbrev pub Takes : Bool → List ℕ → Option Stamp → List ℕ → List ℕ → Type 0
 Takes big frame None left rest = (left ≡ []) × (rest ≡ [])
 Takes big frame (Some stamp) left rest = BeginsWithRecord big left (record { stamp = stamp; frame = frame }) rest
 
--- a sound record header stands in front whose frame needs more octets than the buffer has room for
+-- a sound record header is in front, and its frame needs more octets than the buffer has room for
 pub record WantsRoom (big : Bool) (count room : ℕ) (left : List ℕ) : Type 0 where
   pub header : IsSoundRecordHeader big (take 16 left)
   pub few : count < max_records
@@ -68,7 +68,7 @@ abbrev pub AnswersFault : Bool → ℕ → ℕ → Result (Option Stamp) PcapFau
 AnswersFault big count room answer left =
     (answer ≡ Err Read) ⊎ ((answer ≡ Err Memory) × WantsRoom big count room left) ⊎ (fault_in answer ≡ record_fault big count left)
 
--- what stands in front: nothing at all, at the end, or these 16 octets
+-- what is in front: nothing at all, at the end, or these 16 octets
 abbrev pub TakesOctets : Option (List ℕ) → List ℕ → List ℕ → Type 0
 TakesOctets None left rest = (left ≡ []) × (rest ≡ [])
 TakesOctets (Some header) left rest = (length header ≡ 16) × (left ≡ header ++ rest)
@@ -77,7 +77,7 @@ TakesOctets (Some header) left rest = (length header ≡ 16) × (left ≡ header
 abbrev pub AnswersCutRecordHeader : PcapFault → List ℕ → Type 0
 AnswersCutRecordHeader fault left = (fault ≡ Read) ⊎ ((fault ≡ CutFile) × (0 < length left) × (length left < 16))
 
--- what stands in front, by what is answered of a record header: nothing at all, at the end, or a sound record header that says this
+-- what is in front, by what is answered of a record header: nothing at all, at the end, or a sound record header that says this
 abbrev pub TakesRecordHeader : Bool → Option RecordHeader → List ℕ → List ℕ → Type 0
 TakesRecordHeader big None left rest = (left ≡ []) × (rest ≡ [])
 TakesRecordHeader big (Some header) left rest =
@@ -92,11 +92,11 @@ AnswersRecordHeaderFault big count fault left = (fault ≡ Read) ⊎ (record_fau
 abbrev pub IsOfRecordHeader : PcapFault → Type 0
 IsOfRecordHeader fault = (fault ≡ TooManyRecords) ⊎ (fault ≡ RecordTooLong) ⊎ (fault ≡ CutRecord) ⊎ (fault ≡ Memory)
 
--- a record header was read and nothing behind it
+-- a record header was read and nothing after it
 abbrev pub LeavesFrame : SourceState → SourceState → Type 0
 LeavesFrame before after = (header : List ℕ) × (length header ≡ 16) × Consumes before.left after.left header
 
--- the next capture record is read into a buffer with this room, behind so many others: its stamp and its frame, or what the first fault
+-- the next capture record is read into a buffer with this room, after so many others: its stamp and its frame, or what the first fault
 -- is, unless a read failed or the room could not grow
 pub record ReadsRecord (big : Bool) (count room : ℕ) (before after : SourceState) (frame : List ℕ) (answer : Result (Option Stamp) PcapFault) : Type 0 where
   pub taken : IfOk answer (λ stamp. HoldsOfLeft before.left after.left (Takes big frame stamp))

@@ -1,4 +1,4 @@
--- The records of a capture, one after another behind its header: a record header of 16 octets, then the frame.
+-- The records of a capture, one after another after its header: a record header of 16 octets, then the frame.
 use Rattle.std.specs.Prelude.{◌≡◌, ◌≤◌, ℕ, Bool, List, ◌++◌, length, take}
 use Rattle.macs_pcap.specs.Header.{longest}
 use Rattle.macs_pcap.specs.Numbers.{number_at, octets_of}
@@ -24,7 +24,7 @@ record_text big stamp frame = record_header_text big stamp (length frame) ++ fra
 abbrev pub stamp_in : Bool → List ℕ → Stamp
 stamp_in big header = record { seconds = number_at big 4 0 header; fraction = number_at big 4 4 header }
 
--- the kept length: how many octets of the frame stand behind the record header
+-- the kept length: how many octets of the frame come after the record header
 abbrev pub kept_in : Bool → List ℕ → ℕ
 kept_in big header = number_at big 4 8 header
 
@@ -38,7 +38,7 @@ pub record IsSoundRecordHeader (big : Bool) (header : List ℕ) : Type 0 where
   pub short : kept_in big header ≤ longest
   pub uncut : original_in big header ≤ kept_in big header
 
--- a capture record stands in front of `left`, and `rest` stands behind it
+-- a capture record is in front of `left`, and `rest` comes after it
 pub record BeginsWithRecord (big : Bool) (left : List ℕ) (taken : CaptureRecord) (rest : List ℕ) : Type 0 where
   pub header : IsSoundRecordHeader big (take 16 left)
   pub stamp : taken.stamp ≡ stamp_in big (take 16 left)

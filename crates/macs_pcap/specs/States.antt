@@ -1,4 +1,4 @@
--- What a source and a sink tell of themselves.
+-- What a source and a sink report of themselves.
 use Rattle.std.specs.Prelude.{ℕ, Bool, List, Option}
 
 -- the octets that a source has left, where they are known, and whether a read of it ever failed

@@ -4,7 +4,7 @@
 /// answered: those of the header in the order `CutFile`, `BadMagic`, `BadVersion`, `NotEthernet`; those
 /// of a capture record in the order `CutFile` (in its record header), `TooManyRecords`,
 /// `RecordTooLong`, `CutRecord`, `Memory`, `CutFile` (in its frame). `Read` comes before all that would
-/// have been found behind the read that failed.
+/// have been found after the read that failed.
 #[derive(Clone, Copy, Debug, PartialEq, Eq)]
 pub enum PcapFault {
     /// A read failed, for whatever reason: one that was interrupted failed too.
@@ -16,7 +16,7 @@ pub enum PcapFault {
     /// The link type, as a word of four octets, is not 1.
     NotEthernet,
     /// The input ends inside the header, inside a record header, or inside a frame. So an empty input has
-    /// it, and each header that is shorter than 24 octets, whatever stands in it.
+    /// it, and each header that is shorter than 24 octets, whatever is in it.
     CutFile,
     /// The kept length of a capture record is below the original one.
     CutRecord,
@@ -26,6 +26,6 @@ pub enum PcapFault {
     Write,
     /// There was no memory for the octets of a frame.
     Memory,
-    /// A record header stands behind 2^32 - 1 capture records.
+    /// A record header comes after 2^32 - 1 capture records.
     TooManyRecords,
 }

@@ -82,7 +82,7 @@ pub(crate) struct RecordHeader {
     pub(crate) kept: u32,
 }
 
-/// What a record header says, behind so many capture records, or the first of its faults.
+/// What a record header says, after so many capture records, or the first of its faults.
 pub(crate) fn parse_record_header(
     big: bool,
     count: u32,

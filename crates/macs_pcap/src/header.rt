@@ -27,7 +27,7 @@ pub struct Header {
     pub sigfigs: u32,
 }
 
-/// When a frame was captured. It stands in the record header, the 16 octets in front of the frame:
+/// When a frame was captured. It is in the record header, the 16 octets in front of the frame:
 ///
 /// | octets | number | read as | written as |
 /// |---|---|---|---|

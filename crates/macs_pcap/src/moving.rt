@@ -1,4 +1,4 @@
-//! Octets from a source and to a sink, as many as are wanted.
+//! Octets from a source and to a sink, as many as are asked for.
 
 ghost use Rattle.std.specs.Prelude.{◌≡◌, ◌<◌, ◌≤◌, length, take, IfOk, IfErr, OnErr, OnOk, true};
 ghost use Rattle.std.specs.Io.KnownBytes.{Consumes, IsAtEnd};

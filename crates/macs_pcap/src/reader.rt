@@ -45,7 +45,7 @@ fn take_record_header<R: Source>(source: &mut R) -> Result<Option<[u8; 16]>, Pca
     Ok(Some(octets))
 }
 
-/// Reads the next record header, behind so many capture records. At the end there is none.
+/// Reads the next record header, after so many capture records. At the end there is none.
 fn read_record_header<R: Source>(
     source: &mut R,
     big: bool,
@@ -122,7 +122,7 @@ fn read_into<R: Source, A: Allocator>(
     Ok(Some(header.stamp))
 }
 
-/// Reads the next capture record of a capture whose numbers stand in this order, behind so many others. Its
+/// Reads the next capture record of a capture whose numbers are in this order, after so many others. Its
 /// frame is all that `into` then holds. At the end there is none, and at a fault neither: then `into`
 /// is empty.
 pub fn read_record<R: Source, A: Allocator>(

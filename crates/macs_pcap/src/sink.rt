@@ -11,10 +11,10 @@ use std::io::Write;
 #[derive(Clone, Copy)]
 pub struct WriteFailed;
 
-/// What octets are written to. It tells whether a write or a flush of it ever failed and whether all that
-/// was written is handed on, and may tell which octets it took.
+/// What octets are written to. It reports whether a write or a flush of it ever failed and whether all that
+/// was written is handed on, and may report which octets it took.
 pub trait Sink {
-    /// What it tells of itself.
+    /// What it reports of itself.
     ghost state: { Self → SinkState };
 
     /// Writes some octets, from the first on, and answers how many: at least one, where there is one.

@@ -11,10 +11,10 @@ use std::io::Read;
 #[derive(Clone, Copy)]
 pub struct ReadFailed;
 
-/// What octets are read from. It tells whether a read of it ever failed, and may tell which octets it
+/// What octets are read from. It reports whether a read of it ever failed, and may report which octets it
 /// has left.
 pub trait Source {
-    /// What it tells of itself.
+    /// What it reports of itself.
     ghost state: { Self → SourceState };
 
     /// Reads some octets into the front of `into` and answers how many; none only at the end, or where

@@ -88,7 +88,7 @@ impl<W: Sink> PcapWriter<W> {
         answer
     }
 
-    /// Hands on all that was written, so that a write that fails late is told. After a fault nothing is
+    /// Hands on all that was written, so that a write that fails late is reported. After a fault nothing is
     /// handed on any more, and that fault is answered for good.
     pub fn flush(&mut self) -> Result<(), PcapFault>
         ensures flushes { writer_fault self.old ≡ None

@@ -6,7 +6,7 @@ use borrow.Rule.Slice.PartMut.{put_mid, post_of}
 use lib.Seq.{take-add, take-append-le}
 use Rattle.macs_pcap.proofs.moving.fill.Goals as goal
 
--- what stood in front stays there, and the octets from there on are those that were read
+-- what was in front stays there, and the octets from there on are those that were read
 take_split : (from to : ℕ) (old new : List ℕ) → from ≤ to → take from new ≡ take from old → take from old ++ slice_range new from to ≡ take to new
 take_split from to old new ordered front =
     let same : from + (to - from) ≡ to = omega arith in
