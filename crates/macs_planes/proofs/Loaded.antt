@@ -75,7 +75,7 @@ in_words w0 w1 w2 w3 w4 w5 w6 w7 octets is h0 h1 h2 h3 h4 h5 h6 h7 =
     (λ j k. sym (tested_octet (bit_at w0 j) (bit_at w1 j) (bit_at w2 j) (bit_at w3 j) (bit_at w4 j) (bit_at w5 j) (bit_at w6 j) (bit_at w7 j)
     (slice_index octets j) (is.1 j) (h0 j k) (h1 j k) (h2 j k) (h3 j k) (h4 j k) (h5 j k) (h6 j k) (h7 j k))))
 
--- the octets of words that stand in every lane
+-- the octets of words that are in every lane
 pub splat_octet : (lanes w0 w1 w2 w3 w4 w5 w6 w7 i j : ℕ) → i < lanes
     → octet_in octet_basis (replicate lanes w0 ∷ replicate lanes w1 ∷ replicate lanes w2 ∷ replicate lanes w3 ∷ replicate lanes w4 ∷ replicate lanes w5 ∷ replicate lanes w6 ∷ replicate lanes w7 ∷ []) i j
     ≡ combined octet_basis (bit_at w0 j ∷ bit_at w1 j ∷ bit_at w2 j ∷ bit_at w3 j ∷ bit_at w4 j ∷ bit_at w5 j ∷ bit_at w6 j ∷ bit_at w7 j ∷ [])
