@@ -12,7 +12,7 @@ use Rattle.macs_requests.specs.Inboxes.{HasNoFeed}
 abbrev pub is_feed : ℕ → Bool
 is_feed octet = octet == 10
 
--- what is behind a line and its end
+-- what is after a line and its end
 behind : (text : List ℕ) (end : ℕ) → take (length text - (end + 1)) (drop (end + 1) text) ≡ drop (end + 1) text
 behind text end = let rest = length-drop (end + 1) text in take_all (length text - (end + 1)) (drop (end + 1) text) (omega (arith, rest))
 

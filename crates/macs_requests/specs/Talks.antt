@@ -4,7 +4,7 @@ use Rattle.std.specs.Option.{option_map}
 use Rattle.macs_requests.specs.declared.clients.Client.{Client}
 use Rattle.macs_requests.specs.declared.clients.Heard.{Heard as HeardLine}
 
--- A desk was given this line, or was told that there is none; it said a text to a client; it slept; it looked
+-- A desk was given this line, or heard that there is none; it said a text to a client; it slept; it looked
 -- whether the process was asked to end
 pub data Talk : Type 0 where
   Heard : Option HeardLine → Talk

@@ -29,8 +29,8 @@ pub trait Clients {
     fn hear(&mut self) -> Option<Heard>
         ensures { talk self.new ≡ with_talk (talk self.old) (WasHeard result ∷ []) };
 
-    /// Sends a text to a client. One that went away is told nothing; one that does not take all of
-    /// it at once is let go, and is told nothing more.
+    /// Sends a text to a client. Nothing is sent to one that went away; one that does not take all of
+    /// it at once is let go, and nothing more is sent to it.
     fn say(&mut self, client: Client, text: &[u8])
         ensures { talk self.new ≡ with_talk (talk self.old) (Said client text.now ∷ []) };
 

@@ -1,6 +1,6 @@
 //! Where the counters are written while a relay runs.
 
-/// A text that is written anew from time to time, whole or not at all. No call waits.
+/// A text that is rewritten from time to time, whole or not at all. No call waits.
 pub trait Metrics {
     ghost use Rattle.std.specs.Prelude.{◌≡◌, List, [], ◌∷◌, Option, None};
     ghost use Rattle.macs_requests.specs.Talks.{Asked, Note, Put, with_notes};
