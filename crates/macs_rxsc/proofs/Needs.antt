@@ -1,4 +1,4 @@
--- The first need of the channels that stand.
+-- The first need of the channels that exist.
 use Rattle.std.proofs.Common.{◌≡◌, ◌∙◌, ◌≤◌, ◌<◌, ◌+◌, ◌++◌, ℕ, zero, suc, Bool, true, false, List, [], ◌∷◌, length, map, flat_map, drop, get_or, bytes_eq, Option, Some, None, IsSome, Ordering, Less, Equal, Greater, nat_cmp, is_lt, is_eq, refl, ap, sym, subst, arith}
 use Rattle.std.specs.List.{list_any}
 use Rattle.std.specs.Option.{option_map}
@@ -118,7 +118,7 @@ pub needs_are : (block : ℕ) (channels : List Channel) → is_ascending (scis_o
     → first_need (needs_among block channels) ≡ first_need_of (rx_side_in validate replay channels) (ceilings_among channels) block
 needs_are block channels ascending validate replay = ap first_need (sym (same_needs block channels channels (own channels ascending)))
 
--- ---- an association stands in a channel that stands
+-- ---- an association is in a channel that exists
 
 among_by : (channels : List Channel) (sci : List ℕ) (an : ℕ) (b : Bool) → list_any (λ other. bytes_eq other sci) (scis_of channels) ≡ b → IsSome (sas_in (channel_at channels sci) an) → b ≡ true
 among_by channels sci an true is some = refl
@@ -138,12 +138,12 @@ by_association (Some a) some = refl
 pub among-numbered : (channels : List Channel) (sci : List ℕ) (an : ℕ) → IsSome (numbers_in (channel_at channels sci) an) → list_any (λ other. bytes_eq other sci) (scis_of channels) ≡ true
 among-numbered channels sci an some = among channels sci an (by_association (association_in (channel_at channels sci) an) some)
 
--- where none stands there are no numbers
+-- where there is none there are no numbers
 pub unnumbered : (o : Option Association) → option_map sa_of o ≡ None → option_map packet_numbers o ≡ None
 unnumbered None none = refl
 unnumbered (Some a) none = absurd (cc)
 
--- where there are no numbers none stands
+-- where there are no numbers there is none
 pub unowned : (o : Option Association) → option_map packet_numbers o ≡ None → option_map sa_of o ≡ None
 unowned None none = refl
 unowned (Some a) none = absurd (cc)

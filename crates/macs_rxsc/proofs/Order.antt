@@ -41,7 +41,7 @@ pub ordered-gone : (side : RxSide) (ceilings : List ℕ → ℕ → Option ℕ) 
 ordered-gone side ceilings old sci channels = λ s k.
     at_argument side.replay.window (bytes_eq s sci) (λ an. None) (side.rx s) (λ an. None) (side.numbers s) (λ an. None) (ceilings s) k (λ _. tt) (λ _. old s k)
 
--- what stands at one place, at a place with the same SCI and number
+-- what is at one place, at a place with the same SCI and number
 same_place : (f : List ℕ → ℕ → Type 0) (s sci : List ℕ) (k an : ℕ) → bytes_eq s sci ≡ true → (k == an) ≡ true → f sci an → f s k
 same_place f s sci k an same_sci same_an there =
     let p : sci ≡ s = sym ((bytes_eq-Decides s sci).0 same_sci) in

@@ -24,7 +24,7 @@ use Rattle.macs_rxsc.specs.declared.verdict.Verdict.{Verdict}
 use Rattle.macs_rxsc.specs.declared.verdict.Verdict.TheVariants.{Delivered, Discarded, HeldBack}
 use Rattle.macs_config.proofs.Tables.{put-same, put_at-same}
 
--- the steps behind those of the tag
+-- the steps after those of the tag
 abbrev pub later_steps : List RxStep
 later_steps = NoChannel ∷ NoAssociation ∷ BelowLowest ∷ NotVerified ∷ []
 

@@ -1,4 +1,4 @@
--- What a caller knows from what the readers tell: which channels stand, and what a need says of a ceiling.
+-- What a caller knows from what the readers report: which channels exist, and what a need says of a ceiling.
 use Rattle.std.proofs.Common.{◌≡◌, ◌≤◌, ◌<◌, ◌||◌, ℕ, Bool, true, false, cond, List, [], ◌∷◌, bytes_eq, Option, Some, None, IsSome, IfSome, refl, sym, ap, subst, arith}
 use Rattle.std.specs.Prelude.{IsSomeAnd}
 use Rattle.std.specs.List.{list_any}
@@ -23,12 +23,12 @@ counted_step : (c : Channel) (cs : List Channel) (sci : List ℕ) (b : Bool) →
 counted_step c cs sci true rest = refl
 counted_step c cs sci false rest = rest
 
--- the channels that stand have counters, and no others
+-- the channels that exist have counters, and no others
 pub counted : (channels : List Channel) (sci : List ℕ) → is_some (counters_among channels sci) ≡ is_among channels sci
 counted [] sci = refl
 counted (c ∷ cs) sci = counted_step c cs sci (bytes_eq c.sci sci) (counted cs sci)
 
--- a count is told exactly where there are counters
+-- a count is reported exactly where there are counters
 pub told : {X : Type 0} (count : ChannelCounters → X) (counters : Option ChannelCounters) → is_some (option_map count counters) ≡ is_some counters
 told count None = refl
 told count (Some c) = refl
@@ -50,7 +50,7 @@ asked side ceilings block need is =
     subst (λ (o : Option ℕ). IsSomeAnd o (λ old. old < raised_ceiling block need.pn)) (sym told.has_ceiling)
     (subst (λ (pn : ℕ). told.top < raised_ceiling block pn) (sym (ap (λ (n : Need). n.pn) told.is)) top)
 
--- an association that has a ceiling stands
+-- an association that has a ceiling exists
 pub bounded : (window : ℕ) (sa : Option RxSa) (numbers : Option Numbers) (ceiling : Option ℕ) (P : ℕ → Type 0) → IsNumbered window sa numbers ceiling → IsSomeAnd ceiling P → IsSome sa
 bounded window (Some sa) numbers ceiling P stands some = refl
 bounded window None None None P stands some = absurd some
@@ -70,7 +70,7 @@ abbrev pub need_shown : RxNeed → Need
 need_shown need = record { sci = need.sci; an = need.an; pn = need.pn }
 
 module _ (side : RxSide) (ceilings : List ℕ → ℕ → Option ℕ) (block : ℕ) where
-  -- what a need names stands
+  -- what a need names exists
   pub need_stands : AllOrdered side ceilings → (result : Option RxNeed) → option_map need_shown result ≡ first_need_of side ceilings block
       → IfSome result (λ need. IsSome (side.rx need.sci need.an))
   need_stands ordered None is = tt

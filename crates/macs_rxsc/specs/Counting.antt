@@ -70,7 +70,7 @@ channel_counters_after_verdict (Discarded Late) c = record c { late = one_more c
 channel_counters_after_verdict (Discarded NotValid) c = record c { not_valid = one_more c.not_valid }
 channel_counters_after_verdict verdict c = c
 
--- a verdict is counted for the channel that its frame names, if one stands
+-- a verdict is counted for the channel that its frame names, if there is one
 abbrev pub counters_after_verdict_at : Option (List ℕ) → Verdict → (List ℕ → Option ChannelCounters) → List ℕ → Option ChannelCounters
 counters_after_verdict_at None verdict table = table
 counters_after_verdict_at (Some sci) verdict table = put_at table sci (option_map (channel_counters_after_verdict verdict) (table sci))

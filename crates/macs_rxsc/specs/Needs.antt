@@ -20,7 +20,7 @@ abbrev pub is_needed : ℕ → ℕ → ℕ → ℕ → Bool
 is_needed block next ceiling seen =
     (nat_le ceiling seen || nat_le (ceiling - next) (block / 2)) && nat_lt ceiling (raised_ceiling block seen)
 
--- the need of an association that stands, by the greatest number that was seen, if any was
+-- the need of an association that exists, by the greatest number that was seen, if any was
 abbrev pub need_by_seen : ℕ → List ℕ → ℕ → Numbers → ℕ → Option ℕ → Option Need
 need_by_seen block sci an numbers ceiling None = None
 need_by_seen block sci an numbers ceiling (Some seen) =

@@ -48,7 +48,7 @@ new_rx_side = record {
   numbers = λ sci an. None;
 }
 
--- a receive channel of that SCI stands
+-- a receive channel of that SCI exists
 abbrev pub has_channel : RxSide → List ℕ → Bool
 has_channel side sci = is_among side.channels sci
 
@@ -67,19 +67,19 @@ sci_named channels frame (Explicit sci) = named_sci frame (Explicit sci)
 sci_named channels frame EndStation = named_sci frame EndStation
 sci_named channels frame Implicit = only_one channels
 
--- the SCI, if a channel of it stands
+-- the SCI, if a channel of it exists
 abbrev pub standing_channel : List (List ℕ) → List ℕ → Option (List ℕ)
 standing_channel channels sci = if is_among channels sci then Some sci else None
 
--- the SCI of the channel that a frame names, if that stands
+-- the SCI of the channel that a frame names, if that exists
 abbrev pub channel_of : RxSide → List ℕ → Option (List ℕ)
 channel_of side frame = option_and_then (standing_channel side.channels) (sci_named side.channels frame (name_of frame))
 
--- the association that a frame names, by its channel and AN, if it stands
+-- the association that a frame names, by its channel and AN, if it exists
 abbrev pub association_of : RxSide → List ℕ → Option RxSa
 association_of side frame = option_and_then (λ sci. side.rx sci (tag_of frame).an) (channel_of side frame)
 
--- the packet numbers of the association that a frame names, if it stands
+-- the packet numbers of the association that a frame names, if it exists
 abbrev pub numbers_of : RxSide → List ℕ → Option Numbers
 numbers_of side frame = option_and_then (λ sci. side.numbers sci (tag_of frame).an) (channel_of side frame)
 
@@ -93,7 +93,7 @@ pub record VerifiesAs (side : RxSide) (frame plain : List ℕ) : Type 0 where
 
 -- ---- the first nine steps, which may settle a frame
 
--- one of the five faults of a frame or its SecTAG, or one of the four steps behind them
+-- one of the five faults of a frame or its SecTAG, or one of the four steps after them
 pub data RxStep : Type 0 where
   Tag : TagFault → RxStep
   NoChannel : RxStep
@@ -257,11 +257,11 @@ IsNumbered window (Some sa) (Some numbers) (Some ceiling) = InOrder window numbe
 IsNumbered window None None None = Unit {0}
 IsNumbered window sa numbers ceiling = ⊥
 
--- an association stands with numbers and a ceiling in their order, or nothing does
+-- an association exists with numbers and a ceiling in their order, or nothing does
 abbrev pub AreOrdered : RxSide → (List ℕ → ℕ → Option ℕ) → List ℕ → ℕ → Type 0
 AreOrdered side ceilings sci an =
     IsNumbered side.replay.window (side.rx sci an) (side.numbers sci an) (ceilings sci an)
 
--- each association that stands has its numbers
+-- each association that exists has its numbers
 abbrev pub AreNumbered : RxSide → Type 0
 AreNumbered side = (sci : List ℕ) (an : ℕ) → IsSome (side.rx sci an) → IsSome (side.numbers sci an)

@@ -1,4 +1,4 @@
--- Receiving a frame, as the inner calls answer for it: the channel that the frame names, and all channels that stand.
+-- Receiving a frame, as the inner calls answer for it: the channel that the frame names, and all channels that exist.
 use Rattle.std.specs.Prelude.{◌≡◌, ℕ, List, Option, Some}
 use Rattle.macs_config.specs.Tables.{put_at}
 use Rattle.macs_config.specs.declared.command.Replay.{Replay}
@@ -9,7 +9,7 @@ use Rattle.macs_rxsc.specs.Value.{ceilings_among, ceilings_in, counters_among, n
 use Rattle.macs_rxsc.specs.declared.channel.Channel.{Channel}
 use Rattle.macs_rxsc.specs.declared.verdict.Verdict.{Verdict}
 
--- a frame that names this channel has this outcome, among whatever channels this one stands as it is kept
+-- a frame that names this channel has this outcome, whatever channels this one is among as it is kept
 abbrev pub ChannelReceives : Validate → Replay → Channel → Channel → List ℕ → Verdict → List ℕ → Type 0
 ChannelReceives validate replay old new frame verdict given =
     (side : RxSide) (ceilings : List ℕ → ℕ → Option ℕ) → side.validate ≡ validate → side.replay ≡ replay

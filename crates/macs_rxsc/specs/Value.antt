@@ -11,7 +11,7 @@ use Rattle.macs_rxsc.specs.declared.channel.Channel.{Channel}
 use Rattle.macs_rxsc.specs.declared.counters.ChannelCounters.{ChannelCounters}
 use Rattle.macs_rxsc.specs.declared.counters.RxCounters.{RxCounters}
 
--- what is kept: how frames are validated, the channels that stand, and what was counted
+-- what is kept: how frames are validated, the channels that exist, and what was counted
 pub record RxValue : Type 0 where
   pub validate : Validate
   pub replay : Replay
@@ -23,7 +23,7 @@ abbrev pub channel_at : List Channel → List ℕ → Option Channel
 channel_at [] sci = None
 channel_at (channel ∷ channels) sci = if bytes_eq channel.sci sci then Some channel else channel_at channels sci
 
--- the association of a channel, if that stands
+-- the association of a channel, if that exists
 abbrev pub association_in : Option Channel → ℕ → Option Association
 association_in channel an = option_and_then (λ (c : Channel). get_or c.associations an None) channel
 
@@ -39,7 +39,7 @@ packet_numbers a = record { next = a.next; lowest = a.lowest; seen = a.seen }
 abbrev pub scis_of : List Channel → List (List ℕ)
 scis_of channels = map (λ (channel : Channel). channel.sci) channels
 
--- the associations of a channel by AN, none where it does not stand
+-- the associations of a channel by AN, none where it does not exist
 abbrev pub sas_in : Option Channel → ℕ → Option RxSa
 sas_in channel an = option_map sa_of (association_in channel an)
 
@@ -51,7 +51,7 @@ numbers_in channel an = option_map packet_numbers (association_in channel an)
 abbrev pub ceilings_in : Option Channel → ℕ → Option ℕ
 ceilings_in channel an = option_map (λ (a : Association). a.ceiling) (association_in channel an)
 
--- what a channel counts, if it stands
+-- what a channel counts, if it exists
 abbrev pub counters_in : Option Channel → Option ChannelCounters
 counters_in channel = option_map (λ (c : Channel). c.counters) channel
 
@@ -85,7 +85,7 @@ ceilings_of r = ceilings_among r.channels
 abbrev pub counters_of : RxValue → RxCounters
 counters_of r = r.counters
 
--- what each channel that stands counts, by SCI
+-- what each channel that exists counts, by SCI
 abbrev pub channel_counters_of : RxValue → List ℕ → Option ChannelCounters
 channel_counters_of r = counters_among r.channels
 

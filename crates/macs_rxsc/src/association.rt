@@ -49,7 +49,7 @@ fn greatest(seen: Option<Pn>, pn: Pn) -> Pn
     }
 }
 
-/// The lowest acceptable number of an association rises with the window, where one stands.
+/// The lowest acceptable number of an association rises with the window, where there is one.
 pub(crate) fn slide_if_any(association: &mut Option<Association>, window: u32)
     ensures { association.new ≡ option_map (association_under window) association.old }
 {

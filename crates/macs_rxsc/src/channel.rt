@@ -55,7 +55,7 @@ impl Channel {
         self.associations[an.get() as usize] = association;
     }
 
-    /// Raises the ceiling of an association that stands.
+    /// Raises the ceiling of an association that exists.
     pub(crate) fn raise(&mut self, an: An, ceiling: u64)
         ensures sci { self.new.sci ≡ self.old.sci }
         ensures counters { self.new.counters ≡ self.old.counters }
@@ -123,8 +123,8 @@ impl Channel {
         }
     }
 
-    /// The next and the lowest acceptable packet number of an association. It is `None` where none
-    /// stands.
+    /// The next and the lowest acceptable packet number of an association. It is `None` where there
+    /// is none.
     pub(crate) fn numbers(&self, an: An) -> Option<RxNumbers>
         ensures { result ≡ option_map (λ (n : Numbers). record { next = n.next; lowest = n.lowest })
             (numbers_in (Some self.now) an) }

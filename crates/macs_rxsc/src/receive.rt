@@ -87,7 +87,7 @@ impl Rx {
         self.table.slide(window);
     }
 
-    /// A new channel, of an SCI of which none stands, where fewer than 32 stand.
+    /// A new channel, of an SCI that has none, where there are fewer than 32.
     pub fn add(&mut self, sci: Sci)
         requires free { has_channel (rx_side_of self.old) sci ≡ false }
         requires room { length (rx_side_of self.old).channels < this_edition.channels }
@@ -101,7 +101,7 @@ impl Rx {
         self.table.add(sci);
     }
 
-    /// A channel that stands goes, with its associations and counters.
+    /// A channel that exists goes, with its associations and counters.
     pub fn drop_channel(&mut self, sci: Sci)
         requires { has_channel (rx_side_of self.old) sci ≡ true }
         ensures side { rx_side_of self.new ≡ record (rx_side_of self.old) {
@@ -116,7 +116,7 @@ impl Rx {
         self.table.drop_channel(sci);
     }
 
-    /// A new association of a channel that stands, at a number where none does.
+    /// A new association of an existing channel, at a number where there is none.
     ///
     /// `next` is its next and lowest acceptable packet number, and only frames with numbers below
     /// `ceiling` are delivered as verified: 1 to 2^32 both, `next` not above `ceiling`.
@@ -147,7 +147,7 @@ impl Rx {
         self.table.put(sci, an, Some(association));
     }
 
-    /// An association that stands goes.
+    /// An association that exists goes.
     pub fn remove(&mut self, sci: Sci, an: An)
         requires { IsSome ((rx_side_of self.old).rx sci an) }
         ensures side { rx_side_of self.new ≡ record (rx_side_of self.old) {
@@ -162,7 +162,7 @@ impl Rx {
         self.table.put(sci, an, None);
     }
 
-    /// Raises the ceiling of an association that stands. The new one is not below the one before,
+    /// Raises the ceiling of an association that exists. The new one is not below the one before,
     /// and at most 2^32.
     pub fn raise(&mut self, sci: Sci, an: An, ceiling: u64)
         requires stands { IsSome ((rx_side_of self.old).rx sci an) }
@@ -177,8 +177,8 @@ impl Rx {
         self.table.raise(sci, an, ceiling);
     }
 
-    /// The next and the lowest acceptable packet number of an association. It is `None` where none
-    /// stands.
+    /// The next and the lowest acceptable packet number of an association. It is `None` where there
+    /// is none.
     pub fn numbers(&self, sci: Sci, an: An) -> Option<RxNumbers>
         ensures { result ≡ option_map (λ (n : Numbers). record { next = n.next; lowest = n.lowest })
             ((rx_side_of self.now).numbers sci an) }
@@ -191,7 +191,7 @@ impl Rx {
     /// With it comes the greatest packet number that was seen on it: that of a frame that verified.
     /// It was at or above the ceiling, or at most half a block, rounded down, is left between next
     /// and the ceiling; and the number seen and a block, at most 2^32, is above the ceiling.
-    /// `rx_block` is 1 to 65,536 packet numbers. What is named stands, and may be raised that far.
+    /// `rx_block` is 1 to 65,536 packet numbers. What is named exists, and may be raised that far.
     pub fn needs(&self, rx_block: u32) -> Option<RxNeed>
         ensures need { option_map (λ (need : RxNeed). record { sci = need.sci; an = need.an; pn = need.pn }) result
             ≡ first_need_of (rx_side_of self.now) (ceilings_of self.now) rx_block }
@@ -234,7 +234,7 @@ impl Rx {
     }
 
     /// How often a verdict was given on frames of a channel, at most 2^64 - 1. It is 0 for a
-    /// verdict that is not counted for channels, and `None` where the channel does not stand.
+    /// verdict that is not counted for channels, and `None` where the channel does not exist.
     pub fn channel_count(&self, sci: Sci, verdict: Verdict) -> Option<u64>
         ensures { result ≡ option_map (channel_count_of verdict) (channel_counters_of self.now sci) }
     {
@@ -242,7 +242,7 @@ impl Rx {
         Some(channel.counters.of(verdict))
     }
 
-    /// Whether another channel may be added: fewer than 32 stand.
+    /// Whether another channel may be added: there are fewer than 32.
     pub fn has_room(&self) -> bool
         ensures { result ≡ nat_lt (length (rx_side_of self.now).channels) this_edition.channels }
     {
@@ -251,10 +251,10 @@ impl Rx {
 
     /// What holds of all receive channels.
     ///
-    /// Each association that stands has numbers in their order: the next one less the window is not
+    /// Each association that exists has numbers in their order: the next one less the window is not
     /// above the lowest acceptable, that not above the next, that not above the ceiling, and that at
-    /// most 2^32. It stands on a channel that stands. The channels ascend by SCI, and those that
-    /// stand have counters, and no others.
+    /// most 2^32. It is on an existing channel. The channels ascend by SCI, and those that
+    /// exist have counters, and no others.
     pub fn facts(&self)
         ensures ordered { (sci : List ℕ) (an : ℕ) → AreOrdered (rx_side_of self.now) (ceilings_of self.now) sci an }
         ensures stands { (sci : List ℕ) (an : ℕ) → IsSome ((rx_side_of self.now).rx sci an)

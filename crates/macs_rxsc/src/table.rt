@@ -1,4 +1,4 @@
-//! The receive channels that stand.
+//! The receive channels that exist.
 
 ghost use Rattle.std.specs.Prelude.{◌≡◌, ◌≤◌, ◌<◌, ◌++◌, ◌∷◌, ℕ, List, Option, [], Some, None, IsSome, IfSome, true, false, not, length, map, position, take, drop};
 ghost use Rattle.std.specs.List.{filter, list_any};
@@ -27,20 +27,20 @@ use arrayvec::ArrayVec;
 use macs_config::MAX_CHANNELS;
 use macs_frame::{An, FrameBuf, Parts, ScName, Sci, end_station_sci, read_tag};
 
-/// The receive channels that stand, by ascending SCI.
+/// The receive channels that exist, by ascending SCI.
 #[derive(Drop)]
 pub struct Table {
     pub channels: ArrayVec<Channel, MAX_CHANNELS>,
 }
 
-/// The place of the channel of an SCI, `None` where none stands.
+/// The place of the channel of an SCI, `None` where there is none.
 fn place(channels: &[Channel], sci: Sci) -> Option<usize>
     ensures { result ≡ position (λ (channel : Channel). bytes_eq channel.sci sci) channels.now }
 {
     channels.iter().position(|channel| channel.sci == sci)
 }
 
-/// How many of the channels that stand come first, before the first that comes after an SCI.
+/// How many of the channels that exist come first, before the first that comes after an SCI.
 fn place_after(channels: &[Channel], sci: Sci) -> usize
     ensures within { result ≤ length channels.now }
     ensures between { put_among sci (scis_of channels.now)
@@ -77,7 +77,7 @@ fn sci_named(channels: &[Channel], frame: &[u8], name: ScName) -> Option<Sci>
     }
 }
 
-/// The place of the channel that a SecTAG names, `None` where none stands.
+/// The place of the channel that a SecTAG names, `None` where there is none.
 fn place_named(channels: &[Channel], frame: &[u8], name: ScName) -> Option<usize>
     requires { 12 ≤ length frame.now }
     ensures { result ≡ option_and_then (λ sci. position (λ (channel : Channel). bytes_eq channel.sci sci) channels.now)
@@ -88,7 +88,7 @@ fn place_named(channels: &[Channel], frame: &[u8], name: ScName) -> Option<usize
 }
 
 impl Table {
-    /// The channel of an SCI, `None` where none stands.
+    /// The channel of an SCI, `None` where there is none.
     pub(crate) fn channel(&self, sci: Sci) -> Option<&Channel>
         ensures { option_map (λ channel. channel.now) result ≡ channel_at self.now.channels.items sci }
     {
@@ -103,7 +103,7 @@ impl Table {
         slide_all(self.channels.as_mut_slice(), window);
     }
 
-    /// A new channel, of an SCI of which none stands, where fewer than 32 stand.
+    /// A new channel, of an SCI that has none, where there are fewer than 32.
     pub(crate) fn add(&mut self, sci: Sci)
         requires free { list_any (λ other. bytes_eq other sci) (scis_of self.old.channels.items) ≡ false }
         requires room { length (scis_of self.old.channels.items) < this_edition.channels }
@@ -134,7 +134,7 @@ impl Table {
         self.channels.retain(|channel| channel.sci != sci);
     }
 
-    /// Puts an association at a number of a channel that stands, or takes it away.
+    /// Puts an association at a number of a channel that exists, or takes it away.
     pub(crate) fn put(&mut self, sci: Sci, an: An, association: Option<Association>)
         requires { list_any (λ other. bytes_eq other sci) (scis_of self.old.channels.items) ≡ true }
         ensures side { (validate : Validate) (replay : Replay) → rx_side_in validate replay self.new.channels.items
@@ -153,7 +153,7 @@ impl Table {
         }
     }
 
-    /// Raises the ceiling of an association that stands.
+    /// Raises the ceiling of an association that exists.
     pub(crate) fn raise(&mut self, sci: Sci, an: An, ceiling: u64)
         requires { IsSome (ceilings_among self.old.channels.items sci an) }
         ensures side { (validate : Validate) (replay : Replay) → rx_side_in validate replay self.new.channels.items

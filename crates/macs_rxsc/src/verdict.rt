@@ -24,9 +24,9 @@ pub enum Kind {
     Invalid,
     /// It has no SecTAG, and validation is not strict.
     Untagged,
-    /// It names no channel that stands; validation is not strict, and C is clear.
+    /// It names no channel that exists; validation is not strict, and C is clear.
     UnknownSci,
-    /// Its association does not stand; validation is not strict, and C is clear.
+    /// Its association does not exist; validation is not strict, and C is clear.
     UnusedSa,
 }
 
@@ -43,9 +43,9 @@ pub enum Reason {
     BadTag,
     /// E is set and C clear: it is for the key agreement entity.
     ForKay,
-    /// It names no channel that stands; validation is strict, or C is set.
+    /// It names no channel that exists; validation is strict, or C is set.
     NoSci,
-    /// Its association does not stand; validation is strict, or C is set.
+    /// Its association does not exist; validation is strict, or C is set.
     NotUsingSa,
     /// Replay protection is on, and its packet number is below the lowest acceptable.
     Late,
