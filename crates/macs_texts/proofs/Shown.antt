@@ -31,7 +31,7 @@ pub rx-none : (s : State) (k : Config) (sci : List ℕ) (an : ℕ) (text : List 
 rx-none s k sci an text same is empty =
     subst (λ (o : Option RxSa). text ≡ rx_text_of sci an o (s.numbers sci an)) (is ∙ ap (λ (c : Config). c.rx sci an) same) empty
 
--- what an endpoint tells of numbers
+-- what an endpoint reports of numbers
 abbrev told_of : Numbers → RxNumbers
 told_of n = record { next = n.next; lowest = n.lowest }
 

@@ -89,7 +89,7 @@ spent_line config = line (codes "spent tx " ++ (decimal (length config.spent_tx)
 abbrev pub association_numbers : List ℕ
 association_numbers = 0 ∷ 1 ∷ 2 ∷ 3 ∷ []
 
--- the line of a transmit association and its next number, where they stand
+-- the line of a transmit association and its next number, where they exist
 abbrev pub tx_text_of : ℕ → Option TxSa → Option ℕ → List ℕ
 tx_text_of an (Some sa) (Some next) = tx_line an sa next
 tx_text_of an sa next = []
@@ -98,7 +98,7 @@ tx_text_of an sa next = []
 abbrev pub tx_text : State → ℕ → List ℕ
 tx_text s an = tx_text_of an (s.config.tx an) (s.next an)
 
--- the line of a receive association and its numbers, where they stand
+-- the line of a receive association and its numbers, where they exist
 abbrev pub rx_text_of : List ℕ → ℕ → Option RxSa → Option Numbers → List ℕ
 rx_text_of sci an (Some sa) (Some numbers) = rx_line sci an sa numbers
 rx_text_of sci an sa numbers = []
