@@ -57,13 +57,13 @@ pub in_frame : (side : TxSide) (ceilings : ℕ → Option ℕ) (plain : List ℕ
     → first (all_tx_faults side ceilings plain) ≡ Some fault
 in_frame side ceilings plain fault is = front _ _ _ (association_faults ceilings (next_outgoing side)) fault is
 
--- behind a frame without faults come those of the association
+-- after a frame without faults come those of the association
 pub behind : (side : TxSide) (ceilings : ℕ → Option ℕ) (plain : List ℕ) (o : Option Outgoing) → first (frame_faults side plain) ≡ None → next_outgoing side ≡ o
     → first (all_tx_faults side ceilings plain) ≡ first (association_faults ceilings o)
 behind side ceilings plain o none is =
     back _ _ _ (association_faults ceilings (next_outgoing side)) none ∙ ap (λ x. first (association_faults ceilings x)) is
 
--- no association is chosen, or none stands at the number
+-- no association is chosen, or there is none at the number
 pub unset : (t : Tx) → t.encoding ≡ None → next_outgoing (tx_side_of t) ≡ None
 unset t encoding = rw encoding refl
 
@@ -75,7 +75,7 @@ pub chosen : (t : Tx) (an : ℕ) (a : Association) → t.encoding ≡ Some an �
     → next_outgoing (tx_side_of t) ≡ Some (record { an = an; sa = sa_of a; pn = a.next })
 chosen t an a encoding place = rw (encoding, place) refl
 
--- behind a frame without faults come those of the numbers of the association
+-- after a frame without faults come those of the numbers of the association
 pub in_numbers : (t : Tx) (plain : List ℕ) (an : ℕ) (a : Association) → first (frame_faults (tx_side_of t) plain) ≡ None → t.encoding ≡ Some an
     → get_or t.associations an None ≡ Some a
     → first (all_tx_faults (tx_side_of t) (ceilings_of t) plain) ≡ first (number_faults a.next a.ceiling)

@@ -1,4 +1,4 @@
--- What a caller knows from what the readers tell: which association frames go out under, which stand, and what a need says.
+-- What a caller knows from what the readers report: which association frames go out under, which exist, and what a need says.
 use Rattle.std.proofs.Common.{◌≡◌, ◌∙◌, ◌≤◌, ◌<◌, ◌+◌, ◌-◌, ◌/◌, ◌^◌, ◌&&◌, inl, inr, ℕ, min, Bool, true, false, cond, refl, sym, ap, subst, arith}
 use Rattle.std.specs.Prelude.{Option, Some, None, IsSome, IfSome, is_none, is_some, nat_le, nat_lt}
 use Rattle.std.specs.Option.{option_map, option_map_or}
@@ -24,7 +24,7 @@ by_encoding side ceilings block an (Some e) is = ap Some (by_number ceilings blo
 pub needed : (side : TxSide) (ceilings : ℕ → Option ℕ) (block an : ℕ) → need_of side ceilings block ≡ Some an → side.encoding ≡ Some an
 needed side ceilings block an is = by_encoding side ceilings block an side.encoding is
 
--- an association stands where it has a next number
+-- an association exists where it has a next number
 pub stands : {A B : Type 0} (sa : Option A) (next : Option B) → is_none sa ≡ is_none next → is_some next ≡ true → IsSome sa
 stands (Some a) next alike some = refl
 stands None (Some n) alike some = absurd (cc)

@@ -12,15 +12,15 @@ use Rattle.macs_txsc.proofs.Faults.{chosen}
 use Rattle.macs_txsc.specs.Transmit.{TxSide, side_after, side_after_frame}
 use Rattle.macs_txsc.specs.Value.{sa_of, tx_side_of}
 
--- what each place says of what stands there
+-- what each place says of what is there
 abbrev pub said : {A B : Type 0} → (A → B) → List (Option A) → ℕ → Option B
 said f xs j = option_map f (get_or xs j None)
 
--- nothing stands at a place, whatever is read where nothing does
+-- there is nothing at a place, whatever is read where nothing is
 pub is_free : {A : Type 0} (xs : List (Option A)) (i : ℕ) (otherwise : Option A) → i < length xs → get_or xs i otherwise ≡ None → get_or xs i None ≡ None
 is_free xs i otherwise within is = get_or_default xs i None otherwise within ∙ is
 
--- what stands at a place, whatever is read where nothing does
+-- what is at a place, whatever is read where nothing is
 pub stands : {A : Type 0} (xs : List (Option A)) (i : ℕ) (otherwise : Option A) (a : A) → i < length xs → get_or xs i otherwise ≡ Some a
     → get_or xs i None ≡ Some a
 stands xs i otherwise a within is = get_or_default xs i None otherwise within ∙ is

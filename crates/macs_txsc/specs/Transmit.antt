@@ -42,12 +42,12 @@ abbrev pub outgoing_with : ℕ → Option TxSa → Option ℕ → Option Outgoin
 outgoing_with an (Some sa) (Some pn) = Some (record { an = an; sa = sa; pn = pn })
 outgoing_with an sa pn = None
 
--- the association at a chosen AN, None where none is chosen or none stands there
+-- the association at a chosen AN, None where none is chosen or there is none there
 abbrev pub outgoing_at : TxSide → Option ℕ → Option Outgoing
 outgoing_at side None = None
 outgoing_at side (Some an) = outgoing_with an (side.tx an) (side.next an)
 
--- what the next frame goes out under, None where no encoding association stands
+-- what the next frame goes out under, None where no encoding association exists
 abbrev pub next_outgoing : TxSide → Option Outgoing
 next_outgoing side = outgoing_at side side.encoding
 
@@ -135,7 +135,7 @@ InOrder (Some next) None = ⊥
 InOrder None (Some ceiling) = ⊥
 InOrder None None = Unit {0}
 
--- an association stands with a next number and a ceiling, or nothing does
+-- an association exists with a next number and a ceiling, or nothing does
 abbrev pub AreOrdered : TxSide → (ℕ → Option ℕ) → ℕ → Type 0
 AreOrdered side ceilings an = InOrder (side.next an) (ceilings an) × (is_none (side.tx an) ≡ is_none (side.next an))
 

@@ -7,7 +7,7 @@ use Rattle.macs_txsc.specs.declared.association.Association.{Association}
 use Rattle.macs_txsc.specs.declared.channel.Tx.{Tx}
 use Rattle.macs_txsc.specs.declared.counters.TxCounters.{TxCounters}
 
--- what is kept of the association at an AN, None where none stands
+-- what is kept of the association at an AN, None where there is none
 abbrev pub association_at : Tx → ℕ → Option Association
 association_at t an = get_or t.associations an None
 

@@ -60,7 +60,7 @@ impl Tx {
         self.mode = mode;
     }
 
-    /// A new association at a number where none stands. `next` is the first packet number that is
+    /// A new association at a number where there is none. `next` is the first packet number that is
     /// used, and only numbers below `ceiling` are: 1 to 2^32 both, `next` not above `ceiling`.
     pub fn install(
         &mut self,
@@ -90,7 +90,7 @@ impl Tx {
         });
     }
 
-    /// An association that stands goes. Frames do not go out under it.
+    /// An association that exists goes. Frames do not go out under it.
     pub fn remove(&mut self, an: An)
         requires stands { IsSome ((tx_side_of self.old).tx an) }
         requires unused { (tx_side_of self.old).encoding ≢ Some an }
@@ -102,7 +102,7 @@ impl Tx {
         self.associations[an.get() as usize] = None;
     }
 
-    /// Frames go out under this association, which stands.
+    /// Frames go out under this association, which exists.
     pub fn select(&mut self, an: An)
         requires { IsSome ((tx_side_of self.old).tx an) }
         ensures side { tx_side_of self.new ≡ record (tx_side_of self.old) { encoding = Some an } }
@@ -112,7 +112,7 @@ impl Tx {
         self.encoding = Some(an);
     }
 
-    /// Raises the ceiling of an association that stands: not below the one before, and at most 2^32.
+    /// Raises the ceiling of an association that exists: not below the one before, and at most 2^32.
     pub fn raise(&mut self, an: An, ceiling: u64)
         requires stands { IsSome ((tx_side_of self.old).tx an) }
         requires higher { IfSome (ceilings_of self.old an) (λ old. old ≤ ceiling) }
@@ -126,7 +126,7 @@ impl Tx {
         }
     }
 
-    /// The next packet number of an association, 1 to 2^32, `None` where none stands at that number.
+    /// The next packet number of an association, 1 to 2^32, `None` where there is none at that number.
     pub fn next_number(&self, an: An) -> Option<u64>
         ensures { result ≡ (tx_side_of self.now).next an }
     {
