@@ -9,7 +9,7 @@ use macs_rxsc::Verdict;
 #[test]
 fn what_comes_again_begins_anew(rt: HostRuntime) {
     const STEPS: &[Step] = &[
-        // An association that is installed again begins anew, whatever was seen before.
+        // An association that is installed again starts over, whatever was seen before.
         Step::Ready(1, 1),
         Step::Install(CHANNEL, 3, CHANNEL_KEY, 30, 40),
         Step::Number(5, Verdict::HeldBack),

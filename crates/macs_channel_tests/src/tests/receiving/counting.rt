@@ -86,7 +86,7 @@ fn channel_counters_stay_at_their_greatest(rt: HostRuntime) {
     }
 }
 
-/// What is not counted for the channel is told as 0.
+/// What is not counted for the channel is reported as 0.
 fn expect_no_others(rt: &impl Abort, rx: &mut Rx) {
     for verdict in OTHER_VERDICTS {
         take(rt, rx, Step::ChannelCount(CHANNEL, verdict, Some(0)));

@@ -7,7 +7,7 @@ use macs_frame::{FrameBuf, Offset, Sci};
 use macs_rxsc::{Rx, Verdict};
 use std::process::Abort;
 
-/// A new channel, where none of its SCI stands and there is room.
+/// A new channel, where there is none and there is room.
 pub(super) fn add(rt: &impl Abort, rx: &mut Rx, sci: [u8; 8]) {
     rx.facts();
     assert!(rt; rx.channel_count(Sci(sci), Verdict::HeldBack).is_none());
@@ -15,14 +15,14 @@ pub(super) fn add(rt: &impl Abort, rx: &mut Rx, sci: [u8; 8]) {
     rx.add(Sci(sci));
 }
 
-/// A channel that stands goes.
+/// A channel that exists goes.
 pub(super) fn drop_channel(rt: &impl Abort, rx: &mut Rx, sci: [u8; 8]) {
     rx.facts();
     assert!(rt; rx.channel_count(Sci(sci), Verdict::HeldBack).is_some());
     rx.drop_channel(Sci(sci));
 }
 
-/// A new association of a channel that stands, where none does.
+/// A new association of an existing channel, where there is none.
 pub(super) fn install(
     rt: &impl Abort,
     rx: &mut Rx,
@@ -43,7 +43,7 @@ pub(super) fn install(
     rx.install(Sci(sci), an, key, offset, next, ceiling);
 }
 
-/// An association that stands goes.
+/// An association that exists goes.
 pub(super) fn remove(rt: &impl Abort, rx: &mut Rx, sci: [u8; 8], association: u8) {
     let an = number_of(rt, association);
     rx.facts();
@@ -65,7 +65,7 @@ pub(super) fn need_of(rx: &Rx, block: u32) -> Option<([u8; 8], u8, u32)> {
     Some((need.sci.get(), need.an.get(), need.pn.get()))
 }
 
-/// The next and the lowest acceptable number of an association, `None` where none stands.
+/// The next and the lowest acceptable number of an association, `None` where there is none.
 pub(super) fn numbers_of(
     rt: &impl Abort,
     rx: &Rx,

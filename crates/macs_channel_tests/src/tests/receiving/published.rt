@@ -62,7 +62,7 @@ fn refuses_frames(rt: HostRuntime) {
         Step::ChannelCount(CHANNEL, NOT_VALID, Some(4)),
         Step::ChannelCount(CHANNEL, INVALID, Some(1)),
 
-        // No channel stands.
+        // No channel exists.
         Step::Anew,
         Step::Receive(CLEAR, Change::Nothing, NO_SCI, &[]),
         Step::Receive(ENCRYPTED, Change::Nothing, NO_SCI, &[]),

@@ -11,9 +11,9 @@ use std::process::Abort;
 /// A step of a story. Channels are named by their SCIs, associations by their numbers.
 #[derive(Clone, Copy)]
 pub(super) enum Step {
-    /// All begins anew, with no channel.
+    /// All starts over, with no channel.
     Anew,
-    /// All begins anew, with the channel and its association 2: its next number and its ceiling.
+    /// All starts over, with the channel and its association 2: its next number and its ceiling.
     Ready(u64, u64),
     /// How frames are validated, whether replay protection is on, and its window.
     Policy(Validate, bool, u32),
@@ -39,13 +39,13 @@ pub(super) enum Step {
     Held([u8; 8], u8, u32),
     /// The next and the lowest acceptable number of association 2 of the channel.
     Numbers(u64, u64),
-    /// The next and the lowest acceptable number of an association, `None` where none stands.
+    /// The next and the lowest acceptable number of an association, `None` where there is none.
     Association([u8; 8], u8, Option<(u64, u64)>),
     /// With blocks of this size the first need is of this association and this number.
     Need(u32, Option<([u8; 8], u8, u32)>),
     /// How often a verdict was given.
     Count(Verdict, u64),
-    /// How often a verdict was given on frames of a channel, `None` where that does not stand.
+    /// How often a verdict was given on frames of a channel, `None` where that does not exist.
     ChannelCount([u8; 8], Verdict, Option<u64>),
 }
 

@@ -32,7 +32,7 @@ pub(super) fn set_mode(rt: &impl Abort, tx: &mut Tx, mode: SciMode) {
     tx.set_mode(mode);
 }
 
-/// A new association, where none stands.
+/// A new association, where there is none.
 pub(super) fn install(
     rt: &impl Abort,
     tx: &mut Tx,
@@ -56,14 +56,14 @@ pub(super) fn install(
     );
 }
 
-/// Frames go out under an association that stands.
+/// Frames go out under an association that exists.
 pub(super) fn select(rt: &impl Abort, tx: &mut Tx, an: An) {
     tx.facts();
     assert!(rt; tx.next_number(an).is_some());
     tx.select(an);
 }
 
-/// An association that stands goes, while frames go out under another one.
+/// An association that exists goes, while frames go out under another one.
 pub(super) fn remove(rt: &impl Abort, tx: &mut Tx, an: An) {
     tx.facts();
     assert!(rt; tx.next_number(an).is_some());
