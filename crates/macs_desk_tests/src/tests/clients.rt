@@ -1,10 +1,10 @@
-//! A client that asks, and keeps what it is told.
+//! A client that asks, and keeps what is said to it.
 
 use macs_requests::{Client, Clients, Heard, Line};
 use std::alloc::Global;
 use std::process::Abort;
 
-/// A client that sends one line, once, and keeps what it is told. It claims nothing.
+/// A client that sends one line, once, and keeps what is said to it. It claims nothing.
 #[derive(Drop)]
 pub(super) struct Asker<'a, R: Abort> {
     rt: &'a R,

@@ -7,7 +7,7 @@ use macs_requests::NoMetrics;
 use std::alloc::Global;
 use std::process::Abort;
 
-/// A line, and what its client is told.
+/// A line, and what is said to its client.
 const CASES: &[(&str, &str)] = &[
     (
         "show",
