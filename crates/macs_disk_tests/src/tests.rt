@@ -89,7 +89,7 @@ fn make<D: SectorDisk>(rt: &impl Abort, disk: &mut D, call: Call) -> Result<(), 
     }
 }
 
-/// Makes calls. So many are done, and those behind them fail.
+/// Makes calls. So many are done, and those after them fail.
 fn answers<D: SectorDisk>(rt: &impl Abort, disk: &mut D, calls: &[Call], done: usize) {
     for (i, call) in calls.iter().enumerate() {
         assert_eq!(rt; make(rt, disk, *call).is_ok(), i < done, "call {i}");

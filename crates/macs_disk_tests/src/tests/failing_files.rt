@@ -118,9 +118,9 @@ const NOT_READ: Life = Ok((true, None, false));
 const NOT_SYNCED: Life = Ok((true, Some(7), false));
 
 /// What is answered where no call fails, and where this one does: the claim, the size, the sync, the reading
-/// anew, the write of zeros and its sync; the write, the read and the sync. Want of memory is told where
+/// again, the write of zeros and its sync; the write, the read and the sync. Want of memory is reported where
 /// there is no disk yet, but for the calls that find out what the device has. An interrupted write or read
-/// is tried again. Each call behind one that failed fails.
+/// is tried again. Each call after one that failed fails.
 const LIVES: [(ErrorKind, [Life; 10]); 3] = [
     (
         ErrorKind::Other,
@@ -171,7 +171,7 @@ fn each_call_that_fails_is_answered(rt: HostRuntime) {
 }
 
 /// What is answered where this call fails of those that make a blank disk: the claim, the size, the sync, the
-/// reading anew, the sync of the layout's mark and the write of zeros. The file has no room for all of these, so
+/// reading again, the sync of the layout's mark and the write of zeros. The file has no room for all of these, so
 /// there is no disk where no call fails.
 const NOT_BLANK: [(ErrorKind, [FileFault; 7]); 2] = [
     (

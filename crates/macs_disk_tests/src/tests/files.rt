@@ -16,10 +16,10 @@ use std::{fs, io};
 type Answer = Result<u64, FileFault>;
 
 /// A step of a story of one file and the disk in it. A disk that is opened or made takes the place of
-/// the one that stands; where there is none, that one stands still.
+/// the present one; where there is none, the present one stays.
 #[derive(Clone, Copy)]
 enum Step {
-    /// Makes the file anew, so many octets of zeros, behind the back of a disk that stands.
+    /// Makes the file again, so many octets of zeros, behind the back of a present disk.
     Zeros(u64),
     Open(Answer),
     Create(u64, Answer),
@@ -39,7 +39,7 @@ enum Step {
 
 use Step::{Close, Create, Fails, HasOctets, IsMissing, IsPrivate, Make, Open, Zeros};
 
-/// Makes the file anew, so many octets of zeros.
+/// Makes the file again, so many octets of zeros.
 fn zeros(rt: &impl Files<File = File>, path: &str, octets: u64) -> io::Result<()> {
     fs::create(rt, path)?.set_len(octets)
 }
@@ -54,7 +54,7 @@ fn is_private(rt: &impl Files<File = File>, path: &str) -> io::Result<bool> {
     Ok(about.permissions().mode() & 0o077 == 0)
 }
 
-/// The disk that stands next, and how many sectors it has or why it is the one before.
+/// The disk that is there next, and how many sectors it has or why it is the one before.
 fn replaced(
     stood: Option<FileDisk>,
     new: Result<FileDisk, FileFault>,
@@ -224,7 +224,7 @@ fn a_file_is_whole_sectors(rt: HostRuntime) -> Result<(), Fail> {
     begin(&rt, "disk-lengths", LENGTHS)
 }
 
-/// The octets of so many sectors cannot be told.
+/// The octets of so many sectors cannot be counted.
 const TOO_MANY: &[Step] = &[
     Zeros(1_024),
     Create(1 << 54, Err(FileFault::Open)),
@@ -240,7 +240,7 @@ fn too_many_sectors_are_refused(rt: HostRuntime) -> Result<(), Fail> {
     begin(&rt, "disk-too-many", TOO_MANY)
 }
 
-/// While a disk stands its file is not opened again.
+/// While a disk is there its file is not opened again.
 const CLAIMED: &[Step] = &[
     Create(2, Ok(2)),
     Open(Err(FileFault::Open)),
@@ -310,7 +310,7 @@ fn what_cannot_be_opened_is_refused(rt: HostRuntime) -> Result<(), Fail> {
     Ok(())
 }
 
-/// The system neither syncs a pipe nor reads it anew, nor writes at a place of it. Its octets cannot be counted.
+/// The system neither syncs a pipe nor reads it again, nor writes at a place of it. Its octets cannot be counted.
 const PIPE: &[Step] = &[
     Open(Err(FileFault::Device)),
     Create(0, Err(FileFault::Device)),
@@ -324,7 +324,7 @@ fn a_pipe_is_no_disk(rt: HostRuntime) -> Result<(), Fail> {
     play(&rt, path.as_str(), PIPE)
 }
 
-/// A file that can be claimed, measured and read anew, and that the system does not sync.
+/// A file that can be claimed, measured and read again, and that the system does not sync.
 #[test]
 fn what_cannot_be_synced_is_no_disk(rt: HostRuntime) -> Result<(), Fail> {
     play(&rt, "/proc/self/comm", &[Open(Err(FileFault::Device))])

@@ -54,7 +54,7 @@ const UNSUITED: Ground = Ground {
     most: 4_096,
 };
 
-/// How a program goes on behind a call that failed.
+/// How a program goes on after a call that failed.
 #[derive(Clone, Copy)]
 enum Going {
     /// It makes a new disk of the same open file.
@@ -82,10 +82,10 @@ const WRITES: [(usize, u8); 5] = [(2, 1), (3, 2), (2, 3), (7, 4), (3, 5)];
 /// What is written then, and not synced.
 const LAST: (usize, u8) = (0, 6);
 
-/// The syncs of a trial: one of an opening, and one behind each write.
+/// The syncs of a trial: one of an opening, and one after each write.
 const SYNCS: u64 = 1 + 5;
 
-/// The syncs of a new disk: before its mark is written, behind that, and behind its sectors.
+/// The syncs of a new disk: before its mark is written, after that, and after its sectors.
 const BLANK_SYNCS: u64 = 3;
 
 /// What is known of the sectors: the octet that each is full of.
@@ -138,7 +138,7 @@ fn open_again<'a>(rt: &impl Abort, kernel: &'a Kernel) -> Disk<'a> {
     }
 }
 
-/// The program goes on behind a call that failed.
+/// The program goes on after a call that failed.
 fn go_on<'a>(rt: &impl Abort, kernel: &'a Kernel, disk: Disk<'a>, going: Going) -> Disk<'a> {
     match going {
         Going::Reopens => match disk.reopen() {

@@ -6,13 +6,13 @@ use macs_disk::{DiskFile, FileDisk, Layout, SectorDisk};
 use macs_mem_file::{FileCall, OpenMemFile};
 use std::process::Abort;
 
-/// The octet at which the mark of a spaced file stands.
+/// The octet at which the mark of a spaced file is.
 const MARK_PLACE: u64 = 4_210_688;
 
-/// How many sectors a packed file has that ends behind that of the mark.
+/// How many sectors a packed file has that ends after that of the mark.
 const OVER_THE_MARK: u64 = 8_225;
 
-/// A sector that begins with the mark, full of an octet behind it.
+/// A sector that begins with the mark, full of an octet after it.
 fn marked() -> [u8; 512] {
     let mut sector = full(7);
     sector[..8].copy_from_slice(b"MSEC4096");
@@ -39,7 +39,7 @@ fn sectors(rt: &impl Abort, kernel: &Kernel, least: u64) -> u64 {
     }
 }
 
-/// The second sync of a new disk, behind its mark, fails: no sector was written over.
+/// The second sync of a new disk, after its mark, fails: no sector was written over.
 #[test]
 fn the_mark_is_durable_before_a_sector_is_written_over(rt: HostRuntime) {
     let kernel = kernel(&rt, rt.alloc(), SPACED);

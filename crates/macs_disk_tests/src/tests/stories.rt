@@ -63,7 +63,7 @@ const CHOSEN_AGAIN: &[Step] = &[
     Find(1, (10, 10, false)),
 ];
 
-/// A choice stands over a later write and until a later choice, a sync or a power loss.
+/// A choice holds over a later write and until a later choice, a sync or a power loss.
 #[test]
 fn a_choice_stands_until_a_sync(rt: HostRuntime) -> Result<(), Fail> {
     begin(&rt, rt.alloc(), 3, CHOSEN_AGAIN)
