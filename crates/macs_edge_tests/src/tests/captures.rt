@@ -1,4 +1,4 @@
-//! Captures that run through an endpoint, whose disk stands in memory and whose blocks are 4 packet
+//! Captures that run through an endpoint, whose disk is in memory and whose blocks are 4 packet
 //! numbers on either side. Readers and writers move one octet a call, and fail where they are told to.
 
 mod faults;

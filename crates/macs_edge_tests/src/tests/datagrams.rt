@@ -59,7 +59,7 @@ fn got(wire: &mut UdpWire<Global>, into: &mut FrameBuf) -> Result<Got, WireFault
 }
 
 /// A wire from an address with any port to a socket there, where that can be bound: where the wire is bound,
-/// its first frame tells.
+/// its first frame shows.
 fn line(rt: &(impl Abort + Net), alloc: Global, at: SocketAddr) -> Option<Ends> {
     let peer = socket(rt, at)?;
     let there = peer.local_addr().expect(rt, "the address of the peer");
@@ -80,7 +80,7 @@ fn local_line(rt: &(impl Abort + Net), alloc: Global) -> Ends {
     }
 }
 
-/// Sends a frame of so many octets each way. What came of it at the wire stands in the buffer.
+/// Sends a frame of so many octets each way. What came of it at the wire is in the buffer.
 fn exchanged(
     rt: &impl Abort,
     alloc: Global,
@@ -117,7 +117,7 @@ fn datagrams_are_frames(rt: HostRuntime) {
     }
 }
 
-/// Nothing waits behind a frame, and the buffer is emptied.
+/// Nothing waits after a frame, and the buffer is emptied.
 #[test]
 fn nothing_is_told_at_once(rt: HostRuntime) {
     let mut line = local_line(&rt, rt.alloc());
@@ -136,7 +136,7 @@ fn expect_lost(rt: &impl Abort, line: &mut Ends, stranger: &UdpSocket) {
     assert!(rt; into.is_empty());
 }
 
-/// One of the peer does, and nothing behind it.
+/// One of the peer does, and nothing after it.
 fn expect_got(rt: &impl Abort, line: &mut Ends) {
     let mut into = FrameBuf::new();
     assert!(rt; line.peer.send_to(&[2; 60], line.at).is_ok());
@@ -145,7 +145,7 @@ fn expect_got(rt: &impl Abort, line: &mut Ends) {
     assert!(rt; got(&mut line.wire, &mut into) == Ok(Got::Nothing));
 }
 
-/// A datagram from another socket than the peer's, and one of the peer behind it.
+/// A datagram from another socket than the peer's, and one of the peer after it.
 #[test]
 fn a_strangers_datagram_is_lost(rt: HostRuntime) {
     let mut line = local_line(&rt, rt.alloc());

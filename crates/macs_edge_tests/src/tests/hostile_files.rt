@@ -1,12 +1,12 @@
 //! Command files as an adversary writes them. Each has one fault, which is worked out from the table of words
-//! and keys; none gives a command, even where good tables stand before the bad one.
+//! and keys; none gives a command, even where good tables come before the bad one.
 
 use super::hostile_texts::{CONTROLS, NO_TOML, SHAPES};
 use macs_edge::{ConfigFault, KeyName, commands_of};
 use std::alloc::Global;
 use std::process::Abort;
 
-/// The words, a line each, with their keys in order; at each key stands a value that is right.
+/// The words, a line each, with their keys in order; at each key is a value that is right.
 const WORDS: &str = r#"set-validate mode="check"
 set-replay on=true window=0
 set-sci-mode mode="explicit"
@@ -161,7 +161,7 @@ const NO_WORDS: &str = r#"" tx-use"
 "command"
 "../../etc/passwd""#;
 
-/// Keys that are not `do`, though they are nearly that, or stand below it: 10 of them.
+/// Keys that are not `do`, though they are nearly that, or are below it: 10 of them.
 const NO_DO: &str = r#"Do="tx-use"
 DO="tx-use"
 dO="tx-use"
@@ -203,16 +203,16 @@ xxxxxxxxxxxxxxxxxxxxxxxxxxxxxxxxxxxxxxxxxxxxxxxxxxxxxxxxxxxxxxxx=0"#;
 /// A good table.
 const GOOD: &str = "[[command]]\ndo=\"rx-add\"\nsci=\"12153524c0895e81\"\n";
 
-/// How the keys behind a wrong one are written.
+/// How the keys after a wrong one are written.
 #[derive(Clone, Copy, PartialEq, Eq)]
 enum Rest {
     /// Right.
     Right,
-    /// Right, and all keys stand in the order from the last to the first.
+    /// Right, and all keys are in the order from the last to the first.
     Turned,
     /// They are absent, and there is a key too many.
     Absent,
-    /// Wrong, too, and a table without a word stands behind.
+    /// Wrong, too, and a table without a word comes after.
     Wrong,
 }
 
@@ -220,7 +220,7 @@ fn push(rt: &impl Abort, text: &mut String, part: &str) {
     assert!(rt; text.push_str(part).is_ok());
 }
 
-/// A line of a table: the key, and what stands at it.
+/// A line of a table: the key, and what is at it.
 fn push_line(rt: &impl Abort, text: &mut String, key: &str, value: &str) {
     push(rt, text, key);
     push(rt, text, "=");
@@ -247,7 +247,7 @@ fn word_in(line: &str) -> &str {
     line.split_whitespace().next().unwrap_or("")
 }
 
-/// The pair of a line at this place, the first at 0; behind the last it is empty.
+/// The pair of a line at this place, the first at 0; after the last it is empty.
 fn pair_at(line: &str, place: usize) -> &str {
     line.split_whitespace()
         .nth(place.saturating_add(1))
@@ -278,7 +278,7 @@ fn fault_of(rt: &impl Abort, alloc: Global, text: &str) -> Option<ConfigFault> {
     commands_of(alloc, &file).err()
 }
 
-/// A file gives no command, and tells this fault.
+/// A file gives no command, and reports this fault.
 fn is_refused(rt: &impl Abort, alloc: Global, text: &str, wanted: ConfigFault) {
     assert!(rt; fault_of(rt, alloc, text) == Some(wanted), "{text}");
 }
@@ -287,7 +287,7 @@ fn is_no_toml(rt: &impl Abort, alloc: Global, text: &str) {
     assert!(rt; toml::table_from_str(alloc, text).is_err(), "{text}");
 }
 
-/// The table of a word whose key at this place has a wrong value, behind so many good tables. The keys
+/// The table of a word whose key at this place has a wrong value, after so many good tables. The keys
 /// before it are right.
 fn with_wrong_key(
     rt: &impl Abort,
@@ -391,7 +391,7 @@ fn a_value_of_another_key_is_told(rt: HostRuntime) {
     assert!(rt; files == 480);
 }
 
-/// What stands beside a line that is no word.
+/// What is next to a line that is no word.
 #[derive(Clone, Copy, PartialEq, Eq)]
 enum Beside {
     /// The keys of a word.
@@ -454,7 +454,7 @@ fn a_wrong_word_is_told(rt: HostRuntime) {
     assert!(rt; files == 2_880);
 }
 
-/// A table that is right but for a key too many, which stands first or last, between a good one and one without
+/// A table that is right but for a key too many, which comes first or last, between a good one and one without
 /// a word.
 fn refuse_extra(rt: &impl Abort, alloc: Global, line: &str, extra: &str, is_first: bool) {
     let mut text = begun(rt, alloc, 1);
@@ -527,7 +527,7 @@ fn a_wrong_shape_is_told(rt: HostRuntime) {
     assert!(rt; files == 152);
 }
 
-/// A part that stands so many times between a head and a tail.
+/// A part that is there so many times between a head and a tail.
 fn repeated(
     rt: &impl Abort,
     alloc: Global,
@@ -598,7 +598,7 @@ fn nested(
 }
 
 /// A number inside arrays or tables: 1,000 of them are more than the reader of TOML takes, which is 80, though
-/// all are closed; seventy are read, and refused for where they stand.
+/// all are closed; seventy are read, and refused for where they are.
 fn refuse_deep(
     rt: &impl Abort,
     alloc: Global,

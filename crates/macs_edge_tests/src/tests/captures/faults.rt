@@ -87,7 +87,7 @@ impl One {
     }
 }
 
-/// A capture of one frame behind this header.
+/// A capture of one frame after this header.
 fn capture_of(alloc: Global, header: &[u8; 24], frame: &[u8]) -> Result<Vec<u8>, Fail> {
     let mut octets = Vec::from_slice(alloc, header)?;
     push_frame(&mut octets, 0, frame)?;
