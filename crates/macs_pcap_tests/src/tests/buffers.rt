@@ -177,7 +177,7 @@ fn a_write_is_not_made_for_each_record(rt: HostRuntime) -> Result<(), Fail> {
     Ok(())
 }
 
-/// What a writer keeps back fails late: the flush tells it, and every call from then on.
+/// What a writer keeps back fails late: the flush reports it, and so does every call from then on.
 #[test]
 fn a_late_failure_is_told_by_the_flush(rt: HostRuntime) -> Result<(), Fail> {
     let mut below = counted(rt.alloc(), 1);

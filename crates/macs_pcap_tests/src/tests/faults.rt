@@ -8,7 +8,7 @@ use macs_pcap::{PcapFault, Source, Stamp, read_record};
 use std::alloc::Global;
 use std::process::Abort;
 
-/// A header that is too short is cut, whatever stands in it.
+/// A header that is too short is cut, whatever is in it.
 #[test]
 fn short_headers_are_cut(rt: HostRuntime) {
     let octets = with_octets(&rt, BIG, 0, [0; 4]);
@@ -18,7 +18,7 @@ fn short_headers_are_cut(rt: HostRuntime) {
     }
 }
 
-/// Inside the header and inside a record a capture is cut; behind the header and behind a record it ends. Both
+/// Inside the header and inside a record a capture is cut; after the header and after a record it ends. Both
 /// captures of 43 octets: 2 * 44 lengths.
 #[test]
 fn cut_at_every_length(rt: HostRuntime) {

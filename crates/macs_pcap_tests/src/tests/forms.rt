@@ -53,7 +53,7 @@ fn capture_of(rt: &impl Abort, form: Form) -> [u8; WHOLE] {
     with_octets(rt, if form.big { BIG } else { LITTLE }, 0, form.magic)
 }
 
-/// The next record is the worked one, and behind it the capture ends.
+/// The next record is the worked one, and after it the capture ends.
 fn has_one_record<R: Source>(rt: &impl Abort, alloc: Global, reader: &mut PcapReader<R>) {
     let mut frame = Vec::new(alloc);
     for expected in [Some(STAMP), None] {
