@@ -18,10 +18,10 @@ struct Row {
 const NO_KIND: u32 = 4 * 255 + 235;
 
 /// Worked out from the layout. The summands of each count, in this order:
-/// - records: the mark, the kinds that fit what stands behind them, the field values in range, the zeros behind the
+/// - records: the mark, the kinds that fit what is after them, the field values in range, the zeros after the
 ///   fields;
 /// - `Field`: the kinds that find a wrong field there, the field values out of range;
-/// - `Rest`: the kinds that leave octets behind their fields, the field values that do, 255 for each zero.
+/// - `Rest`: the kinds that leave octets after their fields, the field values that do, 255 for each zero.
 ///
 /// Of a snapshot: settings, a transmit association, a channel, a receive association, spent keys.
 const SNAPSHOT: &[Row] = &[

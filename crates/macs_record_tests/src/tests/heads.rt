@@ -27,7 +27,7 @@ fn head_with_blocks(rt: &impl Abort, tx_block: u32, rx_block: u32) -> Head {
     Head::new(Format::One, 1, 1, identity_of(rt, tx_block, rx_block)).expect(rt, "head")
 }
 
-/// The sector of the first head, but that these octets stand at a place.
+/// The sector of the first head, but that these octets are at a place.
 fn first_but(rt: &impl Abort, place: usize, octets: &[u8]) -> [u8; SECTOR] {
     let mut sector = sector_of(rt, FIRST);
     assert!(rt; place <= SECTOR && octets.len() <= SECTOR - place);
