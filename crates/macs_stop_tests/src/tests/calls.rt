@@ -10,7 +10,7 @@ use std::process::Abort;
 /// and a sync.
 const FORMAT: u64 = 1 + 2 + 2 + 256 + 1 + 1 + 1;
 
-/// The opening behind it: a sync, the reads of two head gates and a head body, of 255 gates behind the snapshot
+/// The opening after it: a sync, the reads of two head gates and a head body, of 255 gates after the snapshot
 /// and of the one record in it.
 const OPENING: u64 = 1 + 3 + 255 + 1;
 
@@ -20,20 +20,20 @@ const PIECE: u64 = 4;
 /// The first piece of work.
 const PIECES: u64 = FORMAT + OPENING;
 
-/// Behind 16 pieces the windows begin: seven commands are kept by then, and nine ceilings were raised.
+/// After 16 pieces the windows begin: seven commands are kept by then, and nine ceilings were raised.
 const WINDOWS: u64 = PIECES + 16 * PIECE;
 
-/// The second transmit association is installed behind 12 pieces.
+/// The second transmit association is installed after 12 pieces.
 const SECOND_INSTALL: u64 = PIECES + 12 * PIECE;
 
-/// Behind 255 pieces the journal begins anew: the reads of 257 gates, a sync, the body of the head and of six
+/// After 255 pieces the journal starts over: the reads of 257 gates, a sync, the body of the head and of six
 /// records, a sync, the head gate and a sync.
 const COMPACTION: u64 = PIECES + 255 * PIECE;
 
 /// Its end.
 const COMPACTED: u64 = COMPACTION + 257 + 1 + 7 + 1 + 1 + 1;
 
-/// The command behind it is kept.
+/// The command after it is kept.
 const KEPT: u64 = COMPACTED + PIECE;
 
 /// The script ends: six ceilings were raised.
@@ -45,8 +45,8 @@ fn expect(rt: &impl Abort, alloc: Global, calls: [u64; 2], behind: Behind, total
     assert!(rt; stop_at_each(rt, alloc, first, end, behind) == totals);
 }
 
-/// How many power losses there are for a piece of work. Behind a call that does not reach the disk nothing is
-/// pending at either write, and one sector at either sync; behind a write that fills its sector, one at each.
+/// How many power losses there are for a piece of work. After a call that does not reach the disk nothing is
+/// pending at either write, and one sector at either sync; after a write that fills its sector, one at each.
 const LOSSES: u64 = 1 + 6 + 1 + 6 + 4 * 6;
 
 /// So many pieces of work from a device call on are stopped at each of their calls.
@@ -85,7 +85,7 @@ fn the_script_has_so_many_device_calls(rt: HostRuntime) {
 }
 
 /// So many calls of a format from one on are stopped, at which two bodies are pending: the reads of gates and the
-/// sync behind them.
+/// sync after them.
 fn expect_bodies(rt: &impl Abort, alloc: Global, first: u64, calls: u64) {
     assert!(rt; first < FORMAT);
     assert!(rt; calls < FORMAT);
@@ -97,7 +97,7 @@ fn expect_bodies(rt: &impl Abort, alloc: Global, first: u64, calls: u64) {
     expect(rt, alloc, [first, first + calls], Loses, totals);
 }
 
-/// Nothing is pending at the first four calls, one body at the fifth, and two at the 65 behind it. Where a write fills
+/// Nothing is pending at the first four calls, one body at the fifth, and two at the 65 after it. Where a write fills
 /// its sector, that is one more.
 #[test]
 fn the_start_of_a_format_is_stopped_at_each_call(rt: HostRuntime) {
@@ -243,7 +243,7 @@ fn openings_behind_a_cut_head_gate_are_stopped_at_each_call(rt: HostRuntime) {
     );
 }
 
-/// So many device calls are stopped, and no power loss comes behind them at first.
+/// So many device calls are stopped, and no power loss comes after them at first.
 fn expect_without_loss(
     rt: &impl Abort,
     alloc: Global,

@@ -15,7 +15,7 @@ use macs_mem_file::Left;
 use std::alloc::Global;
 use std::process::Abort;
 
-/// What is played: commands, frames of both sides with refills behind them, and a command that is refused.
+/// What is played: commands, frames of both sides with refills after them, and a command that is refused.
 const PARTS: [Part; 12] = [
     Part::Keeps(Asked::AddsPeer),
     Part::Keeps(Asked::InstallsPeer),

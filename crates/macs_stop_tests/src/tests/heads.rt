@@ -12,7 +12,7 @@ use std::process::Abort;
 /// How many sectors a disk needs.
 const SECTORS: u64 = 1_028;
 
-/// The SCI of the head, which is also that of a channel which does not stand.
+/// The SCI of the head, which is also that of a channel which does not exist.
 const PEER: Sci = Sci(*b"\x12\x15\x35\x24\xc0\x89\x5e\x81");
 
 /// A disk in memory of so many sectors.
@@ -93,7 +93,7 @@ fn opening(rt: &impl Abort, disk: MemDisk) -> (Found, MemDisk) {
     }
 }
 
-/// A disk with a new journal and one record behind it, the window of 9.
+/// A disk with a new journal and one record after it, the window of 9.
 fn written(rt: &impl Abort, alloc: Global) -> MemDisk {
     let mut disk = fresh(rt, alloc);
     write(rt, &mut disk, 4, &encode(&window_of_9()));

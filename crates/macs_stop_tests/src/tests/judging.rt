@@ -87,7 +87,7 @@ pub(super) fn judge_stopped_openings(rt: &impl Abort, disk: MemDisk, known: &Kno
     panic!(rt; "an opening without an end")
 }
 
-/// The same, each time over a copy of the disk, since an opening that is whole may begin the journal anew. Where the
+/// The same, each time over a copy of the disk, since an opening that is whole may start the journal over. Where the
 /// call that stops is the last sync of that, the new journal is found already, and the second opening is whole.
 pub(super) fn judge_stopped_migrations(
     rt: &impl Abort,
@@ -111,7 +111,7 @@ pub(super) fn judge_stopped_migrations(
     panic!(rt; "an opening without an end")
 }
 
-/// The disk is opened as it stands, which leaves nothing pending. Then the power goes.
+/// The disk is opened as it is, which leaves nothing pending. Then the power goes.
 pub(super) fn judge_opened(rt: &impl Abort, cut: Cut) {
     let Cut { disk, known } = cut;
     let mut disk = open_whole(rt, disk, &known);
@@ -120,7 +120,7 @@ pub(super) fn judge_opened(rt: &impl Abort, cut: Cut) {
     judge(rt, disk, &known);
 }
 
-/// The disk is formatted as it stands, unless the format that was cut short was done. That leaves nothing
+/// The disk is formatted as it is, unless the format that was cut short was done. That leaves nothing
 /// pending. Then the power goes.
 pub(super) fn judge_formatted(rt: &impl Abort, cut: Cut) {
     let Cut { mut disk, known } = cut;

@@ -22,7 +22,7 @@ pub(super) enum Ground {
     Spaced,
 }
 
-/// How a program goes on behind a call that failed.
+/// How a program goes on after a call that failed.
 #[derive(Clone, Copy)]
 pub(super) enum Going {
     /// It makes a new disk of the same open file.
@@ -90,7 +90,7 @@ pub(super) fn open_disk<'a>(rt: &impl Abort, kernel: &'a Kernel) -> Disk<'a> {
     }
 }
 
-/// The program goes on behind a call that failed.
+/// The program goes on after a call that failed.
 pub(super) fn go_on<'a>(
     rt: &impl Abort,
     kernel: &'a Kernel,

@@ -47,8 +47,8 @@ impl Known {
         }
     }
 
-    /// An endpoint was opened again: it has what was acknowledged, and goes on above what passed. Nothing is in
-    /// hand, and the peer's frames below the next that is taken are lost.
+    /// An endpoint was opened again: it has what was acknowledged, and goes on above what passed. Nothing is
+    /// under way, and the peer's frames below the next that is taken are lost.
     pub(super) fn catch_up<D: SectorDisk>(&mut self, rt: &impl Abort, endpoint: &Endpoint<D>) {
         assert!(rt; self.allows(endpoint.config()));
         assert!(rt; self.passed.is_behind(rt, endpoint));
@@ -56,12 +56,12 @@ impl Known {
         self.passed.catch_up(rt, endpoint);
     }
 
-    /// Whether a configuration is that of before the command in hand.
+    /// Whether a configuration is that of before the command under way.
     pub(super) fn is_before(&self, found: &Config) -> bool {
         is_same(found, &self.before)
     }
 
-    /// Whether a configuration is that of before the command in hand or after it.
+    /// Whether a configuration is that of before the command under way or after it.
     pub(super) fn allows(&self, found: &Config) -> bool {
         is_same(found, &self.before) || (self.is_in_hand && is_same(found, &self.after))
     }
@@ -130,7 +130,7 @@ fn place_of_key(rt: &impl Abort, config: &Config) -> usize {
     place_of(rt, association.key.get())
 }
 
-/// Whether two configurations are the same in all that their readers tell.
+/// Whether two configurations are the same in all that their readers report.
 fn is_same(one: &Config, other: &Config) -> bool {
     is_same_policy(one, other)
         && one.channels().as_slice() == other.channels().as_slice()

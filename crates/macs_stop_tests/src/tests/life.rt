@@ -122,7 +122,7 @@ fn rest<D: SectorDisk>(rt: &impl Abort, endpoint: &mut Endpoint<D>) -> Result<()
     panic!(rt; "work without an end")
 }
 
-/// Frames go both ways, one step behind each.
+/// Frames go both ways, one step after each.
 fn pass<D: SectorDisk>(
     rt: &impl Abort,
     endpoint: &mut Endpoint<D>,
@@ -144,7 +144,7 @@ pub(super) fn protect<D: SectorDisk>(endpoint: &mut Endpoint<D>) -> Result<u32, 
     endpoint.protect(PLAIN, &mut out).map(Pn::get)
 }
 
-/// A plain frame goes out, behind steps where it waits for a packet number.
+/// A plain frame goes out, after steps where it waits for a packet number.
 fn send<D: SectorDisk>(
     rt: &impl Abort,
     endpoint: &mut Endpoint<D>,
@@ -178,7 +178,7 @@ pub(super) fn receive<D: SectorDisk>(
     answer == Ok(Verdict::Delivered(Kind::Ok))
 }
 
-/// The peer's next frame is delivered, behind steps where it is held back.
+/// The peer's next frame is delivered, after steps where it is held back.
 fn deliver<D: SectorDisk>(
     rt: &impl Abort,
     endpoint: &mut Endpoint<D>,

@@ -1,4 +1,4 @@
-//! Disks of format one: an opening begins the journal anew, in format two, and is stopped at each of its device calls.
+//! Disks of format one: an opening starts the journal over, in format two, and is stopped at each of its device calls.
 
 use super::SECTORS;
 use super::cutting::{Cut, Kind, Stop, format_again, fused, identity, opened};
@@ -39,7 +39,7 @@ const SECOND_HEAD: u64 = 514;
 /// gates after the snapshot, and of the settings, four commands and eight ceilings.
 const FINDS: u64 = 1 + 3 + 255 + 13;
 
-/// Its journal begins anew: the reads of 257 gates, a sync, the body of the head and of six records, a sync, the head
+/// Its journal starts over: the reads of 257 gates, a sync, the body of the head and of six records, a sync, the head
 /// gate and a sync.
 const CALLS: u64 = FINDS + 257 + 1 + 7 + 1 + 1 + 1;
 
@@ -178,8 +178,8 @@ fn a_migration_has_so_many_device_calls(rt: HostRuntime) {
     expect_calls(&rt, rt.alloc(), Old::Grown, GROWN_CALLS);
 }
 
-/// The rest of the script is played on the young disk, with a key of 256 bits beside the short one, and as many records more as
-/// an area has slots: the journal begins anew over the area that was of format one, whose gates are open.
+/// The rest of the script is played on the young disk, with a key of 256 bits besides the short one, and as many records more as
+/// an area has slots: the journal starts over in the area that was of format one, whose gates are open.
 #[test]
 fn the_script_goes_on_behind_a_migration(rt: HostRuntime) {
     let Cut { disk, mut known } = older(&rt, rt.alloc(), Old::Young);
@@ -234,7 +234,7 @@ fn the_end_of_such_a_migration_is_stopped_at_each_call(rt: HostRuntime) {
 }
 
 /// After these calls of the young disk's opening there are so many power losses after which the journal of format one is
-/// found, and begins anew again, and so many after which that of format two is. Each call of the openings is stopped.
+/// found, and starts over again, and so many after which that of format two is. Each call of the openings is stopped.
 fn expect_openings(rt: &impl Abort, alloc: Global, calls: [u64; 2], before: u64, after: u64) {
     assert!(rt; before <= 12);
     assert!(rt; after <= 12);

@@ -23,7 +23,7 @@ pub(super) enum Part {
     Keeps(Asked),
     /// A command is submitted, and refused since its key is spent.
     Spends(Asked),
-    /// So many frames come from each side, one step behind each of them.
+    /// So many frames come from each side, one step after each of them.
     Passes(u32),
     /// `SetReplay` is submitted and kept so often, with windows from 1 on.
     Windows(u32),
@@ -44,8 +44,8 @@ pub(super) enum Asked {
     Replays(u32),
 }
 
-/// The parts, in their order. All 256 slots of the first area are used behind the 239th `SetReplay`, so that
-/// the 240th begins the journal anew.
+/// The parts, in their order. All 256 slots of the first area are used after the 239th `SetReplay`, so that
+/// the 240th starts the journal over.
 pub(super) const SCRIPT: [Part; 12] = [
     Part::Keeps(Asked::AddsPeer),
     Part::Keeps(Asked::InstallsPeer),

@@ -1,5 +1,5 @@
-//! Events that are served, by a source and a sink that tell what they have: their clauses are met. What is answered to
-//! events stands in stories, too, whose source and sink do not tell.
+//! Events that are served, by a source and a sink that report what they have: their clauses are met. What is answered to
+//! events is in stories, too, whose source and sink report nothing.
 
 ghost use Rattle.std.specs.Prelude.{true};
 

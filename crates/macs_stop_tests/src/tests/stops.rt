@@ -11,7 +11,7 @@ use macs_disk::MemDisk;
 use std::alloc::Global;
 use std::process::Abort;
 
-/// How many stops there were, how many power losses behind them, and how many openings that were stopped.
+/// How many stops there were, how many power losses after them, and how many openings that were stopped.
 #[derive(Clone, Copy, PartialEq)]
 pub(super) struct Totals {
     pub(super) stops: u64,
@@ -19,16 +19,16 @@ pub(super) struct Totals {
     pub(super) openings: u64,
 }
 
-/// What is done behind a stop.
+/// What is done after a stop.
 #[derive(Clone, Copy)]
 pub(super) enum Behind {
     /// The power goes, and the disk is opened.
     Loses,
     /// The power goes, and openings are stopped at each of their device calls, twice in a row.
     StopsOpenings,
-    /// The disk is opened as it stands, then the power goes, and it is opened again.
+    /// The disk is opened as it is, then the power goes, and it is opened again.
     Opens,
-    /// The disk is formatted as it stands, then the power goes, and it is opened.
+    /// The disk is formatted as it is, then the power goes, and it is opened.
     Formats,
 }
 
@@ -70,7 +70,7 @@ pub(super) fn stop_at_each(
     totals
 }
 
-/// A stop, and what comes behind it.
+/// A stop, and what comes after it.
 fn stop_at(rt: &impl Abort, alloc: Global, stop: Stop, behind: Behind, totals: &mut Totals) {
     let (is_cut, cut) = play_to(rt, alloc, stop);
     assert!(rt; is_cut);
@@ -90,7 +90,7 @@ pub(super) enum After {
     Opens,
     /// Openings are stopped at each of their device calls, twice in a row.
     StopsOpenings,
-    /// The same, of a disk whose opening may begin its journal anew.
+    /// The same, of a disk whose opening may start its journal over.
     StopsMigrations,
 }
 

@@ -27,7 +27,7 @@ enum Left {
     Full(u8),
     /// An open gate: its mark and zeros.
     Open,
-    /// The first half of the last write, and durable octets behind it.
+    /// The first half of the last write, and durable octets after it.
     Half,
 }
 
