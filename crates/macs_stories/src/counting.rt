@@ -69,7 +69,7 @@ fn tell_received(counters: Counters<'_>, answer: &mut Answer) {
     tell_none(answer);
 }
 
-/// The same on the frames of a channel; `absent` where it does not stand.
+/// The same on the frames of a channel; `absent` where it does not exist.
 fn tell_received_of(counters: Counters<'_>, sci: Sci, answer: &mut Answer) {
     for verdict in VERDICTS {
         match counters.channel(sci, verdict) {

@@ -1,4 +1,4 @@
-//! The desk of a story: what it wants before each turn of a relay, and what it was told.
+//! The desk of a story: what it wants before each turn of a relay, and what was reported to it.
 
 use crate::endpoint::tell_ran;
 use macs_config::Command;
@@ -18,7 +18,7 @@ enum Wish {
     End,
 }
 
-/// What it was told: of a submission its ticket or why it was not taken, and what became of the one
+/// What was reported to it: of a submission its ticket or why it was not taken, and what became of the one
 /// with this ticket.
 #[derive(Clone, Copy)]
 enum Told {
@@ -27,7 +27,7 @@ enum Told {
     Ended(u64, CommandEnd),
 }
 
-/// What it wants, in order, and what it was told. It claims nothing.
+/// What it wants, in order, and what was reported to it. It claims nothing.
 #[derive(Drop)]
 pub struct Orders {
     wishes: VecDeque<Wish>,
@@ -36,7 +36,7 @@ pub struct Orders {
     /// How often it was asked, and how often after a quiet turn.
     asked: u64,
     quiet: u64,
-    /// There was no memory for what it was told.
+    /// There was no memory for what was reported to it.
     is_cut: bool,
 }
 
@@ -167,7 +167,7 @@ fn tell_one(told: Told, answer: &mut Answer) {
     }
 }
 
-/// `told PLACE`: what the desk was told, by its place from 1 on.
+/// `told PLACE`: what was reported to the desk, by its place from 1 on.
 fn tell(words: &mut Words<'_>, orders: &Orders, answer: &mut Answer) -> Option<()> {
     let place = whole(words.number(), words)?;
     let place = usize::try_from(place.saturating_sub(1)).unwrap_or(usize::MAX);
@@ -178,7 +178,7 @@ fn tell(words: &mut Words<'_>, orders: &Orders, answer: &mut Answer) -> Option<(
     Some(())
 }
 
-/// How often the desk was asked, how often after a quiet turn, and how much it was told.
+/// How often the desk was asked, how often after a quiet turn, and how much was reported to it.
 fn tell_counts(orders: &Orders, answer: &mut Answer) {
     answer.word("asked");
     answer.number(orders.asked);

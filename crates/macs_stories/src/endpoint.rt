@@ -32,7 +32,7 @@ fn advanced(endpoint: &mut Played) -> Result<Step, StepFault> {
     endpoint.step()
 }
 
-/// Tells what became of a command.
+/// Reports what became of a command.
 pub fn tell_ran(told: Result<(), CommandFault>, answer: &mut Answer) {
     match told {
         Err(CommandFault::Refused(refusal)) => {
@@ -43,7 +43,7 @@ pub fn tell_ran(told: Result<(), CommandFault>, answer: &mut Answer) {
     }
 }
 
-/// Tells the ticket of a command that waits, or why it may not.
+/// Reports the ticket of a command that waits, or why it may not.
 pub fn tell_submitted(told: Result<Ticket, SubmitFault>, answer: &mut Answer) {
     match told {
         Ok(ticket) => answer.number(ticket.get()),
@@ -64,7 +64,7 @@ fn tell_progress(step: Step, answer: &mut Answer) {
     }
 }
 
-/// Tells what a step came to.
+/// Reports what a step came to.
 pub fn tell_step(told: Result<Step, StepFault>, answer: &mut Answer) {
     match told {
         Ok(step) => tell_progress(step, answer),
@@ -80,7 +80,7 @@ fn is_done(told: &Result<Step, StepFault>) -> bool {
     matches!(told, Ok(Step::Done(_, _)))
 }
 
-/// Steps until one is the last by this test, or fails, and tells how many came before, and the
+/// Steps until one is the last by this test, or fails, and reports how many came before, and the
 /// last.
 fn steps(endpoint: &mut Played, to_a_command: bool, answer: &mut Answer) {
     for made in 0..MOST_STEPS {
@@ -111,7 +111,7 @@ fn work(endpoint: &mut Played, words: Words<'_>, answer: &mut Answer) -> Option<
     Some(())
 }
 
-/// Gives a command, submits it, or tells whether it is in hand; `None` where there is none.
+/// Gives a command, submits it, or reports whether it is under way; `None` where there is none.
 fn command(endpoint: &mut Played, words: Words<'_>, answer: &mut Answer) -> Option<()> {
     let mut words = words;
     let name = words.take();
@@ -148,7 +148,7 @@ fn ask_next(endpoint: &Played, words: &mut Words<'_>, answer: &mut Answer) -> Op
     Some(())
 }
 
-/// Tells the next and the lowest acceptable number of a receive association.
+/// Reports the next and the lowest acceptable number of a receive association.
 fn ask_numbers(endpoint: &Played, words: &mut Words<'_>, answer: &mut Answer) -> Option<()> {
     let sci = sci_of(words)?;
     tell_numbers(endpoint.numbers(sci, an_of(words)?), answer);

@@ -1,4 +1,4 @@
-//! Command files: the text that stands behind an act, and the commands that it says.
+//! Command files: the text that is after an act, and the commands that it says.
 
 use crate::endpoint::{Played, give, tell_ran};
 use macs_config::Command;
@@ -27,7 +27,7 @@ fn read_text(text: &str, commands: &mut Vec<Command>, alloc: Global, answer: &mu
     }
 }
 
-/// `command-file`, and lines of text behind it.
+/// `command-file`, and lines of text after it.
 fn read_file(
     line: Line<'_>,
     commands: &mut Vec<Command>,

@@ -79,7 +79,7 @@ pub fn clear_octets(frame: &[u8]) -> u64 {
     count
 }
 
-/// What stands between the addresses and the SecTAG, 28 octets, and the ICV, 16 octets.
+/// What is between the addresses and the SecTAG, 28 octets, and the ICV, 16 octets.
 fn secure_data(frame: &[u8]) -> &[u8] {
     if frame.len() < 44 {
         return &[];

@@ -14,7 +14,7 @@ pub trait Life: Drop {
     /// Does the act that the words say. Whether there is such an act.
     fn act(&mut self, words: Words<'_>, tools: &mut Tools, answer: &mut Answer) -> bool;
 
-    /// The disk, as it stands.
+    /// The disk, as it is.
     fn into_disk(self) -> StoryDisk;
 }
 

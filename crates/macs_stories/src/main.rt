@@ -1,9 +1,9 @@
 //! Plays stories of an endpoint, of its store and of its journal, on a disk in memory: files of
-//! acts, each with the answer that is wanted. docs/STORIES.md says how one is written.
+//! acts, each with the expected answer. docs/STORIES.md says how one is written.
 //!
 //! Words: files of stories, and in front of them `--tell`, which prints each act with its answer,
 //! or `--file PATH`, which has each disk in a file of this path as well. Status 0: all answers are
-//! those that are wanted. 3: an answer is not; each of these is printed. 2: no words, a file that
+//! as expected. 3: an answer is not; each of these is printed. 2: no words, a file that
 //! is not read, no memory.
 #![tactic(auto)]
 

@@ -24,7 +24,7 @@ fn stale() -> FrameBuf {
     out
 }
 
-/// Tells the packet number of a frame that goes out, or the fault.
+/// Reports the packet number of a frame that goes out, or the fault.
 pub fn tell_protected(told: Result<Pn, ProtectFault>, answer: &mut Answer) {
     match told {
         Ok(number) => answer.number(u64::from(number.get())),
@@ -33,8 +33,8 @@ pub fn tell_protected(told: Result<Pn, ProtectFault>, answer: &mut Answer) {
     }
 }
 
-/// Protects a plain frame, and tells its number or the fault. A buffer that is not empty behind a
-/// fault is told.
+/// Protects a plain frame, and reports its number or the fault. A buffer that is not empty after a
+/// fault is reported.
 fn protect(endpoint: &mut Played, plain: &[u8], out: &mut FrameBuf, answer: &mut Answer) {
     let told = protected(endpoint, plain, out);
     let is_odd = told.is_ok() == out.is_empty();
@@ -44,7 +44,7 @@ fn protect(endpoint: &mut Played, plain: &[u8], out: &mut FrameBuf, answer: &mut
     }
 }
 
-/// Tells how a frame of sevens went out: its length, octets 3 and 4 of its SecTAG, and how many
+/// Reports how a frame of sevens went out: its length, octets 3 and 4 of its SecTAG, and how many
 /// octets of User Data are in the clear.
 fn tell_sealed(frame: &[u8], answer: &mut Answer) {
     if frame.len() < 16 {
@@ -55,7 +55,7 @@ fn tell_sealed(frame: &[u8], answer: &mut Answer) {
     answer.number(clear_octets(frame));
 }
 
-/// Tells a verdict in two words.
+/// Reports a verdict in two words.
 pub fn tell_verdict(verdict: Verdict, answer: &mut Answer) {
     match verdict {
         Verdict::Delivered(kind) => {
@@ -70,7 +70,7 @@ pub fn tell_verdict(verdict: Verdict, answer: &mut Answer) {
     }
 }
 
-/// Tells the verdict on a frame.
+/// Reports the verdict on a frame.
 pub fn tell_received(told: Result<Verdict, Stopped>, answer: &mut Answer) {
     match told {
         Ok(verdict) => tell_verdict(verdict, answer),
@@ -82,8 +82,8 @@ fn is_delivered(told: Result<Verdict, Stopped>) -> bool {
     matches!(told, Ok(Verdict::Delivered(_)))
 }
 
-/// Receives a frame, and tells the verdict. What is given is to be these octets where the frame is
-/// delivered, and else nothing: it is told where it is not.
+/// Receives a frame, and reports the verdict. What is given is to be these octets where the frame is
+/// delivered, and else nothing: it is reported where it is not.
 fn receive(endpoint: &mut Played, frame: &[u8], plain: &[u8], answer: &mut Answer) {
     let mut out = stale();
     let told = received(endpoint, frame, &mut out);
@@ -121,7 +121,7 @@ fn protect_octets(
     Some(())
 }
 
-/// `receive-hex HEX`: what is given is told.
+/// `receive-hex HEX`: what is given is reported.
 fn receive_octets(
     endpoint: &mut Played,
     words: &mut Words<'_>,

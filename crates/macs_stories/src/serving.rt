@@ -1,4 +1,4 @@
-//! Events that an endpoint serves: those that stand behind an act, and what was answered to each.
+//! Events that an endpoint serves: those that come after an act, and what was answered to each.
 
 ghost use Rattle.std.specs.Prelude.{false, []};
 
@@ -123,7 +123,7 @@ fn events_of(text: &str, line: Line<'_>, alloc: Global) -> Option<Events> {
     None
 }
 
-/// `events`, and lines of text behind it: these events wait, and nothing is answered yet.
+/// `events`, and lines of text after it: these events wait, and nothing is answered yet.
 fn wait(line: Line<'_>, service: &mut Service, alloc: Global, answer: &mut Answer) -> Option<()> {
     let text = line.behind.text(alloc)?;
     service.events = events_of(text.as_str(), line, alloc)?;
@@ -132,7 +132,7 @@ fn wait(line: Line<'_>, service: &mut Service, alloc: Global, answer: &mut Answe
     Some(())
 }
 
-/// Tells a reply; that to a frame with how many octets came for it.
+/// Reports a reply; that to a frame with how many octets came for it.
 fn tell_reply(reply: &Reply, answer: &mut Answer) {
     match reply {
         Reply::Submitted(told) => tell_submitted(*told, answer),
@@ -181,7 +181,7 @@ fn served(endpoint: &mut Played, service: &mut Service, turns: u64) -> ServeEnd 
     endpoint.serve(&mut service.events, &mut service.replies, turns)
 }
 
-/// Tells how serving ended, how often an event was asked for, and how many answers there are.
+/// Reports how serving ended, how often an event was asked for, and how many answers there are.
 fn tell_served(end: ServeEnd, service: &Service, answer: &mut Answer) {
     answer.name(&end);
     answer.number(service.events.asked);

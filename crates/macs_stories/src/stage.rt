@@ -48,7 +48,7 @@ impl<'a> Stage<'a> {
         None
     }
 
-    /// Compares the answer with what is wanted.
+    /// Compares the answer with what is expected.
     pub fn judge(&mut self, rt: &impl Print, line: Line<'_>) {
         self.report.judge(rt, line, &self.answer);
     }
@@ -91,7 +91,7 @@ fn fail(controls: &Controls, words: &mut Words<'_>, answer: &mut Answer) -> bool
     true
 }
 
-/// `never`; `N` for the call behind so many more; `N filled`; `N on`.
+/// `never`; `N` for the call after so many more; `N filled`; `N on`.
 fn fuse_of(words: &mut Words<'_>) -> Option<Fuse> {
     if words.rest() == "never" {
         return Some(Fuse::Whole);

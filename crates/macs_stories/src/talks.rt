@@ -1,4 +1,4 @@
-//! The clients of a story: what they do each time that a desk listens, and what they were told.
+//! The clients of a story: what they do each time that a desk listens, and what was said to them.
 
 use macs_requests::{Client, Clients, Heard, Line as Octets};
 use macs_story_text::{Answer, Line, Words, whole};
@@ -12,7 +12,7 @@ struct Told {
     text: String,
 }
 
-/// What clients do, a line for each time that the desk listens, and what they were told. It claims
+/// What clients do, a line for each time that the desk listens, and what was said to them. It claims
 /// nothing.
 #[derive(Drop)]
 pub struct Talks {

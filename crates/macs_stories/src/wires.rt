@@ -55,7 +55,7 @@ impl StoryWire {
         }
     }
 
-    /// A frame waits on the wire. The calls that fail are counted anew.
+    /// A frame waits on the wire. The calls that fail are counted from the start again.
     fn push(&mut self, alloc: Global, frame: &[u8]) -> Result<(), WireFault> {
         let front = replace(&mut self.front, front_of(MemWire::new(alloc), NEVER));
         let mut memory = front.into_inner().into_inner();
@@ -180,7 +180,7 @@ fn take(wire: &mut StoryWire, answer: &mut Answer) {
     tell_taken(told, into.as_slice(), answer);
 }
 
-/// Tells what was received; octets that are left where none are to be.
+/// Reports what was received; octets that are left where none are to be.
 fn tell_taken(told: Result<Got, WireFault>, into: &[u8], answer: &mut Answer) {
     match told {
         Ok(Got::Frame) => {
@@ -197,7 +197,7 @@ fn tell_taken(told: Result<Got, WireFault>, into: &[u8], answer: &mut Answer) {
     }
 }
 
-/// Keeps frames behind those that are kept. Whether there was memory.
+/// Keeps frames after those that are kept. Whether there was memory.
 fn keep(kept: &mut Vec<Vec<u8>>, frames: &[Vec<u8>], alloc: Global) -> bool {
     for frame in frames {
         if !keep_one(kept, frame.as_slice(), alloc) {
@@ -387,7 +387,7 @@ fn served(
     told
 }
 
-/// Frames pass between the wires through an endpoint, and the sleeps between are told.
+/// Frames pass between the wires through an endpoint, and the sleeps between are reported.
 fn rest_and_tell(endpoint: &mut Played, wires: &mut Wires, turns: u64, answer: &mut Answer) {
     let mut idle = Sleeper { slept: 0 };
     tell_relayed(rested(endpoint, wires, turns, &mut idle), answer);
