@@ -1,4 +1,4 @@
-//! The operator's commands, in the words of command files; their keys stand in the order of
+//! The operator's commands, in the words of command files; their keys are in the order of
 //! OPERATIONS.md, without names.
 
 use crate::names::{an_of, key_of, sci_of};
@@ -108,7 +108,7 @@ fn tx_install_of(words: &mut Words<'_>) -> Option<Command> {
     })
 }
 
-/// Whether User Data are encrypted, and behind how many octets: all of them where nothing is said.
+/// Whether User Data are encrypted, and after how many octets: all of them where nothing is said.
 fn hiding_of(words: &mut Words<'_>) -> Option<(bool, u8)> {
     if words.is_empty() {
         return Some((true, 0));
@@ -144,7 +144,7 @@ fn rx_remove_of(words: &mut Words<'_>) -> Option<Command> {
     })
 }
 
-/// Tells a command in the words that say it; the offset always, behind `clear` where nothing is
+/// Reports a command in the words that say it; the offset always, after `clear` where nothing is
 /// encrypted.
 pub fn tell_command(command: Command, answer: &mut Answer) {
     match command {

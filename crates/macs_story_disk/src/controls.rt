@@ -7,11 +7,11 @@ use std::cell::Cell;
 pub enum Fuse {
     /// None.
     Whole,
-    /// The one behind so many; it does not reach the disk.
+    /// The one after so many; it does not reach the disk.
     Once(u64),
     /// The same, but that a write leaves octets ff.
     Filled(u64),
-    /// Each one behind so many.
+    /// Each one after so many.
     Each(u64),
 }
 
@@ -63,7 +63,7 @@ impl Controls {
     }
 }
 
-/// The fuse behind one more call.
+/// The fuse after one more call.
 fn after(fuse: Fuse) -> Fuse {
     match fuse {
         Fuse::Whole => Fuse::Whole,

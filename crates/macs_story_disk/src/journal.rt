@@ -14,7 +14,7 @@ use macs_story_text::{Answer, Words};
 
 type Played = Journal<StoryDisk>;
 
-/// What is answered where a call asks for a journal with nothing in hand, or with a free slot.
+/// What is answered where a call asks for a journal with nothing under way, or with a free slot.
 const NOT_NOW: &str = "not now";
 
 /// A journal, with what an opening found.
@@ -59,7 +59,7 @@ impl JournalLife {
             || ask_record(self, words, answer).is_some()
     }
 
-    /// The disk, as it stands.
+    /// The disk, as it is.
     pub fn into_disk(self) -> StoryDisk {
         let JournalLife { journal, .. } = self;
         journal.into_disk()
@@ -92,7 +92,7 @@ fn fits(journal: &Played, work: &Work) -> bool
     }
 }
 
-/// Takes work in hand.
+/// Starts work.
 fn start(journal: &mut Played, work: &Work, answer: &mut Answer) {
     if journal.is_idle() && fits(journal, work) {
         answer.done(journal.start(work));

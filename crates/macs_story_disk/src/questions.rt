@@ -5,7 +5,7 @@ use macs_config::{Config, Identity, Protection, RxSa, TxSa};
 use macs_fields::{An, Offset};
 use macs_story_text::{Answer, Words, whole};
 
-/// Tells an SCI, and the blocks of either side.
+/// Reports an SCI, and the blocks of either side.
 pub fn tell_identity(identity: Identity, answer: &mut Answer) {
     answer.octets(&identity.sci().get());
     answer.number(u64::from(identity.tx_block()));
@@ -20,7 +20,7 @@ fn tell_encoding(encoding: Option<An>, answer: &mut Answer) {
 }
 
 /// Validation, replay protection and its window, the SCI mode, the encoding association, and how
-/// many channels stand.
+/// many channels exist.
 fn tell_settings(config: &Config, answer: &mut Answer) {
     answer.name(&config.validate());
     answer.word(if config.replay().on { "on" } else { "off" });

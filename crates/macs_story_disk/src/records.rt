@@ -180,7 +180,7 @@ fn listed(words: Words<'_>) -> Option<Records> {
     None
 }
 
-/// Tells a record in one word: `settings` for those of a new journal, a window by its number,
+/// Reports a record in one word: `settings` for those of a new journal, a window by its number,
 /// others by their kind.
 pub fn tell_record(record: &Record, answer: &mut Answer) {
     match record {
@@ -199,7 +199,7 @@ fn tell_kind(record: &Record, answer: &mut Answer) {
     answer.number(u64::from(record.kind().number()));
 }
 
-/// Tells records, each in a word.
+/// Reports records, each in a word.
 pub fn tell_records(records: &[Record], answer: &mut Answer) {
     for record in records {
         tell_record(record, answer);

@@ -35,7 +35,7 @@ fn with_front(mut sector: Sector, front: &[u8]) -> Sector {
     sector
 }
 
-/// The first half of the last write, and what is durable behind it.
+/// The first half of the last write, and what is durable after it.
 fn half(disk: &mut MemDisk, at: u64) -> Sector {
     let last = read(disk, at);
     let (front, _) = last.split_at(SECTOR / 2);
@@ -57,7 +57,7 @@ fn head_of(format: Format, words: &mut Words<'_>) -> Option<Sector> {
     Some(encode_head(&Head::new(format, generation, count, identity)?))
 }
 
-/// Octets in hex, and behind them `zeros`, also where nothing is said, or `ones`.
+/// Octets in hex, and after them `zeros`, also where nothing is said, or `ones`.
 fn front_of(word: &str, words: &mut Words<'_>, alloc: Global) -> Option<Sector> {
     let front = hex::decode(alloc, word).ok()?;
     let fill = match words.take() {
@@ -108,7 +108,7 @@ pub fn tear(disk: &mut MemDisk, at: u64, sector: &Sector) -> bool {
     at < disk.sectors() && disk.tear(at, sector)
 }
 
-/// Whether a sector is pending; not where it does not stand.
+/// Whether a sector is pending; not where it does not exist.
 pub fn is_pending(disk: &MemDisk, at: u64) -> bool {
     at < disk.sectors() && disk.is_pending(at)
 }
@@ -149,7 +149,7 @@ fn choose(disk: &mut MemDisk, at: u64, words: Words<'_>, alloc: Global) -> bool 
     }
 }
 
-/// Writes a sector. `DeviceFault` where it does not stand.
+/// Writes a sector. `DeviceFault` where it does not exist.
 pub fn write(disk: &mut MemDisk, at: u64, sector: &Sector) -> Result<(), DeviceFault> {
     if at >= disk.sectors() {
         return Err(DeviceFault);
@@ -168,7 +168,7 @@ fn front(sector: &Sector, last: u8) -> usize {
     octets
 }
 
-/// Tells the octets of a sector, but for those that are the same up to its end; these too where
+/// Reports the octets of a sector, but for those that are the same up to its end; these too where
 /// they are no zeros.
 pub fn tell_sector(disk: &mut MemDisk, at: u64, answer: &mut Answer) {
     let sector = read(disk, at);

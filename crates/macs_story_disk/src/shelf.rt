@@ -90,7 +90,7 @@ fn tell_contents(disk: &mut MemDisk, words: &mut Words<'_>, answer: &mut Answer)
     Some(())
 }
 
-/// Tells what stands on the disk.
+/// Reports what is on the disk.
 fn look(disk: &mut MemDisk, words: Words<'_>, answer: &mut Answer) -> Option<()> {
     let mut words = words;
     let told = match words.take() {

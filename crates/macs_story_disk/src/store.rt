@@ -16,7 +16,7 @@ type Played = Store<StoryDisk>;
 /// The end of the packet numbers.
 const END: u64 = 4_294_967_296;
 
-/// What is answered where a call asks for a store with nothing in hand, or for a ceiling that can
+/// What is answered where a call asks for a store with nothing under way, or for a ceiling that can
 /// rise.
 const NOT_NOW: &str = "not now";
 
@@ -30,7 +30,7 @@ fn tell_commit(told: Result<(), CommitFault>, answer: &mut Answer) {
     }
 }
 
-/// Tells how far a step came.
+/// Reports how far a step came.
 pub fn tell_step(told: Result<JournalStep, JournalFault>, answer: &mut Answer) {
     match told {
         Ok(JournalStep::Idle) => answer.word("idle"),
@@ -56,7 +56,7 @@ fn start_commit(store: &mut Played, command: &Command, answer: &mut Answer) {
     }
 }
 
-/// Gives a command to be kept, or takes it in hand; `None` where the words say none.
+/// Gives a command to be kept, or starts it; `None` where the words say none.
 fn command(store: &mut Played, words: Words<'_>, answer: &mut Answer) -> Option<()> {
     let mut words = words;
     let name = words.take();
@@ -132,7 +132,7 @@ fn beyond_of(words: &mut Words<'_>) -> Option<Beyond> {
     Some(Beyond { sci, an, pn })
 }
 
-/// Makes a reservation, or takes it in hand; `None` where the words say none.
+/// Makes a reservation, or starts it; `None` where the words say none.
 fn reserve(store: &mut Played, words: Words<'_>, answer: &mut Answer) -> Option<()> {
     let mut words = words;
     match words.take() {
