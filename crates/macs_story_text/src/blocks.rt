@@ -19,7 +19,7 @@ pub enum BlockKind {
     Setup,
 }
 
-/// A story or a setup: its lines stand below its head, up to the next head.
+/// A story or a setup: its lines are below its head, up to the next head.
 #[derive(Clone, Copy)]
 pub struct Block<'a> {
     pub kind: BlockKind,
@@ -36,7 +36,7 @@ impl<'a> Place<'a> {
         }
     }
 
-    /// The next line without its comment, and the place behind it.
+    /// The next line without its comment, and the place after it.
     pub fn line(self) -> Option<(&'a str, Place<'a>)> {
         if self.rest.is_empty() {
             return None;
@@ -47,7 +47,7 @@ impl<'a> Place<'a> {
         Some((line.trim(), Place { rest, number }))
     }
 
-    /// The next line, where it begins with `|`: what stands behind that.
+    /// The next line, where it begins with `|`: what is after that.
     fn text_line(self) -> Option<(&'a str, Place<'a>)> {
         let (line, rest) = parts(self.rest, '\n');
         let text = line.strip_prefix('|')?;
@@ -109,7 +109,7 @@ impl<'a> Place<'a> {
     }
 }
 
-/// What stands before a mark, and behind it.
+/// What is before a mark, and after it.
 fn parts(text: &str, mark: char) -> (&str, &str) {
     match text.split_once(mark) {
         Some((before, behind)) => (before, behind),
@@ -140,7 +140,7 @@ pub fn setup_of<'a>(text: &'a str, name: &str, values: Values<'_>) -> Option<Pla
     None
 }
 
-/// The row of this word, `with` or `and`, behind so many others; one that is empty where there is
+/// The row of this word, `with` or `and`, after so many others; one that is empty where there is
 /// none at all.
 fn row_at<'a>(body: Place<'a>, word: &str, behind: u64) -> Option<&'a str> {
     let mut place = body;

@@ -1,4 +1,4 @@
-//! Captures: the octets that stand behind an act, and those that are written.
+//! Captures: the octets that come after an act, and those that are written.
 
 use crate::answer::Answer;
 use crate::frames::{filled, octets_of, tell_frame, tell_number};
@@ -11,10 +11,10 @@ const HEADER: [u8; 24] = [
     0xa1, 0xb2, 0x3c, 0x4d, 0, 2, 0, 4, 0, 0, 0, 0, 0, 0, 0, 0, 0, 0, 0xff, 0xff, 0, 0, 0, 1,
 ];
 
-/// How many octets stand before the first record.
+/// How many octets come before the first record.
 const FRONT: usize = 24;
 
-/// How many octets stand before the frame of a record.
+/// How many octets come before the frame of a record.
 const RECORD: usize = 16;
 
 /// The capture that is read next, and the one that was written last.
@@ -75,7 +75,7 @@ fn capture_of(text: &str, line: Line<'_>, alloc: Global) -> Option<Vec<u8>> {
     None
 }
 
-/// `capture`, and lines of text behind it.
+/// `capture`, and lines of text after it.
 fn begin(
     line: Line<'_>,
     captures: &mut Captures,
@@ -101,7 +101,7 @@ fn part(octets: &[u8], from: usize, length: usize) -> &[u8] {
     octets.get(from..end).unwrap_or(&[])
 }
 
-/// The length in the header of the record that stands here.
+/// The length in the header of the record that is here.
 fn length_at(octets: &[u8], at: usize) -> Option<usize> {
     let length = octets.get(at.saturating_add(8)..at.saturating_add(12))?;
     if length.len() < 4 {
@@ -141,7 +141,7 @@ fn tell_record(octets: &[u8], act: &str, place: u64, answer: &mut Answer) -> Opt
     Some(())
 }
 
-/// Tells what was written: how many octets; some of them; what a record is.
+/// Reports what was written: how many octets; some of them; what a record is.
 fn look(words: Words<'_>, octets: &[u8], answer: &mut Answer) -> Option<()> {
     let mut words = words;
     let act = words.take();

@@ -34,7 +34,7 @@ fn is_filled(frame: &[u8], octet: u8) -> bool {
     true
 }
 
-/// Tells a frame: its length, and the octet that it is full of, else its octets in hex.
+/// Reports a frame: its length, and the octet that it is full of, else its octets in hex.
 pub fn tell_frame(frame: &[u8], answer: &mut Answer) {
     answer.number(frame.len() as u64);
     let Some(octet) = frame.first() else {
@@ -56,7 +56,7 @@ fn packet_number(frame: &[u8]) -> Option<u32> {
     Some(u32::from_be_bytes([octets[0], octets[1], octets[2], octets[3]]))
 }
 
-/// Tells the packet number of a frame; `-` for a frame without one.
+/// Reports the packet number of a frame; `-` for a frame without one.
 pub fn tell_number(frame: &[u8], answer: &mut Answer) {
     match packet_number(frame) {
         Some(number) => answer.number(u64::from(number)),

@@ -5,7 +5,7 @@ use crate::script::Line;
 use crate::values::{Row, Values};
 use crate::words::is_wanted;
 
-/// What is told of the acts.
+/// What is reported of the acts.
 #[derive(Clone, Copy, PartialEq, Eq)]
 pub enum Telling {
     /// Those that did not come to what was wanted.
@@ -50,7 +50,7 @@ impl<'a> Report<'a> {
         }
     }
 
-    /// Counts a story, and tells its name where each act is told.
+    /// Counts a story, and reports its name where each act is reported.
     pub fn begin_story(&mut self, rt: &impl Print, name: &'a str) {
         self.counts.stories = self.counts.stories.saturating_add(1);
         self.story = name;
@@ -76,7 +76,7 @@ impl<'a> Report<'a> {
         self.note(is_told);
     }
 
-    /// A line that stands in front of the first story.
+    /// A line that is in front of the first story.
     pub fn stray(&mut self, rt: &impl Print, line: &str, number: u64) {
         self.counts.wrong = self.counts.wrong.saturating_add(1);
         let file = self.file;
@@ -98,13 +98,13 @@ impl<'a> Report<'a> {
         }
     }
 
-    /// Tells the counts. Whether nothing was wrong, and all that was to be told could be printed.
+    /// Reports the counts. Whether nothing was wrong, and all that was to be reported could be printed.
     pub fn close(&self, rt: &impl Print) -> bool {
         tell_counts(rt, self.file, self.counts) && !self.is_silent && self.counts.wrong == 0
     }
 }
 
-/// An act with its answer, as it stands in a story.
+/// An act with its answer, as it is in a story.
 fn tell_act(rt: &impl Print, line: Line<'_>, answer: &str, is_right: bool) -> bool {
     let act = line.act;
     let wrong = if is_right { "" } else { "    # wrong" };

@@ -8,7 +8,7 @@ use arrayvec::ArrayVec;
 /// How deep setups may use setups.
 const DEPTH: usize = 4;
 
-/// An act, with the answer that is wanted.
+/// An act, with the expected answer.
 #[derive(Clone, Copy)]
 pub struct Line<'a> {
     pub number: u64,
@@ -17,7 +17,7 @@ pub struct Line<'a> {
     /// The answer is to be another one.
     pub is_not: bool,
     pub values: Values<'a>,
-    /// Where its text stands, if it has one.
+    /// Where its text is, if it has one.
     pub behind: Place<'a>,
 }
 
@@ -66,7 +66,7 @@ fn begun(place: Place<'_>, outer: u64) -> Reading<'_> {
 }
 
 impl<'a> Script<'a> {
-    /// A play of a story that stands in this text.
+    /// A play of a story that is in this text.
     pub fn new(text: &'a str, body: Place<'a>, play: Play<'a>) -> Script<'a> {
         Script {
             text,
@@ -76,7 +76,7 @@ impl<'a> Script<'a> {
         }
     }
 
-    /// The next act; `None` behind the last. A setup that does not stand, or is used too deep, is
+    /// The next act; `None` after the last. A setup that does not exist, or is used too deep, is
     /// an act.
     pub fn take(&mut self) -> Option<Line<'a>> {
         for _ in 0..u64::MAX {
@@ -123,7 +123,7 @@ impl<'a> Script<'a> {
         }
     }
 
-    /// Reads on in a setup. Whether it stands.
+    /// Reads on in a setup. Whether this can be done.
     fn enter(&mut self, name: &str, values: Values<'a>) -> bool {
         let Some(place) = setup_of(self.text, name, values) else {
             return false;
@@ -190,7 +190,7 @@ impl<'a> Script<'a> {
     }
 }
 
-/// What stands before a mark, and behind it.
+/// What is before a mark, and after it.
 fn parts(text: &str, mark: char) -> (&str, &str) {
     match text.split_once(mark) {
         Some((before, behind)) => (before.trim(), behind.trim_start()),

@@ -6,7 +6,7 @@ use crate::values::{Values, first_word};
 #[derive(Clone, Copy)]
 pub struct Words<'a> {
     rest: &'a str,
-    /// What is left of the value of a name, in which commas stand between words.
+    /// What is left of the value of a name, in which there are commas between words.
     value: &'a str,
     values: Values<'a>,
 }
@@ -21,7 +21,7 @@ impl<'a> Words<'a> {
         }
     }
 
-    /// The next word as it stands; an empty one behind the last. A name that stands for several
+    /// The next word as it is; an empty one after the last. A name that stands for several
     /// words gives these.
     fn raw(&mut self) -> &'a str {
         if self.value.is_empty() {
@@ -38,7 +38,7 @@ impl<'a> Words<'a> {
         word
     }
 
-    /// The next word, with a name's value for the name; an empty one behind the last.
+    /// The next word, with a name's value for the name; an empty one after the last.
     pub fn take(&mut self) -> &'a str {
         let word = self.raw();
         self.values.text_of(word)
@@ -131,7 +131,7 @@ fn hex_number(word: &str) -> Option<u128> {
     Some(number)
 }
 
-/// Whether an answer has the words that are wanted, where `*` stands for all that is left.
+/// Whether an answer has the expected words, where `*` stands for all that is left.
 pub fn is_wanted(answer: &str, wanted: &str, values: Values<'_>) -> bool {
     let mut answer = Words::new(answer, values);
     let mut wanted = Words::new(wanted, values);
@@ -150,7 +150,7 @@ pub fn is_wanted(answer: &str, wanted: &str, values: Values<'_>) -> bool {
     false
 }
 
-/// Whether the next word of an answer is what is wanted: this word, a sum, or what a name stands for.
+/// Whether the next word of an answer is what is expected: this word, a sum, or what a name stands for.
 fn is_next(answer: &mut Words<'_>, wanted: &str, values: Values<'_>) -> bool {
     let given = answer.raw();
     if !wanted.contains('$') && !wanted.contains('+') {
