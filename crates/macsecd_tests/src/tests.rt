@@ -96,7 +96,7 @@ impl Outcome {
 /// The frame under integrity is opened.
 const OPENED: Outcome = Outcome::Done(INTEGRITY_LINE);
 
-/// Runs the program. What is proved of a run stays behind: the tests look at what it does.
+/// Runs the program. What is proved of a run is left out: the tests look at what it does.
 fn status_of<T: Files + Net + Clock + Env + RandomSource, R: Read, W: Write, E: Write>(
     system: &T,
     alloc: Global,
@@ -189,7 +189,7 @@ fn printed(
     out
 }
 
-/// The texts, one behind the other.
+/// The texts, one after another.
 fn joined(alloc: Global, texts: &[&str]) -> Result<String, AllocError> {
     let mut whole = String::new(alloc);
     for text in texts {
@@ -198,7 +198,7 @@ fn joined(alloc: Global, texts: &[&str]) -> Result<String, AllocError> {
     Ok(whole)
 }
 
-/// Opens an input of these texts, one behind the other, and asserts the whole outcome.
+/// Opens an input of these texts, one after another, and asserts the whole outcome.
 fn expect_texts(
     rt: &(impl Abort + Files<File = File> + Net + Clock + Env + RandomSource),
     alloc: Global,
@@ -213,7 +213,7 @@ fn expect_texts(
 /// A key, an SCI, an offset and a frame, and what opens them.
 type FourLines = ([&'static str; 4], Outcome);
 
-/// Opens an input of these four lines, each with its end, and of what is behind them.
+/// Opens an input of these four lines, each with its end, and of what is after them.
 fn expect_lines_and(
     rt: &(impl Abort + Files<File = File> + Net + Clock + Env + RandomSource),
     alloc: Global,

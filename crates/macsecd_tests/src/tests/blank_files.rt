@@ -133,7 +133,7 @@ const FORMAT_NEW: &[&str] = &["format", NEW_FILE, "12153524c0895e81", "4", "4"];
 /// A file in another folder than its name.
 const FORMAT_LINKED: &[&str] = &["format", "story-folder/link", "12153524c0895e81", "4", "4"];
 
-/// The folder that holds the file is synced before the journal is written, also behind a symbolic
+/// The folder that holds the file is synced before the journal is written, also through a symbolic
 /// link.
 const FOLDERS: &[Step] = &[
     Failing("story-folder", FolderSync, FORMAT_NEW, NO_FILE),

@@ -46,7 +46,7 @@ start = 1
 offset = 0
 ";
 
-/// The blocks are of 4 numbers: the first frame had 5 to 8 reserved, and the next opening begins behind them.
+/// The blocks are of 4 numbers: the first frame had 5 to 8 reserved, and the next opening begins after them.
 const SENDER_SHOWN: Outcome = Outcome::Done(
     "sci 12153524c0895e81
 blocks tx 4 rx 4

@@ -56,9 +56,9 @@ spent tx 1 rx 0
 ",
 );
 
-/// A format syncs and reads anew before it looks, and writes its zeros before the journal: 129
-/// times, and as much in the file of a cut one. An opening syncs once, reads anew and reads; each
-/// command writes twice and syncs behind each write.
+/// A format syncs and reads again before it looks, and writes its zeros before the journal: 129
+/// times, and as much in the file of a cut one. An opening syncs once, reads again and reads; each
+/// command writes twice and syncs after each write.
 const DISKS: &[Step] = &[
     Failing(DISK, NOT_READ, FORMAT, DISK_FAULT),
     Failing(DISK, NOT_READ, FORMAT, DISK_FAULT),

@@ -16,7 +16,7 @@ const OFFSET_FAULT: Outcome = Outcome::Fault("macsecd: offset\n");
 
 const FRAME_FAULT: Outcome = Outcome::Fault("macsecd: frame\n");
 
-/// Inputs of texts that stand one behind the other, and what they come to.
+/// Inputs of texts, one after another, and what they come to.
 const INPUTS: &[(&[&str], Outcome)] = &[
     // Lines however they end.
     (&[KEY, "\n", SCI, "\n0\n", INTEGRITY], OPENED),
@@ -126,7 +126,7 @@ fn refuses_each_wrong_line(rt: HostRuntime) -> Result<(), Fail> {
     expect_openings(&rt, rt.alloc(), WRONG_LINES)
 }
 
-/// Every choice of wrong lines: of two and more faults the first is told.
+/// Every choice of wrong lines: of two and more faults the first is reported.
 const SEVERAL_WRONG_LINES: &[FourLines] = &[
     ([KEY, SCI, "0", "f"], FRAME_FAULT),
     ([KEY, SCI, "o", INTEGRITY], OFFSET_FAULT),

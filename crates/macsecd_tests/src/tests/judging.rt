@@ -41,7 +41,7 @@ const JUDGED: &[Step] = &[
         Outcome::Done("1 ok\n2 no-tag\n3 late\n4 not-valid\n5 runt\ndelivered 1 discarded 4\n"),
     ),
     Holds(OUT, DELIVERED),
-    // The next opening begins behind the numbers that were reserved.
+    // The next opening begins after the numbers that were reserved.
     Run(
         &["validate", "--all", "--each", DISK, "story-each/mixed", OUT],
         Outcome::Refused("1 late\n2 no-tag\n3 late\n4 late\n5 runt\ndelivered 0 discarded 5\n"),

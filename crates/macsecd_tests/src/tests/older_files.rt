@@ -9,7 +9,7 @@ use std::test::Fail;
 const HEAD: &str =
     "4d534543484541440000000100000000000000010000000112153524c0895e810000000400000004";
 
-/// That of a journal that has begun anew as often as may be.
+/// That of a journal that has started over as often as may be.
 const LAST_HEAD: &str =
     "4d5345434845414400000001ffffffffffffffff0000000112153524c0895e810000000400000004";
 
@@ -73,7 +73,7 @@ const DISK: &str = "story-older/disk";
 
 const SHOW: &[&str] = &["show", DISK];
 
-/// `format` leaves the file as it is. An opening syncs it; then the journal begins anew: a sync, a head and three
+/// `format` leaves the file as it is. An opening syncs it; then the journal starts over: a sync, a head and three
 /// records, a sync, a gate and a sync. From the gate on it is of format two, and a `show` writes nothing.
 const BEGUN_ANEW: &[Step] = &[
     Zeros(DISK, 526_336),
@@ -140,7 +140,7 @@ const LAST: &str = "story-older-last/disk";
 
 const SPENT: Outcome = Outcome::Disk("macsecd: generations spent\n");
 
-/// It cannot begin anew, and is left as it is; but a record that is none is seen first.
+/// It cannot start over, and is left as it is; but a record that is none is seen first.
 const LAST_GENERATION: &[Step] = &[
     Zeros(LAST, 526_336),
     Patch(LAST, 0, LAST_HEAD),

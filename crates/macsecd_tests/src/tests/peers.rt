@@ -1,4 +1,4 @@
-//! The peers of two wires: a frame of theirs waits at each wire as soon as it is bound, behind what strangers sent or not.
+//! The peers of two wires: a frame of theirs waits at each wire as soon as it is bound, after what strangers sent or not.
 
 use std::alloc::Global;
 use std::cell::Cell;
@@ -60,7 +60,7 @@ pub struct Peers {
 }
 
 impl Peers {
-    /// Peers that send these frames, each behind so many datagrams of a stranger.
+    /// Peers that send these frames, each after so many datagrams of a stranger.
     pub fn new(
         net: &impl Net,
         first: Vec<u8>,
@@ -76,7 +76,7 @@ impl Peers {
         })
     }
 
-    /// Sends what is to wait at the wire of a peer: the frame, behind what a stranger sends.
+    /// Sends what is to wait at the wire of a peer: the frame, after what a stranger sends.
     fn send(&self, peer: &Peer, wire: SocketAddr) -> io::Result<()> {
         if peer.frame.is_empty() {
             return Ok(());

@@ -38,7 +38,7 @@ const SYMBOLIC: &str = "story-slips/symbolic";
 
 const FILES: &[&str] = &[DISK, OTHER, FILE, IN];
 
-/// The numbers begin behind those that the first run reserved: no slip used one.
+/// The numbers begin after those that the first run reserved: no slip used one.
 const SHOWN: Outcome = Outcome::Done(
     "sci 12153524c0895e81
 blocks tx 4 rx 4

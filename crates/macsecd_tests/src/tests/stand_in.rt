@@ -35,7 +35,7 @@ pub enum Broken {
     Flush,
     /// This sync of its octets.
     Sync(u32),
-    /// Each reading anew.
+    /// Each rereading.
     Reread,
     /// Each sync of the folder that it is.
     Folder,

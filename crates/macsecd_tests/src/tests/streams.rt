@@ -267,7 +267,7 @@ fn status_alone(
     status
 }
 
-/// Where standard error fails too, the status still tells.
+/// Where standard error fails too, the status still reports it.
 #[test]
 fn the_status_tells_without_standard_error(rt: HostRuntime) {
     assert_eq!(rt; status_alone(&rt, rt.alloc(), &["frobnicate"]), 2);

@@ -88,7 +88,7 @@ const OTHER_WORDS: &[Row] = &[
     ),
 ];
 
-/// The words come first: the input, which is wrong too, is not told.
+/// The words come first: the input, which is wrong too, is not reported.
 #[test]
 fn refuses_other_words(rt: HostRuntime) {
     expect_each(&rt, rt.alloc(), OTHER_WORDS);
@@ -310,14 +310,14 @@ const WORDS_WITH_OPTIONS: &[Row] = &[
     ),
 ];
 
-/// No subcommand has another option than its own, and help is asked for right behind its name
+/// No subcommand has another option than its own, and help is asked for right after its name
 /// alone.
 #[test]
 fn refuses_options(rt: HostRuntime) {
     expect_each(&rt, rt.alloc(), WORDS_WITH_OPTIONS);
 }
 
-/// The numbers of `format` are in decimal digits, also those behind `--`, where a hyphen is taken.
+/// The numbers of `format` are in decimal digits, also those after `--`, where a hyphen is taken.
 const NO_NUMBERS: &[Row] = &[
     (
         &["format", "d", "s", "-1", "16"],
@@ -638,12 +638,12 @@ fn takes_what_a_relay_serves(rt: HostRuntime) {
     }
 }
 
-/// Whether these are the parts that are wanted.
+/// Whether these are the expected parts.
 fn is_named(wanted: &Parts<'_>, name: &str, words: [&str; 5], numbers: [u64; 2]) -> bool {
     wanted.0 == name && wanted.1 == words && wanted.2 == numbers
 }
 
-/// Whether an action has the parts that are wanted.
+/// Whether an action has the expected parts.
 fn is_of(action: Action<'_>, wanted: &Parts<'_>) -> bool {
     match action {
         Action::Open => is_named(wanted, "open", ["", "", "", "", ""], [0, 0]),
@@ -776,7 +776,7 @@ fn pace_parts(pace: Pace) -> (&'static str, [u64; 2]) {
     }
 }
 
-/// The action that the words name. What is proved of it stays behind.
+/// The action that the words name. What is proved of it is left out.
 fn named<'a>(alloc: Global, words: &'a [&'a str]) -> Option<Action<'a>> {
     action_of(alloc, words).ok()
 }
