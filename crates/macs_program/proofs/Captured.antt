@@ -1,4 +1,4 @@
--- A sink that was flushed, or was not, behind a run.
+-- A sink that was flushed, or was not, after a run.
 use Rattle.std.proofs.Common.{◌≡◌, ◌⊎◌, true, List, Result, Ok, Err, OnErr, OnOk, inl, inr, subst}
 use Rattle.std.specs.Io.KnownBytes.{Keeps}
 use Rattle.macs_disk.specs.Disk.{Disk}

@@ -1,4 +1,4 @@
--- The status of a run that failed, and what it tells of the words.
+-- The status of a run that failed, and what it reports of the words.
 use Rattle.std.proofs.Common.{◌≡◌, ◌≢◌, ◌⊎◌, inl, inr, ap, sym, ◌∙◌, Bool, true, false, Result, Err, IfErr, refl, subst}
 use Rattle.macs_edge.specs.declared.passing.RunFault.{RunFault}
 use Rattle.macs_edge.specs.declared.passing.RunFault.TheVariants.{Device, Pcap}

@@ -1,4 +1,4 @@
--- What stands at places of a file that are looked at one after the other.
+-- What is at places of a file that are looked at one after the other.
 use Rattle.std.proofs.Common.{◌≡◌, ◌⊎◌, ◌↔◌, inl, inr, ℕ, zero, suc, Bool, true, false, IsTrue, arith, subst, sym}
 use Rattle.macs_disk.specs.Files.{Behaves, FileState, IsSure}
 use Rattle.macs_journal.specs.Areas.{IsArea}

@@ -95,7 +95,7 @@ behind-no-usage (failures.CommandFile cause) is = absurd is
 behind-no-usage failures.Commands is = absurd is
 behind-no-usage (failures.Input fault) is = absurd is
 
--- where the addresses are ones, and what fails comes behind them, no fault of an address is told, and none is there
+-- where the addresses are ones, and what fails comes after them, no fault of an address is reported, and none is there
 no-address : {T U : Type 0} (Holds : AddressFault → Type 0) (order : List AddressFault) (before : Result T AddressFault) (value : T)
     (after : Result U Failure) → before ≡ Ok value → IfErr after IsAfterAddresses
     → ((fault : AddressFault) → (before ≡ Err fault) ↔ IsFirst Holds order fault)

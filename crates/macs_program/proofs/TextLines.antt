@@ -98,7 +98,7 @@ cuts-octet octet rest within below = go (is_feed octet) refl
         let next : suc (count rest) + 1 ≡ suc (count rest + 1) = omega arith in
         rw (lines-other octet rest e, n, next, below (omega (arith, n))) refl
 
--- up to the first line feed is the first line, and behind it are the others
+-- up to the first line feed is the first line, and after it are the others
 pub lines-at_feed : (text : List ℕ) → count text < length text → CutsAtFeed text
 lines-at_feed [] h = absurd (omega arith)
 lines-at_feed (octet ∷ rest) h = cuts-octet octet rest h (lines-at_feed rest)
@@ -125,7 +125,7 @@ lines-no_feed (octet ∷ rest) some none = one_line-octet octet rest none (lines
 
 -- ---- at the first line feed, as it is searched for
 
--- where there is one, the lines are the first and those of what is behind it
+-- where there is one, the lines are the first and those of what is after it
 pub lines-cut : (text : List ℕ) (end : ℕ) → position is_feed text ≡ Some end
     → lines text ≡ take end text ∷ lines (take (length text - (end + 1)) (drop (end + 1) text))
 lines-cut text end found = go (nat_lt (count text) (length text)) refl found
@@ -159,13 +159,13 @@ length-lines text some = go (position is_feed text) refl
 
 -- ---- four lines
 
--- a text has so many lines more than what is behind its first four
+-- a text has so many lines more than what is after its first four
 length-cut : (text second third fourth rest a b d e : List ℕ) → lines text ≡ a ∷ lines second → lines second ≡ b ∷ lines third
     → lines third ≡ d ∷ lines fourth → lines fourth ≡ e ∷ lines rest → length (lines text) ≡ 4 + length (lines rest)
 length-cut text second third fourth rest a b d e one two three four =
     omega (arith, ap length one, ap length two, ap length three, ap length four)
 
--- a text with something behind its first four lines has more
+-- a text with something after its first four lines has more
 pub more_than_four : (text second third fourth rest a b d e : List ℕ) → lines text ≡ a ∷ lines second → lines second ≡ b ∷ lines third
     → lines third ≡ d ∷ lines fourth → lines fourth ≡ e ∷ lines rest → 0 < length rest → length (lines text) ≢ 4
 more_than_four text second third fourth rest a b d e one two three four some =
@@ -173,7 +173,7 @@ more_than_four text second third fourth rest a b d e one two three four some =
     let all = length-cut text second third fourth rest a b d e one two three four in
     λ is. omega (arith, is)
 
--- a text with nothing behind its first four lines has four
+-- a text with nothing after its first four lines has four
 pub exactly_four : (text second third fourth rest a b d e : List ℕ) → lines text ≡ a ∷ lines second → lines second ≡ b ∷ lines third
     → lines third ≡ d ∷ lines fourth → lines fourth ≡ e ∷ lines rest → length rest ≡ 0 → length (lines text) ≡ 4
 exactly_four text second third fourth rest a b d e one two three four none =

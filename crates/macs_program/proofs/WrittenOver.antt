@@ -1,4 +1,4 @@
--- What stands in a file is one thing, and only what may be written over is.
+-- What is in a file is one thing, and only what may be written over is.
 use Rattle.std.proofs.Common.{◌≡◌, ◌/◌, ℕ, Bool, true, false, None, refl}
 use Rattle.macs_config.specs.Identity.{Identity}
 use Rattle.macs_disk.specs.FileDisks.{file_given}

@@ -83,7 +83,7 @@ commit_fault fault ran.GenerationsSpent = fault ≡ disk.Journal journal.Generat
 commit_fault fault ran.Disk = fault ≡ disk.Journal journal.Disk
 commit_fault fault (ran.Refused refusal) = ⊥
 
--- A command ends the run, behind so many that were kept or refused: a fault of the disk in its place, with no line; or its line cannot
+-- A command ends the run, after so many that were kept or refused: a fault of the disk in its place, with no line; or its line cannot
 -- be written
 abbrev pub EndsRun : {D : Type 0} → (D → Disk) → EndpointValue D → Command → Failure → EndpointValue D → Type 0
 EndsRun disk_of old command failure new =

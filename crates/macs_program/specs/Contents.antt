@@ -1,4 +1,4 @@
--- What stands in a file before it is written over, by the sectors of 512 octets that it has. Those of a disk lie in it packed, or spaced
+-- What is in a file before it is written over, by the sectors of 512 octets that it has. Those of a disk lie in it packed, or spaced
 -- one to a block of eight.
 use Rattle.std.specs.Prelude.{◌≡◌, ◌<◌, ◌⊎◌, ◌*◌, ◌==◌, ◌||◌, if◌then◌else◌, ℕ, List, get_or}
 use Rattle.macs_disk.specs.Files.{FileState, values_from}
@@ -59,7 +59,7 @@ IsUnused number sector = ((number ≡ 0) × (head : Head) × IsHeadOf head secto
 abbrev pub IsBlankFile : FileState → ℕ → Type 0
 IsBlankFile file sectors = (number : ℕ) → number < sectors → IsUnused number (sector_in file number)
 
--- what stands in a file of so many sectors: the first of these
+-- what is in a file of so many sectors: the first of these
 abbrev pub ContentsAre : FileState → ℕ → Contents → Type 0
 ContentsAre file sectors contents.Endpoint = HasOpenGate file sectors
 ContentsAre file sectors contents.Blank = (¬ HasOpenGate file sectors) × IsBlankFile file sectors

@@ -105,7 +105,7 @@ address_fault_text address.Peer1 = codes "PEER1 is not an address and a port"
 address_fault_text address.Own2 = codes "OWN2 is not an address and a port"
 address_fault_text address.Peer2 = codes "PEER2 is not an address and a port"
 
--- what stands on the disk, or a device call that failed
+-- what is on the disk, or a device call that failed
 abbrev pub disk_fault_text : DiskFault → List ℕ
 disk_fault_text disk.File = codes "disk file"
 disk_fault_text disk.Length = codes "disk length"

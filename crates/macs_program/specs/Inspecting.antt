@@ -77,14 +77,14 @@ pub record HasInspected (big : Bool) (old : SourceState) (before : Option (List 
   pub taken : HoldsOfLeft old.left new.left (λ left rest. BeginsWithRecords big left records rest)
   pub printed : PrintsLines records before after
 
--- The run ends behind so many records: the next one is not read, with a fault; or there is no memory for its line; or that cannot be printed
+-- The run ends after so many records: the next one is not read, with a fault; or there is no memory for its line; or that cannot be printed
 abbrev pub StopsNext : Bool → ℕ → SourceState → Option (List ℕ) → Failure → SourceState → Option (List ℕ) → Type 0
 StopsNext big count old before failure new after =
     ((fault : PcapFault) × (room : ℕ) × (frame : List ℕ) × ReadsRecord big count room old new frame (Err fault)
     × (failure ≡ failure_of_capture fault) × (after ≡ before))
     ⊎ ((failure ≡ failures.Memory) × (after ≡ before)) ⊎ (failure ≡ failures.Output)
 
--- what becomes of the next record, behind so many others: its line is printed; there is none, at the end; or the run ends
+-- what becomes of the next record, after so many others: its line is printed; there is none, at the end; or the run ends
 abbrev pub InspectsNext : Bool → ℕ → SourceState → Option (List ℕ) → Result Bool Failure → SourceState → Option (List ℕ) → Type 0
 InspectsNext big count old before (Ok true) new after =
     (taken : CaptureRecord) × (room : ℕ) × ReadsRecord big count room old new taken.frame (Ok (Some taken.stamp))
@@ -126,7 +126,7 @@ pub record InspectsCapture (old : SourceState) (before : Option (List ℕ)) (new
   pub begins : ReadsHeader old behind (Ok header)
   pub records : InspectsRecords header.big behind before new after
 
--- it is not: its header has a fault, or the run ends behind some of its records
+-- it is not: its header has a fault, or the run ends after some of its records
 abbrev pub StopsCapture : SourceState → Option (List ℕ) → Failure → SourceState → Option (List ℕ) → Type 0
 StopsCapture old before failure new after =
     ((fault : PcapFault) × ReadsHeader old new (Err fault) × (failure ≡ failure_of_capture fault) × (after ≡ before))

@@ -66,7 +66,7 @@ JudgesCapture disk_of old (Err failure) verdicts new =
     (sink : SinkState) × (answer : Result Summary RunFault)
     × JudgesRun disk_of Common old answer verdicts (run_of new.endpoint new.source sink) × EndsWith answer failure sink new.sink
 
--- How it fails where a line is printed for each verdict: as the run does, behind the lines of all its verdicts; or a line cannot be
+-- How it fails where a line is printed for each verdict: as the run does, after the lines of all its verdicts; or a line cannot be
 -- printed, whatever the run comes to
 abbrev pub StopsEach : {D W : Type 0} → (D → Disk) → (W → Option (List ℕ)) → (W → Bool) → Run D → W → Failure → Run D → W → Type 0
 StopsEach disk_of contents failed old before failure new after =
@@ -75,7 +75,7 @@ StopsEach disk_of contents failed old before failure new after =
     ⊎ ((failure ≡ failures.Output) × (failed after ≡ true)
     × (answer : Result Summary Failure) × (verdicts : List Verdict) × JudgesCapture disk_of old answer verdicts new)
 
--- such a run, behind the lines of all its verdicts; or it fails
+-- such a run, after the lines of all its verdicts; or it fails
 abbrev pub PrintsEach : {D W : Type 0} → (D → Disk) → (W → Option (List ℕ)) → (W → Bool) → Run D → W → Result Summary Failure → Run D → W
     → Type 0
 PrintsEach disk_of contents failed old before (Ok summary) new after =
@@ -83,7 +83,7 @@ PrintsEach disk_of contents failed old before (Ok summary) new after =
     × Appends (contents before) (contents after) (verdict_lines 1 verdicts)
 PrintsEach disk_of contents failed old before (Err failure) new after = StopsEach disk_of contents failed old before failure new after
 
--- and its own line is printed behind them
+-- and its own line is printed after them
 pub record ValidatesEach {D W : Type 0} (disk_of : D → Disk) (contents : W → Option (List ℕ)) (failed : W → Bool) (is_all : Bool)
     (old : Run D) (before : W) (result : Result Status Failure) (new : Run D) (after : W) : Type 0 where
   pub printed : IfOk result (λ status. (summary : Summary) × (verdicts : List Verdict)

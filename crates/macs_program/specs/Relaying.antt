@@ -19,7 +19,7 @@ use Rattle.macs_program.specs.Failing.{failure_of_refill}
 use Rattle.macs_program.specs.declared.failure.Failure.{Failure}
 use Rattle.macs_program.specs.declared.failure.Failure.TheVariants as failures
 
--- what a wire over UDP tells at first: no call of it failed, and its frames are not known
+-- what a wire over UDP reports at first: no call of it failed, and its frames are not known
 abbrev pub new_wire : WireState
 new_wire = record { waiting = None; sent = None; failed_receives = 0; failed_sends = 0 }
 
@@ -55,7 +55,7 @@ is_attended running = is_some running.control || is_some running.metrics
 abbrev pub course_of : Running → Course
 course_of running = record { attended = is_attended running; turns = turns_of running.pace }
 
--- Frames are relayed, and a desk that attends it hands in commands, is told what becomes of them, and may end it
+-- Frames are relayed, and a desk that attends it hands in commands, is given what becomes of them, and may end it
 abbrev pub IsRunBy : Bool → {D : Type 0} → (D → Disk) → ℕ → Relay D → Result RelaySummary RefillFault → EndpointValue D → WireState → WireState → Type 0
 IsRunBy false disk_of turns old result endpoint controlled common = IsRelayed disk_of turns old result endpoint controlled common
 IsRunBy true disk_of turns old result endpoint controlled common =

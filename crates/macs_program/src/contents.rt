@@ -1,4 +1,4 @@
-//! What stands in a file before it is written over.
+//! What is in a file before it is written over.
 
 ghost use Rattle.std.specs.Prelude.{◌≡◌, ◌↔◌, ◌<◌, ◌+◌, ◌*◌, ◌/◌, ◌^◌, IfOk, IsTrue, OnOk};
 ghost use Rattle.macs_disk.specs.Files.{Behaves, IsSure};
@@ -28,7 +28,7 @@ const OPEN_MARK: &[u8; 8] = b"MSECOPEN";
 /// The sector that has the mark of a spaced file: 1,028 blocks are in front of it.
 const SPACED_MARK_SECTOR: u64 = 8_224;
 
-/// What stands in a file that is to become the disk of an endpoint.
+/// What is in a file that is to become the disk of an endpoint.
 #[derive(Clone, Copy, Debug, PartialEq, Eq)]
 pub enum Contents {
     /// Zeros, but for what a `format` that was cut short may have left.
@@ -138,7 +138,7 @@ fn leftover(number: u64) -> [u8; SECTOR]
     CLOSED_GATE
 }
 
-/// Whether each octet of a sector is zero, or the one that stands in its place in the other.
+/// Whether each octet of a sector is zero, or the one that is in its place in the other.
 fn is_part_of(sector: &[u8; SECTOR], whole: &[u8; SECTOR]) -> bool
     ensures { IsTrue result ↔ IsPartOf sector.now whole.now }
 {
@@ -186,7 +186,7 @@ fn is_blank<F: DiskFile>(file: &mut F, sectors: u64) -> io::Result<bool>
     Ok(true)
 }
 
-/// What stands in a file of so many sectors. No octet of it is changed.
+/// What is in a file of so many sectors. No octet of it is changed.
 pub fn contents_of<F: DiskFile>(file: &mut F, sectors: u64) -> io::Result<Contents>
     requires { 512 * sectors < 2 ^ 64 }
     ensures steady { (F.file file.new).behaves ≡ (F.file file.old).behaves }
@@ -204,7 +204,7 @@ pub fn contents_of<F: DiskFile>(file: &mut F, sectors: u64) -> io::Result<Conten
 }
 
 /// Whether a file holds an endpoint, in use or not: the mark of a head or an open gate of one
-/// stands in either area, packed or spaced. No octet of it is changed.
+/// is in either area, packed or spaced. No octet of it is changed.
 pub fn holds_endpoint<F: DiskFile>(file: &mut F) -> io::Result<bool>
     ensures steady { (F.file file.new).behaves ≡ (F.file file.old).behaves }
     ensures same { Behaves (F.file file.old) → F.file file.new ≡ F.file file.old }

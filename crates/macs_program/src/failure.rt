@@ -23,7 +23,7 @@ pub enum DiskFault {
     Length,
     /// A submitted command waits: never, since none that is under way is in the way of a reservation.
     Busy,
-    /// Something on it failed, or stands on it that is no journal.
+    /// Something on it failed, or what is on it is no journal.
     Journal(JournalFault),
 }
 
@@ -50,7 +50,7 @@ pub enum Failure {
     Random,
     /// A command file has a fault, of which this is said.
     CommandFile(String),
-    /// Memory is wanting.
+    /// Out of memory.
     Memory,
     /// The input cannot be read, or spells no request.
     Input(InputFault),

@@ -95,7 +95,7 @@ fn read_commands<R: Read>(alloc: Global, file: &mut R) -> Result<Vec<Command>, F
     }
 }
 
-/// The commands of a command file. It fails as `Memory` where memory is wanting, the system's or the
+/// The commands of a command file. It fails as `Memory` where there is no memory, the system's or the
 /// program's, and else as `Commands`, where the file cannot be opened or read, or says no commands.
 pub fn commands_of_file<T: Files>(
     rt: &T,
@@ -248,7 +248,7 @@ where
     Ok(file)
 }
 
-/// A capture that is read from a file. It fails as `Memory` where memory is wanting, the system's
+/// A capture that is read from a file. It fails as `Memory` where there is no memory, the system's
 /// or the program's, and else as `Capture`, where the file cannot be opened, or is claimed by who
 /// writes it: so where it is the disk file. Nothing is read yet.
 pub fn open_capture<T: Files>(
@@ -267,7 +267,7 @@ where
 }
 
 /// A capture that is written to a file, which is made, or cut to nothing. It fails as `Memory`
-/// where memory is wanting, the system's or the program's, and else as `Capture`, where the file
+/// where there is no memory, the system's or the program's, and else as `Capture`, where the file
 /// cannot be made, is another file of the run, holds an endpoint, or has a sector and cannot be read:
 /// then it is left as it is.
 pub fn make_capture<T: Files>(

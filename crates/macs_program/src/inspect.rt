@@ -114,7 +114,7 @@ fn inspect_line(alloc: Global, at: u64, frame: &[u8]) -> Result<String, AllocErr
     numbered(alloc, at, said.as_str())
 }
 
-/// Prints the line of the next frame of a capture, behind so many others. Whether there is one.
+/// Prints the line of the next frame of a capture, after so many others. Whether there is one.
 fn inspect_next<R: Source, W: Stream>(
     alloc: Global,
     source: &mut R,
@@ -135,7 +135,7 @@ fn inspect_next<R: Source, W: Stream>(
     Ok(true)
 }
 
-/// Prints the lines of all frames behind the header of a capture.
+/// Prints the lines of all frames after the header of a capture.
 fn inspect_frames<R: Source, W: Stream>(
     alloc: Global,
     source: &mut R,

@@ -24,7 +24,7 @@ use macs_disk::{DiskFile, SectorDisk};
 /// A file is made the disk of a new endpoint only where it held nothing when it was settled, or where
 /// it may be written over and held no endpoint in use.
 pub fn written_over<F: DiskFile>()
-    // One thing stands in a file.
+    // One thing is in a file.
     ensures one { (file : FileState) (sectors : ℕ) (a b : Contents) → ContentsAre file sectors a
         → ContentsAre file sectors b → a ≡ b }
     // Without leave to write over, only a blank file is.

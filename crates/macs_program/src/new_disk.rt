@@ -31,7 +31,7 @@ pub struct NewFile {
 }
 
 /// Opens the file at a path to read and write it, or makes it. An error where it is no regular file,
-/// since nothing tells what else is on a device, or where standard output goes there.
+/// since nothing says what else is on a device, or where standard output goes there.
 fn open_file<T: Files>(rt: &T, path: &str) -> io::Result<T::File> {
     if is_printed_to(rt, path) {
         return Err(io::Error::from(io::ErrorKind::AlreadyExists));

@@ -468,7 +468,7 @@ fn with_buffer<N: Net>(net: &N, mut wire: UdpWire<Global>, octets: u32) -> UdpWi
     wire
 }
 
-/// Binds a wire, and asks for its buffer where one is wanted. It fails as `bind` does.
+/// Binds a wire, and asks for its buffer where one is given. It fails as `bind` does.
 fn bind_wire<N: Net>(
     net: &N,
     alloc: Global,
@@ -590,7 +590,7 @@ impl Wires {
         )
     }
 
-    /// Relays frames between them, attended: whoever started the program is told that it serves, once all is bound,
+    /// Relays frames between them, attended: it is reported to whoever started the program that it serves, once all is bound,
     /// and that it ends.
     fn attend<T: Files + Net + Clock + Env, D: SectorDisk, W: Stream>(
         self,

@@ -12,7 +12,7 @@ use itoa::Buffer;
 /// The longest line that takes no memory.
 pub const MAX_LINE: usize = 128;
 
-/// A line that takes no memory: so none is wanting once that is done of which it tells.
+/// A line that takes no memory: so memory cannot run out once that is done which it reports.
 pub type Line = ArrayVec<u8, MAX_LINE>;
 
 /// Appends a name and a number in decimal digits, 20 at most.

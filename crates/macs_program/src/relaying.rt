@@ -60,7 +60,7 @@ fn print_summary<W: Stream>(summary: RelaySummary, out: &mut W) -> Result<Status
 }
 
 /// Relays frames between two wires, and prints what became of them. It fails as `Disk` at the first
-/// reservation of packet numbers that cannot be made, with nothing printed; and as `Output` behind the last
+/// reservation of packet numbers that cannot be made, with nothing printed; and as `Output` after the last
 /// turn, where the line cannot be written.
 pub fn relay_frames<D: SectorDisk, P: Wire, C: Wire, W: Stream>(
     endpoint: &mut Endpoint<D>,

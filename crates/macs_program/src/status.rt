@@ -9,7 +9,7 @@ pub enum Status {
     Usage,
     /// The frame or a command is refused: 3.
     Refused,
-    /// The disk file failed, or what stands on it does not serve: 4.
+    /// The disk file failed, or what is on it does not serve: 4.
     Disk,
     /// The input, the output or memory failed: 5.
     Fault,
