@@ -18,7 +18,7 @@ use Rattle.clap.specs.declared.parser.matches.ValueSource.TheVariants.{CommandLi
 use Rattle.clap.specs.declared.builder.value_parser.Reading.{Reading}
 use Rattle.clap.proofs.WalkLemmas.{both}
 
--- ---- arguments of one value, each at a place or behind a long name, and options without a value
+-- ---- arguments of one value, each at a place or after a long name, and options without a value
 
 -- the first value passes
 abbrev pub first_passes : Rule → List Text → Bool
@@ -113,7 +113,7 @@ good-at_row c id change missing (r ∷ rest) changed added good =
 good-without : (c : List Rule) (id : Text) (rows : List Row) → are_good c rows ≡ true → are_good c (without id rows) ≡ true
 good-without c id rows good = good-at_row c id (λ r. []) [] rows (λ r is. refl) refl good
 
--- more values behind the first
+-- more values after the first
 first-stays : (found : Option Rule) (values more : List Text) → option_map_or (λ a. first_passes a values) found true ≡ true
     → option_map_or (λ a. first_passes a (values ++ more)) found true ≡ true
 first-stays None values more is = refl

@@ -131,7 +131,7 @@ texts-back : (text : Option Text) → option_map (λ (t : Bor Text). t.now) (opt
 texts-back None = refl
 texts-back (Some text) = refl
 
--- the subcommand that these shapes have, behind their settings
+-- the subcommand that these shapes have, after their settings
 abbrev shape_at : ℕ → Shape
 shape_at i = slice_index_or (built macsecd).subs i (built macsecd).top
 
@@ -168,7 +168,7 @@ flag-is : (name : Text) → IsValueRule (filled (flag_rule name))
 unfolding clap_on_literals
 flag-is name = record { action = inr refl; missing = inr refl; defaults = inr refl; no_short = λ x. refl }
 
--- whether an option without a value is used can be told
+-- whether an option without a value is used can be seen
 abbrev is_flagged : List Row → Text → Bool
 is_flagged rows name = option_map_or (λ text. bytes_eq text (codes "true")) (first_of name rows) false
 
@@ -528,7 +528,7 @@ named words taken =
     named-entered (built macsecd) (stop_after (built macsecd).top.rules (names_of (built macsecd)) (argument_words macsecd words)) all-named
     (first-of-three (is_simple macsecd) _ _ taken)
 
--- ---- the commands are ones of which clap tells all
+-- ---- the commands are ones of which clap reports all
 
 pub simple : is_simple macsecd ≡ true
 simple = refl

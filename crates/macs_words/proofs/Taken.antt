@@ -27,7 +27,7 @@ none-or_else : (a b : Kinds) → (none a && none b) ≡ none (or_else a b)
 none-or_else [] b = refl
 none-or_else (k ∷ ks) b = refl
 
--- one test behind another, and one fault behind another
+-- one test after another, and one fault after another
 both-none : (p q : Bool) (a b : Kinds) → p ≡ none a → q ≡ none b → (p && q) ≡ none (or_else a b)
 both-none p q a b first second = ap (λ (x : Bool). x && q) first ∙ ap (λ (y : Bool). none a && y) second ∙ none-or_else a b
 
@@ -282,7 +282,7 @@ rules-free (a ∷ rest) bare =
     let others : list_all (λ (b : Rule). b.is_free) rest ≡ true = rules-free rest parts.1 in
     rw (free, others) refl
 
--- all that is required is given, or something is wanting
+-- all that is required is given, or something is missing
 all-given : (rows : List Row) (rules : List Rule)
     → list_any (λ a. a.required && not (is_given a.id rows)) rules ≡ not (list_all (λ a. not a.required || is_given a.id rows) rules)
 all-given rows [] = refl

@@ -22,7 +22,7 @@ use Rattle.macs_words.specs.declared.pace.Pace.TheVariants.{Sleepless, Waiting}
 use Rattle.macs_words.specs.declared.pace.Running.{Running}
 
 -- Words without a subcommand, and `open`, name the opening of a frame. Each other subcommand names its own action, with
--- the texts that stand at its values: `format` writes over a file exactly where `--over` is used, and takes a block of
+-- the texts at its values: `format` writes over a file exactly where `--over` is used, and takes a block of
 -- the device exactly where `--block` is. A number is its digits, in decimal. A relay that is given turns alone is
 -- sleepless;
 -- one that is given a wait, any of 1 to 60,000 ms, waits so long at most. A running relay is asked one of four words,

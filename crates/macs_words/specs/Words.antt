@@ -265,7 +265,7 @@ name_of subcommand.Key = codes "key"
 name_of subcommand.Inspect = codes "inspect"
 name_of subcommand.Check = codes "check"
 
--- The words ask for the topic: a help flag alone, the name of a subcommand and a help flag behind it, or the version flag alone
+-- The words ask for the topic: a help flag alone, the name of a subcommand and a help flag after it, or the version flag alone
 abbrev pub AsksFor : List Text → Topic → Type 0
 AsksFor (word ∷ []) Help = IsHelpFlag word
 AsksFor (name ∷ word ∷ []) (HelpOn which) = (name ≡ name_of which) × IsHelpFlag word

@@ -119,7 +119,7 @@ pub struct WireEnds<'a> {
 pub enum UsageFault {
     /// They are none that the program knows, for this cause.
     Usage(String),
-    /// Memory is wanting.
+    /// Out of memory.
     Memory,
 }
 
@@ -150,7 +150,7 @@ fn number<'a>(alloc: Global, name: &'a str) -> Arg<'a>
     value(alloc, name).value_parser(ValueParser::unsigned(0, 4_294_967_295))
 }
 
-/// A value that may be given behind its name.
+/// A value that may be given after its name.
 fn option<'a>(alloc: Global, name: &'a str) -> Arg<'a>
     ensures rule { rule_of result ≡ option_rule name.entry.now }
     ensures local { result.global ≡ false }
@@ -237,7 +237,7 @@ fn validate_words<'a>(alloc: Global) -> Result<Command<'a>, AllocError>
     with_value(capture_words(alloc, "validate"), flag(alloc, "each"))
 }
 
-/// A number of 64 bits that may be given behind its name.
+/// A number of 64 bits that may be given after its name.
 fn count<'a>(alloc: Global, name: &'a str) -> Arg<'a>
     ensures rule { rule_of result ≡ count_rule name.entry.now }
     ensures local { result.global ≡ false }
@@ -245,7 +245,7 @@ fn count<'a>(alloc: Global, name: &'a str) -> Arg<'a>
     option(alloc, name).value_parser(ValueParser::unsigned(0, u64::MAX))
 }
 
-/// Milliseconds, 1 to 60,000, that may be given behind their name.
+/// Milliseconds, 1 to 60,000, that may be given after their name.
 fn wait<'a>(alloc: Global, name: &'a str) -> Arg<'a>
     ensures rule { rule_of result ≡ wait_rule name.entry.now }
     ensures local { result.global ≡ false }
@@ -253,7 +253,7 @@ fn wait<'a>(alloc: Global, name: &'a str) -> Arg<'a>
     option(alloc, name).value_parser(ValueParser::unsigned(1, 60_000))
 }
 
-/// Octets of a buffer, 1 to 1,073,741,823, that may be given behind their name.
+/// Octets of a buffer, 1 to 1,073,741,823, that may be given after their name.
 fn room<'a>(alloc: Global, name: &'a str) -> Arg<'a>
     ensures rule { rule_of result ≡ room_rule name.entry.now }
     ensures local { result.global ≡ false }
@@ -709,7 +709,7 @@ fn missing_cause(alloc: Global, matches: &ArgMatches) -> Result<String, AllocErr
 
 /// The action that the words name, without the program's own name among them. Refused as `Usage` where clap
 /// refuses the words, or where they name a relay with neither `--turns` nor `--wait`, or ask a relay nothing that it
-/// is asked; else as `Memory` where memory is wanting.
+/// is asked; else as `Memory` where there is no memory.
 pub fn action_of<'a>(alloc: Global, words: &'a [&'a str]) -> Result<Action<'a>, UsageFault>
     // What is answered is what clap reads.
     ensures read { IfOk result (Names (subcommand_of macsecd (texts words.now))) }

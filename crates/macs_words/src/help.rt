@@ -28,7 +28,7 @@ pub enum Subcommand {
 pub enum Topic {
     /// What the program does: `--help` or `-h` alone.
     Help,
-    /// What a subcommand does, and what its values are: `--help` or `-h` behind its name.
+    /// What a subcommand does, and what its values are: `--help` or `-h` after its name.
     HelpOn(Subcommand),
     /// Which program it is: `--version` alone.
     Version,

@@ -1,4 +1,4 @@
-//! Laws of the definitions: which action words name, in terms of what stands at each value.
+//! Laws of the definitions: which action words name, in terms of what is at each value.
 
 ghost use Rattle.macs_words.specs.ActionWords.{ActionWords, HelpWords};
 ghost use Rattle.macs_words.specs.TakenWords.{KnownWords, PlainWords, TakenWords};
