@@ -410,7 +410,7 @@ def a_disk_that_is_full():
         try:
             it.passes()
             client = it.connect()
-            # Each takes a sector or two, and a page of the file system has eight: soon one is wanted that is not there.
+            # Each takes a sector or two, and a page of the file system has eight: soon one is needed that is not there.
             send_channels(client, sixteen(0x400))
             answers = read_all(client)[0].decode().splitlines()
             out, err = it.left.communicate(timeout=10)

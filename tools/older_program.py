@@ -256,7 +256,7 @@ def with_closed_gates(sectors):
 
 
 def begun_anew(sectors):
-    """The sectors of a disk whose journal began anew in format two."""
+    """The sectors of a disk whose journal started over in format two."""
     journal = Journal(sectors)
     head, snapshot = journal.head, journal.kept.snapshot()
     start = AREA * (1 - journal.area)
