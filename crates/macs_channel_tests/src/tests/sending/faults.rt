@@ -34,7 +34,7 @@ fn expect_first_faults(rt: &impl Abort, tx: &mut Tx, answer: Result<u32, TxFault
     play(rt, tx, COUNTS);
 }
 
-/// Every fault that a frame has beside every state of the association.
+/// Every fault that a frame has with every state of the association.
 #[test]
 fn answers_the_first_fault(rt: HostRuntime) {
     let mut unset = channel(&rt, STATION, SciMode::EndStation);
