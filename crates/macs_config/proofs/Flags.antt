@@ -1,4 +1,4 @@
--- Flags in rows of bits: one more set, beside one more fingerprint.
+-- Flags in rows of bits: one more set, for one more fingerprint.
 use Rattle.std.proofs.Common.{◌≡◌, ◌∙◌, ◌<◌, ◌*◌, ◌^◌, ◌%◌, ◌/◌, ◌++◌, [], ◌∷◌, ℕ, true, false, List, length, set, get_or, bit_or, bytes_eq, inl, inr, ap, sym, subst, arith}
 use Rattle.std.proofs.lemmas.Bool.{cases_eq, eq-eqb, eqb-true, or_cases}
 use Rattle.std.proofs.lemmas.List.{get_or-set_same, get_or-set_other}

@@ -41,7 +41,7 @@ IsCommand (RxRemove sci an) = IsSci sci × IsAn an
 
 -- ---- why a command is refused
 
--- one of the refusals that this program names, or the one that an edition without long keys had beside them: the key is longer than it takes
+-- one of the refusals that this program names, or the one that an edition without long keys had besides them: the key is longer than it takes
 pub data Reason : Type 0 where
   Named : Refusal → Reason
   LongKey : Reason

@@ -16,8 +16,8 @@ use Rattle.macs_config.specs.declared.command.SciMode.TheVariants.{Explicit, End
 use Rattle.macs_config.specs.declared.command.Role.{Role}
 use Rattle.macs_config.specs.declared.command.Role.TheVariants.{Transmit, Receive}
 
--- what an edition of the product takes: how many receive channels, whether keys of 32 octets beside those of 16, and whether areas of
--- format two beside those of format one
+-- what an edition of the product takes: how many receive channels, whether keys of 32 octets besides those of 16, and whether areas of
+-- format two besides those of format one
 pub record Edition : Type 0 where
   pub channels : ℕ
   pub long_keys : Bool

@@ -7,7 +7,7 @@ use Rattle.macs_config.specs.declared.association.RxSa.{RxSa}
 use Rattle.macs_config.specs.declared.contents.Channel.{Channel}
 use Rattle.macs_config.specs.declared.contents.Contents.{Contents}
 
--- an identity, and beside it what is kept of its configuration
+-- an identity, and besides it what is kept of its configuration
 pub record ConfigValue : Type 0 where
   pub identity : Identity
   pub contents : Contents
@@ -32,6 +32,6 @@ config_in c = record {
   spent_rx = c.spent_rx;
 }
 
--- the configuration beside the identity
+-- the configuration besides the identity
 abbrev pub config_of : ConfigValue → Config
 config_of stored = config_in stored.contents
