@@ -16,7 +16,7 @@ pub enum Hearing {
     Gone,
 }
 
-/// A client with a connection, and the octets of it of which no line was heard yet.
+/// A client with a connection, and the octets from it in which no line was heard yet.
 #[derive(Drop)]
 pub struct Seat<S> {
     client: Client,
