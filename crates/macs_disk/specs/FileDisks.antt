@@ -188,7 +188,7 @@ pub record IsBlank (old new : FileState) (layout : Layout) (disk : Disk) : Type 
   pub clean : (i : ℕ) → (now disk).pending i ≡ false
   pub found : layout_in new ≡ layout
 
--- a disk of which no call was made yet
+-- a disk on which no call was made yet
 pub record IsFresh (disk : Disk) : Type 0 where
   pub clock : disk.clock ≡ 0
   pub failures : disk.failures ≡ 0
