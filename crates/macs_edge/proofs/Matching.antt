@@ -1,4 +1,4 @@
--- What passes between a relay and its desk, beside the calls of the endpoint.
+-- What passes between a relay and its desk, besides the calls of the endpoint.
 use Rattle.std.proofs.Common.{◌≡◌, ◌++◌, ℕ, Bool, List, [], ◌∷◌, map, Result, Ok, Err, refl, sym, ap, ◌∙◌, subst}
 use Rattle.std.proofs.Common.{append-nil, append_assoc}
 use Rattle.std.specs.Prelude.{flat_map}

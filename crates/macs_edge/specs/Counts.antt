@@ -34,7 +34,7 @@ CountsStrangers (Ok Nothing) None old new = (new ≡ old) ⊎ (new ≡ saturated
 CountsStrangers (Ok Nothing) (Some socket) old new = CountsWaiting socket.waiting old new
 CountsStrangers answer socket old new = new ≡ old
 
--- what a receive counts, beside its failure: a frame that is taken, or a stranger's datagram; what is kept stays
+-- what a receive counts, besides its failure: a frame that is taken, or a stranger's datagram; what is kept stays
 pub record CountsReceive (socket : Option SocketState) (answer : Result Got WireFault) (old new : WireCounts) : Type 0
   where
     pub strangers : CountsStrangers answer socket old.strangers new.strangers
