@@ -489,7 +489,7 @@ fn has_key(line: &str, pair: &str) -> bool {
     false
 }
 
-/// 25 keys that no word has beside the keys of each of the ten, and the keys of the others: of the nine keys the
+/// 25 keys that no word has besides the keys of each of the ten, and the keys of the others: of the nine keys the
 /// words have 20, so 70 are left.
 #[test]
 fn a_key_too_many_is_told(rt: HostRuntime) {
