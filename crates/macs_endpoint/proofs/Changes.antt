@@ -27,7 +27,7 @@ abbrev pub numbers_after_made : Option Command → (List ℕ → ℕ → Option 
 numbers_after_made None numbers = numbers
 numbers_after_made (Some command) numbers = numbers_after command numbers
 
--- packet numbers are those of before, or what a command makes of them
+-- packet numbers are as before, or what a command makes of them
 abbrev pub Changes : State → Option Command → State → Type 0
 Changes s made t = (t.next ≡ next_after_made made s.next) × (t.numbers ≡ numbers_after_made made s.numbers)
 

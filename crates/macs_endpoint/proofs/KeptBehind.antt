@@ -130,7 +130,7 @@ module _ {D : Type 0} (disk_of : D → disk.Disk) (e : EndpointValue D) (command
         }
 
   module _ (mid : EndpointValue D) (ends : ReservationEnds disk_of e (Ok tt) mid) where
-    -- the state is that of before
+    -- the state is as before
     behind_state : (logs : Logs) → state_of mid logs ≡ state_of e logs
     behind_state logs = ends.reserves.step logs
 
@@ -146,7 +146,7 @@ module _ {D : Type 0} (disk_of : D → disk.Disk) (e : EndpointValue D) (command
         let accepts = by_accepted before command (apply this_edition before.identity before.config command) accepted in
         subst (λ (s : State). IsOk (apply s.edition s.identity s.config command)) (sym (behind_state no_logs)) accepts
 
-    -- ceilings alone are raised, so the command is accepted still
+    -- ceilings alone are raised, so the command is still accepted
     pub behind-accepted : IsOk (accept (standing_in mid.store) command)
     behind-accepted =
         let after = standing_in mid.store in

@@ -129,7 +129,7 @@ module _ {D : Type 0} (disk_of : D → Disk) (old new : EndpointValue D) where
     free : (old.in_hand ≡ None) × (IsIdle old.store → old.turn ≡ turn.Reservation)
     free = free_by reservations kept.work
 
-    -- no command is done with, and a reservation comes next still
+    -- no command is done with, and a reservation still comes next
     abbrev IsStillQuiet : Reply → Type 0
     IsStillQuiet reply = (commands_in_reply reply ≡ 0) × IsQuiet new
 

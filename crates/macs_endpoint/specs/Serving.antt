@@ -65,8 +65,8 @@ pub record Told : Type 0 where
   pub sink_tells : Bool
   pub took : List Answer
 
--- What was served in at most so many turns, with what source and sink report before and after: the calls link the endpoint of before to that of
--- after, their answers are a run of the machine, and a power loss at any moment leaves what fits one of their states. Ended comes only with a turn left, in which the source had no further event.
+-- What was served in at most so many turns, with what source and sink report before and after: the calls link the earlier endpoint to the
+-- later one, their answers are a run of the machine, and a power loss at any moment leaves what fits one of their states. Ended comes only with a turn left, in which the source had no further event.
 pub record IsServed {D : Type 0} (disk_of : D → Disk) (most : ℕ) (old : EndpointValue D) (before : Told) (end : ServeEnd) (new : EndpointValue D) (after : Told) : Type 0 where
   pub turns : List (Transition D)
   pub lives : Lives disk_of old turns new

@@ -54,7 +54,7 @@ impl<D: SectorDisk> Endpoint<D> {
         result
     }
 
-    /// Whose turn it is after a refill: a command's where a reservation is under way, and else that of before.
+    /// Whose turn it is after a refill: a command's where a reservation is under way, and else whose it was before.
     fn turn_after_refill(&self) -> Turn
         ensures { result ≡ turn_after_refill self.now.turn self.now.reserving }
     {
