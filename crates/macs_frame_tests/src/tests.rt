@@ -24,7 +24,7 @@ enum Naming {
     Implicit,
 }
 
-/// What a SecTAG says beside the SCI.
+/// What a SecTAG says besides the SCI.
 #[derive(Clone, Copy)]
 struct Fields {
     naming: Naming,
