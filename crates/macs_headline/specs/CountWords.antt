@@ -75,7 +75,7 @@ pub record CountsAreNamed : Type 0 where
 
 -- A fault that is answered adds to its own count alone, and so does a verdict; `counters` says by how much. Of a
 -- channel, a verdict that is counted for it adds one where the frame names it, and nothing else changes; the counts of
--- the others stay. A channel that an opening finds, or a command adds, begins at 0; one that is dropped counts no more.
+-- the others stay. A channel that an opening finds, or a command adds, begins at 0; one that is dropped no longer counts.
 -- Where `protect` does not answer, what is sent is not counted, nor where it answers Stopped; so with `receive`, whose
 -- verdicts and channels stay then.
 pub record CountsRiseAlone {D : Type 0} (disk_of : D → Disk) : Type 0 where

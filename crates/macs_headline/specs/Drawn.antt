@@ -40,7 +40,7 @@ use Rattle.macs_headline.specs.Tickets.{AreInOrder}
 use Rattle.macs_headline.specs.Windows.{IsWithinWindow}
 
 -- Logs that are held in later ones: these are what came since, and then they, in their order, so that each entry is there. Where none comes twice, no place of
--- a list has what another one has. A frame that was written, and one that was delivered as verified, whatever is said of its key and number beside that, is in
+-- a list has what another one has. A frame that was written, and one that was delivered as verified, whatever is said of its key and number besides that, is in
 -- the logs, with its key and its number, and its kind; and so is one that an entry of the logs stands for, which is an answer of these lives: the standard's
 -- frame at that moment, or one that verified then, under that key and SCI and with that number. Where logs are answers of lives each of their entries is one
 -- so. An answer is one of a life of these, after the lives and the

@@ -31,7 +31,7 @@ pub record LosesPower (ran : Disk) (since : ℕ) (new : Disk) : Type 0 where
 abbrev pub PowerLossesPassOn : Type 0
 PowerLossesPassOn = (old new : Disk) (since : ℕ) → LosesPower old since new → IsPassedOn old since new
 
--- The program is killed at some moment since, inside a call or between two, and no power is lost: what was pending is pending still.
+-- The program is killed at some moment since, inside a call or between two, and no power is lost: what was pending is still pending.
 abbrev pub KillingsPassOn : Type 0
 KillingsPassOn = (old new : Disk) (since moment : ℕ) → since ≤ moment → moment ≤ old.clock → IsAlike old new → now new ≡ old.past moment
     → IsPassedOn old since new

@@ -1,4 +1,4 @@
--- The headline on `format`: once it answered Ok, and once an opening succeeded, it answers Ok no more, and no opening finds the disk without a journal.
+-- The headline on `format`: once it answered Ok, and once an opening succeeded, it no longer answers Ok, and no opening finds the disk without a journal.
 use Rattle.std.specs.Prelude.{◌≡◌, ◌⊎◌, ◌++◌, ℕ, true, List, ◌∷◌, Contains, Option}
 use Rattle.macs_config.specs.Config.{Edition}
 use Rattle.macs_config.specs.Identity.{Identity}

@@ -537,7 +537,7 @@ pub fn files<F: DiskFile>()
     ensures let_go { (left file : FileState) → file.block ≡ left.block → file.size ≡ left.size
         → file.is_size_durable ≡ left.is_size_durable → ((p : ℕ) → file.durable p ≡ left.durable p)
         → ((n : ℕ) → file.pending n ≡ left.pending n) → HasNothingNew left file }
-    // A file that is settled is claimed, and where it was sure of what it shows, it shows that still.
+    // A file that is settled is claimed, and where it was sure of what it shows, it still shows that.
     ensures settled { (old new : FileState) → Settles old new → IsClaimed new
         × (IsSure old → new.seen ≡ old.seen) }
     // Blocks of 512 octets suit both layouts, and those of 4,096 the one in which sectors lie apart.
