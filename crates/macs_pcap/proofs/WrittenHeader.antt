@@ -93,7 +93,7 @@ length-header h =
       length-octets_of big 4 ethernet,
     )
 
--- ---- what they say, over octets of which no more is known
+-- ---- what they say, over octets of which nothing more is known
 
 same-header : (h : Header) (octets : List ℕ) → is_big octets ≡ h.big → (number_at h.big 4 0 octets == magic_of true) ≡ h.nanos → Placed h octets
     → h ≡ header_in octets

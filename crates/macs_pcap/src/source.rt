@@ -52,7 +52,7 @@ impl<R: Read> Source for ReaderSource<R> {
 impl<R: Read> ReaderSource<R> {
     ghost use Rattle.std.specs.Prelude.{◌≡◌, false};
 
-    /// A source that has left what the reader has, and of which no read failed.
+    /// A source that has left what the reader has, and none of whose reads failed.
     pub fn new(reader: R) -> ReaderSource<R>
         ensures left { (⟦<ReaderSource<R> as Source>⟧.state result).left ≡ R.remaining reader }
         ensures failed { (⟦<ReaderSource<R> as Source>⟧.state result).failed ≡ false }
