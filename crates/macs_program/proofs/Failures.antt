@@ -1,4 +1,4 @@
--- Failures that are none of standard output, and no wrong usage.
+-- Failures that are not of standard output, and no wrong usage.
 use Rattle.std.proofs.Common.{◌≡◌, ◌≢◌, ◌⊎◌, ◌∙◌, inl, inr, ap, sym}
 use Rattle.macs_disk.specs.declared.file_fault.FileFault.{FileFault}
 use Rattle.macs_disk.specs.declared.file_fault.FileFault.TheVariants as file_faults

@@ -29,7 +29,7 @@ use Rattle.macs_words.specs.declared.action.Question.{Question}
 use Rattle.macs_words.specs.declared.action.Question.TheVariants as question
 use Rattle.macs_words.specs.declared.pace.Running.{Running}
 
--- a failure of the disk is none of the output
+-- a failure of the disk is not one of the output
 of-disk : (failure : Failure) → failure_status failure ≡ ends.Disk → failure ≢ Output
 of-disk failure disk is = let e = sym disk ∙ ap failure_status is in cc
 

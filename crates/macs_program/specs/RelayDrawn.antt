@@ -24,7 +24,7 @@ use Rattle.macs_program.specs.declared.failure.DiskFault.TheVariants as disk
 use Rattle.macs_program.specs.declared.failure.Failure.{Failure}
 use Rattle.macs_program.specs.declared.failure.Failure.TheVariants as failures
 
--- a wire of which nothing is known, and of which no call failed
+-- a wire of which nothing is known, and none of whose calls failed
 abbrev pub fresh_wire : WireState
 fresh_wire = record { waiting = None; sent = None; failed_receives = 0; failed_sends = 0 }
 

@@ -9,7 +9,7 @@ use std::io;
 
 /// A file that is read as a capture, or written as one.
 pub trait CaptureFile: DiskFile {
-    /// Claims the file until it is closed, beside other readers. An error where another open of the
+    /// Claims the file until it is closed, along with other readers. An error where another open of the
     /// file has claimed it for itself alone.
     fn share(&mut self) -> io::Result<()>
         ensures steady { (Self.file self.new).behaves ≡ (Self.file self.old).behaves }

@@ -162,7 +162,7 @@ fn sink_over<F: Write + Drop>(alloc: Global, file: F) -> Result<CaptureSink<F>, 
     Ok(WriterSink::new(whole))
 }
 
-/// Opens a file to read it as a capture. A regular file is claimed beside other readers, so that it
+/// Opens a file to read it as a capture. A regular file is claimed along with other readers, so that it
 /// is no output.
 fn open_source<T: Files>(rt: &T, path: &str) -> io::Result<T::File>
 where

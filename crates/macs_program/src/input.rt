@@ -67,7 +67,7 @@ impl<R: Read> Input for ReaderInput<R> {
 impl<R: Read> ReaderInput<R> {
     ghost use Rattle.std.specs.Prelude.{◌≡◌, false};
 
-    /// An input that has what the reader has, and of which no read failed.
+    /// An input that has what the reader has, and none of whose reads failed.
     pub fn new(reader: R) -> ReaderInput<R>
         ensures remaining { ⟦<ReaderInput<R> as Input>⟧.remaining result ≡ R.remaining reader }
         ensures failed { ⟦<ReaderInput<R> as Input>⟧.failed result ≡ false }

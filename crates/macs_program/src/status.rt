@@ -5,7 +5,7 @@
 pub enum Status {
     /// It is done: 0.
     Done,
-    /// The words are none that the program knows, or a value among them is none that it takes: 2.
+    /// The program does not know the words, or does not take a value among them: 2.
     Usage,
     /// The frame or a command is refused: 3.
     Refused,

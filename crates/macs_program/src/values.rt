@@ -9,7 +9,7 @@ use crate::open_input::sci_of;
 use macs_config::Identity;
 use macs_disk::Layout;
 
-/// Why the values are none of an endpoint, in the order in which the faults are looked for.
+/// Why the values are not those of an endpoint, in the order in which the faults are looked for.
 #[derive(Clone, Copy)]
 pub enum ValueFault {
     /// The SCI is not 16 hex digits.
