@@ -2,7 +2,7 @@
 use Rattle.std.specs.Prelude.{◌≡◌, ◌≢◌, ◌<◌, ◌++◌, ℕ, List, ◌∷◌, length, get_or, Option, Some, None}
 use Rattle.macs_requests.specs.declared.inbox.Inbox.{Inbox}
 
--- the octets of which no line was taken yet
+-- the octets from which no line was taken yet
 abbrev pub octets_in : Inbox → List ℕ
 octets_in inbox = inbox.octets.items
 

@@ -11,7 +11,7 @@ pub const MAX_LINE: usize = 256;
 /// A line without its end.
 pub type Line = ArrayVec<u8, MAX_LINE>;
 
-/// Octets of which no line was taken yet, 256 at most. They may come in any pieces: a line is taken
+/// Octets from which no line was taken yet, 256 at most. They may come in any pieces: a line is taken
 /// once its end is there. Where there is neither room nor a whole line, the line is too long.
 #[derive(Drop)]
 pub struct Inbox {
