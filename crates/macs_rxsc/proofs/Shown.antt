@@ -297,7 +297,7 @@ read_at [] i d e within = absurd (omega arith)
 read_at (x ∷ xs) zero d e within = refl
 read_at (x ∷ xs) (suc i) d e within = read_at xs i d e (omega arith)
 
--- the channel of which no association has changed
+-- the channel none of whose associations has changed
 pub decided_same : (side : RxSide) (channel : Channel) (f : ℕ → Option Numbers) → f ≡ numbers_in (Some channel) → side.numbers channel.sci ≡ numbers_in (Some channel)
     → put_at side.numbers channel.sci f ≡ side.numbers
 decided_same side channel f same are = put_at-same side.numbers channel.sci f (are ∙ sym same)
