@@ -56,12 +56,12 @@ impl Known {
         self.passed.catch_up(rt, endpoint);
     }
 
-    /// Whether a configuration is that of before the command under way.
+    /// Whether a configuration is that from before the command under way.
     pub(super) fn is_before(&self, found: &Config) -> bool {
         is_same(found, &self.before)
     }
 
-    /// Whether a configuration is that of before the command under way or after it.
+    /// Whether a configuration is that from before the command under way or after it.
     pub(super) fn allows(&self, found: &Config) -> bool {
         is_same(found, &self.before) || (self.is_in_hand && is_same(found, &self.after))
     }
