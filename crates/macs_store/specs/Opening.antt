@@ -32,7 +32,7 @@ IsUnfit disk_of disk fault = IsUnfitTo this_edition (disk_of disk).sectors (now 
 abbrev pub OpeningLeaves : Disk → Image → Type 0
 OpeningLeaves old image = MayLeave old image ⊎ StandAlike this_edition (now old).seen image
 
--- nothing on the disk is rewritten by an opening
+-- the disk has no journal that an opening starts over
 abbrev pub HasNoneToMigrate : Disk → Type 0
 HasNoneToMigrate old = (c : Content) (s : Standing) → ¬ IsToMigrate this_edition (now old).seen c s
 
