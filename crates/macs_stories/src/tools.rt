@@ -1,4 +1,4 @@
-//! What an act has at hand beside the disk, or beside what has the disk.
+//! What an act has at hand besides the disk, or besides what has the disk.
 
 use crate::desks::{self, Orders};
 use crate::endpoint::{Played, act_with_endpoint};
@@ -10,7 +10,7 @@ use macs_config::Command;
 use macs_story_text::{Answer, Captures, Line, Words, act_with_captures};
 use std::alloc::Global;
 
-/// What an act has at hand beside the disk, or beside what has the disk.
+/// What an act has at hand besides the disk, or besides what has the disk.
 #[derive(Drop)]
 pub struct Tools {
     pub alloc: Global,

@@ -100,7 +100,7 @@ fn name_of(word: &str) -> Option<Name> {
 }
 
 impl Wires {
-    /// Two wires on which nothing waits, of which no call fails.
+    /// Two wires on which nothing waits and no call fails.
     pub fn new(alloc: Global) -> Wires {
         Wires {
             controlled: StoryWire::new(alloc, NEVER),
