@@ -117,7 +117,7 @@ pub struct WireEnds<'a> {
 /// Why the words name no action.
 #[derive(Drop)]
 pub enum UsageFault {
-    /// They are none that the program knows, for this cause.
+    /// The program does not know them, for this cause.
     Usage(String),
     /// Out of memory.
     Memory,
