@@ -50,7 +50,7 @@ const OTHERS: &[Step] = &[
     Keeping(&[FILE], FORMAT, TAKEN),
     Hex(FILE, ""),
     Run(FORMAT, FORMATTED),
-    // The last octet, and those beside what a cut format leaves.
+    // The last octet, and those next to what a cut format leaves.
     Zeros(FILE, 1_049_088),
     Patch(FILE, 1_049_087, "01"),
     Keeping(&[FILE], FORMAT, NO_FILE),

@@ -82,7 +82,7 @@ const FAULTS: &[(&str, &str)] = &[
     ),
 ];
 
-/// The same of further keys, and of files that are none of commands.
+/// The same of further keys, and of files that are not of commands.
 const FURTHER_FAULTS: &[(&str, &str)] = &[
     (
         "[[command]]\ndo = 'tx-install'\nan = 0\nkey = 'ad7a2bd03eac835a6f620fdcb506b345'\nstart = 4294967296\n",

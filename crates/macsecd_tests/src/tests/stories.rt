@@ -30,7 +30,7 @@ pub enum Step {
     /// Relays a frame each way.
     Relay(Relayed),
     /// Runs these words while another open of the file of this path has claimed it: for itself
-    /// alone, or beside other readers.
+    /// alone, or along with other readers.
     Claimed(&'static str, &'static [&'static str], Outcome),
     Shared(&'static str, &'static [&'static str], Outcome),
     /// Runs these words, and these files hold what they held before.

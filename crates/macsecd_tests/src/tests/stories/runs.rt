@@ -72,7 +72,7 @@ pub fn expect_claimed(
     expect_keeping(rt, alloc, &[path], words, outcome)
 }
 
-/// The same while it is claimed beside other readers.
+/// The same while it is claimed along with other readers.
 pub fn expect_shared(
     rt: &(impl Abort + Files<File = File> + Net + Clock + Env + RandomSource),
     alloc: Global,
