@@ -55,7 +55,7 @@ fn name_of(tag: &MacsTag) -> ScName
     }
 }
 
-/// The confidentiality offset, `None` for a number of octets that is none of 0, 30 and 50.
+/// The confidentiality offset, `None` for a number of octets that is not 0, 30 or 50.
 pub(crate) fn offset_of(octets: u8) -> Option<Offset>
     ensures some { IsSome result ↔ (is_offset octets ≡ true) }
     ensures octets { IfSome result (λ found. octets_of found ≡ octets) }
