@@ -59,7 +59,7 @@ abbrev pub offset_at : ℕ → Option Offset
 offset_at octets =
     if octets == 0 then Some Zero else if octets == 30 then Some Thirty else if octets == 50 then Some Fifty else None
 
--- the offset of an install is none of 0, 30 and 50 octets, or is not 0 without confidentiality
+-- the offset of an install is not 0, 30 or 50 octets, or is not 0 without confidentiality
 abbrev pub has_wrong_offset : Command → Bool
 has_wrong_offset (TxInstall an key start confidential offset) =
     is_none (offset_at offset) || (not confidential && not (offset == 0))

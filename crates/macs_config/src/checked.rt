@@ -52,7 +52,7 @@ pub enum Judged {
     },
 }
 
-/// A command that a configuration does not refuse, as its check judged it. It serves that configuration, or one
+/// A command that a configuration does not refuse, as its check judged it. It fits that configuration, or one
 /// with the same contents; in clauses it is the command.
 #[derive(Clone, Copy)]
 pub struct Checked {

@@ -99,7 +99,7 @@ pub fn restored_is_config()
         → config_of_parts edition identity parts ≡ Some c → IsConfig edition identity c }
 {}
 
-/// Spent keys stay, in their order; an install adds its key on its side, and no other command any.
+/// Spent keys stay, in their order; an install adds its key on its side, and no other command adds any.
 pub fn spent_for_good()
     ensures { (edition : Edition) (identity : Identity) (old new : Config) (command : Command) (role : Role)
         → apply edition identity old command ≡ Ok new

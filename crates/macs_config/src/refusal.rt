@@ -6,7 +6,7 @@
 pub enum Refusal {
     /// The start of a new association is 0, which is no packet number.
     StartRange,
-    /// The offset of a new association is none of 0, 30 and 50 octets, or not 0 without
+    /// The offset of a new association is not 0, 30 or 50 octets, or not 0 without
     /// confidentiality.
     OffsetChoice,
     /// A new channel has the endpoint's own SCI.

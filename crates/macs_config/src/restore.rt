@@ -199,7 +199,7 @@ fn spend(contents: &mut Contents, role: Role, fingerprint: Fingerprint)
     }
 }
 
-/// Whether fingerprints are new beside those that are spent, and fit.
+/// Whether these fingerprints may be added to those that are spent: they are new, and they fit.
 fn may_be_spent(spent: &SpentKeys, fingerprints: &[Fingerprint]) -> bool
     ensures { result ≡ (are_new spent.now fingerprints.now && nat_le (length spent.now + length fingerprints.now) max_spent) }
 {
