@@ -12,7 +12,7 @@ use macs_texts::refusal_name;
 /// The last line of the answer to a request that is done.
 pub const DONE: &str = "end 0\n";
 
-/// That of a line that is no request's.
+/// That of a line that is no request.
 pub const NO_REQUEST: &str = "end 2\n";
 
 /// That of a request for which there is no memory.
@@ -78,7 +78,7 @@ pub fn ended(end: CommandEnd) -> Reply
     }
 }
 
-/// How it is named that a command is not taken.
+/// The name of the reason why a command is not taken.
 fn submit_fault_name(fault: SubmitFault) -> &'static str
     ensures name { result.now ≡ submit_fault_name fault }
     ensures short { length result.now ≤ 13 }
