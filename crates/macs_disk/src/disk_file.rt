@@ -21,8 +21,8 @@ const SPACED_AREA: i64 = 2_105_344;
 
 /// An open file, as a disk uses it. Tests put files in its place whose calls fail.
 ///
-/// What is said here is said of a file that behaves. Whether a file behaves never changes. Of a file of
-/// the operating system that is not claimed, and nothing is known of it.
+/// What is said here is said of a file that behaves. Whether a file behaves never changes. That is not
+/// claimed of a file of the operating system, and nothing is known of one.
 pub trait DiskFile: Drop {
     /// What the file is at this moment: what its cache shows, what the device has, what a power loss may
     /// leave.

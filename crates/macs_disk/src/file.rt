@@ -15,9 +15,9 @@ use std::snapshot::Snapshot;
 /// A disk in a file of whole sectors, which lie in it as its layout says.
 ///
 /// It is an honest disk where its file behaves, has no other user, and lies on a device whose blocks suit the
-/// layout. Of a file of the operating system that is not claimed: whether reads give what was written, and
-/// what a power loss leaves, is the system's and the device's. One disk at a time is to use a file, since
-/// what another program does to the file goes by unseen.
+/// layout. That is not claimed of a file of the operating system: whether reads give what was written, and
+/// what a power loss leaves, is up to the system and the device. One disk at a time is to use a file, since
+/// what another program does to the file goes unseen.
 ///
 /// A read or a write that moves fewer octets goes on to the sector's end, and an interrupted one is
 /// tried again. Every other error of the file is a `DeviceFault`; so is a read of a sector that the file
