@@ -92,7 +92,7 @@ pub fn drawn<D: SectorDisk>()
     ensures turns { TurnWords D.disk }
     // What passes between a relay and its desk.
     ensures desk { DeskWords D.disk }
-    // Which calls of a wire fail that is made to.
+    // Which calls fail of a wire that is made to fail.
     ensures faults { FaultWords }
 {}
 

@@ -11,7 +11,7 @@ use std::net::SocketAddr;
 /// A socket in front of another, for a wire of a relay that sleeps until a datagram is there. After a receive that
 /// found nothing, a receive that follows a send is left out, so many in a row at most: it is answered as one that
 /// finds nothing, and the socket behind is not asked. So a wire that gives nothing, while the other one gives frames,
-/// is asked at a part of the turns alone.
+/// is asked only in some of the turns.
 ///
 /// A receive that follows no send is not left out. After a turn that brought nothing there was no send, so the wire is
 /// asked in the turn after it; and a sleep in between ends at once where a datagram is there.

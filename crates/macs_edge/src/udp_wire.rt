@@ -118,7 +118,7 @@ impl<A: Allocator> UdpWire<A, UdpSocket> {
     ghost use Rattle.macs_edge.specs.Counts.{no_counts};
     ghost use Rattle.macs_edge.specs.UdpWires.{counts_of, peer_of};
 
-    /// A wire from the own address to the peer's. Refused first as `Memory`, where 9,217 octets are; then as
+    /// A wire from the own address to the peer's. Refused first as `Memory`, where there is none for 9,217 octets; then as
     /// `Bind`. Memory is taken here and at no other call.
     pub fn bind<R: Net>(
         net: &R,
