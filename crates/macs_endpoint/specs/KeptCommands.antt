@@ -14,7 +14,7 @@ use Rattle.macs_endpoint.specs.declared.fault.CommandFault.{CommandFault}
 use Rattle.macs_endpoint.specs.declared.fault.CommandFault.TheVariants as ran
 use Rattle.macs_endpoint.specs.declared.queue.Waiting.{Waiting}
 
--- how many device calls a command takes that does not wait, at most: those that are left of a reservation under way, and its own after it
+-- how many device calls a command that does not wait takes, at most: those that are left of a reservation under way, and then its own
 abbrev pub most_in_command : {D : Type 0} → EndpointValue D → ℕ
 most_in_command e = calls_left e.store + most_with_change (slots_then e.store) (reserved_in e)
 

@@ -38,7 +38,7 @@ pub enum Answer {
     Refilled(Result<(), RefillFault>),
 }
 
-/// Why events are served no longer.
+/// Why no more events are served.
 #[derive(Clone, Copy, Debug, PartialEq, Eq)]
 pub enum ServeEnd {
     /// The source has no further event.
