@@ -119,7 +119,7 @@ pub enum Offset {
 impl Offset {
     ghost use Rattle.macs_fields.specs.Fields.{octets_of};
 
-    /// `None` for a number of octets that is none of 0, 30 and 50.
+    /// `None` for a number of octets that is not 0, 30 or 50.
     pub fn new(octets: u8) -> Option<Offset>
         ensures { (offset : Offset) → (result ≡ Some offset) ↔ (octets ≡ octets_of offset) }
     {
