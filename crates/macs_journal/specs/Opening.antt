@@ -62,7 +62,7 @@ pub record Recovers {D : Type 0} (disk_of : D → Disk) (disk : D) (journal : Jo
       → JournalIs (disk_of disk).sectors (now (disk_of disk)).seen (Ok (content_of journal records))
   pub holds : IsHonest (disk_in disk_of journal) → HoldsContent disk_of journal (content_of journal records)
 
--- what a disk is refused for: it is that of no journal
+-- what a disk is refused for: it is the disk of no journal
 abbrev pub IsNoJournal : {D : Type 0} → (D → Disk) → D → JournalFault → Type 0
 IsNoJournal disk_of disk fault = JournalIs (disk_of disk).sectors (now (disk_of disk)).seen (Err fault)
 

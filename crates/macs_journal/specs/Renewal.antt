@@ -8,7 +8,7 @@ use Rattle.macs_record.specs.declared.record.Record.{Record}
 use Rattle.macs_journal.specs.Areas.{gate, gates, head_body, other_area, slot_body}
 use Rattle.macs_journal.specs.Found.{Content, HasJournal, IsGateOpen}
 
--- the greatest generation, which 8 octets hold: after it there is no next one
+-- the greatest generation, which 8 octets hold: after it there is none
 abbrev pub last_generation : ℕ
 last_generation = 2 ^ 64 - 1
 

@@ -18,8 +18,8 @@ impl<D: SectorDisk> Journal<D> {
     /// read open are closed, that of the head included, and this is made durable; the bodies of the
     /// records and of a head of the next generation, in format two, are written and made durable; the
     /// head gate is opened and made durable. Refused as `Stopped`, and as `GenerationsSpent`, where nothing is
-    /// changed; as `Disk` at the first call that fails: then a power loss leaves the journal with the
-    /// records of before or with these. No work is under way, before or after.
+    /// changed; as `Disk` at the first call that fails: then a power loss leaves the journal with the earlier
+    /// records or with these. No work is under way, before or after.
     pub fn compact(&mut self, records: &[Record]) -> Result<(), JournalFault>
         requires idle { IsIdle self.old }
         requires some { (1 ≤ length records.now) × (length records.now ≤ slots) }

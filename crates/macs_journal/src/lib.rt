@@ -1,4 +1,4 @@
-//! A journal of records on a disk: after a power loss at any moment a record is there always once its
+//! A journal of records on a disk: after a power loss at any moment a record is always there once its
 //! gate was durably open, and never while that is durably closed.
 #![tactic(auto)]
 
