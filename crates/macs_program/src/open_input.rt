@@ -43,7 +43,7 @@ pub enum InputFault {
     Key,
     /// The second line is not 16 hex digits.
     Sci,
-    /// The third line is none of `0`, `30` and `50`.
+    /// The third line is not `0`, `30` or `50`.
     Offset,
     /// The fourth line is not an even number of hex digits.
     Frame,
