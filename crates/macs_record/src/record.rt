@@ -103,7 +103,7 @@ pub enum RecordFault {
 }
 
 impl Record {
-    /// The record of a command, `None` where its start is 0, its offset is none of 0, 30 and 50, or
+    /// The record of a command, `None` where its start is 0, its offset is not 0, 30 or 50, or
     /// not 0 without confidentiality.
     pub fn command(command: &Command) -> Option<Record>
         ensures { result ≡ record_of command.now }
