@@ -22,7 +22,7 @@ use Rattle.macs_store.specs.Snapshot.{snapshot}
 use Rattle.macs_store.specs.Standing.{Standing}
 use Rattle.macs_store.specs.Value.{IsIdle, IsStored, StoreValue, disk_in, is_stopped, standing_in}
 
--- what a disk, by what a disk of this kind is, is refused for: it is none that an endpoint of this edition goes on from
+-- what a disk is refused for, by what a disk of this kind is: no endpoint of this edition goes on from it
 abbrev pub IsUnfit : {D : Type 0} → (D → Disk) → D → JournalFault → Type 0
 IsUnfit disk_of disk fault = IsUnfitTo this_edition (disk_of disk).sectors (now (disk_of disk)).seen fault
 

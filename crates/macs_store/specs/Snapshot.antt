@@ -46,7 +46,7 @@ rx_records c ceilings = flat_map (rx_records_of c ceilings) c.channels
 abbrev pub fingerprints_each : ℕ
 fingerprints_each = 15
 
--- how many records as many fingerprints take as may be spent on a side
+-- how many records the fingerprints take that may be spent on a side
 abbrev pub most_spent_records : ℕ
 most_spent_records = 35
 

@@ -19,7 +19,7 @@ use macs_fields::{An, Sci};
 use macs_journal::RecordSource;
 use macs_record::Record;
 
-/// How many records as many keys take as may be spent on a side.
+/// How many records the keys take that may be spent on a side.
 const MAX_SPENT_RECORDS: usize = 35;
 
 // The records of a snapshot of the standing. No more than one of them is there at a time.

@@ -89,7 +89,7 @@ impl<D: SectorDisk> Store<D> {
         self.start(Record::RxCeiling { sci, an, ceiling }, None)
     }
 
-    /// Starts work on a record that follows from the standing, and where it is a command's, what its check judged: nothing
+    /// Starts work on a record that follows from the standing; where it is a command's, with what its check judged: nothing
     /// is judged of a raised ceiling, and of each command its record.
     /// Where all 256 slots are used the journal is to start over first.
     fn start(&mut self, value: Record, checked: Option<Checked>) -> Result<(), JournalFault>
