@@ -128,7 +128,7 @@ are_spent_full c (TxInstall an key start confidential offset) = nat_le max_spent
 are_spent_full c (RxInstall sci an key start offset) = nat_le max_spent (length c.spent_rx)
 are_spent_full c command = false
 
--- the key of an install is none that the edition takes
+-- the edition does not take the key of an install
 abbrev pub is_long_key : Edition → Command → Bool
 is_long_key edition (TxInstall an key start confidential offset) = not (takes_key edition (octets_of_key key))
 is_long_key edition (RxInstall sci an key start offset) = not (takes_key edition (octets_of_key key))
