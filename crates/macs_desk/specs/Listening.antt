@@ -102,7 +102,7 @@ sleep_after false = []
 abbrev pub is_time : Bool → ℕ → Bool
 is_time was_quiet left = was_quiet || left == 0
 
--- how many turns may pass without it, once this was wanted: none after a command, since more may come with it
+-- how many turns may pass without it, once the desk wanted this: none after a command, since more may come with it
 abbrev pub turns_between : Order → ℕ
 turns_between (Submit command) = 0
 turns_between order = 63
