@@ -81,8 +81,8 @@ all_failed waiting = map (λ (w : Waiting). record { ticket = w.ticket; end = en
 -- ---- the whole
 
 -- The frames go as those of a relay. The commands that the desk handed in were submitted, each as one call of the
--- endpoint, and each answer was reported to the desk:
--- it is what was answered. What was reported to it as the end of commands is what steps were done with, and after that those that
+-- endpoint, and the desk was given
+-- what was answered. What it was given as the end of commands is what steps were done with, and after that those that
 -- still wait have failed.
 -- And each command that was taken was answered once, in the order of tickets, after those that waited before
 pub record IsAttendedFlow {D : Type 0} (disk_of : D → Disk) (old : Relay D) (events : List DeskEvent) (new : Relay D)

@@ -40,8 +40,8 @@ use Rattle.macs_edge.specs.declared.wire.WireFault.TheVariants as fault
 -- the first ones, and a wire gains what was sent; its failed receives and sends rise by what is missed and lost, as far as the numbers go. A summary counts what
 -- was sent each way and what was missed and lost; and what it has as dropped are the other frames that were taken. A relay takes all its turns, and answers what
 -- its two lanes make; or fewer, and then one whose step is answered with the fault, which has the name of that step's.
--- A run counts what passes, and the other records that were taken. Of a flow: its calls link the endpoint of before to
--- that of after; each way, what was taken came off the one wire, and what was sent on the other is what the calls gave.
+-- A run counts what passes, and the other records that were taken. Of a flow: its calls link the earlier endpoint to
+-- the later one; each way, what was taken came off the one wire, and what was sent on the other is what the calls gave.
 -- They give each frame that `protect` answered with its number, and each that `receive` delivered, in order, and
 -- nothing else.
 pub record FlowWords {D : Type 0} (disk_of : D → Disk) : Type 0 where
