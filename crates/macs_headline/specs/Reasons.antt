@@ -15,7 +15,7 @@ abbrev pub IsNoOffset : ℕ → Type 0
 IsNoOffset offset = (offset ≢ 0) × (offset ≢ 30) × (offset ≢ 50)
 
 -- What holds of a command that is refused so. An install begins with packet number 0; its offset is no choice, or is not 0 without confidentiality; an
--- association exists at its AN; its key is spent, on the receive side for its SCI; 512 keys are spent on its side; its key is none that the edition takes. A
+-- association exists at its AN; its key is spent, on the receive side for its SCI; 512 keys are spent on its side; the edition does not take its key. A
 -- channel is to be added under the endpoint's own SCI, or one that exists, or as many exist as the edition takes; or the channel that is named does not exist.
 -- ES is to be set, and the port of the endpoint's SCI is not 00-01 (9.5). There is no association at the AN that is to be used or removed; or frames go out under
 -- the one that is to be removed.

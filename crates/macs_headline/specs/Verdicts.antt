@@ -83,7 +83,7 @@ reason_told (Delivered UnusedSa) = Some NotUsingSa
 reason_told (Delivered Invalid) = Some NotValid
 reason_told verdict = None
 
--- A frame has the reason that its verdict reports, and none that comes before it; one that is delivered as verified, or held back, has none. A SecTAG names the
+-- A frame has the reason that its verdict gives, and none that comes before it; one that is delivered as verified, or held back, has none. A SecTAG names the
 -- SCI that it spells out, or that of its source address; its AN are the lowest two bits of octet 14, and its PN is in octets 16 to 19 (9.6 and 9.8). E and C
 -- are the bits of octet 14 with the values 8 and 4 (9.5), and an octet has the bit of value 2^k where k halvings of it leave an odd number. What verifies, or
 -- is given bare, are the octets from the first one after the SecTAG to the last one before the ICV (9.10 and 9.11).
