@@ -42,7 +42,7 @@ abbrev pub outgoing_with : ℕ → Option TxSa → Option ℕ → Option Outgoin
 outgoing_with an (Some sa) (Some pn) = Some (record { an = an; sa = sa; pn = pn })
 outgoing_with an sa pn = None
 
--- the association at a chosen AN, None where none is chosen or there is none there
+-- the association at a chosen AN, None where none is chosen or none exists there
 abbrev pub outgoing_at : TxSide → Option ℕ → Option Outgoing
 outgoing_at side None = None
 outgoing_at side (Some an) = outgoing_with an (side.tx an) (side.next an)
