@@ -31,14 +31,24 @@ fn opened<D: SectorDisk + Drop>(rt: &impl Abort, disk: D) -> Endpoint<D> {
     }
 }
 
-/// A relay of so many turns between two wires on which nothing waits, with this desk.
+/// A relay of a new endpoint of so many turns, between two wires on which nothing waits, with this desk.
 fn attended<K: Desk<MemDisk, MemWire<Global>, MemWire<Global>>>(
     rt: &impl Abort,
     alloc: Global,
     desk: &mut K,
     turns: u64,
 ) {
-    let mut endpoint = opened(rt, formatted(rt, alloc));
+    let endpoint = opened(rt, formatted(rt, alloc));
+    relay_between(rt, alloc, endpoint, desk, turns);
+}
+
+fn relay_between<K: Desk<MemDisk, MemWire<Global>, MemWire<Global>>>(
+    rt: &impl Abort,
+    alloc: Global,
+    mut endpoint: Endpoint<MemDisk>,
+    desk: &mut K,
+    turns: u64,
+) {
     let mut controlled = MemWire::new(alloc);
     let mut common = MemWire::new(alloc);
     let told = attend(&mut endpoint, &mut controlled, &mut common, desk, turns);

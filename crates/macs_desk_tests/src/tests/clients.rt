@@ -1,6 +1,7 @@
 //! A client that asks, and keeps what is said to it.
 
-use macs_requests::{Client, Clients, Heard, Line};
+use macs_desk::ControlDesk;
+use macs_requests::{Client, Clients, Heard, Line, NoMetrics};
 use std::alloc::Global;
 use std::process::Abort;
 
@@ -52,4 +53,14 @@ impl<R: Abort> Clients for Asker<'_, R> {
     fn is_ended(&mut self) -> bool {
         false
     }
+}
+
+/// What a desk has said to its client is this text.
+pub(super) fn expect_told<R: Abort>(
+    rt: &R,
+    desk: ControlDesk<Asker<'_, R>, NoMetrics>,
+    told: &str,
+) {
+    let (asker, _metrics) = desk.into_parts();
+    assert!(rt; asker.told.as_str() == told);
 }

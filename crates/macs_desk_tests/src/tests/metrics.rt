@@ -87,6 +87,12 @@ macsec_keys_left{side=\"tx\"} 512
 macsec_keys_left{side=\"rx\"} 512
 ";
 
+/// What a desk has written is this text.
+fn expect_written<R: Abort>(rt: &R, desk: ControlDesk<Asker<'_, R>, Written<'_, R>>, text: &str) {
+    let (_asker, metrics) = desk.into_parts();
+    assert!(rt; metrics.text.as_str() == text);
+}
+
 /// Three looks, of which the first alone finds them due.
 #[test]
 fn metrics_are_written_where_they_are_due(rt: HostRuntime) {
@@ -97,6 +103,5 @@ fn metrics_are_written_where_they_are_due(rt: HostRuntime) {
     };
     let mut desk = ControlDesk::new(rt.alloc(), Asker::new(&rt, rt.alloc(), "show"), metrics);
     attended(&rt, rt.alloc(), &mut desk, 4);
-    let (_asker, metrics) = desk.into_parts();
-    assert!(rt; metrics.text.as_str() == NEW);
+    expect_written(&rt, desk, NEW);
 }

@@ -1,6 +1,6 @@
 //! A command that is not taken.
 
-use super::clients::Asker;
+use super::clients::{Asker, expect_told};
 use macs_desk::ControlDesk;
 use macs_disk::MemDisk;
 use macs_edge::{Desk, MemWire};
@@ -22,8 +22,7 @@ fn refuse<K: Desk<MemDisk, MemWire<Global>, MemWire<Global>>>(desk: &mut K, faul
 fn is_told(rt: &impl Abort, alloc: Global, fault: SubmitFault, told: &str) {
     let mut desk = ControlDesk::new(alloc, Asker::new(rt, alloc, "show"), NoMetrics);
     refuse(&mut desk, fault);
-    let (asker, _metrics) = desk.into_parts();
-    assert!(rt; asker.told.as_str() == told);
+    expect_told(rt, desk, told);
 }
 
 #[test]

@@ -1,7 +1,7 @@
 //! What is reported of a new endpoint, by hand.
 
 use super::attended;
-use super::clients::Asker;
+use super::clients::{Asker, expect_told};
 use macs_desk::ControlDesk;
 use macs_requests::NoMetrics;
 use std::alloc::Global;
@@ -25,8 +25,7 @@ sci-mode explicit\nencoding none\nspent tx 0 rx 0\n5 end 0\n",
 fn answers(rt: &impl Abort, alloc: Global, line: &'static str, told: &str) {
     let mut desk = ControlDesk::new(alloc, Asker::new(rt, alloc, line), NoMetrics);
     attended(rt, alloc, &mut desk, 8);
-    let (asker, _metrics) = desk.into_parts();
-    assert!(rt; asker.told.as_str() == told);
+    expect_told(rt, desk, told);
 }
 
 #[test]
