@@ -132,6 +132,7 @@ def slips():
         yield ["show", name], None, None, None
         yield ["inspect", name], None, None, None
         yield ["check", name], None, None, None
+        yield ["check", COMMANDS, name], None, None, None
         for direction in ("protect", "validate"):
             yield [direction, name, CAPTURE, "out"], None, name, None
             yield [direction, DISK, name, "out"], None, DISK, None

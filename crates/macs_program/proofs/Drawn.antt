@@ -371,7 +371,7 @@ nothing_printed (Protect disk from to is_all) before after printed is = printed
 nothing_printed (Validate disk from to is_all false) before after printed is = printed
 nothing_printed (Relay disk controlled common running) before after printed is = printed
 nothing_printed (Key is_long) before after printed is = printed
-nothing_printed (Check file) before after printed is = printed
+nothing_printed (Check file disk) before after printed is = printed
 nothing_printed action before after printed is = absurd (cc)
 
 commands_printed : (action : Action) (before after : Option (List ℕ)) → HasPrinted action before after
@@ -416,7 +416,7 @@ line-words = record {
   no_input = no_input;
   nothing = nothing_printed;
   commands = commands_printed;
-  silent = λ path sci from to tx_block rx_block block is controlled common running. refl;
+  silent = λ path sci from to tx_block rx_block block disk is controlled common running. refl;
   prints_lines = λ path from. refl;
   complained = λ before after failed text is. is;
   complaint = λ failure. refl;

@@ -15,6 +15,7 @@ pub mod HexDigits
 pub mod InFiles
 pub mod JudgedFiles
 pub mod Inspected
+mod Laid
 pub mod Looks
 pub mod Made
 pub mod OpenedFrames
@@ -25,6 +26,7 @@ pub mod SpelledWires
 pub mod Spelling
 pub mod TextLines
 pub mod Told
+pub mod Tried
 mod WrittenOver
 mod ContentDrawn
 mod Drawn

@@ -20,6 +20,8 @@ pub mod Tasks
 pub mod Asking
 pub mod Keys
 pub mod Inspecting
+pub mod Copying
+pub mod Trying
 pub mod Checking
 pub mod Run
 pub mod Drawn

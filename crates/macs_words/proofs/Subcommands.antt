@@ -86,7 +86,7 @@ blocks rows (Relay disk controlled common running) named fits = absurd (omega (a
 blocks rows (Ask path asked) named fits = absurd (omega (arith, ap (λ (t : Text). slice_index t 0) named.0))
 blocks rows (Key is_long) named fits = absurd (omega (arith, ap (λ (t : Text). slice_index t 0) named.0))
 blocks rows (Inspect input) named fits = absurd (omega (arith, ap (λ (t : Text). slice_index t 0) named.0))
-blocks rows (Check file) named fits = absurd (omega (arith, ap (λ (t : Text). slice_index t 0) named.0))
+blocks rows (Check file disk) named fits = absurd (omega (arith, ap (λ (t : Text). slice_index t 0) named.0))
 
 -- ---- what `relay` is given
 
@@ -103,7 +103,7 @@ pace_of rows (Relay disk controlled common running) named fits = (running.pace, 
 pace_of rows (Ask path asked) named fits = absurd (omega (arith, ap (λ (t : Text). slice_index t 0) named.0))
 pace_of rows (Key is_long) named fits = absurd (omega (arith, ap (λ (t : Text). slice_index t 0) named.0))
 pace_of rows (Inspect input) named fits = absurd (omega (arith, ap (λ (t : Text). slice_index t 0) named.0))
-pace_of rows (Check file) named fits = absurd (omega (arith, ap (λ (t : Text). slice_index t 0) named.0))
+pace_of rows (Check file disk) named fits = absurd (omega (arith, ap (λ (t : Text). slice_index t 0) named.0))
 
 -- ---- what `ask` is given
 
@@ -119,7 +119,7 @@ question_of rows (Relay disk controlled common running) named = absurd (omega (a
 question_of rows (Ask path asked) named = (asked, named.2)
 question_of rows (Key is_long) named = absurd (omega (arith, ap (λ (t : Text). slice_index t 0) named.0))
 question_of rows (Inspect input) named = absurd (omega (arith, ap (λ (t : Text). slice_index t 0) named.0))
-question_of rows (Check file) named = absurd (omega (arith, ap (λ (t : Text). slice_index t 0) named.0))
+question_of rows (Check file disk) named = absurd (omega (arith, ap (λ (t : Text). slice_index t 0) named.0))
 
 -- ---- what each subcommand is given
 
@@ -482,11 +482,15 @@ check-named : IsNamed (shape_at 10)
 unfolding clap_on_literals
 check-named words passes =
     let rules : AreValueRules (shape_at 10).rules = record {
-      each = (value-is 1 (codes "FILE"), tt);
-      own = (refl, tt);
+      each = (value-is 1 (codes "FILE"), (last-is 2 (codes "DISK"), tt));
+      own = (refl, (refl, tt));
     } in
     let file = given (shape_at 10) words (with_index 1 (filled (value_rule (codes "FILE")))) rules refl passes refl refl in
-    inr (Check (text_of file.0), (refl, file.1), tt)
+    let rows = rows_after (shape_at 10).rules [] words in inr (
+      Check (text_of file.0) (option_map text_of (first_of (codes "DISK") rows)),
+      (refl, file.1, texts-back (first_of (codes "DISK") rows)),
+      tt,
+    )
 
 -- ---- the words of a whole command line
 
@@ -515,7 +519,7 @@ first-of-three true true d is = refl
 first-of-three true false d is = cc
 first-of-three false b d is = cc
 
--- those that need no endpoint
+-- those that change no endpoint
 lone-named : AllByRecursion IsNamed (shape_at 8 ∷ shape_at 9 ∷ shape_at 10 ∷ [])
 lone-named = (key-named, (inspect-named, (check-named, tt)))
 

@@ -81,8 +81,10 @@ pub record ActionWords : Type 0 where
       → (name ≡ codes "key") × ((is_long ≡ true) ↔ (first_of (codes "long") values ≡ Some (codes "true")))
   pub inspect : (name : Text) (values : List Row) (input : Bor Text) → Names (Some (name, values)) (Inspect input)
       → (name ≡ codes "inspect") × (first_of (codes "INPUT") values ≡ Some input.now)
-  pub check : (name : Text) (values : List Row) (file : Bor Text) → Names (Some (name, values)) (Check file)
+  pub check : (name : Text) (values : List Row) (file : Bor Text) (disk : Option (Bor Text))
+      → Names (Some (name, values)) (Check file disk)
       → (name ≡ codes "check") × (first_of (codes "FILE") values ≡ Some file.now)
+      × (first_of (codes "DISK") values ≡ option_map (λ t. t.now) disk)
   pub number : (values : List Row) (name : Text) (n : ℕ) → HasNumber values name n
       → (text : Text) × (first_of name values ≡ Some text) × IsNumeral 10 (without_leading_plus text)
       × (n ≡ digits_value 10 (without_leading_plus text))

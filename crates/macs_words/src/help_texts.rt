@@ -14,7 +14,7 @@ pub const HELP: &str = "usage: macsecd [SUBCOMMAND VALUES..]
                                asks a running relay over its control socket
   key                          prints a fresh key
   inspect INPUT                prints what the SecTAG of each frame says
-  check FILE                   checks the commands of a TOML file
+  check FILE [DISK]            checks the commands of a TOML file
 
 macsecd SUBCOMMAND --help says more of each; --version prints the version.
 A fault is one line on standard error.
@@ -196,16 +196,22 @@ status: 0 done, 2 usage, 5 capture, output or memory
 ";
 
 pub const CHECK: &str = "usage: macsecd check FILE
+       macsecd check FILE DISK
 
 Checks whether the commands of a TOML file can be read, as 'macsecd apply' reads
-them, and prints how many there are: '4 commands'. Whether an endpoint takes them
-is not looked at.
+them, and prints how many there are: '4 commands'. With DISK it prints a line for
+each instead, with what 'macsecd apply' would print of it there, as
+  1 would be ok
+  2 would be refused KeySpent
+Nothing is changed, and DISK is only read.
   FILE   as of apply: see 'macsecd apply --help'
-A fault is one line: the command, its key, and what is wrong with it, as
+  DISK   a disk file that was formatted
+A fault of FILE is one line: the command, its key, and what is wrong with it, as
   command 3 key: not 32 or 64 hex digits
 
-example: macsecd check examples/left.toml
-status: 0 done, 2 usage, 5 a fault of the file, output or memory
+example: macsecd check examples/left.toml left.disk
+status: 0 done, 2 usage, 3 a command would be refused, 4 disk, 5 a fault of the
+        file, output or memory
 ";
 
 pub const VERSION: &str = "macsecd 0.1.0\n";

@@ -27,6 +27,7 @@ mod spaced_files;
 mod stand_in;
 mod stories;
 mod streams;
+mod trying;
 mod waiting;
 mod wires;
 mod words;

@@ -108,7 +108,7 @@ const FORMS: &[&str] = &[
     "\n  ask PATH show|counters|stop|apply FILE\n",
     "\n  key   ",
     "\n  inspect INPUT   ",
-    "\n  check FILE   ",
+    "\n  check FILE [DISK]   ",
 ];
 
 #[test]

@@ -173,7 +173,7 @@ const WORDS_TOO_MANY: &[&[&str]] = &[
     &["key", "more"],
     &["key", "--long", "more"],
     &["inspect", "plain.pcap", "more"],
-    &["check", "left.toml", "more"],
+    &["check", "left.toml", "left.disk", "more"],
 ];
 
 #[test]
@@ -561,6 +561,10 @@ const TAKEN: &[(&[&str], Parts<'static>)] = &[
         &["check", "--", "--long"],
         ("check", ["--long", "", "", "", ""], [0, 0]),
     ),
+    (
+        &["check", "left.toml", "left.disk"],
+        ("check", ["left.toml", "left.disk", "", "", ""], [0, 0]),
+    ),
 ];
 
 /// What a relay serves: a control socket, a file of counters, and a buffer in octets.
@@ -718,7 +722,10 @@ fn is_of_files(action: Action<'_>, wanted: &Parts<'_>) -> bool {
             [0, 0],
         ),
         Action::Inspect { input } => is_named(wanted, "inspect", [input, "", "", "", ""], [0, 0]),
-        Action::Check { file } => is_named(wanted, "check", [file, "", "", "", ""], [0, 0]),
+        Action::Check { file, disk } => {
+            let disk = disk.unwrap_or("");
+            is_named(wanted, "check", [file, disk, "", "", ""], [0, 0])
+        }
         _ => false,
     }
 }

@@ -23,4 +23,4 @@ pub returns-in-Inspect-clause-performs : goal.returns-in-Inspect-clause-performs
 returns-in-Inspect-clause-performs g c = rw c.in-Inspect.is (inspects _ _ _ _ _ _ _ _ c.inspect.ensures.printed c.inspect.ensures.failed c.inspect.ensures.ended c.inspect.ensures.front c.inspect.ensures.broken)
 
 pub returns-in-Check-clause-performs : goal.returns-in-Check-clause-performs
-returns-in-Check-clause-performs g c = rw c.in-Check.is (checks _ _ _ _ _ _ _ _ c.check.ensures.printed c.check.ensures.ended c.check.ensures.silent c.check.ensures.broken)
+returns-in-Check-clause-performs g c = rw c.in-Check.is (checks _ _ _ _ _ _ _ _ _ c.check.ensures.printed c.check.ensures.ended c.check.ensures.silent c.check.ensures.broken)

@@ -2,7 +2,7 @@ use Rattle.std.proofs.Common.{arith, inl, inr, subst}
 use Rattle.std.proofs.lemmas.Result.{IfErr-weaker}
 use Rattle.macs_program.specs.Checking.{IsSaidOfFile, IsSaidOfText}
 use Rattle.macs_program.proofs.Checked.{complains-weaker}
-use Rattle.macs_program.proofs.check.count_in.Goals as goal
+use Rattle.macs_program.proofs.check.commands_said.Goals as goal
 
 pub returns-then-octets-gt-MAX_FILE-clause-fault : goal.returns-then-octets-gt-MAX_FILE-clause-fault
 returns-then-octets-gt-MAX_FILE-clause-fault c =
@@ -17,10 +17,10 @@ returns-in_default-clause-fault c =
 
 pub returns-clause-fault : goal.returns-clause-fault
 returns-clause-fault c =
-    IfErr-weaker c.count_in_text.result _ _
+    IfErr-weaker c.commands_in_text.result _ _
     (λ failure complains. complains-weaker (IsSaidOfText c.in-Ok.text.now) (IsSaidOfFile c.args.octets.now) failure
     (λ said is. inr (inr (
       omega (arith, c.if-octets-gt-MAX_FILE.false),
       c.in-Ok.ensures.cases.1,
       subst (λ text. IsSaidOfText text said) c.in-Ok.ensures.cases.0 is,
-    ))) complains) c.count_in_text.ensures.fault
+    ))) complains) c.commands_in_text.ensures.fault

@@ -2,13 +2,13 @@ use Rattle.std.proofs.Common.{inl, inr}
 use Rattle.std.proofs.lemmas.Result.{IfErr-weaker}
 use Rattle.macs_program.specs.Checking.{HasFault, IsSaidOfText}
 use Rattle.macs_program.proofs.Checked.{complains-weaker}
-use Rattle.macs_program.proofs.check.count_in_text.Goals as goal
+use Rattle.macs_program.proofs.check.commands_in_text.Goals as goal
 
 pub returns-in-Ok-clause-fault : goal.returns-in-Ok-clause-fault
 returns-in-Ok-clause-fault c =
-    IfErr-weaker c.count_in_table.result _ _
+    IfErr-weaker c.commands_in_table.result _ _
     (λ failure complains. complains-weaker (HasFault c.args.text.now) (IsSaidOfText c.args.text.now) failure (λ said is. inr is) complains)
-    (c.count_in_table.ensures.fault c.args.text.now c.in-Ok.ensures.ok)
+    (c.commands_in_table.ensures.fault c.args.text.now c.in-Ok.ensures.ok)
 
 pub returns-in-Err-2-clause-fault : goal.returns-in-Err-2-clause-fault
 returns-in-Err-2-clause-fault c =
