@@ -15,6 +15,8 @@ pub mod HexDigits
 pub mod InFiles
 pub mod JudgedFiles
 pub mod Inspected
+mod Laid
+pub mod Examined
 pub mod Looks
 pub mod Made
 pub mod OpenedFrames
@@ -26,6 +28,7 @@ pub mod Spelling
 pub mod TextLines
 pub mod Told
 mod WrittenOver
+mod ExamineDrawn
 mod ContentDrawn
 mod Drawn
 mod RelayDrawn

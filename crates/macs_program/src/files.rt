@@ -64,6 +64,15 @@ pub fn is_printed_to<T: Files>(rt: &T, path: &str) -> bool {
     }
 }
 
+/// Opens a regular file to read it. An error where there is something else: to open a pipe would wait for who
+/// writes to it.
+pub fn open_regular<T: Files>(rt: &T, path: &str) -> io::Result<T::File> {
+    if !rt.metadata(path)?.is_file() {
+        return Err(io::Error::from(io::ErrorKind::InvalidInput));
+    }
+    fs::open(rt, path)
+}
+
 /// The disk in a file. It fails as `Memory`, or as `Disk` with `File` or `Length`, where the file is no disk,
 /// or standard output goes there.
 pub fn open_disk<T: Files>(rt: &T, path: &str) -> Result<FileDisk<T::File>, Failure>

@@ -90,6 +90,12 @@ pub enum Action<'a> {
     Check {
         file: &'a str,
     },
+    /// Prints what stands in the journal on a disk, which is only read: `examine DISK`.
+    Examine {
+        disk: &'a str,
+    },
+    /// Prints which program this is: `about`.
+    About,
 }
 
 /// What a running relay is asked.
@@ -325,6 +331,13 @@ fn file_words<'a>(alloc: Global, name: &'a str, file: &'a str) -> Result<Command
     with_value(Ok(Command::new(alloc, name)), value(alloc, file))
 }
 
+/// The words of `about`: none of its own.
+fn about_words<'a>(alloc: Global) -> Command<'a>
+    ensures { IsClapCommand result (new_app (codes "about")) }
+{
+    Command::new(alloc, "about")
+}
+
 /// The words before any subcommand: they begin after the program's name, and nothing of the library's own asks for
 /// help or the version.
 fn bare_words<'a>(alloc: Global) -> Command<'a>
@@ -364,7 +377,9 @@ fn known_words<'a>(alloc: Global) -> Result<Command<'a>, AllocError>
     let words = with_words(words, ask_words(alloc));
     let words = with_words(words, key_words(alloc));
     let words = with_words(words, file_words(alloc, "inspect", "INPUT"));
-    with_words(words, file_words(alloc, "check", "FILE"))
+    let words = with_words(words, file_words(alloc, "check", "FILE"));
+    let words = with_words(words, file_words(alloc, "examine", "DISK"));
+    with_words(words, Ok(about_words(alloc)))
 }
 
 /// What an error says first, in one line. It repeats the words, so control characters are replaced.
@@ -671,6 +686,16 @@ fn check_in<'a>(values: &ArgMatches<'a>) -> Option<Action<'a>>
     Some(Action::Check { file })
 }
 
+/// `examine` with its value.
+fn examine_in<'a>(values: &ArgMatches<'a>) -> Option<Action<'a>>
+    ensures read { IfSome result (λ action. Names (Some (codes "examine", rows_of (found_of values.now))) action) }
+    ensures found { (action : Action) → Names (Some (codes "examine", rows_of (found_of values.now))) action
+        → IsSome result }
+{
+    let disk = text_in(values, "DISK")?;
+    Some(Action::Examine { disk })
+}
+
 /// The action of the subcommand that was used with its values, `open` where there was none.
 fn action_in<'a>(matches: &ArgMatches<'a>) -> Option<Action<'a>>
     ensures read { IfSome result (Names (subcommand_rows_of matches.now)) }
@@ -692,6 +717,8 @@ fn action_in<'a>(matches: &ArgMatches<'a>) -> Option<Action<'a>>
         "key" => key_in(values),
         "inspect" => inspect_in(values),
         "check" => check_in(values),
+        "examine" => examine_in(values),
+        "about" => Some(Action::About),
         _ => None,
     }
 }

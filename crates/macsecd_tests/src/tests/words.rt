@@ -117,6 +117,7 @@ const WORDS_TOO_FEW: &[&[&str]] = &[
     &["ask", "control"],
     &["inspect"],
     &["check"],
+    &["examine"],
 ];
 
 /// Words that ask nothing that a relay is asked, and the line that says what it is asked.
@@ -174,6 +175,8 @@ const WORDS_TOO_MANY: &[&[&str]] = &[
     &["key", "--long", "more"],
     &["inspect", "plain.pcap", "more"],
     &["check", "left.toml", "more"],
+    &["examine", "left.disk", "more"],
+    &["about", "more"],
 ];
 
 #[test]
@@ -561,6 +564,11 @@ const TAKEN: &[(&[&str], Parts<'static>)] = &[
         &["check", "--", "--long"],
         ("check", ["--long", "", "", "", ""], [0, 0]),
     ),
+    (
+        &["examine", "show"],
+        ("examine", ["show", "", "", "", ""], [0, 0]),
+    ),
+    (&["about"], ("about", ["", "", "", "", ""], [0, 0])),
 ];
 
 /// What a relay serves: a control socket, a file of counters, and a buffer in octets.
@@ -719,6 +727,8 @@ fn is_of_files(action: Action<'_>, wanted: &Parts<'_>) -> bool {
         ),
         Action::Inspect { input } => is_named(wanted, "inspect", [input, "", "", "", ""], [0, 0]),
         Action::Check { file } => is_named(wanted, "check", [file, "", "", "", ""], [0, 0]),
+        Action::Examine { disk } => is_named(wanted, "examine", [disk, "", "", "", ""], [0, 0]),
+        Action::About => is_named(wanted, "about", ["", "", "", "", ""], [0, 0]),
         _ => false,
     }
 }
