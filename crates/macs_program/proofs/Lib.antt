@@ -16,6 +16,7 @@ pub mod InFiles
 pub mod JudgedFiles
 pub mod Inspected
 mod Laid
+pub mod Examined
 pub mod Looks
 pub mod Made
 pub mod OpenedFrames
@@ -28,6 +29,7 @@ pub mod TextLines
 pub mod Told
 pub mod Tried
 mod WrittenOver
+mod ExamineDrawn
 mod ContentDrawn
 mod Drawn
 mod RelayDrawn

@@ -6,8 +6,10 @@ use Rattle.std.specs.Prelude.{◌&&◌, is_some, nat_lt}
 use Rattle.std.proofs.lemmas.Result.{IfErr-weaker, IfOk-weaker}
 use Rattle.macs_config.specs.declared.refusal.Refusal.{Refusal}
 use Rattle.macs_disk.specs.Files.{FileState}
+use Rattle.macs_program.specs.About.{about_text}
 use Rattle.macs_program.specs.Applying.{outcome_lines, outcomes_status}
 use Rattle.macs_program.specs.Asking.{IsOfAsking, PrintsAnswer, PrintsFront}
+use Rattle.macs_program.specs.Examining.{ExamineFails, PrintsExamined}
 use Rattle.macs_program.specs.Failing.{failure_status}
 use Rattle.macs_program.specs.Checking.{CheckEnds, CheckFails, Checks}
 use Rattle.macs_program.specs.Inputs.{InputRead}
@@ -23,12 +25,13 @@ use Rattle.macs_program.specs.declared.failure.Failure.TheVariants.{Output}
 use Rattle.macs_program.specs.declared.status.Status.{Status}
 use Rattle.macs_program.specs.declared.status.Status.TheVariants as ends
 use Rattle.macs_words.specs.declared.action.Action.{Action}
-use Rattle.macs_words.specs.declared.action.Action.TheVariants.{Open, Format, Apply, Show, Protect, Validate, Relay, Ask, Key, Inspect, Check}
+use Rattle.macs_words.specs.declared.action.Action.TheVariants.{Open, Format, Apply, Show, Protect, Validate, Relay, Ask, Key, Inspect, Check, Examine, About}
 use Rattle.macs_words.specs.declared.action.WireEnds.{WireEnds}
 use Rattle.macs_words.specs.declared.action.Question.{Question}
 use Rattle.macs_words.specs.declared.action.Question.TheVariants as question
 use Rattle.macs_words.specs.declared.pace.Running.{Running}
-use Rattle.macs_program.proofs.Failures.{disk-no-usage}
+use Rattle.macs_program.proofs.Examined.{examining-no-usage}
+use Rattle.macs_program.proofs.Failures.{disk-no-usage, output-no-usage}
 use Rattle.macs_program.proofs.Tried.{of-trial}
 
 -- a failure of the disk is none of the output
@@ -312,6 +315,31 @@ module _ {F W : Type 0} (state_of : F → FileState) (contents : W → Option (L
     does = done;
     status = IfOk-weaker result _ _ (check-status disk) done;
     usage = IfErr-weaker result _ _ (λ failure is usage. absurd (check-no-usage disk failure is usage)) fails;
+    disk = IfErr-weaker result _ _ (λ failure same disk. ((λ is. absurd cc), same disk)) (kept silent);
+    before = before silent;
+    fails = fails;
+    broken = broken;
+  }
+
+  pub examines : (disk : Bor (List ℕ)) → IfOk result (λ status. PrintsExamined state_of (contents old) (contents new) × (status ≡ ends.Done))
+      → IfErr result (ExamineFails state_of) → Silent → Broken → Performs state_of contents failed (Examine disk) input old result new
+  examines disk done fails silent broken = record {
+    does = done;
+    status = IfOk-weaker result _ _ (λ status all. inl all.1) done;
+    usage = IfErr-weaker result _ _ (λ failure is usage. absurd (examining-no-usage state_of failure is usage)) fails;
+    disk = IfErr-weaker result _ _ (λ failure same disk. ((λ is. absurd cc), same disk)) (kept silent);
+    before = before silent;
+    fails = fails;
+    broken = broken;
+  }
+
+  pub tells : IfOk result (λ status. Appends (contents old) (contents new) about_text × (status ≡ ends.Done))
+      → IfErr result (λ failure. (failure ≡ failures.Memory) ⊎ (failure ≡ Output)) → Silent → Broken
+      → Performs state_of contents failed About input old result new
+  tells done fails silent broken = record {
+    does = done;
+    status = IfOk-weaker result _ _ (λ status all. inl all.1) done;
+    usage = IfErr-weaker result _ _ (λ failure is usage. absurd (output-no-usage failure is usage)) fails;
     disk = IfErr-weaker result _ _ (λ failure same disk. ((λ is. absurd cc), same disk)) (kept silent);
     before = before silent;
     fails = fails;

@@ -162,10 +162,22 @@ reply-words file = record {
     is.applies.applies.status_is,
   );
   shown = λ path input before after status (is, done). (is.shown, is.endpoint, is.printed, done);
+  examined = λ path input before after status ((text, is, printed), done). (
+    is.file,
+    is.copy,
+    is.layout,
+    is.is_copy,
+    is.content,
+    is.standing,
+    is.journal.found,
+    is.journal.stands,
+    subst (λ (t : List ℕ). Appends before after t) is.text_is printed,
+    done,
+  );
   protected = λ path from to is_all input before after status is.
       passed file Controlled is_all before after status is;
   validated = λ path from to is_all input before after status is.
-      passed file Common Common is_all before after status is;
+      passed file Common is_all before after status is;
   judged = λ path from to is_all input before after status is. judged file is_all before after status is;
   relayed = λ path controlled common running input before after status is. is;
   asked_apply = λ path from input before after status is. is;
@@ -191,6 +203,7 @@ reply-words file = record {
     is.records.ended,
     done,
   );
+  about = λ input before after status is. is;
   checked = λ from input before after status is. counted before after status is;
   prints = λ is_long octets before after is. (is.count, is.printed);
   lengths = (refl, refl);
@@ -266,6 +279,7 @@ fail-words file = record {
   of_format = λ path sci tx_block rx_block block is_over input before after failure is. is;
   of_apply = λ path from input before after failure is. is;
   of_show = λ path input before after failure is. is;
+  of_examine = λ path input before after failure is. is;
   of_protect = λ path from to is_all input before after failure is. is;
   of_validate = λ path from to is_all input before after failure is. is;
   of_judging = λ path from to is_all input before after failure is. is;
@@ -291,6 +305,7 @@ fail-words file = record {
       stops.stops,
     )
   ];
+  of_about = λ input before after failure is. is;
   of_check = λ from input before after failure is. of_check failure is;
   of_trial = λ from path input before after failure is. is;
   copying = λ disk_file failure is. is;

@@ -22,6 +22,8 @@ pub mod Keys
 pub mod Inspecting
 pub mod Copying
 pub mod Trying
+pub mod Examining
+pub mod About
 pub mod Checking
 pub mod Run
 pub mod Drawn
@@ -29,4 +31,5 @@ pub mod RelayDrawn
 pub mod RunWords
 pub mod TextWords
 pub mod ShowTexts
+pub mod ExamineTexts
 pub mod CaptureOctets

@@ -10,6 +10,7 @@ use Rattle.macs_edge.specs.declared.passing.Summary.{Summary}
 use Rattle.macs_rxsc.specs.declared.verdict.Verdict.{Verdict}
 use Rattle.macs_edge.specs.declared.relaying.RelaySummary.{RelaySummary}
 use Rattle.macs_edge.specs.declared.settling.Side.TheVariants.{Common, Controlled}
+use Rattle.macs_program.specs.About.{about_text}
 use Rattle.macs_program.specs.Addresses.{AddressFaultHolds, SpellsBoth, address_faults}
 use Rattle.macs_program.specs.Opened.{Answers, answer_status, answer_text}
 use Rattle.macs_program.specs.Asking.{IsOfAsking, PrintsAnswer, PrintsFront}
@@ -17,6 +18,7 @@ use Rattle.macs_program.specs.Applying.{outcome_lines}
 use Rattle.macs_program.specs.Checking.{CheckEnds, Checks}
 use Rattle.macs_fields.specs.First.{IsFirst}
 use Rattle.macs_program.specs.Endpoints.{AppliesIn, BreaksOffIn, OpeningFails, PassEndsIn, PassesIn, ShowsIn}
+use Rattle.macs_program.specs.Examining.{ExamineFails, PrintsExamined}
 use Rattle.macs_program.specs.Failing.{failure_of_words, failure_status, failure_text}
 use Rattle.macs_program.specs.Inspecting.{InspectFails, Inspects, PrintsFrames}
 use Rattle.macs_program.specs.Judging.{JudgesIn, JudgingEndsIn, PrintsVerdicts, verdict_lines}
@@ -31,7 +33,7 @@ use Rattle.macs_program.specs.Summing.{pass_status, relay_line, summary_line}
 use Rattle.macs_program.specs.Values.{SpellsIdentity, SpellsLayout, ValueFaultHolds, value_faults}
 use Rattle.macs_words.specs.Words.{AreRefused, AsksFor, AsksForNothing, Names, macsecd}
 use Rattle.macs_words.specs.declared.action.Action.{Action}
-use Rattle.macs_words.specs.declared.action.Action.TheVariants.{Open, Format, Apply, Show, Protect, Validate, Relay, Ask, Key, Inspect, Check}
+use Rattle.macs_words.specs.declared.action.Action.TheVariants.{Open, Format, Apply, Show, Protect, Validate, Relay, Ask, Key, Inspect, Check, Examine, About}
 use Rattle.macs_program.specs.declared.addresses.AddressFault.{AddressFault}
 use Rattle.macs_program.specs.declared.opened.Opened.{Opened}
 use Rattle.macs_program.specs.declared.failure.Failure.{Failure}
@@ -76,6 +78,8 @@ Does state_of (Ask path asked) input before after status = PrintsAnswer asked be
 Does state_of (Key is_long) input before after status = GivesKey is_long before after × (status ≡ ends.Done)
 Does state_of (Inspect from) input before after status = Inspects before after × (status ≡ ends.Done)
 Does state_of (Check file disk) input before after status = Checks state_of disk before after status
+Does state_of (Examine disk) input before after status = PrintsExamined state_of before after × (status ≡ ends.Done)
+Does state_of About input before after status = Appends before after about_text × (status ≡ ends.Done)
 
 -- a run that does not fail is asked for help and prints it, or its words are taken and name an action, and it does that
 abbrev pub Replies : {F : Type 0} → (F → FileState) → List Text → InputRead → Option (List ℕ) → Option (List ℕ) → Status → Type 0
@@ -129,6 +133,8 @@ FailsAs state_of (Ask path asked) octets before after failure = IsOfAsking failu
 FailsAs state_of (Key is_long) octets before after failure = IsOfKey failure
 FailsAs state_of (Inspect from) octets before after failure = InspectFails before after failure
 FailsAs state_of (Check file disk) octets before after failure = CheckEnds state_of disk failure
+FailsAs state_of (Examine disk) octets before after failure = ExamineFails state_of failure
+FailsAs state_of About octets before after failure = (failure ≡ Memory) ⊎ (failure ≡ Output)
 
 -- it is one that hands frames to an endpoint
 abbrev pub is_on_frames : Action → Bool

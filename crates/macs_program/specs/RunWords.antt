@@ -7,6 +7,7 @@ use Rattle.std.specs.Io.KnownBytes.{Appends}
 use Rattle.std.specs.declared.alloc.Global.{Global}
 use Rattle.clap.specs.Words.{Text, subcommand_of, takes}
 use Rattle.hex.specs.Hex.{encode_lower}
+use Rattle.macs_config.specs.Config.{this_edition}
 use Rattle.macs_config.specs.Identity.{Identity}
 use Rattle.macs_config.specs.declared.command.Command.{Command}
 use Rattle.macs_config.specs.declared.refusal.Refusal.{Refusal}
@@ -32,6 +33,7 @@ use Rattle.macs_endpoint.specs.State.{Commands, Ran, no_logs}
 use Rattle.macs_endpoint.specs.Value.{EndpointValue, state_of}
 use Rattle.macs_endpoint.specs.declared.fault.CommandFault.{CommandFault}
 use Rattle.macs_fields.specs.First.{IsFirst}
+use Rattle.macs_journal.specs.Found.{Content, HasJournal}
 use Rattle.macs_journal.specs.declared.fault.JournalFault.{JournalFault}
 use Rattle.macs_journal.specs.declared.fault.JournalFault.TheVariants as journal
 use Rattle.macs_pcap.specs.Captures.{BeginsWithRecords}
@@ -41,11 +43,14 @@ use Rattle.macs_pcap.specs.States.{SinkState, SourceState}
 use Rattle.macs_pcap.specs.declared.fault.PcapFault.{PcapFault}
 use Rattle.macs_pcap.specs.declared.header.Header.{Header}
 use Rattle.macs_rxsc.specs.declared.verdict.Verdict.{Verdict}
+use Rattle.macs_store.specs.Found.{IsUnfitTo}
+use Rattle.macs_store.specs.Replay.{meaning_of}
+use Rattle.macs_store.specs.Standing.{Standing}
 use Rattle.macs_texts.specs.Showing.{show_text}
 use Rattle.macs_words.specs.Help.{topic_text}
 use Rattle.macs_words.specs.Words.{AsksFor, Names, macsecd}
 use Rattle.macs_words.specs.declared.action.Action.{Action}
-use Rattle.macs_words.specs.declared.action.Action.TheVariants.{Apply, Ask, Check, Format, Inspect, Key, Open, Protect}
+use Rattle.macs_words.specs.declared.action.Action.TheVariants.{About, Apply, Ask, Check, Examine, Format, Inspect, Key, Open, Protect}
 use Rattle.macs_words.specs.declared.action.Action.TheVariants.{Relay, Show, Validate}
 use Rattle.macs_words.specs.declared.action.Question.{Question}
 use Rattle.macs_words.specs.declared.action.Question.TheVariants as question
@@ -53,6 +58,7 @@ use Rattle.macs_words.specs.declared.action.UsageFault.{UsageFault}
 use Rattle.macs_words.specs.declared.action.WireEnds.{WireEnds}
 use Rattle.macs_words.specs.declared.help.Topic.{Topic}
 use Rattle.macs_words.specs.declared.pace.Running.{Running}
+use Rattle.macs_program.specs.About.{about_text}
 use Rattle.macs_program.specs.Addresses.{AddressFaultHolds, SpellsBoth, address_faults}
 use Rattle.macs_program.specs.Opened.{Answers, answer_status, answer_text}
 use Rattle.macs_program.specs.Applying.{Applies, SaysCommands, commit_fault, outcome_lines, outcomes_status}
@@ -60,6 +66,7 @@ use Rattle.macs_program.specs.Capturing.{EndsPass, PassesCapture}
 use Rattle.macs_program.specs.Checking.{IsSaidOfFile, count_line}
 use Rattle.macs_program.specs.Copying.{CopyFails, IsCopy}
 use Rattle.macs_program.specs.Endpoints.{BreaksOffIn, IsEndpointIn, OpeningFails, PassEndsIn}
+use Rattle.macs_program.specs.Examining.{examined_text, figures_of}
 use Rattle.macs_program.specs.Failing.{failure_of_capture, failure_of_file, failure_of_words}
 use Rattle.macs_program.specs.Inputs.{InputRead}
 use Rattle.macs_program.specs.Inspecting.{AreLinesOf, InspectsCapture, RunsCapture, StopsCapture}
@@ -89,12 +96,13 @@ use Rattle.macs_program.specs.declared.values.ValueFault.{ValueFault}
 -- action does this: `open` prints the answer to its input; `format` makes a file a disk that, when it was settled, was
 -- one that may be written over, blanks it in the layout of its words and formats it with the identity of its words;
 -- `apply` gives the commands of a file to an endpoint in a file, and prints a line for each; `show` prints its text,
--- as it was opened; `protect` and `validate` take a capture through it, each from its own side, and `validate --each`
--- prints the line of each verdict before its own; `relay` prints what it came to; `ask` prints lines of outcomes, or a
--- text; `key` prints as many octets as it is to, in hex; `inspect` prints a line for each record of a capture, up to
--- its end; `check` prints how many commands some octets say, or, with a disk, a line for each: what the endpoint on a
--- copy of the disk in a file answers to it, where each sector of the copy is that of the disk. Of a capture that is
--- given, and a key that is given, it is this one.
+-- as it was opened; `examine` prints what the journal is in which a copy of the disk in a file is found to be, and
+-- what its records stand for; `protect` and `validate` take a capture through it, each from its own side, and
+-- `validate --each` prints the line of each verdict before its own; `relay` prints what it came to; `ask` prints lines
+-- of outcomes, or a text; `key` prints as many octets as it is to, in hex; `inspect` prints a line for each record of a
+-- capture, up to its end; `about` prints one text; `check` prints how many commands some octets say, or, with a disk, a
+-- line for each: what the endpoint on a copy of the disk in a file answers to it, where each sector of the copy is that
+-- of the disk. Of a capture that is given, and a key that is given, it is this one.
 pub record ReplyWords {F : Type 0} (file : F → FileState) : Type 0 where
   pub replied : (words : List Text) (input : InputRead) (before after : Option (List ℕ)) (status : Status)
       → Replies file words input before after status
@@ -125,6 +133,14 @@ pub record ReplyWords {F : Type 0} (file : F → FileState) : Type 0 where
   pub shown : (path : Bor Text) (input : InputRead) (before after : Option (List ℕ)) (status : Status)
       → Does file (Show path) input before after status → (shown : EndpointValue (FileDisk F))
       × IsEndpointIn file shown × Appends before after (show_text (state_of shown no_logs)) × (status ≡ ends.Done)
+  pub examined : (path : Bor Text) (input : InputRead) (before after : Option (List ℕ)) (status : Status)
+      → Does file (Examine path) input before after status
+      → (disk_file : F) × (copy : MemDisk Global) × (layout : Layout)
+      × (Behaves (file disk_file) → ((file disk_file).size % 512 ≡ 0) × (IsSure (file disk_file)
+      → IsCopy (file disk_file) (disk_of copy) × (layout ≡ layout_in (file disk_file))))
+      × (content : Content) × (standing : Standing) × HasJournal (now (disk_of copy)).seen content
+      × (meaning_of this_edition content ≡ Some standing)
+      × Appends before after (examined_text layout (figures_of content) standing) × (status ≡ ends.Done)
   pub protected : (path from to : Bor Text) (is_all : Bool) (input : InputRead) (before after : Option (List ℕ))
       (status : Status) → Does file (Protect path from to is_all) input before after status
       → (summary : Summary) × (old : EndpointValue (FileDisk F)) × (new : EndpointValue (FileDisk F))
@@ -179,6 +195,8 @@ pub record ReplyWords {F : Type 0} (file : F → FileState) : Type 0 where
       × (text : List ℕ) × AreLinesOf 1 records text × Appends before after text
       × (room : ℕ) × (frame : List ℕ) × ReadsRecord header.big (length records) room until new frame (Ok None)
       × (status ≡ ends.Done)
+  pub about : (input : InputRead) (before after : Option (List ℕ)) (status : Status)
+      → Does file About input before after status → Appends before after about_text × (status ≡ ends.Done)
   pub checked : (from : Bor Text) (input : InputRead) (before after : Option (List ℕ)) (status : Status)
       → Does file (Check from None) input before after status → (octets : List ℕ) × (commands : List Command)
       × SaysCommands octets commands × Appends before after (count_line (length commands)) × (status ≡ ends.Done)
@@ -211,9 +229,11 @@ pub record ReplyWords {F : Type 0} (file : F → FileState) : Type 0 where
 -- A run that fails has words that are refused, or cannot print help, or the words name the action that fails so. Each
 -- action fails for this: `open` for a read that failed, for the first fault of its input, for memory or its output;
 -- `format` for the first fault of its values, for the file, or for its output; those with an endpoint for its opening, or
--- as what is done with it ends; `relay` also for the first fault of its addresses; `ask`, `key`, `inspect` and `check`
--- for what is named here, and for nothing else. `check` with a disk fails as without one; or the file is not opened, or
--- there is no copy of its disk; or no endpoint is opened on that, there is no memory, or a command ends the run.
+-- as what is done with it ends; `relay` also for the first fault of its addresses; `ask`, `key`, `inspect`, `about` and
+-- `check` for what is named here, and for nothing else. `examine` fails for its output, for a file that is not opened or
+-- of which there is no copy, for memory, or for what no endpoint of this program is opened for on that copy. `check`
+-- with a disk fails as without one; or the file is not opened, or there is no copy of its disk; or no endpoint is opened
+-- on that, there is no memory, or a command ends the run.
 pub record FailWords {F : Type 0} (file : F → FileState) : Type 0 where
   pub failed : (words : List Text) (input : InputRead) (before after : Option (List ℕ)) (failure : Failure)
       → FailsFor file words input before after failure
@@ -240,6 +260,15 @@ pub record FailWords {F : Type 0} (file : F → FileState) : Type 0 where
   pub of_show : (path : Bor Text) (input : InputRead) (before after : Option (List ℕ)) (failure : Failure)
       → FailsAs file (Show path) input before after failure
       → OpeningFails file failure ⊎ (failure ≡ failures.Memory) ⊎ (failure ≡ failures.Output)
+  pub of_examine : (path : Bor Text) (input : InputRead) (before after : Option (List ℕ)) (failure : Failure)
+      → FailsAs file (Examine path) input before after failure
+      → (failure ≡ failures.Output) ⊎ ((fault : FileFault) × (failure ≡ failure_of_file fault))
+      ⊎ ((disk_file : F) × CopyFails (file disk_file) failure)
+      ⊎ ((disk_file : F) × (copy : MemDisk Global) × (layout : Layout)
+      × (Behaves (file disk_file) → ((file disk_file).size % 512 ≡ 0) × (IsSure (file disk_file)
+      → IsCopy (file disk_file) (disk_of copy) × (layout ≡ layout_in (file disk_file))))
+      × ((failure ≡ failures.Memory) ⊎ ((fault : JournalFault) × (failure ≡ failures.Disk (disk.Journal fault))
+      × IsUnfitTo this_edition (disk_of copy).sectors (now (disk_of copy)).seen fault)))
   pub of_protect : (path from to : Bor Text) (is_all : Bool) (input : InputRead) (before after : Option (List ℕ))
       (failure : Failure) → FailsAs file (Protect path from to is_all) input before after failure
       → OpeningFails file failure ⊎ PassEndsIn file Controlled failure
@@ -288,6 +317,8 @@ pub record FailWords {F : Type 0} (file : F → FileState) : Type 0 where
       × ReadsRecord header.big (length records) room until new frame (Err fault)
       × (failure ≡ failure_of_capture fault) × (after ≡ between))
       ⊎ ((failure ≡ failures.Memory) × (after ≡ between)) ⊎ (failure ≡ failures.Output)))
+  pub of_about : (input : InputRead) (before after : Option (List ℕ)) (failure : Failure)
+      → FailsAs file About input before after failure → (failure ≡ failures.Memory) ⊎ (failure ≡ failures.Output)
   pub of_check : (from : Bor Text) (input : InputRead) (before after : Option (List ℕ)) (failure : Failure)
       → FailsAs file (Check from None) input before after failure
       → (failure ≡ failures.Commands) ⊎ (failure ≡ failures.Output) ⊎ (failure ≡ failures.Memory)

@@ -28,7 +28,7 @@ const SECTORS: u64 = 1_028;
 const MARK: &[u8; 8] = b"MSEC4096";
 
 /// Claims a file beside other readers, and answers how many sectors of 512 octets it has, where these are all of it.
-fn measure<F: CaptureFile>(file: &mut F) -> Result<u64, FileFault>
+pub fn measure<F: CaptureFile>(file: &mut F) -> Result<u64, FileFault>
     ensures steady { (F.file file.new).behaves ≡ (F.file file.old).behaves }
     ensures same { Behaves (F.file file.old) → F.file file.new ≡ F.file file.old }
     ensures fits { IfOk result (λ sectors. 512 * sectors < 2 ^ 64) }
@@ -45,7 +45,7 @@ fn measure<F: CaptureFile>(file: &mut F) -> Result<u64, FileFault>
 }
 
 /// How a disk lies in a file of so many sectors: spaced where the mark of that is there.
-fn find_layout<F: DiskFile>(file: &mut F, sectors: u64) -> io::Result<Layout>
+pub fn find_layout<F: DiskFile>(file: &mut F, sectors: u64) -> io::Result<Layout>
     requires { 512 * sectors < 2 ^ 64 }
     ensures steady { (F.file file.new).behaves ≡ (F.file file.old).behaves }
     ensures same { Behaves (F.file file.old) → F.file file.new ≡ F.file file.old }

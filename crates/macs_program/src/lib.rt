@@ -1,16 +1,20 @@
 //! The program over its words, a reader and two streams.
 #![tactic(auto)]
 
+mod about;
 mod addresses;
 mod applying;
 mod asking;
 mod attendants;
+mod build;
 mod capture_file;
 mod captures;
 mod capturing;
 mod check;
 mod contents;
 mod disk_copy;
+mod examine;
+mod examined_text;
 mod failure;
 mod files;
 mod four_lines;

@@ -13,9 +13,11 @@ ghost use Rattle.macs_words.specs.declared.action.Action.{Action};
 ghost use Rattle.macs_program.specs.declared.failure.Failure.{Failure};
 ghost use Rattle.macs_program.specs.declared.status.Status.{Status};
 
+use crate::about::about;
 use crate::asking::ask;
 use crate::capture_file::CaptureFile;
 use crate::check::check;
+use crate::examine::examine;
 use crate::failure::Failure;
 use crate::input::{Input, InputText};
 use crate::inspect::inspect;
@@ -108,6 +110,8 @@ where
         Action::Key { is_long } => key(rt, is_long, out),
         Action::Inspect { input: from } => inspect(rt, alloc, from, out),
         Action::Check { file, disk } => check(rt, alloc, file, disk, out),
+        Action::Examine { disk } => examine(rt, alloc, disk, out),
+        Action::About => about(alloc, out),
     }
 }
 

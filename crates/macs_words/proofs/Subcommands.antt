@@ -23,7 +23,7 @@ use Rattle.clap.specs.declared.error.kind.ErrorKind.TheVariants.{OutOfMemory}
 use Rattle.clap.proofs.OnLiterals.{clap_on_literals}
 use Rattle.clap.proofs.ValueTestLemmas.{accepts-Accepts}
 use Rattle.macs_words.specs.declared.action.Action.{Action}
-use Rattle.macs_words.specs.declared.action.Action.TheVariants.{Open, Format, Apply, Show, Protect, Validate, Relay, Ask, Key, Inspect, Check}
+use Rattle.macs_words.specs.declared.action.Action.TheVariants.{Open, Format, Apply, Show, Protect, Validate, Relay, Ask, Key, Inspect, Check, Examine, About}
 use Rattle.macs_words.specs.declared.action.Question.{Question}
 use Rattle.macs_words.specs.declared.action.Question.TheVariants as question
 use Rattle.macs_words.specs.declared.pace.Pace.{Pace}
@@ -87,6 +87,8 @@ blocks rows (Ask path asked) named fits = absurd (omega (arith, ap (λ (t : Text
 blocks rows (Key is_long) named fits = absurd (omega (arith, ap (λ (t : Text). slice_index t 0) named.0))
 blocks rows (Inspect input) named fits = absurd (omega (arith, ap (λ (t : Text). slice_index t 0) named.0))
 blocks rows (Check file disk) named fits = absurd (omega (arith, ap (λ (t : Text). slice_index t 0) named.0))
+blocks rows (Examine disk) named fits = absurd (omega (arith, ap (λ (t : Text). slice_index t 0) named.0))
+blocks rows About named fits = absurd (omega (arith, ap (λ (t : Text). slice_index t 0) named))
 
 -- ---- what `relay` is given
 
@@ -104,6 +106,8 @@ pace_of rows (Ask path asked) named fits = absurd (omega (arith, ap (λ (t : Tex
 pace_of rows (Key is_long) named fits = absurd (omega (arith, ap (λ (t : Text). slice_index t 0) named.0))
 pace_of rows (Inspect input) named fits = absurd (omega (arith, ap (λ (t : Text). slice_index t 0) named.0))
 pace_of rows (Check file disk) named fits = absurd (omega (arith, ap (λ (t : Text). slice_index t 0) named.0))
+pace_of rows (Examine disk) named fits = absurd (omega (arith, ap (λ (t : Text). slice_index t 0) named.0))
+pace_of rows About named fits = absurd (omega (arith, ap (λ (t : Text). slice_index t 0) named))
 
 -- ---- what `ask` is given
 
@@ -120,6 +124,8 @@ question_of rows (Ask path asked) named = (asked, named.2)
 question_of rows (Key is_long) named = absurd (omega (arith, ap (λ (t : Text). slice_index t 0) named.0))
 question_of rows (Inspect input) named = absurd (omega (arith, ap (λ (t : Text). slice_index t 0) named.0))
 question_of rows (Check file disk) named = absurd (omega (arith, ap (λ (t : Text). slice_index t 0) named.0))
+question_of rows (Examine disk) named = absurd (omega (arith, ap (λ (t : Text). slice_index t 0) named.0))
+question_of rows About named = absurd (omega (arith, ap (λ (t : Text). slice_index t 1) named))
 
 -- ---- what each subcommand is given
 
@@ -492,6 +498,19 @@ check-named words passes =
       tt,
     )
 
+examine-named : IsNamed (shape_at 11)
+unfolding clap_on_literals
+examine-named words passes =
+    let rules : AreValueRules (shape_at 11).rules = record {
+      each = (value-is 1 (codes "DISK"), tt);
+      own = (refl, tt);
+    } in
+    let disk = given (shape_at 11) words (with_index 1 (filled (value_rule (codes "DISK")))) rules refl passes refl refl in
+    inr (Examine (text_of disk.0), (refl, disk.1), tt)
+
+about-named : IsNamed (shape_at 12)
+about-named words passes = inr (About, refl, tt)
+
 -- ---- the words of a whole command line
 
 -- the first of the subcommands that answers to a name
@@ -520,8 +539,8 @@ first-of-three true false d is = cc
 first-of-three false b d is = cc
 
 -- those that change no endpoint
-lone-named : AllByRecursion IsNamed (shape_at 8 ∷ shape_at 9 ∷ shape_at 10 ∷ [])
-lone-named = (key-named, (inspect-named, (check-named, tt)))
+lone-named : AllByRecursion IsNamed (shape_at 8 ∷ shape_at 9 ∷ shape_at 10 ∷ shape_at 11 ∷ shape_at 12 ∷ [])
+lone-named = (key-named, (inspect-named, (check-named, (examine-named, (about-named, tt)))))
 
 all-named : AllByRecursion IsNamed (built macsecd).subs
 all-named = (open-named, (format-named, (apply-named, (show-named, (protect-named, (validate-named, (relay-named, (ask-named, lone-named))))))))

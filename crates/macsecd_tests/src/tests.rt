@@ -8,6 +8,7 @@ mod broken_streams;
 mod captures;
 mod checking;
 mod disks;
+mod examining;
 mod failing;
 mod help;
 mod help_text;

@@ -10,7 +10,7 @@ pub const HEAD: &str =
     "4d534543484541440000000100000000000000010000000112153524c0895e810000000400000004";
 
 /// That of a journal that has begun anew as often as may be.
-const LAST_HEAD: &str =
+pub const LAST_HEAD: &str =
     "4d5345434845414400000001ffffffffffffffff0000000112153524c0895e810000000400000004";
 
 pub const GATE: &str = "4d5345434f50454e";

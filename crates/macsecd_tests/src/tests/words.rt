@@ -117,6 +117,7 @@ const WORDS_TOO_FEW: &[&[&str]] = &[
     &["ask", "control"],
     &["inspect"],
     &["check"],
+    &["examine"],
 ];
 
 /// Words that ask nothing that a relay is asked, and the line that says what it is asked.
@@ -174,6 +175,8 @@ const WORDS_TOO_MANY: &[&[&str]] = &[
     &["key", "--long", "more"],
     &["inspect", "plain.pcap", "more"],
     &["check", "left.toml", "left.disk", "more"],
+    &["examine", "left.disk", "more"],
+    &["about", "more"],
 ];
 
 #[test]
@@ -565,6 +568,11 @@ const TAKEN: &[(&[&str], Parts<'static>)] = &[
         &["check", "left.toml", "left.disk"],
         ("check", ["left.toml", "left.disk", "", "", ""], [0, 0]),
     ),
+    (
+        &["examine", "show"],
+        ("examine", ["show", "", "", "", ""], [0, 0]),
+    ),
+    (&["about"], ("about", ["", "", "", "", ""], [0, 0])),
 ];
 
 /// What a relay serves: a control socket, a file of counters, and a buffer in octets.
@@ -726,6 +734,8 @@ fn is_of_files(action: Action<'_>, wanted: &Parts<'_>) -> bool {
             let disk = disk.unwrap_or("");
             is_named(wanted, "check", [file, disk, "", "", ""], [0, 0])
         }
+        Action::Examine { disk } => is_named(wanted, "examine", [disk, "", "", "", ""], [0, 0]),
+        Action::About => is_named(wanted, "about", ["", "", "", "", ""], [0, 0]),
         _ => false,
     }
 }

@@ -1,0 +1,25 @@
+-- All that is to be drawn from the words on what `examine` and `about` print.
+use Rattle.std.proofs.Common.{◌≡◌, ℕ, List, Option, ap, refl}
+use Rattle.macs_program.specs.ExamineTexts.{AboutTexts, ExamineTexts}
+use Rattle.macs_program.specs.Examining.{rx_ceiling_line, tx_ceiling_line}
+
+pub examine-texts : ExamineTexts
+examine-texts = record {
+  order = λ layout figures s. refl;
+  figures = λ layout figures. refl;
+  found = λ c. (refl, refl, refl, refl);
+  formats = (refl, refl);
+  blocks = (refl, refl);
+  number = λ name n. refl;
+  part = λ name n most. refl;
+  tx = λ s an ceiling is. ap (λ (c : Option ℕ). tx_ceiling_line an c) is;
+  no_tx = λ s an is. ap (λ (c : Option ℕ). tx_ceiling_line an c) is;
+  channel = λ s sci. refl;
+  rx = λ s sci an ceiling is. ap (λ (c : Option ℕ). rx_ceiling_line sci an c) is;
+  no_rx = λ s sci an is. ap (λ (c : Option ℕ). rx_ceiling_line sci an c) is;
+  end = λ config. refl;
+  in_memory = refl;
+}
+
+pub about-texts : AboutTexts
+about-texts = record { about = refl; word = λ name word. refl; writes = (refl, refl); reads = (refl, refl) }

@@ -1,0 +1,117 @@
+-- What is said of the disk in a file, and how that fails.
+use Rattle.std.proofs.Common.{◌≡◌, ◌≢◌, ◌∙◌, ◌%◌, inl, inr, ℕ, length, Result, Ok, Err, ap, refl, subst, sym}
+use Rattle.std.specs.Prelude.{IsErrOf}
+use Rattle.std.specs.declared.alloc.Global.{Global}
+use Rattle.macs_config.specs.Config.{this_edition}
+use Rattle.macs_disk.specs.Disk.{Disk, now}
+use Rattle.macs_disk.specs.Files.{Behaves, FileState, IsSure}
+use Rattle.macs_disk.specs.Layouts.{layout_in}
+use Rattle.macs_disk.specs.MemDisks.{disk_of}
+use Rattle.macs_disk.specs.States.{Image}
+use Rattle.macs_disk.specs.declared.file_fault.FileFault.{FileFault}
+use Rattle.macs_disk.specs.declared.file_fault.FileFault.TheVariants as file_faults
+use Rattle.macs_disk.specs.declared.layout.Layout.{Layout}
+use Rattle.macs_disk.specs.declared.memory.MemDisk.{MemDisk}
+use Rattle.macs_journal.specs.Found.{Content, HasJournal, JournalIs}
+use Rattle.macs_journal.specs.declared.fault.JournalFault.{JournalFault}
+use Rattle.macs_journal.specs.declared.fault.JournalFault.TheVariants as journal
+use Rattle.macs_journal.proofs.Current.{one_content}
+use Rattle.macs_record.specs.declared.format.Format.{Format}
+use Rattle.macs_store.specs.Found.{IsUnfitTo, StandingIs}
+use Rattle.macs_store.specs.Replay.{meaning_of}
+use Rattle.macs_store.specs.Standing.{Standing}
+use Rattle.macs_program.specs.Copying.{CopyFails, IsCopy}
+use Rattle.macs_program.specs.Examining.{ExaminationFails, ExamineFails, IsJournalOf, IsLaidCopy, IsNotExamined, failure_of_copy, figures_of}
+use Rattle.macs_program.specs.Failing.{failure_status}
+use Rattle.macs_program.specs.declared.failure.DiskFault.TheVariants as disk
+use Rattle.macs_program.specs.declared.failure.Failure.{Failure}
+use Rattle.macs_program.specs.declared.status.Status.TheVariants.{Usage}
+use Rattle.macs_program.proofs.Failures.{IsOfDisk, disk-no-usage, of-file}
+use Rattle.macs_program.proofs.Looks.{carried}
+
+-- ---- the journal
+
+-- the figures that were read are those of what was found
+pub figures-read : (format : Format) (area generation used : ℕ) (c : Content) → format ≡ c.head.format → area ≡ c.area
+    → generation ≡ c.head.generation → used ≡ length c.records
+    → record { format = format; area = area; generation = generation; used = used } ≡ figures_of c
+figures-read format area generation used c one two three four = rw (one, two, three, four) refl
+
+-- what is found stands for what a store has, which was opened on a disk that reads the same
+pub found-stands : (image left : Image) (sectors : ℕ) (content : Content) (standing : Standing) → left ≡ image → HasJournal image content
+    → StandingIs this_edition sectors left (Ok standing) → IsJournalOf image content standing
+found-stands image left sectors content standing same found (large, stands) =
+    let here = subst (λ (i : Image). HasJournal i stands.content) same stands.found in
+    record {
+      found = found;
+      stands = ap (λ (c : Content). meaning_of this_edition c) (one_content image content stands.content found here) ∙ stands.stands;
+    }
+
+-- ---- refusals
+
+-- a disk that is that of no journal is unfit
+pub unfit : (sectors : ℕ) (image : Image) (fault : JournalFault) → JournalIs sectors image (Err fault) → IsUnfitTo this_edition sectors image fault
+unfit sectors image journal.Stopped is = is
+unfit sectors image journal.TooSmall is = is
+unfit sectors image journal.Disk is = is
+unfit sectors image journal.AlreadyFormatted is = is
+unfit sectors image journal.NotFormatted is = is
+unfit sectors image journal.BadJournal is = (is.0, inl is.1)
+unfit sectors image journal.GenerationsSpent is = absurd is
+
+-- a refusal, as a failure
+pub refused-so : (copy : Disk) (fault : JournalFault) (failure : Failure) → failure ≡ failure_of_copy fault
+    → (fault ≢ journal.Disk → IsUnfitTo this_edition copy.sectors (now copy).seen fault) → IsNotExamined copy failure
+refused-so copy journal.Stopped failure is known = inr (journal.Stopped, is, known (λ e. cc))
+refused-so copy journal.TooSmall failure is known = inr (journal.TooSmall, is, known (λ e. cc))
+refused-so copy journal.Disk failure is known = inl is
+refused-so copy journal.AlreadyFormatted failure is known = inr (journal.AlreadyFormatted, is, known (λ e. cc))
+refused-so copy journal.NotFormatted failure is known = inr (journal.NotFormatted, is, known (λ e. cc))
+refused-so copy journal.BadJournal failure is known = inr (journal.BadJournal, is, known (λ e. cc))
+refused-so copy journal.GenerationsSpent failure is known = inr (journal.GenerationsSpent, is, known (λ e. cc))
+
+-- what is not said of a disk is not said of one that reads the same
+pub not-told : (copy left : Disk) (failure : Failure) → (now left).seen ≡ (now copy).seen → left.sectors ≡ copy.sectors → IsNotExamined left failure
+    → IsNotExamined copy failure
+not-told copy left failure seen sectors (inl memory) = inl memory
+not-told copy left failure seen sectors (inr (fault, is, known)) = inr (
+  fault,
+  is,
+  subst (λ (n : ℕ). IsUnfitTo this_edition n (now copy).seen fault) sectors
+      (subst (λ (i : Image). IsUnfitTo this_edition left.sectors i fault) seen known),
+)
+
+-- ---- failures
+
+of-copy : (file : FileState) (failure : Failure) → CopyFails file failure → IsOfDisk failure
+of-copy file failure (inl (fault, is, length)) = of-file fault failure is
+of-copy file failure (inr (is, few)) = inr (disk.Journal journal.TooSmall, is)
+
+-- want of memory, or a fault of the disk
+pub of-examination : {F : Type 0} (state_of : F → FileState) (failure : Failure) → ExaminationFails state_of failure → IsOfDisk failure
+of-examination state_of failure (inl (fault, is)) = of-file fault failure is
+of-examination state_of failure (inr (inl (file, fails))) = of-copy (state_of file) failure fails
+of-examination state_of failure (inr (inr (file, copy, layout, is_copy, inl memory))) = inl memory
+of-examination state_of failure (inr (inr (file, copy, layout, is_copy, inr (fault, is, known)))) = inr (disk.Journal fault, is)
+
+pub examining-no-usage : {F : Type 0} (state_of : F → FileState) (failure : Failure) → ExamineFails state_of failure → failure_status failure ≢ Usage
+examining-no-usage state_of failure (inl output) = λ e. let f = sym e ∙ ap failure_status output in cc
+examining-no-usage state_of failure (inr fails) = disk-no-usage failure (of-examination state_of failure fails)
+
+-- ---- the file
+
+-- a copy was made, and then the layout was found
+pub laid-copy : (old new : FileState) (copy : MemDisk Global) (layout : Layout) → (Behaves old → new ≡ old) → (Behaves old → old.size % 512 ≡ 0)
+    → (Behaves old → IsSure old → IsCopy old (disk_of copy)) → (Behaves new → IsSure new → layout ≡ layout_in new) → IsLaidCopy old copy layout
+laid-copy old new copy layout same whole copied found = λ behaves. (
+  whole behaves,
+  λ sure. (copied behaves sure, carried (λ (f : FileState). layout ≡ layout_in f) old new (same behaves) behaves sure found),
+)
+
+-- a layout that is not found for the length of the file is not found for its length before
+pub no-layout : {T : Type 0} (old new : FileState) (result : Result T FileFault) (fault : FileFault) → result ≡ Err fault → (Behaves old → new ≡ old)
+    → (IsErrOf result file_faults.Length → Behaves new → new.size % 512 ≢ 0) → fault ≡ file_faults.Length → Behaves old → old.size % 512 ≢ 0
+no-layout old new result fault is same length named behaves =
+    let still = same behaves in
+    let known = length (rw is named) (subst Behaves (sym still) behaves) in
+    subst (λ (f : FileState). f.size % 512 ≢ 0) still known

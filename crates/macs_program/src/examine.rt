@@ -1,0 +1,169 @@
+//! `examine`: what the journal of the disk in a file has, which is only read.
+
+ghost use Rattle.std.specs.Prelude.{◌≡◌, ◌≢◌, ◌%◌, true, Ok, IfErr, IfOk, IsErrOf, string_bytes};
+ghost use Rattle.std.specs.declared.alloc.Global.{Global};
+ghost use Rattle.macs_config.specs.Config.{this_edition};
+ghost use Rattle.macs_disk.specs.Disk.{now};
+ghost use Rattle.macs_disk.specs.Files.{Behaves, IsSure};
+ghost use Rattle.macs_disk.specs.Layouts.{layout_in};
+ghost use Rattle.macs_disk.specs.MemDisks.{disk_of};
+ghost use Rattle.macs_disk.specs.declared.file_fault.FileFault.{FileFault};
+ghost use Rattle.macs_disk.specs.declared.memory.MemDisk.{MemDisk};
+ghost use Rattle.macs_journal.specs.Found.{Content, HasJournal};
+ghost use Rattle.macs_journal.specs.declared.fault.JournalFault.{JournalFault};
+ghost use Rattle.macs_store.specs.Found.{IsUnfitTo, StandingIs};
+ghost use Rattle.macs_store.specs.Opening.{IsStoreOpening};
+ghost use Rattle.macs_store.specs.Standing.{Standing};
+ghost use Rattle.macs_program.specs.Examining.{ExaminationFails, ExamineFails, ExaminesIn, IsJournalOf, IsNotExamined};
+ghost use Rattle.macs_program.specs.Examining.{PrintsExamined, examined_text, failure_of_copy, figures_of};
+
+use crate::capture_file::CaptureFile;
+use crate::disk_copy::{copy_of, find_layout, measure};
+use crate::examined_text::{Figures, examined_text};
+use crate::failure::Failure;
+use crate::files::open_regular;
+use crate::output::print;
+use crate::status::Status;
+use crate::stream::Stream;
+use macs_disk::{FileFault, Layout, MemDisk};
+use macs_journal::{JournalFault, RecoverRefused, Room, new_room, recover_into};
+use macs_store::{OpenRefused, Store};
+use std::alloc::Global;
+use std::rt::Files;
+
+/// What a fault of a disk in memory is: a call of it fails for want of memory alone.
+fn failure_of_copy(fault: JournalFault) -> Failure
+    ensures { result ≡ failure_of_copy fault }
+{
+    match fault {
+        JournalFault::Disk => Failure::Memory,
+        _ => Failure::from(fault),
+    }
+}
+
+/// The figures of a journal, and the disk that it was found on.
+#[derive(Drop)]
+struct Examined {
+    figures: Figures,
+    disk: MemDisk,
+}
+
+/// Finds the journal of a disk in memory, with a room that is lent for its records.
+fn find_with(copy: MemDisk, room: &mut Room) -> Result<Examined, RecoverRefused<MemDisk>>
+    ensures found { IfOk result (λ found. (content : Content) × HasJournal (now (disk_of copy)).seen content
+        × (found.figures ≡ figures_of content)) }
+    ensures seen { IfOk result (λ found. (now (disk_of found.disk)).seen ≡ (now (disk_of copy)).seen) }
+    ensures sectors { IfOk result (λ found. (disk_of found.disk).sectors ≡ (disk_of copy).sectors) }
+    ensures refused { IfErr result (λ refused. refused.fault ≢ JournalFault.Disk
+        → IsUnfitTo this_edition (disk_of copy).sectors (now (disk_of copy)).seen refused.fault) }
+{
+    let found = recover_into(copy, room)?;
+    let figures = Figures {
+        format: found.format,
+        area: found.journal.area(),
+        generation: found.journal.generation(),
+        used: found.journal.used(),
+    };
+    Ok(Examined {
+        figures,
+        disk: found.journal.into_disk(),
+    })
+}
+
+/// Finds the journal of a disk in memory.
+#[inline(never)]
+fn find(copy: MemDisk) -> Result<Examined, RecoverRefused<MemDisk>>
+    ensures found { IfOk result (λ found. (content : Content) × HasJournal (now (disk_of copy)).seen content
+        × (found.figures ≡ figures_of content)) }
+    ensures seen { IfOk result (λ found. (now (disk_of found.disk)).seen ≡ (now (disk_of copy)).seen) }
+    ensures sectors { IfOk result (λ found. (disk_of found.disk).sectors ≡ (disk_of copy).sectors) }
+    ensures refused { IfErr result (λ refused. refused.fault ≢ JournalFault.Disk
+        → IsUnfitTo this_edition (disk_of copy).sectors (now (disk_of copy)).seen refused.fault) }
+{
+    find_with(copy, &mut new_room())
+}
+
+/// What is said of a journal with these figures, whose disk was opened to a store or refused.
+#[inline(never)]
+fn tell(
+    alloc: Global,
+    layout: Layout,
+    figures: Figures,
+    opened: Result<Store<MemDisk>, OpenRefused<MemDisk>>,
+) -> Result<String, Failure>
+    ensures told { (disk : MemDisk Global) → IsStoreOpening disk_of disk opened → IfOk result (λ text. (standing : Standing)
+        × StandingIs this_edition (disk_of disk).sectors (now (disk_of disk)).seen (Ok standing)
+        × (string_bytes text ≡ examined_text layout figures standing)) }
+    ensures ended { (disk : MemDisk Global) → IsStoreOpening disk_of disk opened
+        → IfErr result (IsNotExamined (disk_of disk)) }
+{
+    match &opened {
+        Ok(store) => Ok(examined_text(alloc, layout, figures, store)?),
+        Err(refused) => Err(failure_of_copy(refused.fault)),
+    }
+}
+
+/// What is said of the disk in memory that is a copy of one in this layout. It fails as `Memory`, and as `Disk` with the
+/// fault for which no endpoint is opened on it.
+fn examine_copy(alloc: Global, layout: Layout, copy: MemDisk) -> Result<String, Failure>
+    ensures told { IfOk result (λ text. (content : Content) × (standing : Standing)
+        × IsJournalOf (now (disk_of copy)).seen content standing
+        × (string_bytes text ≡ examined_text layout (figures_of content) standing)) }
+    ensures ended { IfErr result (IsNotExamined (disk_of copy)) }
+{
+    match find(copy) {
+        Ok(found) => tell(alloc, layout, found.figures, Store::open(found.disk)),
+        Err(refused) => Err(failure_of_copy(refused.fault)),
+    }
+}
+
+/// How the disk in a file of whole sectors lies there.
+fn layout_of<F: CaptureFile>(file: &mut F) -> Result<Layout, FileFault>
+    ensures found { Behaves (F.file file.old) → IsSure (F.file file.old)
+        → IfOk result (λ layout. layout ≡ layout_in (F.file file.old)) }
+    ensures length { IsErrOf result FileFault.Length → Behaves (F.file file.old) → (F.file file.old).size % 512 ≢ 0 }
+{
+    let sectors = measure(file)?;
+    let Ok(layout) = find_layout(file, sectors) else {
+        return Err(FileFault::Device);
+    };
+    Ok(layout)
+}
+
+/// What is said of the disk in a file, which is opened to be read alone. It fails as `Disk` with `File` where there is no
+/// regular file that can be opened; then as `copy_of` does, as the opening of an endpoint does, and as `Memory`.
+fn examine_in<T: Files>(rt: &T, alloc: Global, path: &str) -> Result<String, Failure>
+where
+    T::File: CaptureFile,
+    ensures told { IfOk result (λ text. ExaminesIn T.File.file (string_bytes text)) }
+    ensures ended { IfErr result (ExaminationFails T.File.file) }
+{
+    match open_regular(rt, path) {
+        Ok(mut file) => {
+            let copy = copy_of(alloc, &mut file)?;
+            let layout = layout_of(&mut file)?;
+            examine_copy(alloc, layout, copy)
+        }
+        Err(error) => Err(Failure::from(FileFault::from(error))),
+    }
+}
+
+/// `examine`: prints what the journal of the disk in a file has. The file is not changed.
+pub fn examine<T: Files, W: Stream>(
+    rt: &T,
+    alloc: Global,
+    path: &str,
+    out: &mut W,
+) -> Result<Status, Failure>
+where
+    T::File: CaptureFile,
+    ensures printed { IfOk result (λ status.
+        PrintsExamined T.File.file (W.contents out.old) (W.contents out.new) × (status ≡ Status.Done)) }
+    ensures ended { IfErr result (ExamineFails T.File.file) }
+    ensures silent { IfErr result (λ failure. failure ≢ Failure.Output → out.new ≡ out.old) }
+    ensures broken { IfErr result (λ failure. failure ≡ Failure.Output → W.failed out.new ≡ true) }
+{
+    let text = examine_in(rt, alloc, path)?;
+    print(out, text.as_str())?;
+    Ok(Status::Done)
+}
