@@ -18,7 +18,6 @@ examine-texts = record {
   rx = λ s sci an ceiling is. ap (λ (c : Option ℕ). rx_ceiling_line sci an c) is;
   no_rx = λ s sci an is. ap (λ (c : Option ℕ). rx_ceiling_line sci an c) is;
   end = λ config. refl;
-  in_memory = refl;
 }
 
 pub about-texts : AboutTexts

@@ -21,8 +21,9 @@ use Rattle.macs_store.specs.Found.{IsUnfitTo, StandingIs}
 use Rattle.macs_store.specs.Replay.{meaning_of}
 use Rattle.macs_store.specs.Standing.{Standing}
 use Rattle.macs_program.specs.Copying.{CopyFails, IsCopy}
-use Rattle.macs_program.specs.Examining.{ExaminationFails, ExamineFails, IsJournalOf, IsLaidCopy, IsNotExamined, failure_of_copy, figures_of}
+use Rattle.macs_program.specs.Examining.{ExaminationFails, ExamineFails, IsJournalOf, IsLaidCopy, IsNotExamined, figures_of}
 use Rattle.macs_program.specs.Failing.{failure_status}
+use Rattle.macs_program.specs.Trying.{failure_in_memory}
 use Rattle.macs_program.specs.declared.failure.DiskFault.TheVariants as disk
 use Rattle.macs_program.specs.declared.failure.Failure.{Failure}
 use Rattle.macs_program.specs.declared.status.Status.TheVariants.{Usage}
@@ -60,7 +61,7 @@ unfit sectors image journal.BadJournal is = (is.0, inl is.1)
 unfit sectors image journal.GenerationsSpent is = absurd is
 
 -- a refusal, as a failure
-pub refused-so : (copy : Disk) (fault : JournalFault) (failure : Failure) → failure ≡ failure_of_copy fault
+pub refused-so : (copy : Disk) (fault : JournalFault) (failure : Failure) → failure ≡ failure_in_memory (disk.Journal fault)
     → (fault ≢ journal.Disk → IsUnfitTo this_edition copy.sectors (now copy).seen fault) → IsNotExamined copy failure
 refused-so copy journal.Stopped failure is known = inr (journal.Stopped, is, known (λ e. cc))
 refused-so copy journal.TooSmall failure is known = inr (journal.TooSmall, is, known (λ e. cc))

@@ -7,7 +7,6 @@ use Rattle.macs_config.specs.Config.{Config, this_edition}
 use Rattle.macs_disk.specs.declared.layout.Layout.{Layout}
 use Rattle.macs_disk.specs.declared.layout.Layout.TheVariants.{Packed, Spaced}
 use Rattle.macs_journal.specs.Found.{Content}
-use Rattle.macs_journal.specs.declared.fault.JournalFault.TheVariants as journal
 use Rattle.macs_record.specs.Heads.{version_of}
 use Rattle.macs_record.specs.declared.format.Format.TheVariants.{One, Two}
 use Rattle.macs_store.specs.Replay.{migrates, reads}
@@ -15,19 +14,16 @@ use Rattle.macs_store.specs.Standing.{Standing}
 use Rattle.macs_words.specs.Help.{topic_text}
 use Rattle.macs_words.specs.declared.help.Topic.TheVariants.{Version}
 use Rattle.macs_program.specs.About.{about_text, word_line}
-use Rattle.macs_program.specs.Examining.{block_of, channel_ceilings_text, end_text, examined_text, failure_of_copy}
+use Rattle.macs_program.specs.Examining.{block_of, channel_ceilings_text, end_text, examined_text}
 use Rattle.macs_program.specs.Examining.{figures_of, figures_text, number_line, part_line}
 use Rattle.macs_program.specs.Examining.{rx_ceiling_text, tx_ceiling_text}
 use Rattle.macs_program.specs.declared.build.TheConstants.{COMMIT, LEVEL}
 use Rattle.macs_program.specs.declared.examined_text.Figures.{Figures}
-use Rattle.macs_program.specs.declared.failure.DiskFault.TheVariants as disk
-use Rattle.macs_program.specs.declared.failure.Failure.TheVariants as failures
 
 -- First five lines of the journal: its format, the block of its layout, which area is current, in which generation, and
 -- how many of its slots have records; then the ceilings of transmit associations by their numbers, and of each channel
 -- those of its receive associations, a line each where there is one; last how many keys are spent on either side, and
--- that the journal is whole. The figures are those of the content that is found. A call of a disk in memory fails for
--- want of that.
+-- that the journal is whole. The figures are those of the content that is found.
 pub record ExamineTexts : Type 0 where
   pub order : (layout : Layout) (figures : Figures) (s : Standing) → examined_text layout figures s
       ≡ figures_text layout figures ++ (concat (map (tx_ceiling_text s) (0 ∷ 1 ∷ 2 ∷ 3 ∷ []))
@@ -54,11 +50,6 @@ pub record ExamineTexts : Type 0 where
   pub no_rx : (s : Standing) (sci : List ℕ) (an : ℕ) → s.ceilings.rx sci an ≡ None → rx_ceiling_text s sci an ≡ []
   pub end : (config : Config) → end_text config ≡ part_line (codes "spent tx") (length config.spent_tx) 512
       ++ (part_line (codes "spent rx") (length config.spent_rx) 512 ++ (codes "whole" ++ 10 ∷ []))
-  pub in_memory : map failure_of_copy (journal.Stopped ∷ journal.TooSmall ∷ journal.Disk ∷ journal.AlreadyFormatted
-      ∷ journal.NotFormatted ∷ journal.BadJournal ∷ journal.GenerationsSpent ∷ [])
-      ≡ failures.Disk (disk.Journal journal.Stopped) ∷ failures.Disk (disk.Journal journal.TooSmall) ∷ failures.Memory
-      ∷ failures.Disk (disk.Journal journal.AlreadyFormatted) ∷ failures.Disk (disk.Journal journal.NotFormatted)
-      ∷ failures.Disk (disk.Journal journal.BadJournal) ∷ failures.Disk (disk.Journal journal.GenerationsSpent) ∷ []
 
 -- `about` says the version, the commit of the sources and the processors as the build has them, and as the formats
 -- that are written and read just those that this edition keeps, and reads.

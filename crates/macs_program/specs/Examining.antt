@@ -18,7 +18,6 @@ use Rattle.macs_disk.specs.declared.memory.MemDisk.{MemDisk}
 use Rattle.macs_journal.specs.Areas.{slots}
 use Rattle.macs_journal.specs.Found.{Content, HasJournal}
 use Rattle.macs_journal.specs.declared.fault.JournalFault.{JournalFault}
-use Rattle.macs_journal.specs.declared.fault.JournalFault.TheVariants as journal
 use Rattle.macs_record.specs.Heads.{version_of}
 use Rattle.macs_store.specs.Found.{IsUnfitTo}
 use Rattle.macs_store.specs.Replay.{meaning_of}
@@ -100,11 +99,6 @@ examined_text layout figures s =
 pub record IsJournalOf (image : Image) (content : Content) (standing : Standing) : Type 0 where
   pub found : HasJournal image content
   pub stands : meaning_of this_edition content ≡ Some standing
-
--- what a fault is there: a call of the disk fails for want of memory alone
-abbrev pub failure_of_copy : JournalFault → Failure
-failure_of_copy journal.Disk = failures.Memory
-failure_of_copy fault = failure_of_journal fault
 
 -- nothing is said of a disk: there is no memory, or no endpoint of this program is opened on it, for this fault
 abbrev pub IsNotExamined : Disk → Failure → Type 0

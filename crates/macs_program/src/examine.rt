@@ -15,31 +15,22 @@ ghost use Rattle.macs_store.specs.Found.{IsUnfitTo, StandingIs};
 ghost use Rattle.macs_store.specs.Opening.{IsStoreOpening};
 ghost use Rattle.macs_store.specs.Standing.{Standing};
 ghost use Rattle.macs_program.specs.Examining.{ExaminationFails, ExamineFails, ExaminesIn, IsJournalOf, IsNotExamined};
-ghost use Rattle.macs_program.specs.Examining.{PrintsExamined, examined_text, failure_of_copy, figures_of};
+ghost use Rattle.macs_program.specs.Examining.{PrintsExamined, examined_text, figures_of};
 
 use crate::capture_file::CaptureFile;
 use crate::disk_copy::{copy_of, find_layout, measure};
 use crate::examined_text::{Figures, examined_text};
-use crate::failure::Failure;
+use crate::failure::{DiskFault, Failure};
 use crate::files::open_regular;
 use crate::output::print;
 use crate::status::Status;
 use crate::stream::Stream;
+use crate::trial::failure_in_memory;
 use macs_disk::{FileFault, Layout, MemDisk};
-use macs_journal::{JournalFault, RecoverRefused, Room, new_room, recover_into};
+use macs_journal::{RecoverRefused, Room, new_room, recover_into};
 use macs_store::{OpenRefused, Store};
 use std::alloc::Global;
 use std::rt::Files;
-
-/// What a fault of a disk in memory is: a call of it fails for want of memory alone.
-fn failure_of_copy(fault: JournalFault) -> Failure
-    ensures { result ≡ failure_of_copy fault }
-{
-    match fault {
-        JournalFault::Disk => Failure::Memory,
-        _ => Failure::from(fault),
-    }
-}
 
 /// The figures of a journal, and the disk that it was found on.
 #[derive(Drop)]
@@ -99,7 +90,7 @@ fn tell(
 {
     match &opened {
         Ok(store) => Ok(examined_text(alloc, layout, figures, store)?),
-        Err(refused) => Err(failure_of_copy(refused.fault)),
+        Err(refused) => Err(failure_in_memory(DiskFault::Journal(refused.fault))),
     }
 }
 
@@ -113,7 +104,7 @@ fn examine_copy(alloc: Global, layout: Layout, copy: MemDisk) -> Result<String, 
 {
     match find(copy) {
         Ok(found) => tell(alloc, layout, found.figures, Store::open(found.disk)),
-        Err(refused) => Err(failure_of_copy(refused.fault)),
+        Err(refused) => Err(failure_in_memory(DiskFault::Journal(refused.fault))),
     }
 }
 

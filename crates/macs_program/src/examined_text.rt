@@ -11,12 +11,12 @@ ghost use Rattle.macs_program.specs.Examining.{block_of, channel_ceilings_text, 
 ghost use Rattle.macs_program.specs.Examining.{number_line, part_line, rx_ceiling_line, rx_ceiling_text};
 ghost use Rattle.macs_program.specs.Examining.{tx_ceiling_line, tx_ceiling_text};
 
+use crate::text_lines::{ended, joined};
 use macs_config::Config;
 use macs_disk::{Layout, SectorDisk};
 use macs_frame::{An, Sci};
 use macs_record::{Ceiling, Format};
 use macs_store::Store;
-use macs_texts::{ended, joined};
 use std::alloc::{AllocError, Global};
 
 /// How many slots an area has.

@@ -33,6 +33,7 @@ mod relaying;
 pub mod run;
 mod status;
 mod stream;
+mod text_lines;
 mod trial;
 mod values;
 mod watch;

@@ -24,4 +24,4 @@ returns-in-Ok-clause-ended c =
     (c.tell.ensures.ended c.in-Ok.found.disk c.open.ensures)
 
 pub returns-clause-ended : goal.returns-clause-ended
-returns-clause-ended c = refused-so (disk_of c.args.copy) c.in-Err.refused.fault c.failure_of_copy.result c.failure_of_copy.ensures c.in-Err.ensures.refused
+returns-clause-ended c = refused-so (disk_of c.args.copy) c.in-Err.refused.fault c.failure_in_memory.result c.failure_in_memory.ensures c.in-Err.ensures.refused
