@@ -17,6 +17,7 @@ mod examine;
 mod examined_text;
 mod failure;
 mod files;
+mod first_fault;
 mod four_lines;
 mod hex_text;
 mod input;
