@@ -1,8 +1,12 @@
 -- Faults of a journal.
-use Rattle.std.proofs.Common.{◌≡◌, ◌<◌, ◌⊎◌, ◌+◌, inl, inr, ℕ, Option, Some, None, IfSome, ap, arith, refl, subst, sym}
+use Rattle.std.proofs.Common.{◌≡◌, ◌<◌, ◌⊎◌, ◌↔◌, ◌+◌, inl, inr, ℕ, Bool, true, false, IsTrue, List, Result, Ok, Err, Option, Some, None, IfSome, ap, arith, refl, subst, sym}
 use Rattle.std.proofs.lemmas.Bool.{cases_eq, cases_lt}
+use Rattle.std.specs.Result.{is_ok}
 use Rattle.macs_disk.specs.States.{Image}
+use Rattle.macs_record.specs.Decoding.{HasRecord, IsSectorOf}
 use Rattle.macs_record.specs.Heads.{Head, IsHeadOf}
+use Rattle.macs_record.specs.declared.record.Record.{Record}
+use Rattle.macs_record.specs.declared.record.RecordFault.{RecordFault}
 use Rattle.macs_record.proofs.OneHead.{one_head}
 use Rattle.macs_journal.specs.Areas.{IsArea, head_body, other_area, slots}
 use Rattle.macs_journal.specs.Found.{AreAtOdds, HasGap, HasHead, HasUnreadable, IsBadJournal, IsBroken, IsCurrent, IsHeadless, IsPast}
@@ -12,6 +16,15 @@ use Rattle.macs_program.specs.FirstFault.{IsFaultless, IsHeadFault}
 pub some-weaker : {X : Type 0} (o : Option X) (P Q : X → Type 0) → ((x : X) → P x → Q x) → IfSome o P → IfSome o Q
 some-weaker None P Q so h = tt
 some-weaker (Some x) P Q so h = so x h
+
+-- a body is that of a record where it is read as one
+pub read-or-not : (sector : List ℕ) (result : Result Record RecordFault) (is : Bool) → ((r : Record) → (result ≡ Ok r) ↔ IsSectorOf r sector)
+    → is ≡ is_ok result → IsTrue is ↔ HasRecord sector
+read-or-not sector (Ok r) is exact same = (λ yes. (r, (exact r).0 refl), λ has. same)
+read-or-not sector (Err fault) is exact same = (
+  λ yes. absurd (let no = same in cc),
+  λ has. absurd (let wrong = (exact has.0).1 has.1 in cc),
+)
 
 -- ---- heads
 

@@ -26,7 +26,7 @@ use crate::disk_copy::{copy_of, find_layout, measure};
 use crate::examined_text::{Figures, examined_text, fault_line};
 use crate::failure::{DiskFault, Failure};
 use crate::files::open_regular;
-use crate::first_fault::first_fault;
+use crate::first_fault::fault_of;
 use crate::output::print;
 use crate::status::Status;
 use crate::stream::Stream;
@@ -121,7 +121,7 @@ fn tell_fault(alloc: Global, disk: &MemDisk) -> Result<Said, Failure>
     ensures told { IfOk result (λ said. SaysFault (now (disk_of disk.now)).durable (string_bytes said.text) said.status) }
     ensures ended { IfErr result (λ failure. failure ≡ Failure.Memory) }
 {
-    match first_fault(disk) {
+    match fault_of(disk) {
         Some(at) => {
             let text = fault_line(alloc, at)?;
             Ok(Said {

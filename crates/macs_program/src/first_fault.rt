@@ -204,7 +204,7 @@ fn current_fault(copy: &MemDisk, area: u64, head: &Head) -> Option<u64>
 
 /// The sector of the first fault of the journal on a disk in memory, as a power loss would leave that. `None` where the
 /// journal is not bad.
-pub fn first_fault(copy: &MemDisk) -> Option<u64>
+pub fn fault_of(copy: &MemDisk) -> Option<u64>
     requires { least_sectors ≤ (disk_of copy.now).sectors }
     ensures first { IfSome result (IsFirstFault (now (disk_of copy.now)).durable) }
     ensures none { result ≡ None → ¬ IsBadJournal (now (disk_of copy.now)).durable }

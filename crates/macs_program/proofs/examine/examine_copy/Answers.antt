@@ -27,11 +27,11 @@ returns-in-Ok-clause-ended c =
     (λ failure. not-told (disk_of c.args.copy) (disk_of c.in-Ok.found.disk) failure content has c.in-Ok.ensures.seen c.in-Ok.ensures.sectors)
     (c.tell.ensures.ended c.in-Ok.found.disk c.open.ensures)
 
-pub tell_refused-requires-room : goal.tell_refused-requires-room
-tell_refused-requires-room c = λ bad. (c.in-Err.ensures.left bad).0
+pub tell_refused-requires-clause-room : goal.tell_refused-requires-clause-room
+tell_refused-requires-clause-room c = λ bad. (c.in-Err.ensures.left bad).0
 
-pub tell_refused-requires-bad : goal.tell_refused-requires-bad
-tell_refused-requires-bad c = λ bad.
+pub tell_refused-requires-clause-bad : goal.tell_refused-requires-clause-bad
+tell_refused-requires-clause-bad c = λ bad.
     subst (λ (i : Image). IsBadJournal i) (sym (c.in-Err.ensures.left bad).1)
     (bad-found (disk_of c.args.copy) c.in-Err.refused.fault bad c.in-Err.ensures.refused).1
 

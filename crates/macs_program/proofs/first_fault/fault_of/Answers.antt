@@ -3,7 +3,7 @@ use Rattle.macs_disk.specs.Disk.{now}
 use Rattle.macs_disk.specs.MemDisks.{disk_of}
 use Rattle.macs_journal.proofs.Current.{bad_not_blank}
 use Rattle.macs_program.proofs.Faults.{not-bad, some-weaker}
-use Rattle.macs_program.proofs.first_fault.first_fault.Goals as goal
+use Rattle.macs_program.proofs.first_fault.fault_of.Goals as goal
 
 pub returns-in-Neither-clause-none : goal.returns-in-Neither-clause-none
 returns-in-Neither-clause-none c = λ none bad.
@@ -16,8 +16,8 @@ returns-in-At-clause-first c =
     let image = (now (disk_of c.args.copy.now)).durable in
     inl (rw c.in-At.is at (c.choose.ensures image c.head_in.ensures c.head_in-2.ensures))
 
-pub current_fault-requires-one : goal.current_fault-requires-one
-current_fault-requires-one c =
+pub current_fault-requires-clause-one : goal.current_fault-requires-clause-one
+current_fault-requires-clause-one c =
     let image = (now (disk_of c.args.copy.now)).durable in
     let current = rw c.in-Current.is at (c.choose.ensures image c.head_in.ensures c.head_in-2.ensures) in
     current.is_area
