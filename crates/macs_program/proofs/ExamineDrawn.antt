@@ -1,5 +1,5 @@
 -- All that is to be drawn from the words on what `examine` and `about` print.
-use Rattle.std.proofs.Common.{◌≡◌, ℕ, List, Option, ap, refl}
+use Rattle.std.proofs.Common.{◌≡◌, inl, inr, ℕ, List, Option, ap, refl}
 use Rattle.macs_program.specs.ExamineTexts.{AboutTexts, ExamineTexts}
 use Rattle.macs_program.specs.Examining.{rx_ceiling_line, tx_ceiling_line}
 
@@ -17,8 +17,12 @@ examine-texts = record {
   channel = λ s sci. refl;
   rx = λ s sci an ceiling is. ap (λ (c : Option ℕ). rx_ceiling_line sci an c) is;
   no_rx = λ s sci an is. ap (λ (c : Option ℕ). rx_ceiling_line sci an c) is;
+  fault = λ at. refl;
+  at_fault = λ image at is. elim is [
+    | inl head ↦ inl head
+    | inr (area, head, current, it) ↦ inr (area, head, current, it.slot, it.within, it.before, it.fault)
+  ];
   end = λ config. refl;
-  in_memory = refl;
 }
 
 pub about-texts : AboutTexts

@@ -9,6 +9,7 @@ pub mod Commanded
 pub mod Complaining
 pub mod EachLine
 pub mod Failed
+pub mod Faults
 pub mod Failures
 pub mod FirstFault
 pub mod HexDigits

@@ -30,7 +30,7 @@ use Rattle.macs_words.specs.declared.action.WireEnds.{WireEnds}
 use Rattle.macs_words.specs.declared.action.Question.{Question}
 use Rattle.macs_words.specs.declared.action.Question.TheVariants as question
 use Rattle.macs_words.specs.declared.pace.Running.{Running}
-use Rattle.macs_program.proofs.Examined.{examining-no-usage}
+use Rattle.macs_program.proofs.Examined.{examining-no-usage, said-status}
 use Rattle.macs_program.proofs.Failures.{disk-no-usage, output-no-usage}
 use Rattle.macs_program.proofs.Tried.{of-trial}
 
@@ -321,11 +321,11 @@ module _ {F W : Type 0} (state_of : F → FileState) (contents : W → Option (L
     broken = broken;
   }
 
-  pub examines : (disk : Bor (List ℕ)) → IfOk result (λ status. PrintsExamined state_of (contents old) (contents new) × (status ≡ ends.Done))
+  pub examines : (disk : Bor (List ℕ)) → IfOk result (PrintsExamined state_of (contents old) (contents new))
       → IfErr result (ExamineFails state_of) → Silent → Broken → Performs state_of contents failed (Examine disk) input old result new
   examines disk done fails silent broken = record {
     does = done;
-    status = IfOk-weaker result _ _ (λ status all. inl all.1) done;
+    status = IfOk-weaker result _ _ (λ status (text, is, printed). said-status _ _ _ _ is.says) done;
     usage = IfErr-weaker result _ _ (λ failure is usage. absurd (examining-no-usage state_of failure is usage)) fails;
     disk = IfErr-weaker result _ _ (λ failure same disk. ((λ is. absurd cc), same disk)) (kept silent);
     before = before silent;

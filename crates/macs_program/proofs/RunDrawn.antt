@@ -162,17 +162,23 @@ reply-words file = record {
     is.applies.applies.status_is,
   );
   shown = λ path input before after status (is, done). (is.shown, is.endpoint, is.printed, done);
-  examined = λ path input before after status ((text, is, printed), done). (
+  examined = λ path input before after status (text, is, printed). (
     is.file,
     is.copy,
     is.layout,
     is.is_copy,
-    is.content,
-    is.standing,
-    is.journal.found,
-    is.journal.stands,
-    subst (λ (t : List ℕ). Appends before after t) is.text_is printed,
-    done,
+    elim is.says [
+      | inl (content, standing, journal, text_is, done) ↦ inl (
+        content,
+        standing,
+        journal.found,
+        journal.stands,
+        subst (λ (t : List ℕ). Appends before after t) text_is printed,
+        done,
+      )
+      | inr (at, fault, text_is, refused) ↦
+          inr (at, fault, subst (λ (t : List ℕ). Appends before after t) text_is printed, refused)
+    ],
   );
   protected = λ path from to is_all input before after status is.
       passed file Controlled is_all before after status is;

@@ -1,33 +1,36 @@
 -- What is to be drawn from the words on what `examine` and `about` print.
-use Rattle.std.specs.Prelude.{◌≡◌, ◌++◌, ◌∷◌, [], ℕ, true, false, List, length, map, codes, Some, None}
+use Rattle.std.specs.Prelude.{◌≡◌, ◌<◌, ◌⊎◌, ◌+◌, ◌++◌, ◌∷◌, [], ℕ, true, false, List, length, map, codes, Some, None}
 use Rattle.std.specs.Fmt.{decimal}
 use Rattle.std.specs.List.{concat}
 use Rattle.hex.specs.Hex.{encode_lower}
 use Rattle.macs_config.specs.Config.{Config, this_edition}
 use Rattle.macs_disk.specs.declared.layout.Layout.{Layout}
 use Rattle.macs_disk.specs.declared.layout.Layout.TheVariants.{Packed, Spaced}
-use Rattle.macs_journal.specs.Found.{Content}
-use Rattle.macs_journal.specs.declared.fault.JournalFault.TheVariants as journal
-use Rattle.macs_record.specs.Heads.{version_of}
+use Rattle.macs_disk.specs.States.{Image}
+use Rattle.macs_journal.specs.Areas.{gate, slot_body}
+use Rattle.macs_journal.specs.Found.{AreAtOdds, Content, IsCurrent, IsGateOpen, IsHeadless}
+use Rattle.macs_record.specs.Decoding.{HasRecord}
+use Rattle.macs_record.specs.Heads.{Head, version_of}
 use Rattle.macs_record.specs.declared.format.Format.TheVariants.{One, Two}
 use Rattle.macs_store.specs.Replay.{migrates, reads}
 use Rattle.macs_store.specs.Standing.{Standing}
 use Rattle.macs_words.specs.Help.{topic_text}
 use Rattle.macs_words.specs.declared.help.Topic.TheVariants.{Version}
 use Rattle.macs_program.specs.About.{about_text, word_line}
-use Rattle.macs_program.specs.Examining.{block_of, channel_ceilings_text, end_text, examined_text, failure_of_copy}
+use Rattle.macs_program.specs.Examining.{block_of, channel_ceilings_text, end_text, examined_text, fault_line}
 use Rattle.macs_program.specs.Examining.{figures_of, figures_text, number_line, part_line}
 use Rattle.macs_program.specs.Examining.{rx_ceiling_text, tx_ceiling_text}
+use Rattle.macs_program.specs.FirstFault.{IsFirstFault}
 use Rattle.macs_program.specs.declared.build.TheConstants.{COMMIT, LEVEL}
 use Rattle.macs_program.specs.declared.examined_text.Figures.{Figures}
-use Rattle.macs_program.specs.declared.failure.DiskFault.TheVariants as disk
-use Rattle.macs_program.specs.declared.failure.Failure.TheVariants as failures
 
 -- First five lines of the journal: its format, the block of its layout, which area is current, in which generation, and
 -- how many of its slots have records; then the ceilings of transmit associations by their numbers, and of each channel
 -- those of its receive associations, a line each where there is one; last how many keys are spent on either side, and
--- that the journal is whole. The figures are those of the content that is found. A call of a disk in memory fails for
--- want of that.
+-- that the journal is whole. The figures are those of the content that is found. The first
+-- fault is the head of area 0 that is none, or that of area 1 that is none or at odds with it, or else that of the first
+-- slot of the current area: its body, where the slot counts and has no record, or its gate, where that is closed before an
+-- open one. A slot counts that is of the snapshot, or whose gate is open.
 pub record ExamineTexts : Type 0 where
   pub order : (layout : Layout) (figures : Figures) (s : Standing) → examined_text layout figures s
       ≡ figures_text layout figures ++ (concat (map (tx_ceiling_text s) (0 ∷ 1 ∷ 2 ∷ 3 ∷ []))
@@ -52,13 +55,18 @@ pub record ExamineTexts : Type 0 where
       → rx_ceiling_text s sci an ≡ (codes "ceiling rx " ++ (encode_lower sci ++ (codes " " ++ (decimal an
       ++ (codes " " ++ decimal ceiling))))) ++ 10 ∷ []
   pub no_rx : (s : Standing) (sci : List ℕ) (an : ℕ) → s.ceilings.rx sci an ≡ None → rx_ceiling_text s sci an ≡ []
+  pub fault : (at : ℕ) → fault_line at ≡ (codes "fault in sector" ++ (codes " " ++ decimal at)) ++ 10 ∷ []
+  pub at_fault : (image : Image) (at : ℕ) → IsFirstFault image at
+      → (((at ≡ 0) × IsHeadless image 0)
+      ⊎ ((at ≡ 514) × (¬ IsHeadless image 0) × (IsHeadless image 1 ⊎ AreAtOdds image)))
+      ⊎ ((area : ℕ) × (head : Head) × IsCurrent image area head × (slot : ℕ) × (slot < 256)
+      × ((j : ℕ) → j < slot → ((j < head.count) ⊎ IsGateOpen image area (j + 1)) × HasRecord (image (slot_body area j)))
+      × (((at ≡ slot_body area slot) × ((slot < head.count) ⊎ IsGateOpen image area (slot + 1))
+      × ¬ HasRecord (image (slot_body area slot)))
+      ⊎ ((at ≡ gate area (slot + 1)) × (¬ ((slot < head.count) ⊎ IsGateOpen image area (slot + 1)))
+      × (behind : ℕ) × (slot < behind) × (behind < 256) × IsGateOpen image area (behind + 1))))
   pub end : (config : Config) → end_text config ≡ part_line (codes "spent tx") (length config.spent_tx) 512
       ++ (part_line (codes "spent rx") (length config.spent_rx) 512 ++ (codes "whole" ++ 10 ∷ []))
-  pub in_memory : map failure_of_copy (journal.Stopped ∷ journal.TooSmall ∷ journal.Disk ∷ journal.AlreadyFormatted
-      ∷ journal.NotFormatted ∷ journal.BadJournal ∷ journal.GenerationsSpent ∷ [])
-      ≡ failures.Disk (disk.Journal journal.Stopped) ∷ failures.Disk (disk.Journal journal.TooSmall) ∷ failures.Memory
-      ∷ failures.Disk (disk.Journal journal.AlreadyFormatted) ∷ failures.Disk (disk.Journal journal.NotFormatted)
-      ∷ failures.Disk (disk.Journal journal.BadJournal) ∷ failures.Disk (disk.Journal journal.GenerationsSpent) ∷ []
 
 -- `about` says the version, the commit of the sources and the processors as the build has them, and as the formats
 -- that are written and read just those that this edition keeps, and reads.

@@ -1,4 +1,4 @@
--- What `examine` says of the disk in a file: what the recovery of its journal finds on a copy of it in memory.
+-- What `examine` says of the disk in a file: what the recovery of its journal finds on a copy of it in memory, or its first fault.
 use Rattle.std.specs.Prelude.{◌≡◌, ◌⊎◌, ◌%◌, ◌++◌, ℕ, List, [], length, map, codes, Option, Some, None}
 use Rattle.std.specs.Fmt.{decimal}
 use Rattle.std.specs.Io.KnownBytes.{Appends}
@@ -16,9 +16,9 @@ use Rattle.macs_disk.specs.declared.layout.Layout.{Layout}
 use Rattle.macs_disk.specs.declared.layout.Layout.TheVariants.{Packed, Spaced}
 use Rattle.macs_disk.specs.declared.memory.MemDisk.{MemDisk}
 use Rattle.macs_journal.specs.Areas.{slots}
-use Rattle.macs_journal.specs.Found.{Content, HasJournal}
+use Rattle.macs_journal.specs.Found.{Content, HasJournal, IsBadJournal}
 use Rattle.macs_journal.specs.declared.fault.JournalFault.{JournalFault}
-use Rattle.macs_journal.specs.declared.fault.JournalFault.TheVariants as journal
+use Rattle.macs_journal.specs.declared.fault.JournalFault.TheVariants.{BadJournal}
 use Rattle.macs_record.specs.Heads.{version_of}
 use Rattle.macs_store.specs.Found.{IsUnfitTo}
 use Rattle.macs_store.specs.Replay.{meaning_of}
@@ -27,9 +27,12 @@ use Rattle.macs_texts.specs.Lines.{line}
 use Rattle.macs_texts.specs.Showing.{association_numbers}
 use Rattle.macs_program.specs.Copying.{CopyFails, IsCopy}
 use Rattle.macs_program.specs.Failing.{failure_of_file, failure_of_journal}
+use Rattle.macs_program.specs.FirstFault.{IsFirstFault}
 use Rattle.macs_program.specs.declared.examined_text.Figures.{Figures}
 use Rattle.macs_program.specs.declared.failure.Failure.{Failure}
 use Rattle.macs_program.specs.declared.failure.Failure.TheVariants as failures
+use Rattle.macs_program.specs.declared.status.Status.{Status}
+use Rattle.macs_program.specs.declared.status.Status.TheVariants as ends
 
 -- ---- lines
 
@@ -94,6 +97,10 @@ examined_text layout figures s =
     figures_text layout figures ++ (concat (map (tx_ceiling_text s) association_numbers)
     ++ (concat (map (channel_ceilings_text s) s.config.channels) ++ end_text s.config))
 
+-- of a bad journal: the sector of its first fault
+abbrev pub fault_line : ℕ → List ℕ
+fault_line at = number_line (codes "fault in sector") at
+
 -- ---- on a disk in memory
 
 -- a journal with this content is found in the image, and it stands for this to the program
@@ -101,17 +108,30 @@ pub record IsJournalOf (image : Image) (content : Content) (standing : Standing)
   pub found : HasJournal image content
   pub stands : meaning_of this_edition content ≡ Some standing
 
--- what a fault is there: a call of the disk fails for want of memory alone
-abbrev pub failure_of_copy : JournalFault → Failure
-failure_of_copy journal.Disk = failures.Memory
-failure_of_copy fault = failure_of_journal fault
+-- the first fault of the journal in the image is said, and the run ends as refused
+abbrev pub SaysFault : Image → List ℕ → Status → Type 0
+SaysFault image text status = (at : ℕ) × IsFirstFault image at × (text ≡ fault_line at) × (status ≡ ends.Refused)
 
--- nothing is said of a disk: there is no memory, or no endpoint of this program is opened on it, for this fault
+-- this is said of a disk with this image, which lies in a file in this layout, and the run ends so: what is found, or its first fault
+abbrev pub Says : Image → Layout → List ℕ → Status → Type 0
+Says image layout text status =
+    ((content : Content) × (standing : Standing) × IsJournalOf image content standing
+    × (text ≡ examined_text layout (figures_of content) standing) × (status ≡ ends.Done))
+    ⊎ SaysFault image text status
+
+-- there is no memory, or no endpoint of this program is opened on a disk, for this fault
+abbrev pub IsNotOpened : Disk → Failure → Type 0
+IsNotOpened copy failure =
+    (failure ≡ failures.Memory)
+    ⊎ ((fault : JournalFault) × (failure ≡ failure_of_journal fault)
+    × IsUnfitTo this_edition copy.sectors (now copy).seen fault)
+
+-- nothing is said of a disk: so it is, and the fault is none of a sector
 abbrev pub IsNotExamined : Disk → Failure → Type 0
 IsNotExamined copy failure =
     (failure ≡ failures.Memory)
     ⊎ ((fault : JournalFault) × (failure ≡ failure_of_journal fault)
-    × IsUnfitTo this_edition copy.sectors (now copy).seen fault)
+    × IsUnfitTo this_edition copy.sectors (now copy).seen fault × (fault ≡ BadJournal → ¬ IsBadJournal (now copy).seen))
 
 -- ---- on a disk in a file
 
@@ -120,16 +140,13 @@ abbrev pub IsLaidCopy : FileState → MemDisk Global → Layout → Type 0
 IsLaidCopy file copy layout =
     Behaves file → (file.size % 512 ≡ 0) × (IsSure file → IsCopy file (disk_of copy) × (layout ≡ layout_in file))
 
--- this is said of the disk in a file
-pub record ExaminesIn {F : Type 0} (state_of : F → FileState) (text : List ℕ) : Type 0 where
+-- this is said of the disk in a file, and the run ends so
+pub record ExaminesIn {F : Type 0} (state_of : F → FileState) (text : List ℕ) (status : Status) : Type 0 where
   pub file : F
   pub copy : MemDisk Global
   pub layout : Layout
   pub is_copy : IsLaidCopy (state_of file) copy layout
-  pub content : Content
-  pub standing : Standing
-  pub journal : IsJournalOf (now (disk_of copy)).seen content standing
-  pub text_is : text ≡ examined_text layout (figures_of content) standing
+  pub says : Says (now (disk_of copy)).seen layout text status
 
 -- nothing is: the file is not opened; or there is no copy; or nothing is said of that
 abbrev pub ExaminationFails : {F : Type 0} → (F → FileState) → Failure → Type 0
@@ -142,8 +159,8 @@ ExaminationFails {F} state_of failure =
 -- ---- whole
 
 -- that is printed
-abbrev pub PrintsExamined : {F : Type 0} → (F → FileState) → Option (List ℕ) → Option (List ℕ) → Type 0
-PrintsExamined state_of before after = (text : List ℕ) × ExaminesIn state_of text × Appends before after text
+abbrev pub PrintsExamined : {F : Type 0} → (F → FileState) → Option (List ℕ) → Option (List ℕ) → Status → Type 0
+PrintsExamined state_of before after status = (text : List ℕ) × ExaminesIn state_of text status × Appends before after text
 
 -- it is not: it cannot be printed, or nothing is said
 abbrev pub ExamineFails : {F : Type 0} → (F → FileState) → Failure → Type 0

@@ -78,7 +78,7 @@ Does state_of (Ask path asked) input before after status = PrintsAnswer asked be
 Does state_of (Key is_long) input before after status = GivesKey is_long before after × (status ≡ ends.Done)
 Does state_of (Inspect from) input before after status = Inspects before after × (status ≡ ends.Done)
 Does state_of (Check file disk) input before after status = Checks state_of disk before after status
-Does state_of (Examine disk) input before after status = PrintsExamined state_of before after × (status ≡ ends.Done)
+Does state_of (Examine disk) input before after status = PrintsExamined state_of before after status
 Does state_of About input before after status = Appends before after about_text × (status ≡ ends.Done)
 
 -- a run that does not fail is asked for help and prints it, or its words are taken and name an action, and it does that

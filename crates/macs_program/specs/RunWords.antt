@@ -33,7 +33,7 @@ use Rattle.macs_endpoint.specs.State.{Commands, Ran, no_logs}
 use Rattle.macs_endpoint.specs.Value.{EndpointValue, state_of}
 use Rattle.macs_endpoint.specs.declared.fault.CommandFault.{CommandFault}
 use Rattle.macs_fields.specs.First.{IsFirst}
-use Rattle.macs_journal.specs.Found.{Content, HasJournal}
+use Rattle.macs_journal.specs.Found.{Content, HasJournal, IsBadJournal}
 use Rattle.macs_journal.specs.declared.fault.JournalFault.{JournalFault}
 use Rattle.macs_journal.specs.declared.fault.JournalFault.TheVariants as journal
 use Rattle.macs_pcap.specs.Captures.{BeginsWithRecords}
@@ -66,8 +66,9 @@ use Rattle.macs_program.specs.Capturing.{EndsPass, PassesCapture}
 use Rattle.macs_program.specs.Checking.{IsSaidOfFile, count_line}
 use Rattle.macs_program.specs.Copying.{CopyFails, IsCopy}
 use Rattle.macs_program.specs.Endpoints.{BreaksOffIn, IsEndpointIn, OpeningFails, PassEndsIn}
-use Rattle.macs_program.specs.Examining.{examined_text, figures_of}
+use Rattle.macs_program.specs.Examining.{examined_text, fault_line, figures_of}
 use Rattle.macs_program.specs.Failing.{failure_of_capture, failure_of_file, failure_of_words}
+use Rattle.macs_program.specs.FirstFault.{IsFirstFault}
 use Rattle.macs_program.specs.Inputs.{InputRead}
 use Rattle.macs_program.specs.Inspecting.{AreLinesOf, InspectsCapture, RunsCapture, StopsCapture}
 use Rattle.macs_program.specs.Judging.{EndsEach, JudgesCapture, JudgingEndsIn, verdict_lines}
@@ -96,8 +97,8 @@ use Rattle.macs_program.specs.declared.values.ValueFault.{ValueFault}
 -- action does this: `open` prints the answer to its input; `format` makes a file a disk that, when it was settled, was
 -- one that may be written over, blanks it in the layout of its words and formats it with the identity of its words;
 -- `apply` gives the commands of a file to an endpoint in a file, and prints a line for each; `show` prints its text,
--- as it was opened; `examine` prints what the journal is in which a copy of the disk in a file is found to be, and
--- what its records stand for; `protect` and `validate` take a capture through it, each from its own side, and
+-- as it was opened; `examine` prints what the journal is that is found on a copy of the disk in a file, and what its
+-- records stand for, or the sector of its first fault; `protect` and `validate` take a capture through it, each from its own side, and
 -- `validate --each` prints the line of each verdict before its own; `relay` prints what it came to; `ask` prints lines
 -- of outcomes, or a text; `key` prints as many octets as it is to, in hex; `inspect` prints a line for each record of a
 -- capture, up to its end; `about` prints one text; `check` prints how many commands some octets say, or, with a disk, a
@@ -138,9 +139,11 @@ pub record ReplyWords {F : Type 0} (file : F → FileState) : Type 0 where
       → (disk_file : F) × (copy : MemDisk Global) × (layout : Layout)
       × (Behaves (file disk_file) → ((file disk_file).size % 512 ≡ 0) × (IsSure (file disk_file)
       → IsCopy (file disk_file) (disk_of copy) × (layout ≡ layout_in (file disk_file))))
-      × (content : Content) × (standing : Standing) × HasJournal (now (disk_of copy)).seen content
+      × (((content : Content) × (standing : Standing) × HasJournal (now (disk_of copy)).seen content
       × (meaning_of this_edition content ≡ Some standing)
-      × Appends before after (examined_text layout (figures_of content) standing) × (status ≡ ends.Done)
+      × Appends before after (examined_text layout (figures_of content) standing) × (status ≡ ends.Done))
+      ⊎ ((at : ℕ) × IsFirstFault (now (disk_of copy)).seen at × Appends before after (fault_line at)
+      × (status ≡ ends.Refused)))
   pub protected : (path from to : Bor Text) (is_all : Bool) (input : InputRead) (before after : Option (List ℕ))
       (status : Status) → Does file (Protect path from to is_all) input before after status
       → (summary : Summary) × (old : EndpointValue (FileDisk F)) × (new : EndpointValue (FileDisk F))
@@ -231,7 +234,8 @@ pub record ReplyWords {F : Type 0} (file : F → FileState) : Type 0 where
 -- `format` for the first fault of its values, for the file, or for its output; those with an endpoint for its opening, or
 -- as what is done with it ends; `relay` also for the first fault of its addresses; `ask`, `key`, `inspect`, `about` and
 -- `check` for what is named here, and for nothing else. `examine` fails for its output, for a file that is not opened or
--- of which there is no copy, for memory, or for what no endpoint of this program is opened for on that copy. `check`
+-- of which there is no copy, for memory, or for a fault that is of no sector, for which no endpoint is opened on the
+-- copy. `check`
 -- with a disk fails as without one; or the file is not opened, or there is no copy of its disk; or no endpoint is opened
 -- on that, there is no memory, or a command ends the run.
 pub record FailWords {F : Type 0} (file : F → FileState) : Type 0 where
@@ -268,7 +272,8 @@ pub record FailWords {F : Type 0} (file : F → FileState) : Type 0 where
       × (Behaves (file disk_file) → ((file disk_file).size % 512 ≡ 0) × (IsSure (file disk_file)
       → IsCopy (file disk_file) (disk_of copy) × (layout ≡ layout_in (file disk_file))))
       × ((failure ≡ failures.Memory) ⊎ ((fault : JournalFault) × (failure ≡ failures.Disk (disk.Journal fault))
-      × IsUnfitTo this_edition (disk_of copy).sectors (now (disk_of copy)).seen fault)))
+      × IsUnfitTo this_edition (disk_of copy).sectors (now (disk_of copy)).seen fault
+      × (fault ≡ journal.BadJournal → ¬ IsBadJournal (now (disk_of copy)).seen))))
   pub of_protect : (path from to : Bor Text) (is_all : Bool) (input : InputRead) (before after : Option (List ℕ))
       (failure : Failure) → FailsAs file (Protect path from to is_all) input before after failure
       → OpeningFails file failure ⊎ PassEndsIn file Controlled failure

@@ -9,7 +9,7 @@ use crate::failure::Failure;
 use crate::output::print;
 use crate::status::Status;
 use crate::stream::Stream;
-use macs_texts::{ended, joined};
+use crate::text_lines::{ended, joined};
 use macs_words::Topic;
 use std::alloc::{AllocError, Global};
 

@@ -1,6 +1,6 @@
 //! `examine`: what the journal of the disk in a file has, which is only read.
 
-ghost use Rattle.std.specs.Prelude.{◌≡◌, ◌≢◌, ◌%◌, true, Ok, IfErr, IfOk, IsErrOf, string_bytes};
+ghost use Rattle.std.specs.Prelude.{◌≡◌, ◌≢◌, ◌⊎◌, ◌≤◌, ◌%◌, true, Ok, IfErr, IfOk, IsErrOf, string_bytes};
 ghost use Rattle.std.specs.declared.alloc.Global.{Global};
 ghost use Rattle.macs_config.specs.Config.{this_edition};
 ghost use Rattle.macs_disk.specs.Disk.{now};
@@ -9,37 +9,33 @@ ghost use Rattle.macs_disk.specs.Layouts.{layout_in};
 ghost use Rattle.macs_disk.specs.MemDisks.{disk_of};
 ghost use Rattle.macs_disk.specs.declared.file_fault.FileFault.{FileFault};
 ghost use Rattle.macs_disk.specs.declared.memory.MemDisk.{MemDisk};
-ghost use Rattle.macs_journal.specs.Found.{Content, HasJournal};
+ghost use Rattle.macs_journal.specs.Areas.{least_sectors};
+ghost use Rattle.macs_journal.specs.Found.{Content, HasJournal, IsBadJournal};
+ghost use Rattle.macs_journal.specs.Opening.{IsNoJournal};
 ghost use Rattle.macs_journal.specs.declared.fault.JournalFault.{JournalFault};
-ghost use Rattle.macs_store.specs.Found.{IsUnfitTo, StandingIs};
+ghost use Rattle.macs_store.specs.Found.{StandingIs};
 ghost use Rattle.macs_store.specs.Opening.{IsStoreOpening};
 ghost use Rattle.macs_store.specs.Standing.{Standing};
-ghost use Rattle.macs_program.specs.Examining.{ExaminationFails, ExamineFails, ExaminesIn, IsJournalOf, IsNotExamined};
-ghost use Rattle.macs_program.specs.Examining.{PrintsExamined, examined_text, failure_of_copy, figures_of};
+ghost use Rattle.macs_program.specs.Examining.{ExaminationFails, ExamineFails, ExaminesIn, IsNotExamined, IsNotOpened};
+ghost use Rattle.macs_program.specs.Examining.{PrintsExamined, Says, SaysFault, examined_text, fault_line, figures_of};
+ghost use Rattle.macs_program.specs.Trying.{failure_in_memory};
+ghost use Rattle.macs_program.specs.declared.failure.DiskFault.TheVariants.{Journal};
 
 use crate::capture_file::CaptureFile;
 use crate::disk_copy::{copy_of, find_layout, measure};
-use crate::examined_text::{Figures, examined_text};
-use crate::failure::Failure;
+use crate::examined_text::{Figures, examined_text, fault_line};
+use crate::failure::{DiskFault, Failure};
 use crate::files::open_regular;
+use crate::first_fault::fault_of;
 use crate::output::print;
 use crate::status::Status;
 use crate::stream::Stream;
+use crate::trial::failure_in_memory;
 use macs_disk::{FileFault, Layout, MemDisk};
 use macs_journal::{JournalFault, RecoverRefused, Room, new_room, recover_into};
 use macs_store::{OpenRefused, Store};
 use std::alloc::Global;
 use std::rt::Files;
-
-/// What a fault of a disk in memory is: a call of it fails for want of memory alone.
-fn failure_of_copy(fault: JournalFault) -> Failure
-    ensures { result ≡ failure_of_copy fault }
-{
-    match fault {
-        JournalFault::Disk => Failure::Memory,
-        _ => Failure::from(fault),
-    }
-}
 
 /// The figures of a journal, and the disk that it was found on.
 #[derive(Drop)]
@@ -48,14 +44,22 @@ struct Examined {
     disk: MemDisk,
 }
 
+/// What is said of a disk, and how the run ends that says it.
+#[derive(Drop)]
+struct Said {
+    text: String,
+    status: Status,
+}
+
 /// Finds the journal of a disk in memory, with a room that is lent for its records.
 fn find_with(copy: MemDisk, room: &mut Room) -> Result<Examined, RecoverRefused<MemDisk>>
     ensures found { IfOk result (λ found. (content : Content) × HasJournal (now (disk_of copy)).seen content
         × (found.figures ≡ figures_of content)) }
     ensures seen { IfOk result (λ found. (now (disk_of found.disk)).seen ≡ (now (disk_of copy)).seen) }
     ensures sectors { IfOk result (λ found. (disk_of found.disk).sectors ≡ (disk_of copy).sectors) }
-    ensures refused { IfErr result (λ refused. refused.fault ≢ JournalFault.Disk
-        → IsUnfitTo this_edition (disk_of copy).sectors (now (disk_of copy)).seen refused.fault) }
+    ensures refused { IfErr result (λ refused. refused.fault ≢ JournalFault.Disk → IsNoJournal disk_of copy refused.fault) }
+    ensures left { IfErr result (λ refused. refused.fault ≡ JournalFault.BadJournal
+        → (least_sectors ≤ (disk_of refused.disk).sectors) × ((now (disk_of refused.disk)).durable ≡ (now (disk_of copy)).seen)) }
 {
     let found = recover_into(copy, room)?;
     let figures = Figures {
@@ -77,8 +81,9 @@ fn find(copy: MemDisk) -> Result<Examined, RecoverRefused<MemDisk>>
         × (found.figures ≡ figures_of content)) }
     ensures seen { IfOk result (λ found. (now (disk_of found.disk)).seen ≡ (now (disk_of copy)).seen) }
     ensures sectors { IfOk result (λ found. (disk_of found.disk).sectors ≡ (disk_of copy).sectors) }
-    ensures refused { IfErr result (λ refused. refused.fault ≢ JournalFault.Disk
-        → IsUnfitTo this_edition (disk_of copy).sectors (now (disk_of copy)).seen refused.fault) }
+    ensures refused { IfErr result (λ refused. refused.fault ≢ JournalFault.Disk → IsNoJournal disk_of copy refused.fault) }
+    ensures left { IfErr result (λ refused. refused.fault ≡ JournalFault.BadJournal
+        → (least_sectors ≤ (disk_of refused.disk).sectors) × ((now (disk_of refused.disk)).durable ≡ (now (disk_of copy)).seen)) }
 {
     find_with(copy, &mut new_room())
 }
@@ -90,30 +95,69 @@ fn tell(
     layout: Layout,
     figures: Figures,
     opened: Result<Store<MemDisk>, OpenRefused<MemDisk>>,
-) -> Result<String, Failure>
-    ensures told { (disk : MemDisk Global) → IsStoreOpening disk_of disk opened → IfOk result (λ text. (standing : Standing)
+) -> Result<Said, Failure>
+    ensures told { (disk : MemDisk Global) → IsStoreOpening disk_of disk opened → IfOk result (λ said. (standing : Standing)
         × StandingIs this_edition (disk_of disk).sectors (now (disk_of disk)).seen (Ok standing)
-        × (string_bytes text ≡ examined_text layout figures standing)) }
+        × (string_bytes said.text ≡ examined_text layout figures standing) × (said.status ≡ Status.Done)) }
     ensures ended { (disk : MemDisk Global) → IsStoreOpening disk_of disk opened
-        → IfErr result (IsNotExamined (disk_of disk)) }
+        → IfErr result (IsNotOpened (disk_of disk)) }
 {
     match &opened {
-        Ok(store) => Ok(examined_text(alloc, layout, figures, store)?),
-        Err(refused) => Err(failure_of_copy(refused.fault)),
+        Ok(store) => {
+            let text = examined_text(alloc, layout, figures, store)?;
+            Ok(Said {
+                text,
+                status: Status::Done,
+            })
+        }
+        Err(refused) => Err(failure_in_memory(DiskFault::Journal(refused.fault))),
     }
 }
 
-/// What is said of the disk in memory that is a copy of one in this layout. It fails as `Memory`, and as `Disk` with the
-/// fault for which no endpoint is opened on it.
-fn examine_copy(alloc: Global, layout: Layout, copy: MemDisk) -> Result<String, Failure>
-    ensures told { IfOk result (λ text. (content : Content) × (standing : Standing)
-        × IsJournalOf (now (disk_of copy)).seen content standing
-        × (string_bytes text ≡ examined_text layout (figures_of content) standing)) }
+/// What is said of a disk whose journal is bad: its first fault.
+fn tell_fault(alloc: Global, disk: &MemDisk) -> Result<Said, Failure>
+    requires room { least_sectors ≤ (disk_of disk.now).sectors }
+    requires bad { IsBadJournal (now (disk_of disk.now)).durable }
+    ensures told { IfOk result (λ said. SaysFault (now (disk_of disk.now)).durable (string_bytes said.text) said.status) }
+    ensures ended { IfErr result (λ failure. failure ≡ Failure.Memory) }
+{
+    match fault_of(disk) {
+        Some(at) => {
+            let text = fault_line(alloc, at)?;
+            Ok(Said {
+                text,
+                status: Status::Refused,
+            })
+        }
+        None => Err(Failure::from(JournalFault::BadJournal)), // Never: a bad journal has a fault.
+    }
+}
+
+/// What is said of a disk on which no journal was found: the first fault of a bad one.
+#[inline(never)]
+fn tell_refused(alloc: Global, refused: &RecoverRefused<MemDisk>) -> Result<Said, Failure>
+    requires room { refused.now.fault ≡ JournalFault.BadJournal → least_sectors ≤ (disk_of refused.now.disk).sectors }
+    requires bad { refused.now.fault ≡ JournalFault.BadJournal → IsBadJournal (now (disk_of refused.now.disk)).durable }
+    ensures told { IfOk result (λ said. (refused.now.fault ≡ JournalFault.BadJournal)
+        × SaysFault (now (disk_of refused.now.disk)).durable (string_bytes said.text) said.status) }
+    ensures ended { IfErr result (λ failure. (failure ≡ Failure.Memory)
+        ⊎ ((refused.now.fault ≢ JournalFault.BadJournal) × (failure ≡ failure_in_memory (Journal refused.now.fault)))) }
+{
+    match refused.fault {
+        JournalFault::BadJournal => tell_fault(alloc, &refused.disk),
+        _ => Err(failure_in_memory(DiskFault::Journal(refused.fault))),
+    }
+}
+
+/// What is said of the disk in memory that is a copy of one in this layout: what is found, or the first fault of a bad
+/// journal. It fails as `Memory`, and as `Disk` with another fault for which no endpoint is opened on it.
+fn examine_copy(alloc: Global, layout: Layout, copy: MemDisk) -> Result<Said, Failure>
+    ensures told { IfOk result (λ said. Says (now (disk_of copy)).seen layout (string_bytes said.text) said.status) }
     ensures ended { IfErr result (IsNotExamined (disk_of copy)) }
 {
     match find(copy) {
         Ok(found) => tell(alloc, layout, found.figures, Store::open(found.disk)),
-        Err(refused) => Err(failure_of_copy(refused.fault)),
+        Err(refused) => tell_refused(alloc, &refused),
     }
 }
 
@@ -131,11 +175,11 @@ fn layout_of<F: CaptureFile>(file: &mut F) -> Result<Layout, FileFault>
 }
 
 /// What is said of the disk in a file, which is opened to be read alone. It fails as `Disk` with `File` where there is no
-/// regular file that can be opened; then as `copy_of` does, as the opening of an endpoint does, and as `Memory`.
-fn examine_in<T: Files>(rt: &T, alloc: Global, path: &str) -> Result<String, Failure>
+/// regular file that can be opened; then as `copy_of` and `examine_copy` do.
+fn examine_in<T: Files>(rt: &T, alloc: Global, path: &str) -> Result<Said, Failure>
 where
     T::File: CaptureFile,
-    ensures told { IfOk result (λ text. ExaminesIn T.File.file (string_bytes text)) }
+    ensures told { IfOk result (λ said. ExaminesIn T.File.file (string_bytes said.text) said.status) }
     ensures ended { IfErr result (ExaminationFails T.File.file) }
 {
     match open_regular(rt, path) {
@@ -148,7 +192,8 @@ where
     }
 }
 
-/// `examine`: prints what the journal of the disk in a file has. The file is not changed.
+/// `examine`: prints what the journal of the disk in a file has, or its first fault, which is a refusal. The file is not
+/// changed.
 pub fn examine<T: Files, W: Stream>(
     rt: &T,
     alloc: Global,
@@ -157,13 +202,12 @@ pub fn examine<T: Files, W: Stream>(
 ) -> Result<Status, Failure>
 where
     T::File: CaptureFile,
-    ensures printed { IfOk result (λ status.
-        PrintsExamined T.File.file (W.contents out.old) (W.contents out.new) × (status ≡ Status.Done)) }
+    ensures printed { IfOk result (PrintsExamined T.File.file (W.contents out.old) (W.contents out.new)) }
     ensures ended { IfErr result (ExamineFails T.File.file) }
     ensures silent { IfErr result (λ failure. failure ≢ Failure.Output → out.new ≡ out.old) }
     ensures broken { IfErr result (λ failure. failure ≡ Failure.Output → W.failed out.new ≡ true) }
 {
-    let text = examine_in(rt, alloc, path)?;
-    print(out, text.as_str())?;
-    Ok(Status::Done)
+    let said = examine_in(rt, alloc, path)?;
+    print(out, said.text.as_str())?;
+    Ok(said.status)
 }

@@ -8,15 +8,15 @@ ghost use Rattle.macs_store.specs.Value.{standing_in};
 ghost use Rattle.macs_texts.specs.Lines.{line};
 ghost use Rattle.macs_texts.specs.Showing.{association_numbers};
 ghost use Rattle.macs_program.specs.Examining.{block_of, channel_ceilings_text, end_text, examined_text, figures_text};
-ghost use Rattle.macs_program.specs.Examining.{number_line, part_line, rx_ceiling_line, rx_ceiling_text};
+ghost use Rattle.macs_program.specs.Examining.{fault_line, number_line, part_line, rx_ceiling_line, rx_ceiling_text};
 ghost use Rattle.macs_program.specs.Examining.{tx_ceiling_line, tx_ceiling_text};
 
+use crate::text_lines::{ended, joined};
 use macs_config::Config;
 use macs_disk::{Layout, SectorDisk};
 use macs_frame::{An, Sci};
 use macs_record::{Ceiling, Format};
 use macs_store::Store;
-use macs_texts::{ended, joined};
 use std::alloc::{AllocError, Global};
 
 /// How many slots an area has.
@@ -67,6 +67,13 @@ fn part_line(alloc: Global, name: &str, number: u64, most: u64) -> Result<String
     ensures { IfOk result (λ text. string_bytes text ≡ part_line name.now number most) }
 {
     ended(format!(in alloc; "{name} {number} of {most}")?)
+}
+
+/// The line of the first fault of a bad journal, which is in this sector.
+pub fn fault_line(alloc: Global, at: u64) -> Result<String, AllocError>
+    ensures { IfOk result (λ text. string_bytes text ≡ fault_line at) }
+{
+    number_line(alloc, "fault in sector", at)
 }
 
 /// The line of the ceiling of a transmit association, where it has one.

@@ -7,7 +7,7 @@ pub enum Status {
     Done,
     /// The words are none that the program knows, or a value among them is none that it takes: 2.
     Usage,
-    /// The frame or a command is refused: 3.
+    /// The frame or a command is refused, or a journal has a fault: 3.
     Refused,
     /// The disk file failed, or what stands on it does not serve: 4.
     Disk,

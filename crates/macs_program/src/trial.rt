@@ -26,7 +26,7 @@ use std::alloc::{AllocError, Global};
 use std::rt::Files;
 
 /// What a fault of a disk in memory is: a call of it fails for want of memory alone.
-fn failure_in_memory(fault: DiskFault) -> Failure
+pub fn failure_in_memory(fault: DiskFault) -> Failure
     ensures { result ≡ failure_in_memory fault }
 {
     match fault {

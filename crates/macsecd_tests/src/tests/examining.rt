@@ -1,4 +1,4 @@
-//! What stands in the journal on a disk, which stays as it is.
+//! What the journal on a disk has, which stays as it is.
 
 use super::Outcome;
 use super::link_files::{LEFT, PLAIN};
@@ -220,17 +220,47 @@ const FAULTS: &[Step] = &[
     Failing(FAULTY, Read(1, Other), FAULTY_WORDS, DISK_FAULT),
     Failing(FAULTY, Read(6_168, Other), FAULTY_WORDS, DISK_FAULT),
     Failing(FAULTY, Read(6_169, Other), FAULTY_WORDS, NEW),
-    // A record that does not follow from those before it, and then a head that is none.
+    // A record that does not follow from those before it.
     Patch(FAULTY, 4 * 512, TX_USE),
     Patch(FAULTY, 5 * 512, GATE),
-    Keeping(&[FAULTY], FAULTY_WORDS, BAD_JOURNAL),
-    Patch(FAULTY, 0, "ff"),
     Keeping(&[FAULTY], FAULTY_WORDS, BAD_JOURNAL),
 ];
 
 #[test]
 fn each_fault_of_an_examined_disk_is_told(rt: HostRuntime) -> Result<(), Fail> {
     play(&rt, rt.alloc(), "story-examine-faults", FAULTS)
+}
+
+const SPOILED: &str = "story-examine-spoiled/disk";
+
+const SPOILED_WORDS: &[&str] = &["examine", SPOILED];
+
+/// The first sector at fault. A slot whose gate is closed has none, unless a gate behind it is open.
+const SPOILED_SECTORS: &[Step] = &[
+    Run(&["format", SPOILED, "12153524c0895e81", "1", "1"], FORMATTED),
+    Patch(SPOILED, 4 * 512, "ff"),
+    Run(SPOILED_WORDS, NEW),
+    Patch(SPOILED, 5 * 512, GATE),
+    Keeping(
+        &[SPOILED],
+        SPOILED_WORDS,
+        Outcome::Refused("fault in sector 4\n"),
+    ),
+    Patch(SPOILED, 5 * 512, "00"),
+    Run(SPOILED_WORDS, NEW),
+    Patch(SPOILED, 513 * 512, GATE),
+    Run(SPOILED_WORDS, Outcome::Refused("fault in sector 5\n")),
+    Patch(SPOILED, 2 * 512, "ff"),
+    Run(SPOILED_WORDS, Outcome::Refused("fault in sector 2\n")),
+    Patch(SPOILED, 515 * 512, GATE),
+    Run(SPOILED_WORDS, Outcome::Refused("fault in sector 514\n")),
+    Patch(SPOILED, 0, "ff"),
+    Run(SPOILED_WORDS, Outcome::Refused("fault in sector 0\n")),
+];
+
+#[test]
+fn the_first_sector_at_fault_is_told(rt: HostRuntime) -> Result<(), Fail> {
+    play(&rt, rt.alloc(), "story-examine-spoiled", SPOILED_SECTORS)
 }
 
 const LAST: &str = "story-examine-last/disk";

@@ -233,9 +233,11 @@ It prints, a line each,
   spent tx 1 of 512                  keys that were ever installed
   spent rx 1 of 512
   whole                              all records can be read
+or of a bad journal the first sector of the disk that is at fault, from 0, as
+  fault in sector 4
 
 example: macsecd examine left.disk
-status: 0 done, 2 usage, 4 disk, 5 output or memory
+status: 0 done, 2 usage, 3 a sector is at fault, 4 disk, 5 output or memory
 ";
 
 pub const ABOUT_TEXT: &str = "usage: macsecd about

@@ -22,16 +22,13 @@ returns-in_ok-layout-in-Ok-clause-told g c =
     let file = g.T.File.DiskFile.file in
     let copied = c.in_ok-copy-in-Ok.ensures in
     IfOk-weaker c.examine_copy.result _ _
-    (λ text all. let (content, standing, journal, is) = all in record {
+    (λ said says. record {
       file = c.in-Ok.file;
       copy = c.in_ok-copy-in-Ok.copy;
       layout = c.in_ok-layout-in-Ok.layout;
       is_copy = laid-copy (file c.in-Ok.file) (file c.copy_of.new.file) c.in_ok-copy-in-Ok.copy c.in_ok-layout-in-Ok.layout copied.same copied.whole copied.copied
           c.in_ok-layout-in-Ok.ensures.found;
-      content = content;
-      standing = standing;
-      journal = journal;
-      text_is = is;
+      says = says;
     }) c.examine_copy.ensures.told
 
 pub returns-in_ok-layout-in-Ok-clause-ended : goal.returns-in_ok-layout-in-Ok-clause-ended

@@ -6,14 +6,21 @@ use Rattle.macs_disk.specs.MemDisks.{disk_of}
 use Rattle.macs_disk.specs.States.{DiskState}
 use Rattle.macs_disk.specs.declared.memory.MemDisk.{MemDisk}
 use Rattle.macs_journal.specs.Value.{content_of}
-use Rattle.macs_program.proofs.Examined.{figures-read, unfit}
+use Rattle.macs_program.proofs.Examined.{figures-read, left-bad}
 use Rattle.macs_program.proofs.examine.find_with.Goals as goal
 
 pub returns-in_err-found-clause-refused : goal.returns-in_err-found-clause-refused
 returns-in_err-found-clause-refused c =
+    let risen = err_from_is_err_and c.from_residual.result c.from_residual.ensures.1 in
+    rw (risen.1, risen.2) (λ other. c.in_err-found.ensures.opening.found other refl)
+
+pub returns-in_err-found-clause-left : goal.returns-in_err-found-clause-left
+returns-in_err-found-clause-left c =
     let left = c.in_err-found.field-0.0 in
     let risen = err_from_is_err_and c.from_residual.result c.from_residual.ensures.1 in
-    rw (risen.1, risen.2) (λ other. unfit _ _ left.fault (c.in_err-found.ensures.opening.found other refl))
+    let opening = c.in_err-found.ensures.opening in
+    rw (risen.1, risen.2) (λ bad. left-bad (disk_of c.args.copy) (disk_of left.disk) left.fault bad (λ other. opening.found other refl)
+        opening.works.sectors (opening.unwritten refl))
 
 pub returns-clause-found : goal.returns-clause-found
 returns-clause-found c =

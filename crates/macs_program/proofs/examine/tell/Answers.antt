@@ -5,12 +5,12 @@ use Rattle.macs_store.specs.Value.{standing_in}
 use Rattle.macs_program.proofs.Examined.{refused-so}
 use Rattle.macs_program.proofs.examine.tell.Goals as goal
 
-pub returns-in_ok-examined_text-in-Ok-clause-told : goal.returns-in_ok-examined_text-in-Ok-clause-told
-returns-in_ok-examined_text-in-Ok-clause-told c = λ disk opening.
+pub returns-in_ok-text-in-Ok-clause-told : goal.returns-in_ok-text-in-Ok-clause-told
+returns-in_ok-text-in-Ok-clause-told c = λ disk opening.
     let opens = rw c.in-Ok.is at opening in
-    (standing_in c.in-Ok.store, opens.found refl, c.in_ok-examined_text-in-Ok.ensures)
+    (standing_in c.in-Ok.store, opens.found refl, c.in_ok-text-in-Ok.ensures, refl)
 
 pub returns-clause-ended : goal.returns-clause-ended
 returns-clause-ended c = λ disk opening.
     let refuses = rw c.in-Err.is at opening in
-    refused-so (disk_of disk) c.in-Err.refused.fault c.failure_of_copy.result c.failure_of_copy.ensures (λ other. refuses.found other refl)
+    refused-so (disk_of disk) c.in-Err.refused.fault c.failure_in_memory.result c.failure_in_memory.ensures (λ other. refuses.found other refl)
