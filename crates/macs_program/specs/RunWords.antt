@@ -137,7 +137,8 @@ pub record ReplyWords {F : Type 0} (file : F → FileState) : Type 0 where
   pub examined : (path : Bor Text) (input : InputRead) (before after : Option (List ℕ)) (status : Status)
       → Does file (Examine path) input before after status
       → (disk_file : F) × (copy : MemDisk Global) × (layout : Layout)
-      × (Behaves (file disk_file) → ((file disk_file).size % 512 ≡ 0) × (IsSure (file disk_file)
+      × (Behaves (file disk_file) → ((file disk_file).size % 512 ≡ 0) × (1028 ≤ (file disk_file).size / 512)
+      × (IsSure (file disk_file)
       → IsCopy (file disk_file) (disk_of copy) × (layout ≡ layout_in (file disk_file))))
       × (((content : Content) × (standing : Standing) × HasJournal (now (disk_of copy)).seen content
       × (meaning_of this_edition content ≡ Some standing)
@@ -269,7 +270,8 @@ pub record FailWords {F : Type 0} (file : F → FileState) : Type 0 where
       → (failure ≡ failures.Output) ⊎ ((fault : FileFault) × (failure ≡ failure_of_file fault))
       ⊎ ((disk_file : F) × CopyFails (file disk_file) failure)
       ⊎ ((disk_file : F) × (copy : MemDisk Global) × (layout : Layout)
-      × (Behaves (file disk_file) → ((file disk_file).size % 512 ≡ 0) × (IsSure (file disk_file)
+      × (Behaves (file disk_file) → ((file disk_file).size % 512 ≡ 0) × (1028 ≤ (file disk_file).size / 512)
+      × (IsSure (file disk_file)
       → IsCopy (file disk_file) (disk_of copy) × (layout ≡ layout_in (file disk_file))))
       × ((failure ≡ failures.Memory) ⊎ ((fault : JournalFault) × (failure ≡ failures.Disk (disk.Journal fault))
       × IsUnfitTo this_edition (disk_of copy).sectors (now (disk_of copy)).seen fault
