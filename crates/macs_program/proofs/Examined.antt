@@ -141,7 +141,7 @@ laid-copy old new copy layout same whole enough copied found = λ behaves. (
 -- a layout that is not found for the length of the file is not found for its length before
 pub no-layout : {T : Type 0} (old new : FileState) (result : Result T FileFault) (fault : FileFault) → result ≡ Err fault → (Behaves old → new ≡ old)
     → (IsErrOf result file_faults.Length → Behaves new → new.size % 512 ≢ 0) → fault ≡ file_faults.Length → Behaves old → old.size % 512 ≢ 0
-no-layout old new result fault is same length named behaves =
+no-layout old new result fault is same known_length named behaves =
     let still = same behaves in
-    let known = length (rw is named) (subst Behaves (sym still) behaves) in
+    let known = known_length (rw is (ap Err named)) (subst Behaves (sym still) behaves) in
     subst (λ (f : FileState). f.size % 512 ≢ 0) still known
