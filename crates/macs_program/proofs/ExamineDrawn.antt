@@ -20,7 +20,18 @@ examine-texts = record {
   fault = λ at. refl;
   at_fault = λ image at is. elim is [
     | inl head ↦ inl head
-    | inr (area, head, current, it) ↦ inr (area, head, current, it.slot, it.within, it.before, it.fault)
+    | inr (area, head, current, it) ↦ inr (
+      area,
+      head,
+      current,
+      it.slot,
+      it.within,
+      it.before,
+      elim it.fault [
+        | inl body ↦ inl body
+        | inr (same, free, behind) ↦ inr (same, free, behind.0, behind.1, behind.2, behind.3)
+      ],
+    )
   ];
   end = λ config. refl;
 }
