@@ -329,7 +329,12 @@ fail-words file = record {
         stops.outcomes,
         stops.between,
         stops.applied,
-        stops.ends,
+        stops.ends.0,
+        stops.ends.1,
+        stops.ends.2,
+        stops.ends.3,
+        stops.ends.4,
+        stops.ends.5,
       ),
     )
   ];
