@@ -239,7 +239,10 @@ const SPOILED_WORDS: &[&str] = &["examine", SPOILED];
 
 /// The first sector at fault. A slot whose gate is closed has none, unless a gate behind it is open.
 const SPOILED_SECTORS: &[Step] = &[
-    Run(&["format", SPOILED, "12153524c0895e81", "1", "1"], FORMATTED),
+    Run(
+        &["format", SPOILED, "12153524c0895e81", "1", "1"],
+        FORMATTED,
+    ),
     Patch(SPOILED, 4 * 512, "ff"),
     Run(SPOILED_WORDS, NEW),
     Patch(SPOILED, 5 * 512, GATE),

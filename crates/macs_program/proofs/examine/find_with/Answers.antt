@@ -20,7 +20,7 @@ returns-in_err-found-clause-left c =
     let risen = err_from_is_err_and c.from_residual.result c.from_residual.ensures.1 in
     let opening = c.in_err-found.ensures.opening in
     rw (risen.1, risen.2) (λ bad. left-bad (disk_of c.args.copy) (disk_of left.disk) left.fault bad (λ other. opening.found other refl)
-        opening.works.sectors (opening.unwritten refl))
+    opening.works.sectors (opening.unwritten refl))
 
 pub returns-clause-found : goal.returns-clause-found
 returns-clause-found c =
