@@ -130,8 +130,10 @@ def slips():
         yield ["apply", name, COMMANDS], None, name, None
         yield ["apply", DISK, name], None, DISK, None
         yield ["show", name], None, None, None
+        yield ["examine", name], None, None, None
         yield ["inspect", name], None, None, None
         yield ["check", name], None, None, None
+        yield ["check", COMMANDS, name], None, None, None
         for direction in ("protect", "validate"):
             yield [direction, name, CAPTURE, "out"], None, name, None
             yield [direction, DISK, name, "out"], None, DISK, None

@@ -19,7 +19,7 @@ use Rattle.macs_program.specs.declared.status.Status.TheVariants.{Refused, Done}
 
 -- ---- lists
 
-parted : {X : Type 0} (xs : List X) (i : ℕ) (d : X) → i < length xs → xs ≡ take i xs ++ get_or xs i d ∷ drop (i + 1) xs
+pub parted : {X : Type 0} (xs : List X) (i : ℕ) (d : X) → i < length xs → xs ≡ take i xs ++ get_or xs i d ∷ drop (i + 1) xs
 parted xs i d within =
     let next : suc i ≡ i + 1 = omega arith in
     sym (take-append-drop i xs) ∙ ap (λ ys. take i xs ++ ys) (drop-cons xs i d within ∙ ap (λ (k : ℕ). get_or xs i d ∷ drop k xs) next)
@@ -60,7 +60,7 @@ length-applied disk_of old new (command ∷ more) outcomes (outcome, rest, betwe
     let count = ap (λ (os : List (Option Refusal)). length os) are in
     omega (arith, shorter, count)
 
-applies-more : {D : Type 0} (disk_of : D → Disk) (old between new : EndpointValue D) (commands : List Command) (outcomes : List (Option Refusal))
+pub applies-more : {D : Type 0} (disk_of : D → Disk) (old between new : EndpointValue D) (commands : List Command) (outcomes : List (Option Refusal))
     (command : Command) (outcome : Option Refusal) → Applies disk_of old commands outcomes between
     → IsCall disk_of between (Commands command) (Ran (answer_of outcome)) new
     → Applies disk_of old (commands ++ command ∷ []) (outcomes ++ outcome ∷ []) new

@@ -5,10 +5,9 @@ use Rattle.toml.specs.Data.{Members}
 use Rattle.toml.specs.Parse.{parse_document}
 use Rattle.macs_commands.specs.CommandFiles.{file_commands}
 use Rattle.macs_commands.specs.declared.config_fault.ConfigFault.{ConfigFault}
-use Rattle.macs_program.specs.Applying.{SaysCommands, longest_file}
-use Rattle.macs_program.specs.Checking.{Complains, CountsCommands, HasFault, IsSaidOfFile, IsSaidOfText}
+use Rattle.macs_program.specs.Applying.{longest_file}
+use Rattle.macs_program.specs.Checking.{Complains, HasFault, IsSaidOfFile, IsSaidOfText}
 use Rattle.macs_program.specs.declared.failure.Failure.{Failure}
-use Rattle.macs_program.proofs.Commanded.{says-read}
 
 -- what holds of what is said holds of what a failure says
 pub complains-weaker : (P Q : List ℕ → Type 0) (failure : Failure) → ((said : List ℕ) → P said → Q said) → Complains P failure → Complains Q failure
@@ -31,13 +30,7 @@ said-whole input octets said read (inr (inl (short, other, is))) =
 said-whole input octets said read (inr (inr (short, utf8, is))) =
     subst (λ (x : List ℕ). IsSaidOfFile x said) (short-whole input octets read short) (inr (inr (short, utf8, is)))
 
--- what was read counts as many commands as the file
-pub counts-read : (remaining : Option (List ℕ)) (input : List ℕ) (count : ℕ) → IfSome (option_map (take 1048577) remaining) (λ octets. input ≡ [] ++ octets)
-    → CountsCommands input count → IfSome remaining (λ octets. CountsCommands octets count)
-counts-read None input count read (commands, says, is) = tt
-counts-read (Some octets) input count read (commands, says, is) = (commands, says-read (Some octets) input commands read says, is)
-
--- and what is said of it is said of the file
+-- what is said of what was read is said of the file
 pub complains-read : (remaining : Option (List ℕ)) (input : List ℕ) (failure : Failure) → IfSome (option_map (take 1048577) remaining) (λ octets. input ≡ [] ++ octets)
     → Complains (IsSaidOfFile input) failure → IfSome remaining (λ octets. Complains (IsSaidOfFile octets) failure)
 complains-read None input failure read complains = tt

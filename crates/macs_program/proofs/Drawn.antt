@@ -56,7 +56,7 @@ use Rattle.macs_program.specs.declared.open_input.InputFault.TheVariants as faul
 use Rattle.macs_program.specs.declared.open_input.OpenInput.{OpenInput}
 use Rattle.macs_program.proofs.TextLines.{lines-ended, lines-last, lines-nil, trimmed-other, trimmed-return}
 use Rattle.macs_words.specs.declared.action.Action.{Action}
-use Rattle.macs_words.specs.declared.action.Action.TheVariants.{Apply, Check, Format, Key, Open, Protect, Relay, Show, Validate}
+use Rattle.macs_words.specs.declared.action.Action.TheVariants.{About, Apply, Check, Examine, Format, Key, Open, Protect, Relay, Show, Validate}
 
 -- ---- one answer
 
@@ -371,7 +371,9 @@ nothing_printed (Protect disk from to is_all) before after printed is = printed
 nothing_printed (Validate disk from to is_all false) before after printed is = printed
 nothing_printed (Relay disk controlled common running) before after printed is = printed
 nothing_printed (Key is_long) before after printed is = printed
-nothing_printed (Check file) before after printed is = printed
+nothing_printed (Check file disk) before after printed is = printed
+nothing_printed (Examine disk) before after printed is = printed
+nothing_printed About before after printed is = printed
 nothing_printed action before after printed is = absurd (cc)
 
 commands_printed : (action : Action) (before after : Option (List ℕ)) → HasPrinted action before after
@@ -416,7 +418,7 @@ line-words = record {
   no_input = no_input;
   nothing = nothing_printed;
   commands = commands_printed;
-  silent = λ path sci from to tx_block rx_block block is controlled common running. refl;
+  silent = λ path sci from to tx_block rx_block block disk is controlled common running. refl;
   prints_lines = λ path from. refl;
   complained = λ before after failed text is. is;
   complaint = λ failure. refl;

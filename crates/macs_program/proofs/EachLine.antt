@@ -18,7 +18,7 @@ use Rattle.macs_texts.specs.Counting.{verdict_words}
 use Rattle.macs_program.specs.Judging.{IsOfRun, JudgesCapture, PrintsEach, StopsEach, TellsLine, ValidatesEach, verdict_line}
 use Rattle.macs_program.specs.Judging.{verdict_lines}
 use Rattle.macs_program.specs.Summing.{pass_status, summary_line}
-use Rattle.macs_program.specs.declared.capturing.Direction.TheVariants as direction
+use Rattle.macs_edge.specs.declared.settling.Side.TheVariants.{Common}
 use Rattle.macs_program.specs.declared.failure.Failure.{Failure}
 use Rattle.macs_program.specs.declared.failure.Failure.TheVariants.{Output}
 use Rattle.macs_program.specs.declared.judging.VerdictLines.{VerdictLines}
@@ -157,7 +157,7 @@ module _ {W : Type 0} (contents : W → Option (List ℕ)) (failed : W → Bool)
 
     -- it is
     pub each-summed : (between after : W) (summary : Summary) (status : Status) (told said : List ℕ) → told ≡ said
-        → said ≡ summary_line direction.Validate summary
+        → said ≡ summary_line Common summary
         → PrintsEach disk_of contents failed old before (Ok summary) new between
         → Appends (contents between) (contents after) told → status ≡ pass_status is_all summary
         → ValidatesEach disk_of contents failed is_all old before (Ok status) new after
@@ -167,7 +167,7 @@ module _ {W : Type 0} (contents : W → Option (List ℕ)) (failed : W → Bool)
         verdicts,
         judges,
         Appends-trans (contents before) (contents between) (contents after) (verdict_lines 1 verdicts)
-            (summary_line direction.Validate summary) printed
+            (summary_line Common summary) printed
             (subst (λ (t : List ℕ). Appends (contents between) (contents after) t) (same ∙ is) more),
         ends,
       );

@@ -61,7 +61,7 @@ pub disk-no-usage : (failure : Failure) → IsOfDisk failure → failure_status 
 disk-no-usage failure (inl memory) is = let e = ap failure_status (sym memory) ∙ is in cc
 disk-no-usage failure (inr (fault, same)) is = let e = ap failure_status (sym same) ∙ is in cc
 
-of-file : (fault : FileFault) (failure : Failure) → failure ≡ failure_of_file fault → IsOfDisk failure
+pub of-file : (fault : FileFault) (failure : Failure) → failure ≡ failure_of_file fault → IsOfDisk failure
 of-file file_faults.Open failure is = inr (disk_faults.File, is)
 of-file file_faults.Length failure is = inr (disk_faults.Length, is)
 of-file file_faults.Device failure is = inr (disk_faults.Journal journal.Disk, is)

@@ -11,18 +11,18 @@ use Rattle.macs_disk.specs.declared.file.FileDisk.{FileDisk}
 use Rattle.macs_disk.specs.declared.file_fault.FileFault.{FileFault}
 use Rattle.macs_edge.specs.Passing.{run_of}
 use Rattle.macs_edge.specs.declared.passing.Summary.{Summary}
+use Rattle.macs_edge.specs.declared.settling.Side.{Side}
 use Rattle.macs_endpoint.specs.Opening.{IsOpening}
 use Rattle.macs_endpoint.specs.Value.{EndpointValue}
 use Rattle.macs_journal.specs.declared.recovery.RecoverRefused.{RecoverRefused}
 use Rattle.macs_pcap.specs.States.{SinkState, SourceState}
 use Rattle.macs_program.proofs.Failures.{MemoryOr, capture-no-output, capture-no-usage, commands-no-output, commands-no-usage, disk-no-output, disk-no-usage, of-opening, output-no-usage}
 use Rattle.macs_program.specs.Applying.{AppliesAll, AppliesSome, EndsRun, SaysCommands, outcome_lines}
-use Rattle.macs_program.specs.Capturing.{EndsPass, PassesCapture, side_of}
+use Rattle.macs_program.specs.Capturing.{EndsPass, PassesCapture}
 use Rattle.macs_program.specs.Endpoints.{AppliesIn, BreaksOff, BreaksOffIn, IsDiskIn, IsOpeningIn, OpeningFails, PassEndsIn, PassesIn, ShowsIn, shown_text}
 use Rattle.macs_program.specs.Failing.{failure_of_file, failure_of_journal, failure_status}
 use Rattle.macs_program.specs.Summing.{pass_status, summary_line}
 use Rattle.macs_program.specs.Tasks.{DoesApply, DoesPass, DoesShow, Doing, IsRunIn}
-use Rattle.macs_program.specs.declared.capturing.Direction.{Direction}
 use Rattle.macs_program.specs.declared.failure.Failure.{Failure}
 use Rattle.macs_program.specs.declared.failure.Failure.TheVariants.{Capture, Commands, Memory, Output}
 use Rattle.macs_program.specs.declared.status.Status.{Status}
@@ -244,14 +244,14 @@ module _ {F W : Type 0} (file : F → FileState) (contents : W → Option (List 
 
 -- ---- captures
 
-module _ {D W : Type 0} (disk_of : D → Disk) (contents : W → Option (List ℕ)) (has_failed : W → Bool) (direction : Direction) (is_all : Bool) (old : EndpointValue D)
+module _ {D W : Type 0} (disk_of : D → Disk) (contents : W → Option (List ℕ)) (has_failed : W → Bool) (side : Side) (is_all : Bool) (old : EndpointValue D)
     (before : W) where
   -- without both captures nothing is done
   pub no-capture : (fault failure : Failure) (result : Result Status Failure) → result ≡ Err failure → failure ≡ fault
-      → (fault ≡ Memory) ⊎ (fault ≡ Capture) → DoesPass disk_of contents has_failed direction is_all old before result old before
+      → (fault ≡ Memory) ⊎ (fault ≡ Capture) → DoesPass disk_of contents has_failed side is_all old before result old before
   no-capture fault failure result is same names =
       let named = subst (λ (f : Failure). MemoryOr Capture f) (sym same) names in
-      subst (λ (r : Result Status Failure). DoesPass disk_of contents has_failed direction is_all old before r old before) (sym is) (record {
+      subst (λ (r : Result Status Failure). DoesPass disk_of contents has_failed side is_all old before r old before) (sym is) (record {
         printed = tt;
         ended = inl (named, refl);
         failed = capture-no-usage failure named;
@@ -261,13 +261,13 @@ module _ {D W : Type 0} (disk_of : D → Disk) (contents : W → Option (List �
 
   pub frames-passed : (new : EndpointValue D) (after : W) (source source_left : SourceState) (sink sink_left : SinkState) (result : Result Status Failure)
       → IfOk result (λ status. (summary : Summary)
-      × PassesCapture disk_of (side_of direction) (run_of old source sink) (Ok summary) (run_of new source_left sink_left)
-      × Appends (contents before) (contents after) (summary_line direction summary) × (status ≡ pass_status is_all summary))
-      → IfErr result (λ failure. EndsPass disk_of (side_of direction) (run_of old source sink) failure (run_of new source_left sink_left))
+      × PassesCapture disk_of side (run_of old source sink) (Ok summary) (run_of new source_left sink_left)
+      × Appends (contents before) (contents after) (summary_line side summary) × (status ≡ pass_status is_all summary))
+      → IfErr result (λ failure. EndsPass disk_of side (run_of old source sink) failure (run_of new source_left sink_left))
       → IfErr result (λ failure. failure_status failure ≢ ends.Usage)
       → IfErr result (λ failure. failure ≢ Output → after ≡ before)
       → IfErr result (λ failure. failure ≡ Output → has_failed after ≡ true)
-      → DoesPass disk_of contents has_failed direction is_all old before result new after
+      → DoesPass disk_of contents has_failed side is_all old before result new after
   frames-passed new after source source_left sink sink_left (Ok status) (summary, passes, printed, is) ended failed silent broken = record {
     printed = (
       summary,
@@ -289,18 +289,18 @@ module _ {D W : Type 0} (disk_of : D → Disk) (contents : W → Option (List �
   }
 
 -- what `protect` and `validate` come to
-pub record PassedIn {F W : Type 0} (file : F → FileState) (contents : W → Option (List ℕ)) (has_failed : W → Bool) (direction : Direction) (is_all : Bool) (before : W)
+pub record PassedIn {F W : Type 0} (file : F → FileState) (contents : W → Option (List ℕ)) (has_failed : W → Bool) (side : Side) (is_all : Bool) (before : W)
     (result : Result Status Failure) (after : W) : Type 0 where
-  pub printed : IfOk result (λ status. (summary : Summary) × PassesIn file (side_of direction) summary
-      × Appends (contents before) (contents after) (summary_line direction summary) × (status ≡ pass_status is_all summary))
-  pub ended : IfErr result (λ failure. OpeningFails file failure ⊎ PassEndsIn file (side_of direction) failure)
+  pub printed : IfOk result (λ status. (summary : Summary) × PassesIn file side summary
+      × Appends (contents before) (contents after) (summary_line side summary) × (status ≡ pass_status is_all summary))
+  pub ended : IfErr result (λ failure. OpeningFails file failure ⊎ PassEndsIn file side failure)
   pub failed : IfErr result (λ failure. failure_status failure ≢ ends.Usage)
   pub silent : IfErr result (λ failure. failure ≢ Output → after ≡ before)
   pub broken : IfErr result (λ failure. failure ≡ Output → has_failed after ≡ true)
 
-module _ {F W : Type 0} (file : F → FileState) (contents : W → Option (List ℕ)) (has_failed : W → Bool) (direction : Direction) (is_all : Bool) (before after : W) where
+module _ {F W : Type 0} (file : F → FileState) (contents : W → Option (List ℕ)) (has_failed : W → Bool) (side : Side) (is_all : Bool) (before after : W) where
   none-passed-in : (failure : Failure) → OpeningFails file failure → after ≡ before
-      → PassedIn file contents has_failed direction is_all before (Err failure) after
+      → PassedIn file contents has_failed side is_all before (Err failure) after
   none-passed-in failure fails silent = record {
     printed = tt;
     ended = inl fails;
@@ -309,10 +309,10 @@ module _ {F W : Type 0} (file : F → FileState) (contents : W → Option (List 
     broken = λ output. absurd (disk-no-output failure (of-opening file failure fails) output);
   }
 
-  pub passed-in : (result : Result Status Failure) → IsRunIn file (DoesPass (disk_in_file file) contents has_failed direction is_all) before result after
-      → PassedIn file contents has_failed direction is_all before result after
+  pub passed-in : (result : Result Status Failure) → IsRunIn file (DoesPass (disk_in_file file) contents has_failed side is_all) before result after
+      → PassedIn file contents has_failed side is_all before result after
   passed-in result (inl none) =
-      subst (λ (r : Result Status Failure). PassedIn file contents has_failed direction is_all before r after) (sym none.is)
+      subst (λ (r : Result Status Failure). PassedIn file contents has_failed side is_all before r after) (sym none.is)
       (none-passed-in none.failure none.fails none.silent)
   passed-in (Ok status) (inr run) =
       let (summary, passes, printed, is) = run.does.printed in

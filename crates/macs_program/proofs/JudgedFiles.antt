@@ -19,7 +19,7 @@ use Rattle.macs_program.specs.Judging.{DoesJudge, EndsEach, JudgesIn, JudgingEnd
 use Rattle.macs_program.specs.Judging.{verdict_lines}
 use Rattle.macs_program.specs.Summing.{pass_status, summary_line}
 use Rattle.macs_program.specs.Tasks.{IsRunIn}
-use Rattle.macs_program.specs.declared.capturing.Direction.TheVariants as direction
+use Rattle.macs_edge.specs.declared.settling.Side.TheVariants.{Common}
 use Rattle.macs_program.specs.declared.failure.Failure.{Failure}
 use Rattle.macs_program.specs.declared.failure.Failure.TheVariants.{Capture, Memory, Output}
 use Rattle.macs_program.specs.declared.status.Status.{Status}
@@ -98,7 +98,7 @@ module _ {D W : Type 0} (disk_of : D → Disk) (contents : W → Option (List �
 pub record JudgedIn {F W : Type 0} (file : F → FileState) (contents : W → Option (List ℕ)) (has_failed : W → Bool) (is_all : Bool) (before : W)
     (result : Result Status Failure) (after : W) : Type 0 where
   pub printed : IfOk result (λ status. (summary : Summary) × (verdicts : List Verdict) × JudgesIn file summary verdicts
-      × Appends (contents before) (contents after) (verdict_lines 1 verdicts ++ summary_line direction.Validate summary)
+      × Appends (contents before) (contents after) (verdict_lines 1 verdicts ++ summary_line Common summary)
       × (status ≡ pass_status is_all summary))
   pub ended : IfErr result (λ failure. OpeningFails file failure ⊎ JudgingEndsIn file failure)
   pub failed : IfErr result (λ failure. failure_status failure ≢ ends.Usage)

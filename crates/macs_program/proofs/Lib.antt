@@ -9,12 +9,15 @@ pub mod Commanded
 pub mod Complaining
 pub mod EachLine
 pub mod Failed
+pub mod Faults
 pub mod Failures
 pub mod FirstFault
 pub mod HexDigits
 pub mod InFiles
 pub mod JudgedFiles
 pub mod Inspected
+mod Laid
+pub mod Examined
 pub mod Looks
 pub mod Made
 pub mod OpenedFrames
@@ -25,7 +28,9 @@ pub mod SpelledWires
 pub mod Spelling
 pub mod TextLines
 pub mod Told
+pub mod Tried
 mod WrittenOver
+mod ExamineDrawn
 mod ContentDrawn
 mod Drawn
 mod RelayDrawn

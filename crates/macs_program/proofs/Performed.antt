@@ -1,15 +1,17 @@
 -- What each subcommand comes to, as the doing of an action.
-use Rattle.std.proofs.Common.{Bor, ◌≡◌, ◌≢◌, ◌⊎◌, inl, inr, ℕ, List, Bool, true, false, if◌then◌else◌, Option, IfSome, Result, IfErr, IfOk, refl, sym, subst, ◌∙◌, ap}
+use Rattle.std.proofs.Common.{Bor, ◌≡◌, ◌≢◌, ◌⊎◌, inl, inr, ℕ, List, Bool, true, false, if◌then◌else◌, Option, IfSome, Result, IfErr, IfOk, refl, sym, subst, ◌∙◌, ap, Some, None}
 use Rattle.std.specs.Io.KnownBytes.{Appends}
 use Rattle.std.specs.List.{list_any}
 use Rattle.std.specs.Prelude.{◌&&◌, is_some, nat_lt}
 use Rattle.std.proofs.lemmas.Result.{IfErr-weaker, IfOk-weaker}
 use Rattle.macs_config.specs.declared.refusal.Refusal.{Refusal}
 use Rattle.macs_disk.specs.Files.{FileState}
+use Rattle.macs_program.specs.About.{about_text}
 use Rattle.macs_program.specs.Applying.{outcome_lines, outcomes_status}
 use Rattle.macs_program.specs.Asking.{IsOfAsking, PrintsAnswer, PrintsFront}
+use Rattle.macs_program.specs.Examining.{ExamineFails, PrintsExamined}
 use Rattle.macs_program.specs.Failing.{failure_status}
-use Rattle.macs_program.specs.Checking.{CheckFails, PrintsCount}
+use Rattle.macs_program.specs.Checking.{CheckEnds, CheckFails, Checks}
 use Rattle.macs_program.specs.Inputs.{InputRead}
 use Rattle.macs_program.specs.Inspecting.{InspectFails, Inspects, IsOfInspecting, PrintsFrames}
 use Rattle.macs_program.specs.Judging.{PrintsVerdicts}
@@ -23,11 +25,14 @@ use Rattle.macs_program.specs.declared.failure.Failure.TheVariants.{Output}
 use Rattle.macs_program.specs.declared.status.Status.{Status}
 use Rattle.macs_program.specs.declared.status.Status.TheVariants as ends
 use Rattle.macs_words.specs.declared.action.Action.{Action}
-use Rattle.macs_words.specs.declared.action.Action.TheVariants.{Open, Format, Apply, Show, Protect, Validate, Relay, Ask, Key, Inspect, Check}
+use Rattle.macs_words.specs.declared.action.Action.TheVariants.{Open, Format, Apply, Show, Protect, Validate, Relay, Ask, Key, Inspect, Check, Examine, About}
 use Rattle.macs_words.specs.declared.action.WireEnds.{WireEnds}
 use Rattle.macs_words.specs.declared.action.Question.{Question}
 use Rattle.macs_words.specs.declared.action.Question.TheVariants as question
 use Rattle.macs_words.specs.declared.pace.Running.{Running}
+use Rattle.macs_program.proofs.Examined.{examining-no-usage, said-status}
+use Rattle.macs_program.proofs.Failures.{disk-no-usage, output-no-usage}
+use Rattle.macs_program.proofs.Tried.{of-trial}
 
 -- a failure of the disk is not one of the output
 of-disk : (failure : Failure) → failure_status failure ≡ ends.Disk → failure ≢ Output
@@ -292,13 +297,50 @@ module _ {F W : Type 0} (state_of : F → FileState) (contents : W → Option (L
     broken = broken;
   }
 
-  pub checks : (file : Bor (List ℕ)) → IfOk result (λ status. PrintsCount (contents old) (contents new) × (status ≡ ends.Done)) → IfErr result CheckFails
-      → Silent → Broken → Performs state_of contents failed (Check file) input old result new
-  checks file done fails silent broken = record {
+  -- how a check ends that printed what it was to print
+  check-status : (disk : Option (Bor (List ℕ))) (status : Status) → Checks state_of disk (contents old) (contents new) status
+      → (status ≡ ends.Done) ⊎ (status ≡ ends.Refused)
+  check-status None status printed = inl printed.1
+  check-status (Some disk) status printed = applied-status printed.outcomes status printed.status_is
+
+  -- a failure of a check is no wrong usage
+  check-no-usage : (disk : Option (Bor (List ℕ))) (failure : Failure) → CheckEnds state_of disk failure → failure_status failure ≢ ends.Usage
+  check-no-usage None failure is = (checking-no-usage failure is).0
+  check-no-usage (Some disk) failure (inl is) = (checking-no-usage failure is).0
+  check-no-usage (Some disk) failure (inr (octets, commands, says, fails)) = disk-no-usage failure (of-trial state_of commands failure fails)
+
+  pub checks : (file : Bor (List ℕ)) (disk : Option (Bor (List ℕ))) → IfOk result (Checks state_of disk (contents old) (contents new))
+      → IfErr result (CheckEnds state_of disk) → Silent → Broken → Performs state_of contents failed (Check file disk) input old result new
+  checks file disk done fails silent broken = record {
+    does = done;
+    status = IfOk-weaker result _ _ (check-status disk) done;
+    usage = IfErr-weaker result _ _ (λ failure is usage. absurd (check-no-usage disk failure is usage)) fails;
+    disk = IfErr-weaker result _ _ (λ failure same disk. ((λ is. absurd cc), same disk)) (kept silent);
+    before = before silent;
+    fails = fails;
+    broken = broken;
+  }
+
+  pub examines : (disk : Bor (List ℕ)) → IfOk result (PrintsExamined state_of (contents old) (contents new))
+      → IfErr result (ExamineFails state_of) → Silent → Broken → Performs state_of contents failed (Examine disk) input old result new
+  examines disk done fails silent broken = record {
+    does = done;
+    status = IfOk-weaker result _ _ (λ status (text, is, printed). said-status _ _ _ _ is.says) done;
+    usage = IfErr-weaker result _ _ (λ failure is usage. absurd (examining-no-usage state_of failure is usage)) fails;
+    disk = IfErr-weaker result _ _ (λ failure same disk. ((λ is. absurd cc), same disk)) (kept silent);
+    before = before silent;
+    fails = fails;
+    broken = broken;
+  }
+
+  pub tells : IfOk result (λ status. Appends (contents old) (contents new) about_text × (status ≡ ends.Done))
+      → IfErr result (λ failure. (failure ≡ failures.Memory) ⊎ (failure ≡ Output)) → Silent → Broken
+      → Performs state_of contents failed About input old result new
+  tells done fails silent broken = record {
     does = done;
     status = IfOk-weaker result _ _ (λ status all. inl all.1) done;
-    usage = IfErr-weaker result _ _ (λ failure is usage. absurd ((checking-no-usage failure is).0 usage)) fails;
-    disk = IfErr-weaker result _ _ (λ failure is disk. absurd ((checking-no-usage failure is).1 disk)) fails;
+    usage = IfErr-weaker result _ _ (λ failure is usage. absurd (output-no-usage failure is usage)) fails;
+    disk = IfErr-weaker result _ _ (λ failure same disk. ((λ is. absurd cc), same disk)) (kept silent);
     before = before silent;
     fails = fails;
     broken = broken;

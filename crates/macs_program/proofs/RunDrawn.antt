@@ -1,14 +1,17 @@
 -- All that is to be drawn from words on whole runs.
-use Rattle.std.proofs.Common.{◌≡◌, ◌⊎◌, ◌++◌, inl, inr, ℕ, Bool, List, Option, None, length, refl, subst, Ok}
+use Rattle.std.proofs.Common.{◌≡◌, ◌⊎◌, ◌++◌, inl, inr, ℕ, Bool, List, Option, None, length, refl, subst, Ok, ◌*◌, ◌∙◌, ap, arith}
 use Rattle.std.specs.Prelude.{option_map, string_bytes}
 use Rattle.std.specs.Borrow.{Bor}
 use Rattle.std.specs.Io.KnownBytes.{Appends}
 use Rattle.clap.specs.Words.{Text}
 use Rattle.macs_config.specs.declared.command.Command.{Command}
 use Rattle.macs_disk.specs.Disk.{Disk}
-use Rattle.macs_disk.specs.FileDisks.{disk_in_file}
-use Rattle.macs_disk.specs.Files.{FileState}
+use Rattle.macs_disk.specs.FileDisks.{disk_in_file, state_in_file}
+use Rattle.macs_disk.specs.Files.{FileState, values_from}
+use Rattle.macs_disk.specs.Layouts.{layout_in}
 use Rattle.macs_disk.specs.declared.file.FileDisk.{FileDisk}
+use Rattle.macs_disk.specs.declared.layout.Layout.{Layout}
+use Rattle.macs_disk.specs.declared.layout.Layout.TheVariants.{Packed, Spaced}
 use Rattle.macs_edge.specs.Passing.{run_of}
 use Rattle.macs_edge.specs.declared.passing.Summary.{Summary}
 use Rattle.macs_edge.specs.declared.settling.Side.{Side}
@@ -26,6 +29,7 @@ use Rattle.macs_program.specs.Asking.{IsOfAsking}
 use Rattle.macs_program.specs.Applying.{SaysCommands}
 use Rattle.macs_program.specs.Checking.{CheckFails, IsSaidOfFile, PrintsCount, count_line}
 use Rattle.macs_program.specs.Capturing.{EndsPass, PassesCapture}
+use Rattle.macs_program.specs.Contents.{number_of, sector_in}
 use Rattle.macs_program.specs.Endpoints.{IsEndpointIn, PassEnds, PassesIn}
 use Rattle.macs_program.specs.Inspecting.{AreLinesOf, InspectsCapture}
 use Rattle.macs_program.specs.Judging.{EndsEach, JudgesCapture, JudgesIn, JudgingEnds, verdict_lines}
@@ -35,8 +39,6 @@ use Rattle.macs_program.specs.RunWords.{BeforeWords, FailWords, ReplyWords}
 use Rattle.macs_program.specs.Summing.{pass_status, summary_line}
 use Rattle.macs_program.specs.Values.{ValueFaultHolds}
 use Rattle.macs_program.specs.declared.addresses.AddressFault.{AddressFault}
-use Rattle.macs_program.specs.declared.capturing.Direction.{Direction}
-use Rattle.macs_program.specs.declared.capturing.Direction.TheVariants as direction
 use Rattle.macs_program.specs.declared.failure.DiskFault.TheVariants as disk
 use Rattle.macs_program.specs.declared.failure.Failure.{Failure}
 use Rattle.macs_program.specs.declared.failure.Failure.TheVariants as failures
@@ -53,17 +55,24 @@ use Rattle.macs_words.specs.declared.pace.Running.{Running}
 counted : (before after : Option (List ℕ)) (status : Status) → PrintsCount before after × (status ≡ ends.Done)
     → (octets : List ℕ) × (commands : List Command) × SaysCommands octets commands
     × Appends before after (count_line (length commands)) × (status ≡ ends.Done)
-counted before after status ((octets, count, (commands, says, is), printed), done) =
-    (octets, commands, says, subst (λ (n : ℕ). Appends before after (count_line n)) is printed, done)
+counted before after status ((octets, commands, says, printed), done) = (octets, commands, says, printed, done)
 
-passed : {F : Type 0} (file : F → FileState) (side : Side) (way : Direction) (is_all : Bool) (before after : Option (List ℕ))
-    (status : Status) → (summary : Summary) × PassesIn file side summary × Appends before after (summary_line way summary)
+-- a sector of the copy is the disk's
+seen-in : (file : FileState) (layout : Layout) (at : ℕ)
+    → sector_in file (number_of layout at) ≡ (state_in_file layout file).seen at
+unfolding state_in_file
+seen-in file Packed at = refl
+seen-in file Spaced at =
+    let same : 512 * (8 * at) ≡ 4096 * at = omega arith in ap (λ (p : ℕ). values_from file.seen p 512) same
+
+passed : {F : Type 0} (file : F → FileState) (side : Side) (is_all : Bool) (before after : Option (List ℕ))
+    (status : Status) → (summary : Summary) × PassesIn file side summary × Appends before after (summary_line side summary)
     × (status ≡ pass_status is_all summary)
     → (summary : Summary) × (old : EndpointValue (FileDisk F)) × (new : EndpointValue (FileDisk F))
     × IsEndpointIn file old × (source : SourceState) × (left : SourceState) × (sink : SinkState) × (sunk : SinkState)
     × PassesCapture (disk_in_file file) side (run_of old source sink) (Ok summary) (run_of new left sunk)
-    × Appends before after (summary_line way summary) × (status ≡ pass_status is_all summary)
-passed file side way is_all before after status (summary, is, printed, ended) = (
+    × Appends before after (summary_line side summary) × (status ≡ pass_status is_all summary)
+passed file side is_all before after status (summary, is, printed, ended) = (
   summary,
   is.old,
   is.new,
@@ -100,13 +109,13 @@ inspects old new before after is = (
 
 judged : {F : Type 0} (file : F → FileState) (is_all : Bool) (before after : Option (List ℕ)) (status : Status)
     → (summary : Summary) × (verdicts : List Verdict) × JudgesIn file summary verdicts
-    × Appends before after (verdict_lines 1 verdicts ++ summary_line direction.Validate summary)
+    × Appends before after (verdict_lines 1 verdicts ++ summary_line Common summary)
     × (status ≡ pass_status is_all summary)
     → (summary : Summary) × (verdicts : List Verdict) × (old : EndpointValue (FileDisk F))
     × (new : EndpointValue (FileDisk F)) × IsEndpointIn file old × (source : SourceState) × (left : SourceState)
     × (sink : SinkState) × (sunk : SinkState)
     × JudgesCapture (disk_in_file file) (run_of old source sink) (Ok summary) verdicts (run_of new left sunk)
-    × Appends before after (verdict_lines 1 verdicts ++ summary_line direction.Validate summary)
+    × Appends before after (verdict_lines 1 verdicts ++ summary_line Common summary)
     × (status ≡ pass_status is_all summary)
 judged file is_all before after status (summary, verdicts, is, printed, ended) = (
   summary,
@@ -153,10 +162,28 @@ reply-words file = record {
     is.applies.applies.status_is,
   );
   shown = λ path input before after status (is, done). (is.shown, is.endpoint, is.printed, done);
+  examined = λ path input before after status (text, is, printed). (
+    is.file,
+    is.copy,
+    is.layout,
+    is.is_copy,
+    elim is.says [
+      | inl (content, standing, journal, text_is, done) ↦ inl (
+        content,
+        standing,
+        journal.found,
+        journal.stands,
+        subst (λ (t : List ℕ). Appends before after t) text_is printed,
+        done,
+      )
+      | inr (at, fault, text_is, refused) ↦
+          inr (at, fault, subst (λ (t : List ℕ). Appends before after t) text_is printed, refused)
+    ],
+  );
   protected = λ path from to is_all input before after status is.
-      passed file Controlled direction.Protect is_all before after status is;
+      passed file Controlled is_all before after status is;
   validated = λ path from to is_all input before after status is.
-      passed file Common direction.Validate is_all before after status is;
+      passed file Common is_all before after status is;
   judged = λ path from to is_all input before after status is. judged file is_all before after status is;
   relayed = λ path controlled common running input before after status is. is;
   asked_apply = λ path from input before after status is. is;
@@ -182,13 +209,30 @@ reply-words file = record {
     is.records.ended,
     done,
   );
+  about = λ input before after status is. is;
   checked = λ from input before after status is. counted before after status is;
   prints = λ is_long octets before after is. (is.count, is.printed);
   lengths = (refl, refl);
   inspects = λ old new before after is. inspects old new before after is;
   runs = λ old new before after status is. is.done;
   stops = λ old new before after failure is. is.stopped;
-  counts = λ octets count is. is;
+  tried = λ from path input before after status is. (
+    is.octets,
+    is.commands,
+    is.says,
+    is.tries.file,
+    is.tries.copy,
+    is.tries.is_copy,
+    is.tries.tries.old,
+    is.tries.tries.new,
+    is.tries.tries.opens,
+    is.outcomes,
+    is.tries.tries.applied,
+    is.printed,
+    is.status_is,
+  );
+  copied = λ disk_file copy is.
+      (is.sectors, is.honest, λ at within. is.seen at within ∙ seen-in disk_file (layout_in disk_file) at);
 }
 
 -- ---- how it fails
@@ -241,6 +285,7 @@ fail-words file = record {
   of_format = λ path sci tx_block rx_block block is_over input before after failure is. is;
   of_apply = λ path from input before after failure is. is;
   of_show = λ path input before after failure is. is;
+  of_examine = λ path input before after failure is. is;
   of_protect = λ path from to is_all input before after failure is. is;
   of_validate = λ path from to is_all input before after failure is. is;
   of_judging = λ path from to is_all input before after failure is. is;
@@ -266,7 +311,33 @@ fail-words file = record {
       stops.stops,
     )
   ];
+  of_about = λ input before after failure is. is;
   of_check = λ from input before after failure is. of_check failure is;
+  of_trial = λ from path input before after failure is. is;
+  copying = λ disk_file failure is. is;
+  trying = λ copy commands failure is. elim is [
+    | inl refused ↦ inl refused
+    | inr (old, opens, inl memory) ↦ inr (old, opens, inl memory)
+    | inr (opened, opens, inr stops) ↦ inr (
+      opened,
+      opens,
+      inr (
+        stops.done,
+        stops.next,
+        stops.left,
+        stops.all,
+        stops.outcomes,
+        stops.between,
+        stops.applied,
+        stops.ends.0,
+        stops.ends.1,
+        stops.ends.2,
+        stops.ends.3,
+        stops.ends.4,
+        stops.ends.5,
+      ),
+    )
+  ];
 }
 
 -- ---- what was printed, and wrong values

@@ -7,6 +7,7 @@ use Rattle.std.proofs.lemmas.List.{append-nil}
 use Rattle.std.specs.Fmt.{decimal}
 use Rattle.macs_edge.specs.declared.passing.Summary.{Summary}
 use Rattle.macs_config.specs.declared.refusal.Refusal.{Refusal}
+use Rattle.macs_texts.specs.Lines.{line}
 use Rattle.macs_texts.specs.Refusals.{refusal_name}
 use Rattle.macs_texts.specs.Showing.{replay_line, rx_text_of, tx_text_of}
 use Rattle.macs_rxsc.specs.Receive.{Numbers}
@@ -23,20 +24,22 @@ use Rattle.macs_program.specs.Asking.{failure_in}
 use Rattle.macs_program.specs.Checking.{count_line}
 use Rattle.macs_program.specs.Summing.{pass_status}
 use Rattle.macs_program.specs.TextWords.{CheckTexts, FailureTexts, FaultOrders, FrameTexts, LineTexts}
+use Rattle.macs_program.specs.Trying.{would_line, would_lines}
 use Rattle.macs_program.specs.declared.failure.DiskFault.TheVariants as disk
 use Rattle.macs_program.specs.declared.failure.Failure.TheVariants as failures
 use Rattle.macs_program.specs.declared.status.Status.TheVariants as ends
 
 -- ---- lines
 
-kept : (at : ℕ) → outcome_lines at (None ∷ []) ≡ decimal at ++ (codes " ok" ++ 10 ∷ [])
-kept at = append-nil _ ∙ append_assoc (decimal at) (codes " ok") (10 ∷ [])
+-- the line of a command that is kept, and of one that is refused
+kept_as : (at : ℕ) (said : List ℕ) → line (decimal at ++ said) ++ [] ≡ decimal at ++ (said ++ 10 ∷ [])
+kept_as at said = append-nil _ ∙ append_assoc (decimal at) said (10 ∷ [])
 
-refused : (at : ℕ) (r : Refusal)
-    → outcome_lines at (Some r ∷ []) ≡ decimal at ++ (codes " refused " ++ (refusal_name r ++ 10 ∷ []))
-refused at r =
-    append-nil _ ∙ append_assoc (decimal at) (codes " refused " ++ refusal_name r) (10 ∷ [])
-    ∙ ap (λ (l : List ℕ). decimal at ++ l) (append_assoc (codes " refused ") (refusal_name r) (10 ∷ []))
+refused_as : (at : ℕ) (said : List ℕ) (r : Refusal)
+    → line (decimal at ++ (said ++ refusal_name r)) ++ [] ≡ decimal at ++ (said ++ (refusal_name r ++ 10 ∷ []))
+refused_as at said r =
+    append-nil _ ∙ append_assoc (decimal at) (said ++ refusal_name r) (10 ∷ [])
+    ∙ ap (λ (l : List ℕ). decimal at ++ l) (append_assoc said (refusal_name r) (10 ∷ []))
 
 all_passed : (s : Summary) → s.dropped ≡ 0 → pass_status true s ≡ ends.Done
 all_passed s none = ap (λ (n : ℕ). if nat_lt 0 n then ends.Refused else ends.Done) none
@@ -47,8 +50,8 @@ not_all s some = ap (λ (b : Bool). if b then ends.Refused else ends.Done) (lt-l
 pub line-texts : LineTexts
 line-texts = record {
   none = λ at. refl;
-  kept = kept;
-  refused = refused;
+  kept = λ at. kept_as at (codes " ok");
+  refused = λ at r. refused_as at (codes " refused ") r;
   names = refl;
   more = λ at outcome outcomes. ap (λ (l : List ℕ). l ++ outcome_lines (at + 1) outcomes) (sym (append-nil (outcome_line at outcome)));
   valid = λ an pn plain. refl;
@@ -95,6 +98,7 @@ failure-texts = record {
   of_words = λ cause. (refl, refl);
   of_commands = λ at name. refl;
   wires = (refl, refl, refl, refl, refl, refl);
+  in_memory = refl;
   answers = (refl, refl, refl, refl);
   no_answers = no_answers;
 }
@@ -148,6 +152,11 @@ check-texts = record {
   memory = refl;
   keys = refl;
   reasons = refl;
+  none_tried = λ at. refl;
+  kept = λ at. kept_as at (codes " would be ok");
+  refused = λ at r. refused_as at (codes " would be refused ") r;
+  more_tried = λ at outcome outcomes.
+      ap (λ (l : List ℕ). l ++ would_lines (at + 1) outcomes) (sym (append-nil (would_line at outcome)));
 }
 
 -- ---- `show`

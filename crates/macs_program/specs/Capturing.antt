@@ -6,18 +6,10 @@ use Rattle.macs_edge.specs.Passing.{Run, RunsOver, run_of}
 use Rattle.macs_edge.specs.declared.passing.RunFault.{RunFault}
 use Rattle.macs_edge.specs.declared.passing.Summary.{Summary}
 use Rattle.macs_edge.specs.declared.settling.Side.{Side}
-use Rattle.macs_edge.specs.declared.settling.Side.TheVariants.{Common, Controlled}
 use Rattle.macs_pcap.specs.States.{SinkState}
 use Rattle.macs_program.specs.Failing.{failure_of_run}
-use Rattle.macs_program.specs.declared.capturing.Direction.{Direction}
-use Rattle.macs_program.specs.declared.capturing.Direction.TheVariants as direction
 use Rattle.macs_program.specs.declared.failure.Failure.{Failure}
 use Rattle.macs_program.specs.declared.failure.Failure.TheVariants as failures
-
--- the side that the frames of a capture come from
-abbrev pub side_of : Direction → Side
-side_of direction.Protect = Controlled
-side_of direction.Validate = Common
 
 -- all that a sink took is handed on, and nothing else of it changes
 pub record IsFlushed (before after : SinkState) : Type 0 where

@@ -1,8 +1,10 @@
--- What `check` says of a command file.
+-- What `check` says of a command file, and of the commands on a disk.
 use Rattle.std.specs.Prelude.{◌≡◌, ◌⊎◌, ◌<◌, ◌≤◌, ◌==◌, ◌++◌, if◌then◌else◌, ⊤, ℕ, List, length, codes, Option, Some, None, Err, string_bytes}
 use Rattle.std.specs.Fmt.{decimal}
 use Rattle.std.specs.Io.KnownBytes.{Appends}
+use Rattle.std.specs.Borrow.{Bor}
 use Rattle.std.specs.Str.{IsUtf8}
+use Rattle.clap.specs.Words.{Text}
 use Rattle.toml.specs.Data.{Members}
 use Rattle.toml.specs.Parse.{parse_document}
 use Rattle.macs_config.specs.declared.command.Command.{Command}
@@ -11,10 +13,14 @@ use Rattle.macs_commands.specs.declared.config_fault.ConfigFault.{ConfigFault}
 use Rattle.macs_commands.specs.declared.config_fault.ConfigFault.TheVariants as config
 use Rattle.macs_commands.specs.declared.config_fault.KeyName.{KeyName}
 use Rattle.macs_commands.specs.declared.config_fault.KeyName.TheVariants as name
+use Rattle.macs_disk.specs.Files.{FileState}
 use Rattle.macs_texts.specs.Lines.{line}
 use Rattle.macs_program.specs.Applying.{SaysCommands, longest_file}
 use Rattle.macs_program.specs.declared.failure.Failure.{Failure}
 use Rattle.macs_program.specs.declared.failure.Failure.TheVariants as failures
+use Rattle.macs_program.specs.declared.status.Status.{Status}
+use Rattle.macs_program.specs.declared.status.Status.TheVariants as ends
+use Rattle.macs_program.specs.Trying.{PrintsTrial, TrialStops}
 
 -- ---- what is said
 
@@ -56,10 +62,6 @@ fault_text config.Memory = codes "memory"
 
 -- ---- of the octets of a file
 
--- they say so many commands
-abbrev pub CountsCommands : List ℕ → ℕ → Type 0
-CountsCommands octets count = (commands : List Command) × SaysCommands octets commands × (count ≡ length commands)
-
 -- a text says commands whose first fault this is
 abbrev pub HasFault : List ℕ → List ℕ → Type 0
 HasFault text said =
@@ -86,8 +88,21 @@ Complains Holds failure =
 
 -- the number of commands is printed that some octets say
 abbrev pub PrintsCount : Option (List ℕ) → Option (List ℕ) → Type 0
-PrintsCount before after = (octets : List ℕ) × (count : ℕ) × CountsCommands octets count × Appends before after (count_line count)
+PrintsCount before after =
+    (octets : List ℕ) × (commands : List Command) × SaysCommands octets commands × Appends before after (count_line (length commands))
 
--- the file is not read; or something is said of its octets, or there is no memory; or the number cannot be printed
+-- the file is not read; or something is said of its octets, or there is no memory; or what is to be printed cannot be
 abbrev pub CheckFails : Failure → Type 0
 CheckFails failure = (failure ≡ failures.Commands) ⊎ (failure ≡ failures.Output) ⊎ ((octets : List ℕ) × Complains (IsSaidOfFile octets) failure)
+
+-- ---- with a disk, where `state_of` says what files are, and without one
+
+-- the number of commands is printed, or what each would be answered on the disk
+abbrev pub Checks : {F : Type 0} → (F → FileState) → Option (Bor Text) → Option (List ℕ) → Option (List ℕ) → Status → Type 0
+Checks state_of None before after status = PrintsCount before after × (status ≡ ends.Done)
+Checks state_of (Some disk) before after status = PrintsTrial state_of before after status
+
+-- the command file is not read, or has a fault; or they cannot be tried on the disk
+abbrev pub CheckEnds : {F : Type 0} → (F → FileState) → Option (Bor Text) → Failure → Type 0
+CheckEnds state_of None failure = CheckFails failure
+CheckEnds state_of (Some disk) failure = CheckFails failure ⊎ TrialStops state_of failure

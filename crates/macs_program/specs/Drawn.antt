@@ -74,8 +74,8 @@ use Rattle.macs_program.specs.declared.status.Status.{Status}
 use Rattle.macs_program.specs.declared.status.Status.TheVariants as ends
 use Rattle.macs_words.specs.declared.action.WireEnds.{WireEnds}
 use Rattle.macs_words.specs.declared.action.Action.{Action}
-use Rattle.macs_words.specs.declared.action.Action.TheVariants.{Apply, Check, Format, Key, Open, Protect, Relay, Show}
-use Rattle.macs_words.specs.declared.action.Action.TheVariants.{Validate}
+use Rattle.macs_words.specs.declared.action.Action.TheVariants.{About, Apply, Check, Examine, Format, Key, Open, Protect}
+use Rattle.macs_words.specs.declared.action.Action.TheVariants.{Relay, Show, Validate}
 use Rattle.macs_words.specs.declared.pace.Running.{Running}
 
 -- ---- `open`
@@ -281,7 +281,9 @@ is_silent (Protect disk from to is_all) = true
 is_silent (Validate disk from to is_all false) = true
 is_silent (Relay disk controlled common running) = true
 is_silent (Key is_long) = true
-is_silent (Check file) = true
+is_silent (Check file disk) = true
+is_silent (Examine disk) = true
+is_silent About = true
 is_silent action = false
 
 -- `open` prints one line, that of its answer. It fails as `input` only where a read failed, or the input is not four
@@ -300,11 +302,11 @@ pub record LineWords : Type 0 where
   pub commands : (action : Action) (before after : Option (List ℕ)) → HasPrinted action before after
       → is_apply action ≡ true
       → (outcomes : List (Option Refusal)) × Appends before after (outcome_lines 1 outcomes)
-  pub silent : (path sci from to : Bor Text) (tx_block rx_block : ℕ) (block : Option (Bor Text)) (is : Bool)
+  pub silent : (path sci from to : Bor Text) (tx_block rx_block : ℕ) (block disk : Option (Bor Text)) (is : Bool)
       (controlled common : WireEnds) (running : Running)
       → map is_silent (Open ∷ Format path sci tx_block rx_block block is ∷ Show path ∷ Protect path from to is
-      ∷ Validate path from to is false ∷ Relay path controlled common running ∷ Key is ∷ Check from
-      ∷ []) ≡ replicate 8 true
+      ∷ Validate path from to is false ∷ Relay path controlled common running ∷ Key is ∷ Check from disk ∷ Examine path
+      ∷ About ∷ []) ≡ replicate 10 true
   pub prints_lines : (path from : Bor Text) → is_apply (Apply path from) ≡ true
   pub complained : (before after : Option (List ℕ)) (failed : Bool) (text : List ℕ)
       → PrintsUnlessFailed before after failed text

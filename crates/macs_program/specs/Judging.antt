@@ -22,7 +22,6 @@ use Rattle.macs_program.specs.Capturing.{EndsWith, IsFlushed}
 use Rattle.macs_program.specs.Endpoints.{IsEndpointIn}
 use Rattle.macs_program.specs.Failing.{failure_of_run, failure_status}
 use Rattle.macs_program.specs.Summing.{pass_status, summary_line}
-use Rattle.macs_program.specs.declared.capturing.Direction.TheVariants as direction
 use Rattle.macs_program.specs.declared.failure.Failure.{Failure}
 use Rattle.macs_program.specs.declared.failure.Failure.TheVariants as failures
 use Rattle.macs_program.specs.declared.judging.VerdictLines.{VerdictLines}
@@ -88,7 +87,7 @@ pub record ValidatesEach {D W : Type 0} (disk_of : D → Disk) (contents : W →
     (old : Run D) (before : W) (result : Result Status Failure) (new : Run D) (after : W) : Type 0 where
   pub printed : IfOk result (λ status. (summary : Summary) × (verdicts : List Verdict)
       × JudgesCapture disk_of old (Ok summary) verdicts new
-      × Appends (contents before) (contents after) (verdict_lines 1 verdicts ++ summary_line direction.Validate summary)
+      × Appends (contents before) (contents after) (verdict_lines 1 verdicts ++ summary_line Common summary)
       × (status ≡ pass_status is_all summary))
   pub stopped : IfErr result (λ failure. StopsEach disk_of contents failed old before failure new after)
 
@@ -128,7 +127,7 @@ pub record DoesJudge {D W : Type 0} (disk_of : D → Disk) (contents : W → Opt
     (old : EndpointValue D) (before : W) (result : Result Status Failure) (new : EndpointValue D) (after : W) : Type 0 where
   pub printed : IfOk result (λ status. (summary : Summary) × (verdicts : List Verdict)
       × JudgesBetween disk_of old summary verdicts new
-      × Appends (contents before) (contents after) (verdict_lines 1 verdicts ++ summary_line direction.Validate summary)
+      × Appends (contents before) (contents after) (verdict_lines 1 verdicts ++ summary_line Common summary)
       × (status ≡ pass_status is_all summary))
   pub ended : IfErr result (λ failure. JudgingEnds disk_of old failure new)
   pub failed : IfErr result (λ failure. failure_status failure ≢ ends.Usage)

@@ -20,6 +20,11 @@ pub mod Tasks
 pub mod Asking
 pub mod Keys
 pub mod Inspecting
+pub mod Copying
+pub mod Trying
+pub mod FirstFault
+pub mod Examining
+pub mod About
 pub mod Checking
 pub mod Run
 pub mod Drawn
@@ -27,4 +32,5 @@ pub mod RelayDrawn
 pub mod RunWords
 pub mod TextWords
 pub mod ShowTexts
+pub mod ExamineTexts
 pub mod CaptureOctets

@@ -10,13 +10,15 @@ use Rattle.macs_edge.specs.declared.passing.Summary.{Summary}
 use Rattle.macs_rxsc.specs.declared.verdict.Verdict.{Verdict}
 use Rattle.macs_edge.specs.declared.relaying.RelaySummary.{RelaySummary}
 use Rattle.macs_edge.specs.declared.settling.Side.TheVariants.{Common, Controlled}
+use Rattle.macs_program.specs.About.{about_text}
 use Rattle.macs_program.specs.Addresses.{AddressFaultHolds, SpellsBoth, address_faults}
 use Rattle.macs_program.specs.Opened.{Answers, answer_status, answer_text}
 use Rattle.macs_program.specs.Asking.{IsOfAsking, PrintsAnswer, PrintsFront}
 use Rattle.macs_program.specs.Applying.{outcome_lines}
-use Rattle.macs_program.specs.Checking.{CheckFails, PrintsCount}
+use Rattle.macs_program.specs.Checking.{CheckEnds, Checks}
 use Rattle.macs_fields.specs.First.{IsFirst}
 use Rattle.macs_program.specs.Endpoints.{AppliesIn, BreaksOffIn, OpeningFails, PassEndsIn, PassesIn, ShowsIn}
+use Rattle.macs_program.specs.Examining.{ExamineFails, PrintsExamined}
 use Rattle.macs_program.specs.Failing.{failure_of_words, failure_status, failure_text}
 use Rattle.macs_program.specs.Inspecting.{InspectFails, Inspects, PrintsFrames}
 use Rattle.macs_program.specs.Judging.{JudgesIn, JudgingEndsIn, PrintsVerdicts, verdict_lines}
@@ -31,10 +33,9 @@ use Rattle.macs_program.specs.Summing.{pass_status, relay_line, summary_line}
 use Rattle.macs_program.specs.Values.{SpellsIdentity, SpellsLayout, ValueFaultHolds, value_faults}
 use Rattle.macs_words.specs.Words.{AreRefused, AsksFor, AsksForNothing, Names, macsecd}
 use Rattle.macs_words.specs.declared.action.Action.{Action}
-use Rattle.macs_words.specs.declared.action.Action.TheVariants.{Open, Format, Apply, Show, Protect, Validate, Relay, Ask, Key, Inspect, Check}
+use Rattle.macs_words.specs.declared.action.Action.TheVariants.{Open, Format, Apply, Show, Protect, Validate, Relay, Ask, Key, Inspect, Check, Examine, About}
 use Rattle.macs_program.specs.declared.addresses.AddressFault.{AddressFault}
 use Rattle.macs_program.specs.declared.opened.Opened.{Opened}
-use Rattle.macs_program.specs.declared.capturing.Direction.TheVariants as direction
 use Rattle.macs_program.specs.declared.failure.Failure.{Failure}
 use Rattle.macs_program.specs.declared.failure.Failure.TheVariants.{Address, Input, Memory, Output, Value}
 use Rattle.macs_program.specs.declared.open_input.InputFault.{InputFault}
@@ -63,20 +64,22 @@ Does state_of (Apply disk file) input before after status =
 Does state_of (Show disk) input before after status = ShowsIn state_of before after × (status ≡ ends.Done)
 Does state_of (Protect disk from to is_all) input before after status =
     (summary : Summary) × PassesIn state_of Controlled summary
-    × Appends before after (summary_line direction.Protect summary) × (status ≡ pass_status is_all summary)
+    × Appends before after (summary_line Controlled summary) × (status ≡ pass_status is_all summary)
 Does state_of (Validate disk from to is_all false) input before after status =
     (summary : Summary) × PassesIn state_of Common summary
-    × Appends before after (summary_line direction.Validate summary) × (status ≡ pass_status is_all summary)
+    × Appends before after (summary_line Common summary) × (status ≡ pass_status is_all summary)
 Does state_of (Validate disk from to is_all true) input before after status =
     (summary : Summary) × (verdicts : List Verdict) × JudgesIn state_of summary verdicts
-    × Appends before after (verdict_lines 1 verdicts ++ summary_line direction.Validate summary) × (status ≡ pass_status is_all summary)
+    × Appends before after (verdict_lines 1 verdicts ++ summary_line Common summary) × (status ≡ pass_status is_all summary)
 Does state_of (Relay disk controlled common running) input before after status =
     (summary : RelaySummary) × ComesTo state_of (course_of running) summary × SpellsBoth controlled common
     × Appends before after (relay_line summary) × (status ≡ ends.Done)
 Does state_of (Ask path asked) input before after status = PrintsAnswer asked before after status
 Does state_of (Key is_long) input before after status = GivesKey is_long before after × (status ≡ ends.Done)
 Does state_of (Inspect from) input before after status = Inspects before after × (status ≡ ends.Done)
-Does state_of (Check file) input before after status = PrintsCount before after × (status ≡ ends.Done)
+Does state_of (Check file disk) input before after status = Checks state_of disk before after status
+Does state_of (Examine disk) input before after status = PrintsExamined state_of before after status
+Does state_of About input before after status = Appends before after about_text × (status ≡ ends.Done)
 
 -- a run that does not fail is asked for help and prints it, or its words are taken and name an action, and it does that
 abbrev pub Replies : {F : Type 0} → (F → FileState) → List Text → InputRead → Option (List ℕ) → Option (List ℕ) → Status → Type 0
@@ -129,7 +132,9 @@ FailsAs state_of (Relay disk controlled common running) octets before after fail
 FailsAs state_of (Ask path asked) octets before after failure = IsOfAsking failure
 FailsAs state_of (Key is_long) octets before after failure = IsOfKey failure
 FailsAs state_of (Inspect from) octets before after failure = InspectFails before after failure
-FailsAs state_of (Check file) octets before after failure = CheckFails failure
+FailsAs state_of (Check file disk) octets before after failure = CheckEnds state_of disk failure
+FailsAs state_of (Examine disk) octets before after failure = ExamineFails state_of failure
+FailsAs state_of About octets before after failure = (failure ≡ Memory) ⊎ (failure ≡ Output)
 
 -- it is one that hands frames to an endpoint
 abbrev pub is_on_frames : Action → Bool

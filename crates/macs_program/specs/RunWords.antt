@@ -1,27 +1,40 @@
 -- What is to be drawn from words on whole runs: what a run replies, what each action does and how it fails, and what was
 -- printed before.
-use Rattle.std.specs.Prelude.{◌≡◌, ◌⊎◌, ◌/◌, ◌++◌, ◌∷◌, [], true, false, ℕ, Bool, List, length, take, codes}
-use Rattle.std.specs.Prelude.{string_bytes, Option, option_map, None, IfSome, Ok, Err}
+use Rattle.std.specs.Prelude.{◌≡◌, ◌≢◌, ◌⊎◌, ◌<◌, ◌≤◌, ◌/◌, ◌%◌, ◌++◌, ◌∷◌, [], true, false, ℕ, Bool, List, length, take, codes}
+use Rattle.std.specs.Prelude.{string_bytes, Option, option_map, Some, None, IfSome, Ok, Err}
 use Rattle.std.specs.Borrow.{Bor}
 use Rattle.std.specs.Io.KnownBytes.{Appends}
+use Rattle.std.specs.declared.alloc.Global.{Global}
 use Rattle.clap.specs.Words.{Text, subcommand_of, takes}
 use Rattle.hex.specs.Hex.{encode_lower}
+use Rattle.macs_config.specs.Config.{this_edition}
 use Rattle.macs_config.specs.Identity.{Identity}
 use Rattle.macs_config.specs.declared.command.Command.{Command}
 use Rattle.macs_config.specs.declared.refusal.Refusal.{Refusal}
-use Rattle.macs_disk.specs.FileDisks.{IsBlank, disk_in_file, file_given, file_left}
-use Rattle.macs_disk.specs.Files.{Behaves, FileState, Settles}
+use Rattle.macs_disk.specs.Disk.{Disk, IsHonest, now}
+use Rattle.macs_disk.specs.FileDisks.{IsBlank, disk_in_file, file_given, file_left, state_in_file}
+use Rattle.macs_disk.specs.Files.{Behaves, FileState, IsSure, Settles}
+use Rattle.macs_disk.specs.Layouts.{layout_in}
+use Rattle.macs_disk.specs.MemDisks.{disk_of}
 use Rattle.macs_disk.specs.declared.file.FileDisk.{FileDisk}
+use Rattle.macs_disk.specs.declared.file_fault.FileFault.{FileFault}
+use Rattle.macs_disk.specs.declared.file_fault.FileFault.TheVariants as file_fault
 use Rattle.macs_disk.specs.declared.layout.Layout.{Layout}
+use Rattle.macs_disk.specs.declared.memory.MemDisk.{MemDisk}
 use Rattle.macs_edge.specs.Passing.{run_of}
 use Rattle.macs_edge.specs.declared.passing.Summary.{Summary}
 use Rattle.macs_edge.specs.declared.relaying.RelaySummary.{RelaySummary}
 use Rattle.macs_edge.specs.declared.settling.Side.{Side}
 use Rattle.macs_edge.specs.declared.settling.Side.TheVariants.{Common, Controlled}
+use Rattle.macs_endpoint.specs.Calls.{IsCall}
 use Rattle.macs_endpoint.specs.Formatting.{IsFormat}
-use Rattle.macs_endpoint.specs.State.{no_logs}
+use Rattle.macs_endpoint.specs.Opening.{Opens, RefusesOpening}
+use Rattle.macs_endpoint.specs.State.{Commands, Ran, no_logs}
 use Rattle.macs_endpoint.specs.Value.{EndpointValue, state_of}
+use Rattle.macs_endpoint.specs.declared.fault.CommandFault.{CommandFault}
 use Rattle.macs_fields.specs.First.{IsFirst}
+use Rattle.macs_journal.specs.Found.{Content, HasJournal, IsBadJournal}
+use Rattle.macs_journal.specs.declared.fault.JournalFault.{JournalFault}
 use Rattle.macs_journal.specs.declared.fault.JournalFault.TheVariants as journal
 use Rattle.macs_pcap.specs.Captures.{BeginsWithRecords}
 use Rattle.macs_pcap.specs.Reading.{HoldsOfLeft, ReadsHeader, ReadsRecord}
@@ -30,11 +43,14 @@ use Rattle.macs_pcap.specs.States.{SinkState, SourceState}
 use Rattle.macs_pcap.specs.declared.fault.PcapFault.{PcapFault}
 use Rattle.macs_pcap.specs.declared.header.Header.{Header}
 use Rattle.macs_rxsc.specs.declared.verdict.Verdict.{Verdict}
+use Rattle.macs_store.specs.Found.{IsUnfitTo}
+use Rattle.macs_store.specs.Replay.{meaning_of}
+use Rattle.macs_store.specs.Standing.{Standing}
 use Rattle.macs_texts.specs.Showing.{show_text}
 use Rattle.macs_words.specs.Help.{topic_text}
 use Rattle.macs_words.specs.Words.{AsksFor, Names, macsecd}
 use Rattle.macs_words.specs.declared.action.Action.{Action}
-use Rattle.macs_words.specs.declared.action.Action.TheVariants.{Apply, Ask, Check, Format, Inspect, Key, Open, Protect}
+use Rattle.macs_words.specs.declared.action.Action.TheVariants.{About, Apply, Ask, Check, Examine, Format, Inspect, Key, Open, Protect}
 use Rattle.macs_words.specs.declared.action.Action.TheVariants.{Relay, Show, Validate}
 use Rattle.macs_words.specs.declared.action.Question.{Question}
 use Rattle.macs_words.specs.declared.action.Question.TheVariants as question
@@ -42,13 +58,17 @@ use Rattle.macs_words.specs.declared.action.UsageFault.{UsageFault}
 use Rattle.macs_words.specs.declared.action.WireEnds.{WireEnds}
 use Rattle.macs_words.specs.declared.help.Topic.{Topic}
 use Rattle.macs_words.specs.declared.pace.Running.{Running}
+use Rattle.macs_program.specs.About.{about_text}
 use Rattle.macs_program.specs.Addresses.{AddressFaultHolds, SpellsBoth, address_faults}
 use Rattle.macs_program.specs.Opened.{Answers, answer_status, answer_text}
-use Rattle.macs_program.specs.Applying.{Applies, SaysCommands, outcome_lines, outcomes_status}
+use Rattle.macs_program.specs.Applying.{Applies, SaysCommands, commit_fault, outcome_lines, outcomes_status}
 use Rattle.macs_program.specs.Capturing.{EndsPass, PassesCapture}
-use Rattle.macs_program.specs.Checking.{CountsCommands, IsSaidOfFile, count_line}
+use Rattle.macs_program.specs.Checking.{IsSaidOfFile, count_line}
+use Rattle.macs_program.specs.Copying.{CopyFails, IsCopy}
 use Rattle.macs_program.specs.Endpoints.{BreaksOffIn, IsEndpointIn, OpeningFails, PassEndsIn}
-use Rattle.macs_program.specs.Failing.{failure_of_capture, failure_of_words}
+use Rattle.macs_program.specs.Examining.{examined_text, fault_line, figures_of}
+use Rattle.macs_program.specs.Failing.{failure_of_capture, failure_of_file, failure_of_words}
+use Rattle.macs_program.specs.FirstFault.{IsFirstFault}
 use Rattle.macs_program.specs.Inputs.{InputRead}
 use Rattle.macs_program.specs.Inspecting.{AreLinesOf, InspectsCapture, RunsCapture, StopsCapture}
 use Rattle.macs_program.specs.Judging.{EndsEach, JudgesCapture, JudgingEndsIn, verdict_lines}
@@ -59,10 +79,11 @@ use Rattle.macs_program.specs.OpenInput.{InputFaultHolds, input_faults}
 use Rattle.macs_program.specs.Run.{Does, FailsAs, FailsFor, HasPrinted, HasWrongValues, PrintedBefore, Replies}
 use Rattle.macs_program.specs.Run.{WrongValues}
 use Rattle.macs_program.specs.Summing.{pass_status, relay_line, summary_line}
+use Rattle.macs_program.specs.Trying.{EndsOn, failure_in_memory, would_lines}
 use Rattle.macs_program.specs.Values.{SpellsIdentity, SpellsLayout, ValueFaultHolds, value_faults}
 use Rattle.macs_program.specs.declared.addresses.AddressFault.{AddressFault}
 use Rattle.macs_program.specs.declared.opened.Opened.{Opened}
-use Rattle.macs_program.specs.declared.capturing.Direction.TheVariants as direction
+use Rattle.macs_program.specs.declared.failure.DiskFault.{DiskFault}
 use Rattle.macs_program.specs.declared.failure.DiskFault.TheVariants as disk
 use Rattle.macs_program.specs.declared.failure.Failure.{Failure}
 use Rattle.macs_program.specs.declared.failure.Failure.TheVariants as failures
@@ -76,11 +97,13 @@ use Rattle.macs_program.specs.declared.values.ValueFault.{ValueFault}
 -- action does this: `open` prints the answer to its input; `format` makes a file a disk that, when it was settled, was
 -- one that may be written over, blanks it in the layout of its words and formats it with the identity of its words;
 -- `apply` gives the commands of a file to an endpoint in a file, and prints a line for each; `show` prints its text,
--- as it was opened; `protect` and `validate` take a capture through it, each from its own side, and `validate --each`
--- prints the line of each verdict before its own; `relay` prints what it came to; `ask` prints lines of outcomes, or a
--- text; `key` prints as many octets as it is to, in hex; `inspect` prints a line for each record of a capture, up to
--- its end; `check` prints how many commands some octets say. Of a capture that is given, octets that are given, and a
--- key that is given, it is this one.
+-- as it was opened; `examine` prints what the journal is that is found on a copy of the disk in a file, and what its
+-- records stand for, or the sector of its first fault; `protect` and `validate` take a capture through it, each from its own side, and
+-- `validate --each` prints the line of each verdict before its own; `relay` prints what it came to; `ask` prints lines
+-- of outcomes, or a text; `key` prints as many octets as it is to, in hex; `inspect` prints a line for each record of a
+-- capture, up to its end; `about` prints one text; `check` prints how many commands some octets say, or, with a disk, a
+-- line for each: what the endpoint on a copy of the disk in a file answers to it, where each sector of the copy is that
+-- of the disk. Of a capture that is given, and a key that is given, it is this one.
 pub record ReplyWords {F : Type 0} (file : F → FileState) : Type 0 where
   pub replied : (words : List Text) (input : InputRead) (before after : Option (List ℕ)) (status : Status)
       → Replies file words input before after status
@@ -111,20 +134,31 @@ pub record ReplyWords {F : Type 0} (file : F → FileState) : Type 0 where
   pub shown : (path : Bor Text) (input : InputRead) (before after : Option (List ℕ)) (status : Status)
       → Does file (Show path) input before after status → (shown : EndpointValue (FileDisk F))
       × IsEndpointIn file shown × Appends before after (show_text (state_of shown no_logs)) × (status ≡ ends.Done)
+  pub examined : (path : Bor Text) (input : InputRead) (before after : Option (List ℕ)) (status : Status)
+      → Does file (Examine path) input before after status
+      → (disk_file : F) × (copy : MemDisk Global) × (layout : Layout)
+      × (Behaves (file disk_file) → ((file disk_file).size % 512 ≡ 0) × (1028 ≤ (file disk_file).size / 512)
+      × (IsSure (file disk_file)
+      → IsCopy (file disk_file) (disk_of copy) × (layout ≡ layout_in (file disk_file))))
+      × (((content : Content) × (standing : Standing) × HasJournal (now (disk_of copy)).seen content
+      × (meaning_of this_edition content ≡ Some standing)
+      × Appends before after (examined_text layout (figures_of content) standing) × (status ≡ ends.Done))
+      ⊎ ((at : ℕ) × IsFirstFault (now (disk_of copy)).seen at × Appends before after (fault_line at)
+      × (status ≡ ends.Refused)))
   pub protected : (path from to : Bor Text) (is_all : Bool) (input : InputRead) (before after : Option (List ℕ))
       (status : Status) → Does file (Protect path from to is_all) input before after status
       → (summary : Summary) × (old : EndpointValue (FileDisk F)) × (new : EndpointValue (FileDisk F))
       × IsEndpointIn file old × (source : SourceState) × (left : SourceState) × (sink : SinkState)
       × (sunk : SinkState)
       × PassesCapture (disk_in_file file) Controlled (run_of old source sink) (Ok summary) (run_of new left sunk)
-      × Appends before after (summary_line direction.Protect summary) × (status ≡ pass_status is_all summary)
+      × Appends before after (summary_line Controlled summary) × (status ≡ pass_status is_all summary)
   pub validated : (path from to : Bor Text) (is_all : Bool) (input : InputRead) (before after : Option (List ℕ))
       (status : Status) → Does file (Validate path from to is_all false) input before after status
       → (summary : Summary) × (old : EndpointValue (FileDisk F)) × (new : EndpointValue (FileDisk F))
       × IsEndpointIn file old × (source : SourceState) × (left : SourceState) × (sink : SinkState)
       × (sunk : SinkState)
       × PassesCapture (disk_in_file file) Common (run_of old source sink) (Ok summary) (run_of new left sunk)
-      × Appends before after (summary_line direction.Validate summary) × (status ≡ pass_status is_all summary)
+      × Appends before after (summary_line Common summary) × (status ≡ pass_status is_all summary)
   pub judged : (path from to : Bor Text) (is_all : Bool) (input : InputRead) (before after : Option (List ℕ))
       (status : Status) → Does file (Validate path from to is_all true) input before after status
       → (summary : Summary) × (verdicts : List Verdict) × (old : EndpointValue (FileDisk F))
@@ -132,7 +166,7 @@ pub record ReplyWords {F : Type 0} (file : F → FileState) : Type 0 where
       × IsEndpointIn file old × (source : SourceState) × (left : SourceState) × (sink : SinkState)
       × (sunk : SinkState)
       × JudgesCapture (disk_in_file file) (run_of old source sink) (Ok summary) verdicts (run_of new left sunk)
-      × Appends before after (verdict_lines 1 verdicts ++ summary_line direction.Validate summary)
+      × Appends before after (verdict_lines 1 verdicts ++ summary_line Common summary)
       × (status ≡ pass_status is_all summary)
   pub relayed : (path : Bor Text) (controlled common : WireEnds) (running : Running) (input : InputRead)
       (before after : Option (List ℕ)) (status : Status)
@@ -165,8 +199,10 @@ pub record ReplyWords {F : Type 0} (file : F → FileState) : Type 0 where
       × (text : List ℕ) × AreLinesOf 1 records text × Appends before after text
       × (room : ℕ) × (frame : List ℕ) × ReadsRecord header.big (length records) room until new frame (Ok None)
       × (status ≡ ends.Done)
+  pub about : (input : InputRead) (before after : Option (List ℕ)) (status : Status)
+      → Does file About input before after status → Appends before after about_text × (status ≡ ends.Done)
   pub checked : (from : Bor Text) (input : InputRead) (before after : Option (List ℕ)) (status : Status)
-      → Does file (Check from) input before after status → (octets : List ℕ) × (commands : List Command)
+      → Does file (Check from None) input before after status → (octets : List ℕ) × (commands : List Command)
       × SaysCommands octets commands × Appends before after (count_line (length commands)) × (status ≡ ends.Done)
   pub prints : (is_long : Bool) (octets : List ℕ) (before after : Option (List ℕ))
       → PrintsKey is_long octets before after
@@ -182,14 +218,27 @@ pub record ReplyWords {F : Type 0} (file : F → FileState) : Type 0 where
       → RunsCapture old before (Ok status) new after → InspectsCapture old before new after × (status ≡ ends.Done)
   pub stops : (old new : SourceState) (before after : Option (List ℕ)) (failure : Failure)
       → RunsCapture old before (Err failure) new after → StopsCapture old before failure new after
-  pub counts : (octets : List ℕ) (count : ℕ) → CountsCommands octets count
-      → (commands : List Command) × SaysCommands octets commands × (count ≡ length commands)
+  pub tried : (from path : Bor Text) (input : InputRead) (before after : Option (List ℕ)) (status : Status)
+      → Does file (Check from (Some path)) input before after status
+      → (octets : List ℕ) × (commands : List Command) × SaysCommands octets commands
+      × (disk_file : F) × (copy : MemDisk Global)
+      × (Behaves (file disk_file) → ((file disk_file).size % 512 ≡ 0) × (1028 ≤ (file disk_file).size / 512)
+      × (IsSure (file disk_file) → IsCopy (file disk_file) (disk_of copy)))
+      × (old : EndpointValue (MemDisk Global)) × (new : EndpointValue (MemDisk Global)) × Opens disk_of copy old
+      × (outcomes : List (Option Refusal)) × Applies disk_of old commands outcomes new
+      × Appends before after (would_lines 1 outcomes) × (status ≡ outcomes_status outcomes)
+  pub copied : (disk_file : FileState) (copy : Disk) → IsCopy disk_file copy → (copy.sectors ≡ 1028) × IsHonest copy
+      × ((at : ℕ) → at < 1028 → (now copy).seen at ≡ (state_in_file (layout_in disk_file) disk_file).seen at)
 
 -- A run that fails has words that are refused, or cannot print help, or the words name the action that fails so. Each
 -- action fails for this: `open` for a read that failed, for the first fault of its input, for memory or its output;
 -- `format` for the first fault of its values, for the file, or for its output; those with an endpoint for its opening, or
--- as what is done with it ends; `relay` also for the first fault of its addresses; `ask`, `key`, `inspect` and `check`
--- for what is named here, and for nothing else.
+-- as what is done with it ends; `relay` also for the first fault of its addresses; `ask`, `key`, `inspect`, `about` and
+-- `check` for what is named here, and for nothing else. `examine` fails for its output, for a file that is not opened or
+-- of which there is no copy, for memory, or for a fault that is of no sector, for which no endpoint is opened on the
+-- copy. `check`
+-- with a disk fails as without one; or the file is not opened, or there is no copy of its disk; or no endpoint is opened
+-- on that, there is no memory, or a command ends the run.
 pub record FailWords {F : Type 0} (file : F → FileState) : Type 0 where
   pub failed : (words : List Text) (input : InputRead) (before after : Option (List ℕ)) (failure : Failure)
       → FailsFor file words input before after failure
@@ -216,6 +265,17 @@ pub record FailWords {F : Type 0} (file : F → FileState) : Type 0 where
   pub of_show : (path : Bor Text) (input : InputRead) (before after : Option (List ℕ)) (failure : Failure)
       → FailsAs file (Show path) input before after failure
       → OpeningFails file failure ⊎ (failure ≡ failures.Memory) ⊎ (failure ≡ failures.Output)
+  pub of_examine : (path : Bor Text) (input : InputRead) (before after : Option (List ℕ)) (failure : Failure)
+      → FailsAs file (Examine path) input before after failure
+      → (failure ≡ failures.Output) ⊎ ((fault : FileFault) × (failure ≡ failure_of_file fault))
+      ⊎ ((disk_file : F) × CopyFails (file disk_file) failure)
+      ⊎ ((disk_file : F) × (copy : MemDisk Global) × (layout : Layout)
+      × (Behaves (file disk_file) → ((file disk_file).size % 512 ≡ 0) × (1028 ≤ (file disk_file).size / 512)
+      × (IsSure (file disk_file)
+      → IsCopy (file disk_file) (disk_of copy) × (layout ≡ layout_in (file disk_file))))
+      × ((failure ≡ failures.Memory) ⊎ ((fault : JournalFault) × (failure ≡ failures.Disk (disk.Journal fault))
+      × IsUnfitTo this_edition (disk_of copy).sectors (now (disk_of copy)).seen fault
+      × (fault ≡ journal.BadJournal → ¬ IsBadJournal (now (disk_of copy)).seen))))
   pub of_protect : (path from to : Bor Text) (is_all : Bool) (input : InputRead) (before after : Option (List ℕ))
       (failure : Failure) → FailsAs file (Protect path from to is_all) input before after failure
       → OpeningFails file failure ⊎ PassEndsIn file Controlled failure
@@ -264,11 +324,38 @@ pub record FailWords {F : Type 0} (file : F → FileState) : Type 0 where
       × ReadsRecord header.big (length records) room until new frame (Err fault)
       × (failure ≡ failure_of_capture fault) × (after ≡ between))
       ⊎ ((failure ≡ failures.Memory) × (after ≡ between)) ⊎ (failure ≡ failures.Output)))
+  pub of_about : (input : InputRead) (before after : Option (List ℕ)) (failure : Failure)
+      → FailsAs file About input before after failure → (failure ≡ failures.Memory) ⊎ (failure ≡ failures.Output)
   pub of_check : (from : Bor Text) (input : InputRead) (before after : Option (List ℕ)) (failure : Failure)
-      → FailsAs file (Check from) input before after failure
+      → FailsAs file (Check from None) input before after failure
       → (failure ≡ failures.Commands) ⊎ (failure ≡ failures.Output) ⊎ (failure ≡ failures.Memory)
       ⊎ ((octets : List ℕ) × (said : _) × (failure ≡ failures.CommandFile said)
       × IsSaidOfFile octets (string_bytes said))
+  pub of_trial : (from path : Bor Text) (input : InputRead) (before after : Option (List ℕ)) (failure : Failure)
+      → FailsAs file (Check from (Some path)) input before after failure
+      → FailsAs file (Check from None) input before after failure
+      ⊎ ((octets : List ℕ) × (commands : List Command) × SaysCommands octets commands
+      × (((fault : FileFault) × (failure ≡ failure_of_file fault))
+      ⊎ ((disk_file : F) × CopyFails (file disk_file) failure)
+      ⊎ ((disk_file : F) × (copy : MemDisk Global)
+      × (Behaves (file disk_file) → ((file disk_file).size % 512 ≡ 0) × (1028 ≤ (file disk_file).size / 512)
+      × (IsSure (file disk_file) → IsCopy (file disk_file) (disk_of copy)))
+      × EndsOn disk_of copy commands failure)))
+  pub copying : (disk_file : FileState) (failure : Failure) → CopyFails disk_file failure
+      → ((fault : FileFault) × (failure ≡ failure_of_file fault)
+      × (fault ≡ file_fault.Length → Behaves disk_file → disk_file.size % 512 ≢ 0))
+      ⊎ ((failure ≡ failures.Disk (disk.Journal journal.TooSmall)) × (Behaves disk_file → disk_file.size / 512 < 1028))
+  pub trying : (copy : MemDisk Global) (commands : List Command) (failure : Failure)
+      → EndsOn disk_of copy commands failure
+      → ((left : MemDisk Global) × (fault : JournalFault) × RefusesOpening disk_of copy left fault
+      × (failure ≡ failure_in_memory (disk.Journal fault)))
+      ⊎ ((old : EndpointValue (MemDisk Global)) × Opens disk_of copy old × ((failure ≡ failures.Memory)
+      ⊎ ((done : List Command) × (next : Command) × (left : List Command) × (commands ≡ done ++ next ∷ left)
+      × (outcomes : List (Option Refusal)) × (between : EndpointValue (MemDisk Global))
+      × Applies disk_of old done outcomes between
+      × (fault : DiskFault) × (answer : CommandFault) × commit_fault fault answer
+      × (new : EndpointValue (MemDisk Global)) × IsCall disk_of between (Commands next) (Ran (Err answer)) new
+      × (failure ≡ failure_in_memory fault))))
 
 -- Before a failure nothing was printed, or what the action that the words name had printed: `ask PATH apply` lines of
 -- outcomes, from the first one on, and another `ask` nothing; `inspect` the lines of some records; `validate --each` those

@@ -3,16 +3,16 @@ use Rattle.std.specs.Prelude.{◌++◌, ◌&&◌, if◌then◌else◌, nat_lt, B
 use Rattle.std.specs.Fmt.{decimal}
 use Rattle.macs_edge.specs.declared.passing.Summary.{Summary}
 use Rattle.macs_edge.specs.declared.relaying.RelaySummary.{RelaySummary}
+use Rattle.macs_edge.specs.declared.settling.Side.{Side}
+use Rattle.macs_edge.specs.declared.settling.Side.TheVariants.{Common, Controlled}
 use Rattle.macs_texts.specs.Lines.{line}
-use Rattle.macs_program.specs.declared.capturing.Direction.{Direction}
-use Rattle.macs_program.specs.declared.capturing.Direction.TheVariants as direction
 use Rattle.macs_program.specs.declared.status.Status.{Status}
 use Rattle.macs_program.specs.declared.status.Status.TheVariants as ends
 
 -- how many frames passed, and how many were left out
-abbrev pub summary_line : Direction → Summary → List ℕ
-summary_line direction.Protect s = line (codes "protected " ++ (decimal s.passed ++ (codes " dropped " ++ decimal s.dropped)))
-summary_line direction.Validate s = line (codes "delivered " ++ (decimal s.passed ++ (codes " discarded " ++ decimal s.dropped)))
+abbrev pub summary_line : Side → Summary → List ℕ
+summary_line Controlled s = line (codes "protected " ++ (decimal s.passed ++ (codes " dropped " ++ decimal s.dropped)))
+summary_line Common s = line (codes "delivered " ++ (decimal s.passed ++ (codes " discarded " ++ decimal s.dropped)))
 
 -- how a run over a capture ends: refused where all frames were to pass and one did not, else done
 abbrev pub pass_status : Bool → Summary → Status

@@ -6,13 +6,12 @@ use Rattle.macs_disk.specs.Files.{FileState}
 use Rattle.macs_disk.specs.declared.file.FileDisk.{FileDisk}
 use Rattle.macs_edge.specs.declared.passing.Summary.{Summary}
 use Rattle.macs_edge.specs.declared.relaying.RelaySummary.{RelaySummary}
+use Rattle.macs_edge.specs.declared.settling.Side.{Side}
 use Rattle.macs_endpoint.specs.Value.{EndpointValue}
-use Rattle.macs_program.specs.Capturing.{side_of}
 use Rattle.macs_program.specs.Endpoints.{AppliesFile, BreaksOff, IsEndpointIn, OpeningFails, PassEnds, PassesBetween, shown_text}
 use Rattle.macs_program.specs.Failing.{failure_status}
 use Rattle.macs_program.specs.Relaying.{Course, IsAfterAddresses, RelayEnds, Relays}
 use Rattle.macs_program.specs.Summing.{pass_status, relay_line, summary_line}
-use Rattle.macs_program.specs.declared.capturing.Direction.{Direction}
 use Rattle.macs_program.specs.declared.failure.Failure.{Failure}
 use Rattle.macs_program.specs.declared.failure.Failure.TheVariants.{Memory, Output}
 use Rattle.macs_program.specs.declared.status.Status.{Status}
@@ -62,11 +61,11 @@ pub record DoesShow {D W : Type 0} (contents : W → Option (List ℕ)) (has_fai
   pub broken : IfErr result (λ failure. failure ≡ Output → has_failed after ≡ true)
 
 -- `protect` and `validate`: a capture is taken through the endpoint into another one, or not whole
-pub record DoesPass {D W : Type 0} (disk_of : D → Disk) (contents : W → Option (List ℕ)) (has_failed : W → Bool) (direction : Direction) (is_all : Bool)
+pub record DoesPass {D W : Type 0} (disk_of : D → Disk) (contents : W → Option (List ℕ)) (has_failed : W → Bool) (side : Side) (is_all : Bool)
     (old : EndpointValue D) (before : W) (result : Result Status Failure) (new : EndpointValue D) (after : W) : Type 0 where
-  pub printed : IfOk result (λ status. (summary : Summary) × PassesBetween disk_of (side_of direction) old summary new
-      × Appends (contents before) (contents after) (summary_line direction summary) × (status ≡ pass_status is_all summary))
-  pub ended : IfErr result (λ failure. PassEnds disk_of (side_of direction) old failure new)
+  pub printed : IfOk result (λ status. (summary : Summary) × PassesBetween disk_of side old summary new
+      × Appends (contents before) (contents after) (summary_line side summary) × (status ≡ pass_status is_all summary))
+  pub ended : IfErr result (λ failure. PassEnds disk_of side old failure new)
   pub failed : IfErr result (λ failure. failure_status failure ≢ ends.Usage)
   pub silent : IfErr result (λ failure. failure ≢ Output → after ≡ before)
   pub broken : IfErr result (λ failure. failure ≡ Output → has_failed after ≡ true)

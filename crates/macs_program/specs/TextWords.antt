@@ -24,6 +24,7 @@ use Rattle.macs_disk.specs.declared.layout.Layout.{Layout}
 use Rattle.macs_edge.specs.declared.passing.RunFault.TheVariants as run
 use Rattle.macs_edge.specs.declared.passing.Summary.{Summary}
 use Rattle.macs_edge.specs.declared.relaying.RelaySummary.{RelaySummary}
+use Rattle.macs_edge.specs.declared.settling.Side.TheVariants.{Common, Controlled}
 use Rattle.macs_edge.specs.declared.udp_wire.BindFault.TheVariants as bind
 use Rattle.macs_fields.specs.First.{IsFirst}
 use Rattle.macs_fields.specs.declared.fields.Offset.{Offset}
@@ -60,11 +61,11 @@ use Rattle.macs_program.specs.OpenInput.{InputFaultHolds, IsFourLines, SpellsKey
 use Rattle.macs_program.specs.OpenInput.{input_faults}
 use Rattle.macs_program.specs.Lines.{line_at}
 use Rattle.macs_program.specs.Summing.{pass_status, relay_line, summary_line}
+use Rattle.macs_program.specs.Trying.{failure_in_memory, would_lines}
 use Rattle.macs_program.specs.Values.{SpellsLayout, ValueFaultHolds, value_faults}
 use Rattle.macs_program.specs.declared.addresses.AddressFault.{AddressFault}
 use Rattle.macs_program.specs.declared.addresses.AddressFault.TheVariants.{Own1, Peer1, Own2, Peer2}
 use Rattle.macs_program.specs.declared.opened.Opened.TheVariants.{Refused, Valid}
-use Rattle.macs_program.specs.declared.capturing.Direction.TheVariants as direction
 use Rattle.macs_program.specs.declared.failure.DiskFault.{DiskFault}
 use Rattle.macs_program.specs.declared.failure.DiskFault.TheVariants as disk
 use Rattle.macs_program.specs.declared.failure.Failure.TheVariants as failures
@@ -105,9 +106,9 @@ pub record LineTexts : Type 0 where
       ∷ opening.Tag tag.BadTag ∷ opening.Tag tag.ForKay ∷ opening.OtherSci ∷ opening.NotValid ∷ [])
       ≡ codes "runt" ∷ codes "oversize" ∷ codes "no tag" ∷ codes "bad tag" ∷ codes "for kay" ∷ codes "other sci"
       ∷ codes "not valid" ∷ []
-  pub protected : (s : Summary) → summary_line direction.Protect s
+  pub protected : (s : Summary) → summary_line Controlled s
       ≡ (codes "protected " ++ (decimal s.passed ++ (codes " dropped " ++ decimal s.dropped))) ++ 10 ∷ []
-  pub validated : (s : Summary) → summary_line direction.Validate s
+  pub validated : (s : Summary) → summary_line Common s
       ≡ (codes "delivered " ++ (decimal s.passed ++ (codes " discarded " ++ decimal s.dropped))) ++ 10 ∷ []
   pub judged : (at : ℕ) (verdict : Verdict) (more : List Verdict) → (verdict_lines at [] ≡ [])
       × (verdict_lines at (verdict ∷ more)
@@ -123,8 +124,9 @@ pub record LineTexts : Type 0 where
 
 -- Each failure has its own text, and its status: 2 for words, values and addresses, 4 for the disk, 5 for all others.
 -- What fails below is the failure that has its name: wrong usage, a fault of a file, of the journal, of a capture or a
--- run, of its disk, of a command file, of a wire, a control socket or an asking; and what a relay answers with 4 that it
--- ended, with 5 that it had no memory, with any other number that it gave no answer.
+-- run, of its disk, of a command file, of a wire, a control socket or an asking; a call of a disk in memory fails for
+-- want of that; and what a relay answers with 4 that it ended, with 5 that it had no memory, with any other number that
+-- it gave no answer.
 pub record FailureTexts : Type 0 where
   pub values : map value_fault_text (value.Sci ∷ value.TxBlock ∷ value.RxBlock ∷ value.DeviceBlock ∷ [])
       ≡ codes "SCI is not 16 hex digits" ∷ codes "TX is not 1 to 65536" ∷ codes "RX is not 1 to 65536"
@@ -180,6 +182,15 @@ pub record FailureTexts : Type 0 where
   pub wires : (failure_of_bind bind.Memory ≡ failures.Memory) × (failure_of_bind bind.Bind ≡ failures.Wire)
       × (failure_of_control control.Memory ≡ failures.Memory) × (failure_of_control control.Bind ≡ failures.Control)
       × (failure_of_asking asking.Memory ≡ failures.Memory) × (failure_of_asking asking.Gone ≡ failures.Control)
+  pub in_memory : map failure_in_memory (disk.File ∷ disk.Length ∷ disk.Busy ∷ disk.Journal journal.Stopped
+      ∷ disk.Journal journal.TooSmall ∷ disk.Journal journal.Disk ∷ disk.Journal journal.AlreadyFormatted
+      ∷ disk.Journal journal.NotFormatted ∷ disk.Journal journal.BadJournal ∷ disk.Journal journal.GenerationsSpent
+      ∷ [])
+      ≡ failures.Disk disk.File ∷ failures.Disk disk.Length ∷ failures.Disk disk.Busy
+      ∷ failures.Disk (disk.Journal journal.Stopped) ∷ failures.Disk (disk.Journal journal.TooSmall)
+      ∷ failures.Memory ∷ failures.Disk (disk.Journal journal.AlreadyFormatted)
+      ∷ failures.Disk (disk.Journal journal.NotFormatted) ∷ failures.Disk (disk.Journal journal.BadJournal)
+      ∷ failures.Disk (disk.Journal journal.GenerationsSpent) ∷ []
   pub answers : (failure_in 4 ≡ failures.Disk (disk.Journal journal.Stopped)) × (failure_in 5 ≡ failures.Memory)
       × (failure_in 2 ≡ failures.Control) × (failure_in 3 ≡ failures.Control)
   pub no_answers : (status : ℕ) → status ≢ 4 → status ≢ 5 → failure_in status ≡ failures.Control
@@ -245,7 +256,8 @@ pub record FrameTexts : Type 0 where
 
 -- `check` says how many commands there are, or that the file is too long, no text, no TOML, or the first fault of its
 -- commands: that of its tables, of a command's word, of a key, by its name and what it is not, or that there is a key too
--- many.
+-- many. With a disk the line of a command has its number and says `would be ok`, or `would be refused` with the name of its
+-- refusal; the lines follow each other, numbered on.
 pub record CheckTexts : Type 0 where
   pub one : count_line 1 ≡ (decimal 1 ++ codes " command") ++ 10 ∷ []
   pub none : count_line 0 ≡ (decimal 0 ++ codes " commands") ++ 10 ∷ []
@@ -272,3 +284,9 @@ pub record CheckTexts : Type 0 where
       ≡ codes "not a mode of this command" ∷ codes "not true or false" ∷ codes "not 0 to 4294967295"
       ∷ codes "not 0 to 3" ∷ codes "not 32 or 64 hex digits" ∷ codes "not 1 to 4294967295"
       ∷ codes "not true or false" ∷ codes "not 0, 30 or 50" ∷ codes "not 16 hex digits" ∷ []
+  pub none_tried : (at : ℕ) → would_lines at [] ≡ []
+  pub kept : (at : ℕ) → would_lines at (None ∷ []) ≡ decimal at ++ (codes " would be ok" ++ 10 ∷ [])
+  pub refused : (at : ℕ) (r : Refusal) → would_lines at (Some r ∷ [])
+      ≡ decimal at ++ (codes " would be refused " ++ (refusal_name r ++ 10 ∷ []))
+  pub more_tried : (at : ℕ) (outcome : Option Refusal) (outcomes : List (Option Refusal))
+      → would_lines at (outcome ∷ outcomes) ≡ would_lines at (outcome ∷ []) ++ would_lines (at + 1) outcomes

@@ -107,7 +107,7 @@ fn outcome_of(fault: CommandFault) -> Result<Option<Refusal>, DiskFault>
 }
 
 /// Gives a command to the endpoint, which keeps or refuses it.
-fn give<D: SectorDisk>(
+pub fn give<D: SectorDisk>(
     endpoint: &mut Endpoint<D>,
     command: Command,
 ) -> Result<Option<Refusal>, DiskFault>

@@ -5,7 +5,7 @@ ghost use Rattle.std.specs.Io.KnownBytes.{Appends};
 ghost use Rattle.macs_edge.specs.Passing.{RunsOver, run_of};
 ghost use Rattle.macs_edge.specs.declared.passing.RunFault.{RunFault};
 ghost use Rattle.macs_edge.specs.declared.passing.Summary.{Summary};
-ghost use Rattle.macs_program.specs.Capturing.{EndsFlushed, EndsPass, PassesCapture, side_of};
+ghost use Rattle.macs_program.specs.Capturing.{EndsFlushed, EndsPass, PassesCapture};
 ghost use Rattle.macs_program.specs.Failing.{failure_of_run, failure_status};
 ghost use Rattle.macs_program.specs.Summing.{pass_status, summary_line};
 
@@ -14,31 +14,22 @@ use crate::output::{Line, append_count, print_octets};
 use crate::status::Status;
 use crate::stream::Stream;
 use macs_disk::SectorDisk;
-use macs_edge::{RunFault, Summary, run_protect, run_validate};
+use macs_edge::{RunFault, Side, Summary, run_protect, run_validate};
 use macs_endpoint::Endpoint;
 use macs_pcap::{Sink, Source};
 use std::alloc::Global;
 
-/// Which way a capture goes.
-#[derive(Clone, Copy)]
-pub enum Direction {
-    /// Plain frames are protected.
-    Protect,
-    /// Protected frames are validated.
-    Validate,
-}
-
 /// The line that a run ends with.
-pub(crate) fn summary_line(direction: Direction, summary: Summary) -> Line
-    ensures { result.items ≡ summary_line direction summary }
+pub(crate) fn summary_line(side: Side, summary: Summary) -> Line
+    ensures { result.items ≡ summary_line side summary }
 {
     let mut line = Line::new();
-    match direction {
-        Direction::Protect => {
+    match side {
+        Side::Controlled => {
             append_count(&mut line, "protected ", summary.passed);
             append_count(&mut line, " dropped ", summary.dropped);
         }
-        Direction::Validate => {
+        Side::Common => {
             append_count(&mut line, "delivered ", summary.passed);
             append_count(&mut line, " discarded ", summary.dropped);
         }
@@ -62,17 +53,17 @@ pub(crate) fn pass_status(is_all: bool, summary: Summary) -> Status
 fn run_side<D: SectorDisk, R: Source, W: Sink>(
     alloc: Global,
     endpoint: &mut Endpoint<D>,
-    direction: Direction,
+    side: Side,
     source: &mut R,
     sink: &mut W,
 ) -> Result<Summary, RunFault>
-    ensures { RunsOver D.disk (side_of direction)
+    ensures { RunsOver D.disk side
         (run_of endpoint.old (R.state source.old) (W.state sink.old)) result
         (run_of endpoint.new (R.state source.new) (W.state sink.new)) }
 {
-    match direction {
-        Direction::Protect => run_protect(alloc, endpoint, source, sink),
-        Direction::Validate => run_validate(alloc, endpoint, source, sink),
+    match side {
+        Side::Controlled => run_protect(alloc, endpoint, source, sink),
+        Side::Common => run_validate(alloc, endpoint, source, sink),
     }
 }
 
@@ -98,17 +89,17 @@ pub(crate) fn handed_on<W: Sink>(
 fn run_capture<D: SectorDisk, R: Source, W: Sink>(
     alloc: Global,
     endpoint: &mut Endpoint<D>,
-    direction: Direction,
+    side: Side,
     source: &mut R,
     sink: &mut W,
 ) -> Result<Summary, Failure>
-    ensures runs { PassesCapture D.disk (side_of direction)
+    ensures runs { PassesCapture D.disk side
         (run_of endpoint.old (R.state source.old) (W.state sink.old)) result
         (run_of endpoint.new (R.state source.new) (W.state sink.new)) }
     ensures failed { IfErr result (λ failure. ((fault : RunFault) × (failure ≡ failure_of_run fault))
         ⊎ (failure ≡ Failure.Capture)) }
 {
-    let answer = run_side(alloc, endpoint, direction, source, sink);
+    let answer = run_side(alloc, endpoint, side, source, sink);
     handed_on(answer, sink)
 }
 
@@ -119,25 +110,25 @@ fn run_capture<D: SectorDisk, R: Source, W: Sink>(
 pub fn pass_frames<D: SectorDisk, R: Source, S: Sink, W: Stream>(
     alloc: Global,
     endpoint: &mut Endpoint<D>,
-    direction: Direction,
+    side: Side,
     is_all: bool,
     source: &mut R,
     sink: &mut S,
     out: &mut W,
 ) -> Result<Status, Failure>
-    ensures printed { IfOk result (λ status. (summary : Summary) × PassesCapture D.disk (side_of direction)
+    ensures printed { IfOk result (λ status. (summary : Summary) × PassesCapture D.disk side
         (run_of endpoint.old (R.state source.old) (S.state sink.old)) (Ok summary)
         (run_of endpoint.new (R.state source.new) (S.state sink.new))
-        × Appends (W.contents out.old) (W.contents out.new) (summary_line direction summary)
+        × Appends (W.contents out.old) (W.contents out.new) (summary_line side summary)
         × (status ≡ pass_status is_all summary)) }
     ensures failed { IfErr result (λ failure. failure_status failure ≢ Status.Usage) }
-    ensures ended { IfErr result (λ failure. EndsPass D.disk (side_of direction)
+    ensures ended { IfErr result (λ failure. EndsPass D.disk side
         (run_of endpoint.old (R.state source.old) (S.state sink.old)) failure
         (run_of endpoint.new (R.state source.new) (S.state sink.new))) }
     ensures silent { IfErr result (λ failure. failure ≢ Failure.Output → out.new ≡ out.old) }
     ensures broken { IfErr result (λ failure. failure ≡ Failure.Output → W.failed out.new ≡ true) }
 {
-    let summary = run_capture(alloc, endpoint, direction, source, sink)?;
-    print_octets(out, summary_line(direction, summary).as_slice())?;
+    let summary = run_capture(alloc, endpoint, side, source, sink)?;
+    print_octets(out, summary_line(side, summary).as_slice())?;
     Ok(pass_status(is_all, summary))
 }

@@ -1,21 +1,27 @@
-//! `check`: whether the commands of a file can be read, and else the first fault.
+//! `check`: whether the commands of a file can be read, and else the first fault; and what they would be answered.
 
-ghost use Rattle.std.specs.Prelude.{◌≡◌, ◌≢◌, ◌⊎◌, ◌++◌, ◌<◌, ◌^◌, ◌==◌, if◌then◌else◌, codes, ℕ, List, true, IfErr, IfOk, IfSome, string_bytes};
+ghost use Rattle.std.specs.Prelude.{◌≡◌, ◌≢◌, ◌⊎◌, ◌++◌, ◌<◌, ◌^◌, ◌==◌, if◌then◌else◌, codes, ℕ, List, Option, true, IfErr, IfOk, IfSome, string_bytes};
+ghost use Rattle.std.specs.Io.KnownBytes.{Appends};
 ghost use Rattle.toml.specs.Data.{Members};
 ghost use Rattle.toml.specs.View.{table_view};
 ghost use Rattle.toml.specs.Parse.{parse_document};
-ghost use Rattle.macs_config.specs.declared.command.Command.{Command};
+ghost use Rattle.macs_config.specs.declared.refusal.Refusal.{Refusal};
 ghost use Rattle.macs_commands.specs.CommandFiles.{file_commands};
-ghost use Rattle.std.specs.Prelude.{length, Ok};
-ghost use Rattle.macs_program.specs.Checking.{CheckFails, Complains, CountsCommands, HasFault, IsSaidOfFile, IsSaidOfText};
-ghost use Rattle.macs_program.specs.Checking.{PrintsCount, count_line, fault_text, key_reason, key_word};
+ghost use Rattle.std.specs.Prelude.{Ok, Some};
+ghost use Rattle.macs_program.specs.Applying.{SaysCommands, outcomes_status};
+ghost use Rattle.macs_program.specs.Checking.{CheckEnds, Checks, Complains, HasFault, IsSaidOfFile, IsSaidOfText};
+ghost use Rattle.macs_program.specs.Checking.{count_line, fault_text, key_reason, key_word};
+ghost use Rattle.macs_program.specs.Trying.{TrialFails, TriesIn, would_lines};
 
 use crate::applying::MAX_FILE;
+use crate::capture_file::CaptureFile;
 use crate::failure::Failure;
 use crate::files::failure_of;
-use crate::output::{Line, append_count, print_octets};
+use crate::output::{Line, append_count, print, print_octets};
 use crate::status::Status;
 use crate::stream::Stream;
+use crate::trial::{outcomes_status, try_in, would_lines};
+use macs_config::Command;
 use macs_edge::{ConfigFault, KeyName, commands_of};
 use std::alloc::{AllocError, Global};
 use std::fs;
@@ -89,15 +95,14 @@ fn failure_saying(text: Result<String, AllocError>) -> Failure
     }
 }
 
-/// How many commands a table of TOML says.
-fn count_in_table(alloc: Global, table: &Table) -> Result<usize, Failure>
-    ensures counted { IfOk result (λ count. (commands : List Command)
-        × (file_commands (table_view table.now) ≡ Ok commands) × (count ≡ length commands)) }
+/// The commands that a table of TOML says.
+fn commands_in_table(alloc: Global, table: &Table) -> Result<Vec<Command>, Failure>
+    ensures said { IfOk result (λ commands. file_commands (table_view table.now) ≡ Ok commands.items) }
     ensures fault { (text : List ℕ) → parse_document text ≡ Some (table_view table.now)
         → IfErr result (Complains (HasFault text)) }
 {
     match commands_of(alloc, table) {
-        Ok(commands) => Ok(commands.len()),
+        Ok(commands) => Ok(commands),
         Err(fault) => match fault {
             ConfigFault::Memory => Err(Failure::Memory),
             _ => Err(failure_saying(fault_text(alloc, fault))),
@@ -105,22 +110,22 @@ fn count_in_table(alloc: Global, table: &Table) -> Result<usize, Failure>
     }
 }
 
-/// How many commands a text says.
-fn count_in_text(alloc: Global, text: &str) -> Result<usize, Failure>
-    ensures counted { IfOk result (λ count. (commands : List Command) × (members : Members)
-        × (parse_document text.now ≡ Some members) × (file_commands members ≡ Ok commands) × (count ≡ length commands)) }
+/// The commands that a text says.
+fn commands_in_text(alloc: Global, text: &str) -> Result<Vec<Command>, Failure>
+    ensures said { IfOk result (λ commands. (members : Members)
+        × (parse_document text.now ≡ Some members) × (file_commands members ≡ Ok commands.items)) }
     ensures fault { IfErr result (Complains (IsSaidOfText text.now)) }
 {
     match toml::table_from_str(alloc, text) {
-        Ok(table) => count_in_table(alloc, &table),
+        Ok(table) => commands_in_table(alloc, &table),
         Err(error) if error.is_memory() => Err(Failure::Memory),
         Err(_) => Err(failure_saying(String::from_str(alloc, "command file: not TOML"))),
     }
 }
 
-/// How many commands the octets of a file say.
-fn count_in(alloc: Global, octets: &[u8]) -> Result<usize, Failure>
-    ensures counted { IfOk result (CountsCommands octets.now) }
+/// The commands that the octets of a file say.
+fn commands_said(alloc: Global, octets: &[u8]) -> Result<Vec<Command>, Failure>
+    ensures said { IfOk result (λ commands. SaysCommands octets.now commands.items) }
     ensures fault { IfErr result (Complains (IsSaidOfFile octets.now)) }
 {
     if octets.len() > MAX_FILE {
@@ -131,14 +136,15 @@ fn count_in(alloc: Global, octets: &[u8]) -> Result<usize, Failure>
         let text = String::from_str(alloc, "command file: not UTF-8");
         return Err(failure_saying(text));
     };
-    count_in_text(alloc, text)
+    commands_in_text(alloc, text)
 }
 
-/// How many commands an open file says, of which no more is read than can be of use. It fails as `Commands` where a
-/// read fails.
-pub fn count_read<R: Read>(alloc: Global, file: &mut R) -> Result<usize, Failure>
-    ensures counted { IfOk result (λ count. IfSome (R.remaining file.old) (λ octets. CountsCommands octets count)) }
-    ensures some { IfOk result (λ count. (octets : List ℕ) × CountsCommands octets count) }
+/// The commands that an open file says, of which no more is read than can be of use. It fails as `Commands` where a
+/// read fails, and else says the first fault.
+pub fn commands_read<R: Read>(alloc: Global, file: &mut R) -> Result<Vec<Command>, Failure>
+    ensures said { IfOk result (λ commands. IfSome (R.remaining file.old)
+        (λ octets. SaysCommands octets commands.items)) }
+    ensures spelled { IfOk result (λ commands. (octets : List ℕ) × SaysCommands octets commands.items) }
     ensures fault { IfErr result (λ failure. (failure ≡ Failure.Commands)
         ⊎ IfSome (R.remaining file.old) (λ octets. Complains (IsSaidOfFile octets) failure)) }
     ensures ended { IfErr result (λ failure. (failure ≡ Failure.Commands)
@@ -146,7 +152,7 @@ pub fn count_read<R: Read>(alloc: Global, file: &mut R) -> Result<usize, Failure
 {
     let mut octets = Vec::new(alloc);
     match file.take(MAX_READ as u64).read_to_end(&mut octets) {
-        Ok(_) => count_in(alloc, octets.as_slice()),
+        Ok(_) => commands_said(alloc, octets.as_slice()),
         Err(error) => Err(failure_of(error, Failure::Commands)),
     }
 }
@@ -166,32 +172,73 @@ fn count_line(count: usize) -> Line
     line
 }
 
-/// How many commands a file says. It fails as `Commands` where it cannot be opened or read.
-fn count_of_file<T: Files>(rt: &T, alloc: Global, path: &str) -> Result<usize, Failure>
-    ensures some { IfOk result (λ count. (octets : List ℕ) × CountsCommands octets count) }
+/// The commands that a file says. It fails as `Commands` where it cannot be opened or read, and else says the first
+/// fault.
+fn checked_commands<T: Files>(rt: &T, alloc: Global, path: &str) -> Result<Vec<Command>, Failure>
+    ensures spelled { IfOk result (λ commands. (octets : List ℕ) × SaysCommands octets commands.items) }
     ensures ended { IfErr result (λ failure. (failure ≡ Failure.Commands)
         ⊎ ((octets : List ℕ) × Complains (IsSaidOfFile octets) failure)) }
 {
     match fs::open(rt, path) {
-        Ok(mut file) => count_read(alloc, &mut file),
+        Ok(mut file) => commands_read(alloc, &mut file),
         Err(error) => Err(failure_of(error, Failure::Commands)),
     }
 }
 
-/// `check`: prints how many commands a file says.
+/// Prints how many commands there are.
+fn print_count<W: Stream>(count: usize, out: &mut W) -> Result<Status, Failure>
+    ensures printed { IfOk result (λ status.
+        Appends (W.contents out.old) (W.contents out.new) (count_line count) × (status ≡ Status.Done)) }
+    ensures failed { IfErr result (λ failure. failure ≡ Failure.Output) }
+    ensures broken { IfErr result (λ failure. W.failed out.new ≡ true) }
+{
+    print_octets(out, count_line(count).as_slice())?;
+    Ok(Status::Done)
+}
+
+/// Prints what these commands would be answered by the endpoint on the disk in a file. It fails as `try_in` does,
+/// and as `Memory`; nothing is printed then.
+fn print_trial<T: Files, W: Stream>(
+    rt: &T,
+    alloc: Global,
+    disk: &str,
+    commands: &[Command],
+    out: &mut W,
+) -> Result<Status, Failure>
+where
+    T::File: CaptureFile,
+    ensures printed { IfOk result (λ status. (outcomes : List (Option Refusal)) × TriesIn T.File.file commands.now outcomes
+        × Appends (W.contents out.old) (W.contents out.new) (would_lines 1 outcomes) × (status ≡ outcomes_status outcomes)) }
+    ensures ended { IfErr result (λ failure. (failure ≡ Failure.Output) ⊎ (failure ≡ Failure.Memory)
+        ⊎ TrialFails T.File.file commands.now failure) }
+    ensures silent { IfErr result (λ failure. failure ≢ Failure.Output → out.new ≡ out.old) }
+    ensures broken { IfErr result (λ failure. failure ≡ Failure.Output → W.failed out.new ≡ true) }
+{
+    let outcomes = try_in(rt, alloc, disk, commands)?;
+    let text = would_lines(alloc, outcomes.as_slice())?;
+    print(out, text.as_str())?;
+    Ok(outcomes_status(outcomes.as_slice()))
+}
+
+/// `check`: prints how many commands a file says, or what each of them would be answered by the endpoint on the disk
+/// in a file. Neither file is changed.
 pub fn check<T: Files, W: Stream>(
     rt: &T,
     alloc: Global,
     path: &str,
+    disk: Option<&str>,
     out: &mut W,
 ) -> Result<Status, Failure>
-    ensures printed { IfOk result (λ status.
-        PrintsCount (W.contents out.old) (W.contents out.new) × (status ≡ Status.Done)) }
-    ensures ended { IfErr result CheckFails }
+where
+    T::File: CaptureFile,
+    ensures printed { IfOk result (Checks T.File.file disk.entry (W.contents out.old) (W.contents out.new)) }
+    ensures ended { IfErr result (CheckEnds T.File.file disk.entry) }
     ensures silent { IfErr result (λ failure. failure ≢ Failure.Output → out.new ≡ out.old) }
     ensures broken { IfErr result (λ failure. failure ≡ Failure.Output → W.failed out.new ≡ true) }
 {
-    let count = count_of_file(rt, alloc, path)?;
-    print_octets(out, count_line(count).as_slice())?;
-    Ok(Status::Done)
+    let commands = checked_commands(rt, alloc, path)?;
+    match disk {
+        None => print_count(commands.len(), out),
+        Some(disk) => print_trial(rt, alloc, disk, commands.as_slice(), out),
+    }
 }

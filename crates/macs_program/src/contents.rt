@@ -13,7 +13,7 @@ use macs_record::{CLOSED_GATE, Record, SECTOR, decode_head, encode, open_gate};
 use std::io;
 
 /// How many sectors of 512 octets a block of a spaced file has.
-const BLOCK_SECTORS: u64 = 8;
+pub const BLOCK_SECTORS: u64 = 8;
 
 /// The sectors of a disk that hold the heads of its areas, and the gates of those heads.
 const HEADS: [u64; 2] = [0, 514];
@@ -26,7 +26,7 @@ const HEAD_MARK: &[u8; 8] = b"MSECHEAD";
 const OPEN_MARK: &[u8; 8] = b"MSECOPEN";
 
 /// The sector that has the mark of a spaced file: 1,028 blocks are in front of it.
-const SPACED_MARK_SECTOR: u64 = 8_224;
+pub const SPACED_MARK_SECTOR: u64 = 8_224;
 
 /// What is in a file that is to become the disk of an endpoint.
 #[derive(Clone, Copy, Debug, PartialEq, Eq)]
@@ -40,7 +40,11 @@ pub enum Contents {
 }
 
 /// Reads the sector of this number, counted from the start of the file.
-fn read_sector<F: DiskFile>(file: &mut F, number: u64, sector: &mut [u8; SECTOR]) -> io::Result<()>
+pub fn read_sector<F: DiskFile>(
+    file: &mut F,
+    number: u64,
+    sector: &mut [u8; SECTOR],
+) -> io::Result<()>
     requires { 512 * number + 512 < 2 ^ 64 }
     ensures steady { (F.file file.new).behaves ≡ (F.file file.old).behaves }
     ensures same { Behaves (F.file file.old) → F.file file.new ≡ F.file file.old }
@@ -58,7 +62,12 @@ fn has_front(sector: &[u8; SECTOR], front: &[u8; 8]) -> bool
 }
 
 /// Whether a file of so many sectors has one of this number that begins so.
-fn begins<F: DiskFile>(file: &mut F, sectors: u64, number: u64, front: &[u8; 8]) -> io::Result<bool>
+pub fn begins<F: DiskFile>(
+    file: &mut F,
+    sectors: u64,
+    number: u64,
+    front: &[u8; 8],
+) -> io::Result<bool>
     requires { 512 * sectors < 2 ^ 64 }
     ensures steady { (F.file file.new).behaves ≡ (F.file file.old).behaves }
     ensures same { Behaves (F.file file.old) → F.file file.new ≡ F.file file.old }

@@ -7,13 +7,13 @@ ghost use Rattle.macs_program.specs.Judging.{IsOfRun, JudgesCapture, PrintsEach,
 ghost use Rattle.macs_rxsc.specs.declared.verdict.Verdict.{Verdict};
 ghost use Rattle.macs_texts.specs.Counting.{verdict_words};
 
-use crate::capturing::{Direction, handed_on, pass_status, summary_line};
+use crate::capturing::{handed_on, pass_status, summary_line};
 use crate::failure::Failure;
 use crate::output::{Line, append_count, append_text, print_octets};
 use crate::status::Status;
 use crate::stream::Stream;
 use macs_disk::SectorDisk;
-use macs_edge::{Summary, Verdicts, run_validate_each};
+use macs_edge::{Side, Summary, Verdicts, run_validate_each};
 use macs_endpoint::Endpoint;
 use macs_pcap::{Sink, Source};
 use macs_rxsc::Verdict;
@@ -127,6 +127,6 @@ pub fn judge_frames<D: SectorDisk, R: Source, S: Sink, W: Stream>(
         (run_of endpoint.new (R.state source.new) (S.state sink.new)) out.new }
 {
     let summary = print_each(alloc, endpoint, source, sink, out)?;
-    print_octets(out, summary_line(Direction::Validate, summary).as_slice())?;
+    print_octets(out, summary_line(Side::Common, summary).as_slice())?;
     Ok(pass_status(is_all, summary))
 }

@@ -10,6 +10,7 @@ ghost use Rattle.macs_program.specs.ContentWords.{BlankWords, InUseWords};
 ghost use Rattle.macs_program.specs.Contents.{ContentsAre, HasOpenGate, IsBlankFile};
 ghost use Rattle.macs_program.specs.Drawn.{AnswerWords, ApplyWords, CaptureWords, FileWords, LineWords, TextLineWords};
 ghost use Rattle.macs_program.specs.Drawn.{ValueWords};
+ghost use Rattle.macs_program.specs.ExamineTexts.{AboutTexts, ExamineTexts};
 ghost use Rattle.macs_program.specs.Inputs.{read_of};
 ghost use Rattle.macs_program.specs.NewDisks.{Formats, Permits};
 ghost use Rattle.macs_program.specs.RelayDrawn.{RelayWords};
@@ -108,6 +109,10 @@ pub fn texts()
     ensures checks { CheckTexts }
     // What `show` prints of an endpoint.
     ensures shown { ShowTexts }
+    // What `examine` prints of a journal.
+    ensures examined { ExamineTexts }
+    // What `about` prints of the program.
+    ensures about { AboutTexts }
     // The octets of a capture, and the order of their faults.
     ensures captures { CaptureOctets }
 {}

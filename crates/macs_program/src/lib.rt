@@ -1,17 +1,23 @@
 //! The program over its words, a reader and two streams.
 #![tactic(auto)]
 
+mod about;
 mod addresses;
 mod applying;
 mod asking;
 mod attendants;
+mod build;
 mod capture_file;
 mod captures;
 mod capturing;
 mod check;
 mod contents;
+mod disk_copy;
+mod examine;
+mod examined_text;
 mod failure;
 mod files;
+mod first_fault;
 mod four_lines;
 mod hex_text;
 mod input;
@@ -28,14 +34,14 @@ mod relaying;
 pub mod run;
 mod status;
 mod stream;
+mod trial;
 mod values;
 mod watch;
 mod whole_writes;
 
 pub use addresses::{AddressFault, Addresses, WireAddresses};
 pub use capture_file::CaptureFile;
-pub use capturing::Direction;
-pub use check::count_read;
+pub use check::commands_read;
 pub use failure::{DiskFault, Failure};
 pub use input::{Input, InputText, ReadFailed, ReaderInput};
 pub use inspect::inspect_capture;

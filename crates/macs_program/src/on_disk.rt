@@ -17,7 +17,6 @@ ghost use Rattle.macs_fields.specs.First.{IsFirst};
 ghost use Rattle.macs_program.specs.Addresses.{AddressFaultHolds, SpellsBoth, address_faults};
 ghost use Rattle.macs_program.specs.Applying.{outcome_lines};
 ghost use Rattle.macs_program.specs.CaptureFiles.{Asks, AsksInOrder, Makes, Opens};
-ghost use Rattle.macs_program.specs.Capturing.{side_of};
 ghost use Rattle.macs_program.specs.Endpoints.{AppliesIn, BreaksOffIn, IsDiskIn, IsOpeningIn, OpeningFails};
 ghost use Rattle.macs_program.specs.Endpoints.{PassEndsIn, PassesIn, ShowsIn};
 ghost use Rattle.macs_program.specs.Failing.{failure_status};
@@ -28,7 +27,7 @@ ghost use Rattle.macs_program.specs.Summing.{pass_status, relay_line, summary_li
 ghost use Rattle.macs_program.specs.Tasks.{DoesApply, DoesPass, DoesRelay, DoesShow, Doing, IsRunIn};
 ghost use Rattle.macs_program.specs.Values.{SpellsIdentity, SpellsLayout, ValueFaultHolds, value_faults};
 ghost use Rattle.macs_program.specs.declared.addresses.AddressFault.{AddressFault};
-ghost use Rattle.macs_program.specs.declared.capturing.Direction.TheVariants as ways;
+ghost use Rattle.macs_edge.specs.declared.settling.Side.TheVariants as sides;
 ghost use Rattle.macs_program.specs.declared.values.ValueFault.{ValueFault};
 ghost use Rattle.macs_rxsc.specs.declared.verdict.Verdict.{Verdict};
 ghost use Rattle.macs_texts.specs.Lines.{line};
@@ -38,7 +37,7 @@ use crate::applying::apply_commands;
 use crate::attendants::{desk_for, leave};
 use crate::capture_file::CaptureFile;
 use crate::captures::{Captures, SystemCaptures};
-use crate::capturing::{Direction, pass_frames};
+use crate::capturing::pass_frames;
 use crate::failure::Failure;
 use crate::files::{commands_of_file, open_disk};
 use crate::judging::judge_frames;
@@ -51,7 +50,7 @@ use crate::values::{Given, given_by};
 use crate::watch::Watch;
 use macs_control::{Notifier, Wires as Sockets, ask_for_buffer};
 use macs_disk::{DiskFile, FileDisk, SectorDisk};
-use macs_edge::{UdpWire, Wire};
+use macs_edge::{Side, UdpWire, Wire};
 use macs_endpoint::{Endpoint, OpenRefused};
 use macs_texts::show_lines;
 use macs_words::{Milliseconds, Pace, Running, WireEnds};
@@ -277,25 +276,17 @@ fn pass_between<C: Captures, D: SectorDisk, W: Stream>(
     captures: &mut C,
     alloc: Global,
     endpoint: &mut Endpoint<D>,
-    direction: Direction,
+    side: Side,
     is_all: bool,
     from: &str,
     to: &str,
     out: &mut W,
 ) -> Result<Status, Failure>
     ensures asks { AsksInOrder from.now to.now (C.asked captures.old) (C.asked captures.new) result }
-    ensures passes { DoesPass D.disk W.contents W.failed direction is_all endpoint.old out.old result endpoint.new out.new }
+    ensures passes { DoesPass D.disk W.contents W.failed side is_all endpoint.old out.old result endpoint.new out.new }
 {
     let (mut source, mut sink) = open_both(captures, from, to)?;
-    pass_frames(
-        alloc,
-        endpoint,
-        direction,
-        is_all,
-        &mut source,
-        &mut sink,
-        out,
-    )
+    pass_frames(alloc, endpoint, side, is_all, &mut source, &mut sink, out)
 }
 
 /// Takes a capture in a file through an endpoint into another file.
@@ -303,7 +294,7 @@ fn pass_between<C: Captures, D: SectorDisk, W: Stream>(
 struct PassFile<'a, T> {
     rt: &'a T,
     alloc: Global,
-    direction: Direction,
+    side: Side,
     is_all: bool,
     from: &'a str,
     to: &'a str,
@@ -313,7 +304,7 @@ impl<T: Files, D: SectorDisk, W: Stream> Task<D, W> for PassFile<'_, T>
 where
     T::File: CaptureFile,
 {
-    ghost does = { λ task. DoesPass D.disk W.contents W.failed task.direction task.is_all };
+    ghost does = { λ task. DoesPass D.disk W.contents W.failed task.side task.is_all };
 
     #[inline(never)]
     fn run(&self, endpoint: &mut Endpoint<D>, out: &mut W) -> Result<Status, Failure> {
@@ -323,7 +314,7 @@ where
             &mut captures,
             alloc,
             endpoint,
-            self.direction,
+            self.side,
             self.is_all,
             self.from,
             self.to,
@@ -337,7 +328,7 @@ where
 pub fn pass<'a, T: Files, W: Stream>(
     rt: &'a T,
     alloc: Global,
-    direction: Direction,
+    side: Side,
     is_all: bool,
     disk: &str,
     from: &'a str,
@@ -347,11 +338,11 @@ pub fn pass<'a, T: Files, W: Stream>(
 where
     T::File: CaptureFile,
     ensures printed { IfOk result (λ status. (summary : Summary)
-        × PassesIn T.File.file (side_of direction) summary
-        × Appends (W.contents out.old) (W.contents out.new) (summary_line direction summary)
+        × PassesIn T.File.file side summary
+        × Appends (W.contents out.old) (W.contents out.new) (summary_line side summary)
         × (status ≡ pass_status is_all summary)) }
     ensures ended { IfErr result (λ failure. OpeningFails T.File.file failure
-        ⊎ PassEndsIn T.File.file (side_of direction) failure) }
+        ⊎ PassEndsIn T.File.file side failure) }
     ensures failed { IfErr result (λ failure. failure_status failure ≢ Status.Usage) }
     ensures silent { IfErr result (λ failure. failure ≢ Failure.Output → out.new ≡ out.old) }
     ensures broken { IfErr result (λ failure. failure ≡ Failure.Output → W.failed out.new ≡ true) }
@@ -359,7 +350,7 @@ where
     let task = PassFile {
         rt,
         alloc,
-        direction,
+        side,
         is_all,
         from,
         to,
@@ -429,7 +420,7 @@ where
     ensures printed { IfOk result (λ status. (summary : Summary) × (verdicts : List Verdict)
         × JudgesIn T.File.file summary verdicts
         × Appends (W.contents out.old) (W.contents out.new)
-        (verdict_lines 1 verdicts ++ summary_line ways.Validate summary)
+        (verdict_lines 1 verdicts ++ summary_line sides.Common summary)
         × (status ≡ pass_status is_all summary)) }
     ensures ended { IfErr result (λ failure. OpeningFails T.File.file failure ⊎ JudgingEndsIn T.File.file failure) }
     ensures failed { IfErr result (λ failure. failure_status failure ≢ Status.Usage) }

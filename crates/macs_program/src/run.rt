@@ -13,10 +13,11 @@ ghost use Rattle.macs_words.specs.declared.action.Action.{Action};
 ghost use Rattle.macs_program.specs.declared.failure.Failure.{Failure};
 ghost use Rattle.macs_program.specs.declared.status.Status.{Status};
 
+use crate::about::about;
 use crate::asking::ask;
 use crate::capture_file::CaptureFile;
-use crate::capturing::Direction;
 use crate::check::check;
+use crate::examine::examine;
 use crate::failure::Failure;
 use crate::input::{Input, InputText};
 use crate::inspect::inspect;
@@ -27,6 +28,7 @@ use crate::opened::{Opened, answer_of};
 use crate::output::print;
 use crate::status::Status;
 use crate::stream::{PrintFailed, Stream};
+use macs_edge::Side;
 use macs_words::{Action, action_of, topic_of};
 use std::alloc::{AllocError, Allocator, Global};
 use std::net::Net;
@@ -107,7 +109,9 @@ where
         Action::Ask { path, question } => ask(rt, alloc, path, question, out),
         Action::Key { is_long } => key(rt, is_long, out),
         Action::Inspect { input: from } => inspect(rt, alloc, from, out),
-        Action::Check { file } => check(rt, alloc, file, out),
+        Action::Check { file, disk } => check(rt, alloc, file, disk, out),
+        Action::Examine { disk } => examine(rt, alloc, disk, out),
+        Action::About => about(alloc, out),
     }
 }
 
@@ -130,7 +134,7 @@ where
             input: from,
             output: to,
             is_all,
-        } => pass(rt, alloc, Direction::Protect, is_all, disk, from, to, out),
+        } => pass(rt, alloc, Side::Controlled, is_all, disk, from, to, out),
         Action::Validate {
             disk,
             input: from,
@@ -141,7 +145,7 @@ where
             if is_each {
                 judge(rt, alloc, is_all, disk, from, to, out)
             } else {
-                pass(rt, alloc, Direction::Validate, is_all, disk, from, to, out)
+                pass(rt, alloc, Side::Common, is_all, disk, from, to, out)
             }
         }
         Action::Relay {
@@ -198,7 +202,7 @@ pub fn report<E: Stream>(failure: &Failure, err: &mut E) -> u8
 /// Runs the program: the words without the program's own name, standard input, standard output and
 /// standard error. It answers the status of the process. Faults are found in this order: the words;
 /// the SCI, the blocks and the addresses; the disk file and its opening; the other files or the binds from
-/// left to right; that the order among files is this one is tested.
+/// left to right; of `check` the command file before the disk file. That the order among files is this one is tested.
 pub fn run<T: Files + Net + Clock + Env + RandomSource, R: Input, W: Stream, E: Stream>(
     rt: &T,
     alloc: Global,

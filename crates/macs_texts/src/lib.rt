@@ -11,6 +11,7 @@ mod showing;
 mod words;
 
 pub use counting::counter_lines;
+pub use lines::{ended, joined};
 pub use measuring::metric_lines;
 pub use refusals::refusal_name;
 pub use showing::show_lines;

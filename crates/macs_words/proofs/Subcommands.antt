@@ -23,7 +23,7 @@ use Rattle.clap.specs.declared.error.kind.ErrorKind.TheVariants.{OutOfMemory}
 use Rattle.clap.proofs.OnLiterals.{clap_on_literals}
 use Rattle.clap.proofs.ValueTestLemmas.{accepts-Accepts}
 use Rattle.macs_words.specs.declared.action.Action.{Action}
-use Rattle.macs_words.specs.declared.action.Action.TheVariants.{Open, Format, Apply, Show, Protect, Validate, Relay, Ask, Key, Inspect, Check}
+use Rattle.macs_words.specs.declared.action.Action.TheVariants.{Open, Format, Apply, Show, Protect, Validate, Relay, Ask, Key, Inspect, Check, Examine, About}
 use Rattle.macs_words.specs.declared.action.Question.{Question}
 use Rattle.macs_words.specs.declared.action.Question.TheVariants as question
 use Rattle.macs_words.specs.declared.pace.Pace.{Pace}
@@ -86,7 +86,9 @@ blocks rows (Relay disk controlled common running) named fits = absurd (omega (a
 blocks rows (Ask path asked) named fits = absurd (omega (arith, ap (λ (t : Text). slice_index t 0) named.0))
 blocks rows (Key is_long) named fits = absurd (omega (arith, ap (λ (t : Text). slice_index t 0) named.0))
 blocks rows (Inspect input) named fits = absurd (omega (arith, ap (λ (t : Text). slice_index t 0) named.0))
-blocks rows (Check file) named fits = absurd (omega (arith, ap (λ (t : Text). slice_index t 0) named.0))
+blocks rows (Check file disk) named fits = absurd (omega (arith, ap (λ (t : Text). slice_index t 0) named.0))
+blocks rows (Examine disk) named fits = absurd (omega (arith, ap (λ (t : Text). slice_index t 0) named.0))
+blocks rows About named fits = absurd (omega (arith, ap (λ (t : Text). slice_index t 0) named))
 
 -- ---- what `relay` is given
 
@@ -103,7 +105,9 @@ pace_of rows (Relay disk controlled common running) named fits = (running.pace, 
 pace_of rows (Ask path asked) named fits = absurd (omega (arith, ap (λ (t : Text). slice_index t 0) named.0))
 pace_of rows (Key is_long) named fits = absurd (omega (arith, ap (λ (t : Text). slice_index t 0) named.0))
 pace_of rows (Inspect input) named fits = absurd (omega (arith, ap (λ (t : Text). slice_index t 0) named.0))
-pace_of rows (Check file) named fits = absurd (omega (arith, ap (λ (t : Text). slice_index t 0) named.0))
+pace_of rows (Check file disk) named fits = absurd (omega (arith, ap (λ (t : Text). slice_index t 0) named.0))
+pace_of rows (Examine disk) named fits = absurd (omega (arith, ap (λ (t : Text). slice_index t 0) named.0))
+pace_of rows About named fits = absurd (omega (arith, ap (λ (t : Text). slice_index t 0) named))
 
 -- ---- what `ask` is given
 
@@ -119,7 +123,9 @@ question_of rows (Relay disk controlled common running) named = absurd (omega (a
 question_of rows (Ask path asked) named = (asked, named.2)
 question_of rows (Key is_long) named = absurd (omega (arith, ap (λ (t : Text). slice_index t 0) named.0))
 question_of rows (Inspect input) named = absurd (omega (arith, ap (λ (t : Text). slice_index t 0) named.0))
-question_of rows (Check file) named = absurd (omega (arith, ap (λ (t : Text). slice_index t 0) named.0))
+question_of rows (Check file disk) named = absurd (omega (arith, ap (λ (t : Text). slice_index t 0) named.0))
+question_of rows (Examine disk) named = absurd (omega (arith, ap (λ (t : Text). slice_index t 0) named.0))
+question_of rows About named = absurd (omega (arith, ap (λ (t : Text). slice_index t 1) named))
 
 -- ---- what each subcommand is given
 
@@ -482,11 +488,28 @@ check-named : IsNamed (shape_at 10)
 unfolding clap_on_literals
 check-named words passes =
     let rules : AreValueRules (shape_at 10).rules = record {
-      each = (value-is 1 (codes "FILE"), tt);
-      own = (refl, tt);
+      each = (value-is 1 (codes "FILE"), (last-is 2 (codes "DISK"), tt));
+      own = (refl, (refl, tt));
     } in
     let file = given (shape_at 10) words (with_index 1 (filled (value_rule (codes "FILE")))) rules refl passes refl refl in
-    inr (Check (text_of file.0), (refl, file.1), tt)
+    let rows = rows_after (shape_at 10).rules [] words in inr (
+      Check (text_of file.0) (option_map text_of (first_of (codes "DISK") rows)),
+      (refl, file.1, texts-back (first_of (codes "DISK") rows)),
+      tt,
+    )
+
+examine-named : IsNamed (shape_at 11)
+unfolding clap_on_literals
+examine-named words passes =
+    let rules : AreValueRules (shape_at 11).rules = record {
+      each = (value-is 1 (codes "DISK"), tt);
+      own = (refl, tt);
+    } in
+    let disk = given (shape_at 11) words (with_index 1 (filled (value_rule (codes "DISK")))) rules refl passes refl refl in
+    inr (Examine (text_of disk.0), (refl, disk.1), tt)
+
+about-named : IsNamed (shape_at 12)
+about-named words passes = inr (About, refl, tt)
 
 -- ---- the words of a whole command line
 
@@ -515,9 +538,9 @@ first-of-three true true d is = refl
 first-of-three true false d is = cc
 first-of-three false b d is = cc
 
--- those that need no endpoint
-lone-named : AllByRecursion IsNamed (shape_at 8 ∷ shape_at 9 ∷ shape_at 10 ∷ [])
-lone-named = (key-named, (inspect-named, (check-named, tt)))
+-- those that change no endpoint
+lone-named : AllByRecursion IsNamed (shape_at 8 ∷ shape_at 9 ∷ shape_at 10 ∷ shape_at 11 ∷ shape_at 12 ∷ [])
+lone-named = (key-named, (inspect-named, (check-named, (examine-named, (about-named, tt)))))
 
 all-named : AllByRecursion IsNamed (built macsecd).subs
 all-named = (open-named, (format-named, (apply-named, (show-named, (protect-named, (validate-named, (relay-named, (ask-named, lone-named))))))))

@@ -7,7 +7,7 @@ use Rattle.macs_words.specs.Words.{AreRefused, AsksFor, HasNumber, HasPace, HasQ
 use Rattle.macs_words.specs.Help.{topic_text}
 use Rattle.macs_words.specs.declared.action.Action.{Action}
 use Rattle.macs_words.specs.declared.action.Action.TheVariants.{Open, Format, Apply, Show, Protect, Validate, Relay, Ask}
-use Rattle.macs_words.specs.declared.action.Action.TheVariants.{Key, Inspect, Check}
+use Rattle.macs_words.specs.declared.action.Action.TheVariants.{Key, Inspect, Check, Examine, About}
 use Rattle.macs_words.specs.declared.action.Question.{Question}
 use Rattle.macs_words.specs.declared.action.Question.TheVariants as question
 use Rattle.macs_words.specs.declared.action.WireEnds.{WireEnds}
@@ -15,7 +15,7 @@ use Rattle.macs_words.specs.declared.help.Subcommand.{Subcommand}
 use Rattle.macs_words.specs.declared.help.Subcommand.TheVariants as subcommand
 use Rattle.macs_words.specs.declared.help.Topic.TheVariants.{Help, HelpOn, Version}
 use Rattle.macs_words.specs.declared.help_texts.TheConstants.{APPLY, ASK, CHECK, FORMAT, HELP, INSPECT, KEY, OPEN, PROTECT}
-use Rattle.macs_words.specs.declared.help_texts.TheConstants.{RELAY, SHOW, VALIDATE, VERSION}
+use Rattle.macs_words.specs.declared.help_texts.TheConstants.{ABOUT, EXAMINE, RELAY, SHOW, VALIDATE, VERSION}
 use Rattle.macs_words.specs.declared.pace.Milliseconds.{Milliseconds}
 use Rattle.macs_words.specs.declared.pace.Pace.{Pace}
 use Rattle.macs_words.specs.declared.pace.Pace.TheVariants.{Sleepless, Waiting}
@@ -81,8 +81,13 @@ pub record ActionWords : Type 0 where
       → (name ≡ codes "key") × ((is_long ≡ true) ↔ (first_of (codes "long") values ≡ Some (codes "true")))
   pub inspect : (name : Text) (values : List Row) (input : Bor Text) → Names (Some (name, values)) (Inspect input)
       → (name ≡ codes "inspect") × (first_of (codes "INPUT") values ≡ Some input.now)
-  pub check : (name : Text) (values : List Row) (file : Bor Text) → Names (Some (name, values)) (Check file)
+  pub check : (name : Text) (values : List Row) (file : Bor Text) (disk : Option (Bor Text))
+      → Names (Some (name, values)) (Check file disk)
       → (name ≡ codes "check") × (first_of (codes "FILE") values ≡ Some file.now)
+      × (first_of (codes "DISK") values ≡ option_map (λ t. t.now) disk)
+  pub examine : (name : Text) (values : List Row) (disk : Bor Text) → Names (Some (name, values)) (Examine disk)
+      → (name ≡ codes "examine") × (first_of (codes "DISK") values ≡ Some disk.now)
+  pub about : (name : Text) (values : List Row) → Names (Some (name, values)) About → name ≡ codes "about"
   pub number : (values : List Row) (name : Text) (n : ℕ) → HasNumber values name n
       → (text : Text) × (first_of name values ≡ Some text) × IsNumeral 10 (without_leading_plus text)
       × (n ≡ digits_value 10 (without_leading_plus text))
@@ -111,12 +116,12 @@ pub record HelpWords : Type 0 where
   pub version : (word : Text) → AsksFor (word ∷ []) Version ↔ (word ≡ codes "--version")
   pub names : map name_of (subcommand.Open ∷ subcommand.Format ∷ subcommand.Apply ∷ subcommand.Show
       ∷ subcommand.Protect ∷ subcommand.Validate ∷ subcommand.Relay ∷ subcommand.Ask ∷ subcommand.Key
-      ∷ subcommand.Inspect ∷ subcommand.Check ∷ [])
+      ∷ subcommand.Inspect ∷ subcommand.Check ∷ subcommand.Examine ∷ subcommand.About ∷ [])
       ≡ codes "open" ∷ codes "format" ∷ codes "apply" ∷ codes "show" ∷ codes "protect" ∷ codes "validate"
-      ∷ codes "relay" ∷ codes "ask" ∷ codes "key" ∷ codes "inspect" ∷ codes "check" ∷ []
+      ∷ codes "relay" ∷ codes "ask" ∷ codes "key" ∷ codes "inspect" ∷ codes "check" ∷ codes "examine" ∷ codes "about" ∷ []
   pub topics : map topic_text (Help ∷ Version ∷ HelpOn subcommand.Open ∷ HelpOn subcommand.Format
       ∷ HelpOn subcommand.Apply ∷ HelpOn subcommand.Show ∷ HelpOn subcommand.Protect ∷ HelpOn subcommand.Validate
       ∷ HelpOn subcommand.Relay ∷ HelpOn subcommand.Ask ∷ HelpOn subcommand.Key ∷ HelpOn subcommand.Inspect
-      ∷ HelpOn subcommand.Check ∷ [])
+      ∷ HelpOn subcommand.Check ∷ HelpOn subcommand.Examine ∷ HelpOn subcommand.About ∷ [])
       ≡ HELP.now ∷ VERSION.now ∷ OPEN.now ∷ FORMAT.now ∷ APPLY.now ∷ SHOW.now ∷ PROTECT.now ∷ VALIDATE.now
-      ∷ RELAY.now ∷ ASK.now ∷ KEY.now ∷ INSPECT.now ∷ CHECK.now ∷ []
+      ∷ RELAY.now ∷ ASK.now ∷ KEY.now ∷ INSPECT.now ∷ CHECK.now ∷ EXAMINE.now ∷ ABOUT.now ∷ []

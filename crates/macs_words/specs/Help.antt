@@ -4,7 +4,7 @@ use Rattle.macs_words.specs.declared.help.Subcommand.{Subcommand}
 use Rattle.macs_words.specs.declared.help.Subcommand.TheVariants as subcommand
 use Rattle.macs_words.specs.declared.help.Topic.{Topic}
 use Rattle.macs_words.specs.declared.help.Topic.TheVariants.{Help, HelpOn, Version}
-use Rattle.macs_words.specs.declared.help_texts.TheConstants.{APPLY, ASK, CHECK, FORMAT, HELP, INSPECT, KEY, OPEN, PROTECT, RELAY, SHOW, VALIDATE, VERSION}
+use Rattle.macs_words.specs.declared.help_texts.TheConstants.{ABOUT, APPLY, ASK, CHECK, EXAMINE, FORMAT, HELP, INSPECT, KEY, OPEN, PROTECT, RELAY, SHOW, VALIDATE, VERSION}
 
 -- what is printed on a subcommand
 abbrev pub subcommand_text : Subcommand → List ℕ
@@ -19,6 +19,8 @@ subcommand_text subcommand.Ask = ASK.now
 subcommand_text subcommand.Key = KEY.now
 subcommand_text subcommand.Inspect = INSPECT.now
 subcommand_text subcommand.Check = CHECK.now
+subcommand_text subcommand.Examine = EXAMINE.now
+subcommand_text subcommand.About = ABOUT.now
 
 -- what is printed for a topic, in whole lines
 abbrev pub topic_text : Topic → List ℕ

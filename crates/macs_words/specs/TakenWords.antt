@@ -14,7 +14,7 @@ use Rattle.macs_words.specs.Controls.{printable_char}
 use Rattle.macs_words.specs.Words.{AreRefused, HasNumber, HasPace, HasPrintableCause, HasQuestion, MayHaveRoom, Names}
 use Rattle.macs_words.specs.Words.{macsecd}
 use Rattle.macs_words.specs.declared.action.Action.TheVariants.{Open, Format, Apply, Show, Protect, Validate, Relay, Ask}
-use Rattle.macs_words.specs.declared.action.Action.TheVariants.{Key, Inspect, Check}
+use Rattle.macs_words.specs.declared.action.Action.TheVariants.{Key, Inspect, Check, Examine, About}
 use Rattle.macs_words.specs.declared.action.Question.{Question}
 use Rattle.macs_words.specs.declared.action.Question.TheVariants as question
 use Rattle.macs_words.specs.declared.action.UsageFault.TheVariants.{Usage}
@@ -23,12 +23,12 @@ use Rattle.macs_words.specs.declared.pace.Milliseconds.{Milliseconds}
 use Rattle.macs_words.specs.declared.pace.Pace.TheVariants.{Sleepless, Waiting}
 use Rattle.macs_words.specs.declared.pace.Running.{Running}
 
--- There are eleven subcommands. These are the values and options of each, in their order; those with `--`; those that
+-- There are thirteen subcommands. These are the values and options of each, in their order; those with `--`; those that
 -- have to be given; the ranges of numbers; and those that are on where they are given, without a value.
 pub record KnownWords : Type 0 where
   pub subcommands : map (λ (s : Shape). s.name) macsecd.subs ≡ codes "open" ∷ codes "format" ∷ codes "apply"
       ∷ codes "show" ∷ codes "protect" ∷ codes "validate" ∷ codes "relay" ∷ codes "ask" ∷ codes "key"
-      ∷ codes "inspect" ∷ codes "check" ∷ []
+      ∷ codes "inspect" ∷ codes "check" ∷ codes "examine" ∷ codes "about" ∷ []
   pub values : map (λ (s : Shape). map (λ (r : Rule). r.id) s.rules) macsecd.subs
       ≡ [] ∷ (codes "DISK" ∷ codes "SCI" ∷ codes "TX" ∷ codes "RX" ∷ codes "block" ∷ codes "over" ∷ [])
       ∷ (codes "DISK" ∷ codes "FILE" ∷ []) ∷ (codes "DISK" ∷ [])
@@ -37,7 +37,7 @@ pub record KnownWords : Type 0 where
       ∷ (codes "DISK" ∷ codes "OWN1" ∷ codes "PEER1" ∷ codes "OWN2" ∷ codes "PEER2" ∷ codes "turns" ∷ codes "wait"
       ∷ codes "buffer" ∷ codes "control" ∷ codes "metrics" ∷ [])
       ∷ (codes "PATH" ∷ codes "WORD" ∷ codes "FILE" ∷ []) ∷ (codes "long" ∷ []) ∷ (codes "INPUT" ∷ [])
-      ∷ (codes "FILE" ∷ []) ∷ []
+      ∷ (codes "FILE" ∷ codes "DISK" ∷ []) ∷ (codes "DISK" ∷ []) ∷ [] ∷ []
   pub options : map (λ (s : Shape). map (λ (r : Rule). r.long) s.rules) macsecd.subs
       ≡ [] ∷ (None ∷ None ∷ None ∷ None ∷ Some (codes "block") ∷ Some (codes "over") ∷ [])
       ∷ (None ∷ None ∷ []) ∷ (None ∷ [])
@@ -45,23 +45,24 @@ pub record KnownWords : Type 0 where
       ∷ (None ∷ None ∷ None ∷ Some (codes "all") ∷ Some (codes "each") ∷ [])
       ∷ (None ∷ None ∷ None ∷ None ∷ None ∷ Some (codes "turns") ∷ Some (codes "wait") ∷ Some (codes "buffer")
       ∷ Some (codes "control") ∷ Some (codes "metrics") ∷ [])
-      ∷ (None ∷ None ∷ None ∷ []) ∷ (Some (codes "long") ∷ []) ∷ (None ∷ []) ∷ (None ∷ []) ∷ []
+      ∷ (None ∷ None ∷ None ∷ []) ∷ (Some (codes "long") ∷ []) ∷ (None ∷ []) ∷ (None ∷ None ∷ [])
+      ∷ (None ∷ []) ∷ [] ∷ []
   pub required : map (λ (s : Shape). map (λ (r : Rule). r.required) s.rules) macsecd.subs
       ≡ [] ∷ (true ∷ true ∷ true ∷ true ∷ false ∷ false ∷ []) ∷ (true ∷ true ∷ []) ∷ (true ∷ [])
       ∷ (true ∷ true ∷ true ∷ false ∷ []) ∷ (true ∷ true ∷ true ∷ false ∷ false ∷ [])
       ∷ (true ∷ true ∷ true ∷ true ∷ true ∷ false ∷ false ∷ false ∷ false ∷ false ∷ [])
-      ∷ (true ∷ true ∷ false ∷ []) ∷ (false ∷ []) ∷ (true ∷ []) ∷ (true ∷ []) ∷ []
+      ∷ (true ∷ true ∷ false ∷ []) ∷ (false ∷ []) ∷ (true ∷ []) ∷ (true ∷ false ∷ []) ∷ (true ∷ []) ∷ [] ∷ []
   pub ranges : map (λ (s : Shape). map (λ (r : Rule). r.parser) s.rules) macsecd.subs
       ≡ [] ∷ (None ∷ None ∷ Some (vp.Unsigned 0 (2 ^ 32 - 1)) ∷ Some (vp.Unsigned 0 (2 ^ 32 - 1)) ∷ None ∷ None ∷ [])
       ∷ replicate 2 None ∷ replicate 1 None ∷ replicate 4 None ∷ replicate 5 None
       ∷ (None ∷ None ∷ None ∷ None ∷ None ∷ Some (vp.Unsigned 0 (2 ^ 64 - 1)) ∷ Some (vp.Unsigned 1 60000)
       ∷ Some (vp.Unsigned 1 1073741823) ∷ None ∷ None ∷ [])
-      ∷ replicate 3 None ∷ replicate 1 None ∷ replicate 1 None ∷ replicate 1 None ∷ []
+      ∷ replicate 3 None ∷ replicate 1 None ∷ replicate 1 None ∷ replicate 2 None ∷ replicate 1 None ∷ [] ∷ []
   pub actions : map (λ (s : Shape). map (λ (r : Rule). r.action) s.rules) macsecd.subs
       ≡ [] ∷ (replicate 5 (Some Set) ++ (Some SetTrue ∷ [])) ∷ replicate 2 (Some Set) ∷ replicate 1 (Some Set)
       ∷ (replicate 3 (Some Set) ++ (Some SetTrue ∷ [])) ∷ (replicate 3 (Some Set) ++ (Some SetTrue ∷ Some SetTrue ∷ []))
       ∷ replicate 10 (Some Set) ∷ replicate 3 (Some Set) ∷ (Some SetTrue ∷ []) ∷ replicate 1 (Some Set)
-      ∷ replicate 1 (Some Set) ∷ []
+      ∷ replicate 2 (Some Set) ∷ replicate 1 (Some Set) ∷ [] ∷ []
 
 -- What is there where the words name an action is enough for it. Of the four questions each is asked by its word. Words
 -- that are not taken are refused, and so are a relay without turns and without a wait, and an `ask` of anything else.
@@ -104,8 +105,13 @@ pub record TakenWords : Type 0 where
       → Names (Some (codes "key", values)) (Key is_long)
   pub inspect : (values : List Row) (input : Bor Text) → first_of (codes "INPUT") values ≡ Some input.now
       → Names (Some (codes "inspect", values)) (Inspect input)
-  pub check : (values : List Row) (file : Bor Text) → first_of (codes "FILE") values ≡ Some file.now
-      → Names (Some (codes "check", values)) (Check file)
+  pub check : (values : List Row) (file : Bor Text) (disk : Option (Bor Text))
+      → first_of (codes "FILE") values ≡ Some file.now
+      → option_map (λ t. t.now) disk ≡ first_of (codes "DISK") values
+      → Names (Some (codes "check", values)) (Check file disk)
+  pub examine : (values : List Row) (disk : Bor Text) → first_of (codes "DISK") values ≡ Some disk.now
+      → Names (Some (codes "examine", values)) (Examine disk)
+  pub about : (values : List Row) → Names (Some (codes "about", values)) About
   pub busy : (values : List Row) (turns : ℕ) → HasNumber values (codes "turns") turns
       → first_of (codes "wait") values ≡ None → HasPace values (Sleepless turns)
   pub waiting : (values : List Row) (limit : Milliseconds) (turns : ℕ) → HasNumber values (codes "wait") limit.0

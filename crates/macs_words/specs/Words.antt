@@ -15,7 +15,7 @@ use Rattle.macs_words.specs.Waits.{IsRoom, IsWaitLimit}
 use Rattle.macs_words.specs.declared.action.UsageFault.{UsageFault}
 use Rattle.macs_words.specs.declared.action.UsageFault.TheVariants.{Usage, Memory}
 use Rattle.macs_words.specs.declared.action.Action.{Action}
-use Rattle.macs_words.specs.declared.action.Action.TheVariants.{Open, Format, Apply, Show, Protect, Validate, Relay, Ask, Key, Inspect, Check}
+use Rattle.macs_words.specs.declared.action.Action.TheVariants.{Open, Format, Apply, Show, Protect, Validate, Relay, Ask, Key, Inspect, Check, Examine, About}
 use Rattle.macs_words.specs.declared.action.Question.{Question}
 use Rattle.macs_words.specs.declared.action.Question.TheVariants as question
 use Rattle.macs_words.specs.declared.pace.Pace.{Pace}
@@ -93,12 +93,14 @@ frame_subcommands =
 abbrev pub ask_subcommand : Shape
 ask_subcommand = subcommand_with (codes "ask") (value_rule (codes "PATH") ∷ value_rule (codes "WORD") ∷ last_rule (codes "FILE") ∷ [])
 
--- those that need no endpoint
+-- those that change no endpoint
 abbrev pub lone_subcommands : List Shape
 lone_subcommands =
     subcommand_with (codes "key") (flag_rule (codes "long") ∷ [])
     ∷ subcommand_with (codes "inspect") (value_rule (codes "INPUT") ∷ [])
-    ∷ subcommand_with (codes "check") (value_rule (codes "FILE") ∷ [])
+    ∷ subcommand_with (codes "check") (value_rule (codes "FILE") ∷ last_rule (codes "DISK") ∷ [])
+    ∷ subcommand_with (codes "examine") (value_rule (codes "DISK") ∷ [])
+    ∷ subcommand_with (codes "about") []
     ∷ []
 
 -- the words begin after the program's name, and no flag and no subcommand of the library's asks for help or the version
@@ -194,7 +196,10 @@ Names (Some found) (Relay disk controlled common running) =
 Names (Some found) (Ask path asked) = (found.0 ≡ codes "ask") × HasText found.1 (codes "PATH") path.now × HasQuestion found.1 asked
 Names (Some found) (Key is_long) = (found.0 ≡ codes "key") × IsFlagged found.1 (codes "long") is_long
 Names (Some found) (Inspect input) = (found.0 ≡ codes "inspect") × HasText found.1 (codes "INPUT") input.now
-Names (Some found) (Check file) = (found.0 ≡ codes "check") × HasText found.1 (codes "FILE") file.now
+Names (Some found) (Check file disk) =
+    (found.0 ≡ codes "check") × HasText found.1 (codes "FILE") file.now × MayHaveText found.1 (codes "DISK") disk
+Names (Some found) (Examine disk) = (found.0 ≡ codes "examine") × HasText found.1 (codes "DISK") disk.now
+Names (Some found) About = found.0 ≡ codes "about"
 
 -- a relay of which neither the turns nor a wait is given: it names no action
 abbrev pub LacksPace : Option (Text × List Row) → Type 0
@@ -264,6 +269,8 @@ name_of subcommand.Ask = codes "ask"
 name_of subcommand.Key = codes "key"
 name_of subcommand.Inspect = codes "inspect"
 name_of subcommand.Check = codes "check"
+name_of subcommand.Examine = codes "examine"
+name_of subcommand.About = codes "about"
 
 -- The words ask for the topic: a help flag alone, the name of a subcommand and a help flag after it, or the version flag alone
 abbrev pub AsksFor : List Text → Topic → Type 0

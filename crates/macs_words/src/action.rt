@@ -86,10 +86,19 @@ pub enum Action<'a> {
     Inspect {
         input: &'a str,
     },
-    /// Checks the commands of a file: `check FILE`.
+    /// Checks the commands of a file, `check FILE`, or what the endpoint on a disk would answer to them,
+    /// `check FILE DISK`.
     Check {
         file: &'a str,
+        /// The disk file, where it is given.
+        disk: Option<&'a str>,
     },
+    /// Prints what the journal of a disk has, which is only read: `examine DISK`.
+    Examine {
+        disk: &'a str,
+    },
+    /// Prints which program this is: `about`.
+    About,
 }
 
 /// What a running relay is asked.
@@ -325,6 +334,21 @@ fn file_words<'a>(alloc: Global, name: &'a str, file: &'a str) -> Result<Command
     with_value(Ok(Command::new(alloc, name)), value(alloc, file))
 }
 
+/// The words of `check`.
+fn check_words<'a>(alloc: Global) -> Result<Command<'a>, AllocError>
+    ensures { IfOk result (λ command. IsClapCommand command (with_rule (with_rule
+        (new_app (codes "check")) (value_rule (codes "FILE"))) (last_rule (codes "DISK")))) }
+{
+    with_value(file_words(alloc, "check", "FILE"), last(alloc, "DISK"))
+}
+
+/// The words of `about`: none of its own.
+fn about_words<'a>(alloc: Global) -> Command<'a>
+    ensures { IsClapCommand result (new_app (codes "about")) }
+{
+    Command::new(alloc, "about")
+}
+
 /// The words before any subcommand: they begin after the program's name, and nothing of the library's own asks for
 /// help or the version.
 fn bare_words<'a>(alloc: Global) -> Command<'a>
@@ -364,7 +388,9 @@ fn known_words<'a>(alloc: Global) -> Result<Command<'a>, AllocError>
     let words = with_words(words, ask_words(alloc));
     let words = with_words(words, key_words(alloc));
     let words = with_words(words, file_words(alloc, "inspect", "INPUT"));
-    with_words(words, file_words(alloc, "check", "FILE"))
+    let words = with_words(words, check_words(alloc));
+    let words = with_words(words, file_words(alloc, "examine", "DISK"));
+    with_words(words, Ok(about_words(alloc)))
 }
 
 /// What an error says first, in one line. It repeats the words, so control characters are replaced.
@@ -661,14 +687,27 @@ fn inspect_in<'a>(values: &ArgMatches<'a>) -> Option<Action<'a>>
     Some(Action::Inspect { input })
 }
 
-/// `check` with its value.
+/// `check` with its values.
 fn check_in<'a>(values: &ArgMatches<'a>) -> Option<Action<'a>>
     ensures read { IfSome result (λ action. Names (Some (codes "check", rows_of (found_of values.now))) action) }
     ensures found { (action : Action) → Names (Some (codes "check", rows_of (found_of values.now))) action
         → IsSome result }
 {
     let file = text_in(values, "FILE")?;
-    Some(Action::Check { file })
+    Some(Action::Check {
+        file,
+        disk: text_in(values, "DISK"),
+    })
+}
+
+/// `examine` with its value.
+fn examine_in<'a>(values: &ArgMatches<'a>) -> Option<Action<'a>>
+    ensures read { IfSome result (λ action. Names (Some (codes "examine", rows_of (found_of values.now))) action) }
+    ensures found { (action : Action) → Names (Some (codes "examine", rows_of (found_of values.now))) action
+        → IsSome result }
+{
+    let disk = text_in(values, "DISK")?;
+    Some(Action::Examine { disk })
 }
 
 /// The action of the subcommand that was used with its values, `open` where there was none.
@@ -692,6 +731,8 @@ fn action_in<'a>(matches: &ArgMatches<'a>) -> Option<Action<'a>>
         "key" => key_in(values),
         "inspect" => inspect_in(values),
         "check" => check_in(values),
+        "examine" => examine_in(values),
+        "about" => Some(Action::About),
         _ => None,
     }
 }

@@ -4,7 +4,8 @@ ghost use Rattle.std.specs.Prelude.{◌≡◌, ◌↔◌, IsTrue, Some};
 ghost use Rattle.macs_words.specs.Words.{AsksFor, IsHelpFlag, IsVersionFlag, name_of, texts};
 
 use crate::help_texts::{
-    APPLY, ASK, CHECK, FORMAT, HELP, INSPECT, KEY, OPEN, PROTECT, RELAY, SHOW, VALIDATE, VERSION,
+    ABOUT, APPLY, ASK, CHECK, EXAMINE, FORMAT, HELP, INSPECT, KEY, OPEN, PROTECT, RELAY, SHOW,
+    VALIDATE, VERSION,
 };
 
 /// A subcommand.
@@ -21,6 +22,8 @@ pub enum Subcommand {
     Key,
     Inspect,
     Check,
+    Examine,
+    About,
 }
 
 /// What is asked for in place of an action.
@@ -55,6 +58,8 @@ impl Subcommand {
             "key" => Some(Subcommand::Key),
             "inspect" => Some(Subcommand::Inspect),
             "check" => Some(Subcommand::Check),
+            "examine" => Some(Subcommand::Examine),
+            "about" => Some(Subcommand::About),
             _ => None,
         }
     }
@@ -75,6 +80,8 @@ impl Subcommand {
             Subcommand::Key => KEY,
             Subcommand::Inspect => INSPECT,
             Subcommand::Check => CHECK,
+            Subcommand::Examine => EXAMINE,
+            Subcommand::About => ABOUT,
         }
     }
 }

@@ -9,7 +9,7 @@ use std::test::Fail;
 const FORMATTED: Outcome = Outcome::Done("formatted\n");
 
 /// Six commands, of which three are refused.
-const SIX_COMMANDS: &str = "[[command]]
+pub const SIX_COMMANDS: &str = "[[command]]
 do = 'tx-install'
 an = 0
 key = 'ad7a2bd03eac835a6f620fdcb506b345'

@@ -1,8 +1,8 @@
 //! What asks for help, and that what the help names is there.
 
 use super::help_text::{
-    APPLY_TEXT, ASK_TEXT, CHECK_TEXT, FORMAT_TEXT, HELP_TEXT, INSPECT_TEXT, KEY_TEXT, OPEN_TEXT,
-    PROTECT_TEXT, RELAY_TEXT, SHOW_TEXT, VALIDATE_TEXT,
+    ABOUT_TEXT, APPLY_TEXT, ASK_TEXT, CHECK_TEXT, EXAMINE_TEXT, FORMAT_TEXT, HELP_TEXT,
+    INSPECT_TEXT, KEY_TEXT, OPEN_TEXT, PROTECT_TEXT, RELAY_TEXT, SHOW_TEXT, VALIDATE_TEXT,
 };
 use super::{INPUT, OPENED, Outcome, expect, printed};
 use std::alloc::Global;
@@ -34,6 +34,21 @@ fn prints_its_version(rt: HostRuntime) {
     expect(&rt, rt.alloc(), &["--version"], "", version);
 }
 
+/// What `about` prints of the sources as they are in the repository.
+const PROGRAM: Outcome = Outcome::Done(
+    "macsecd 0.1.0
+commit unknown
+built for x86-64-v2
+journal writes format 2
+journal reads formats 1, 2
+",
+);
+
+#[test]
+fn prints_which_program_it_is(rt: HostRuntime) {
+    expect(&rt, rt.alloc(), &["about"], "", PROGRAM);
+}
+
 /// Asks for help on a subcommand with both flags.
 fn expect_help(
     rt: &(impl Abort + Files<File = File> + Net + Clock + Env + RandomSource),
@@ -56,6 +71,7 @@ fn prints_help_on_frames_and_commands(rt: HostRuntime) {
 fn prints_help_on_disks(rt: HostRuntime) {
     expect_help(&rt, rt.alloc(), "format", FORMAT_TEXT);
     expect_help(&rt, rt.alloc(), "show", SHOW_TEXT);
+    expect_help(&rt, rt.alloc(), "examine", EXAMINE_TEXT);
 }
 
 #[test]
@@ -75,6 +91,7 @@ fn prints_help_on_what_needs_no_disk(rt: HostRuntime) {
     expect_help(&rt, rt.alloc(), "key", KEY_TEXT);
     expect_help(&rt, rt.alloc(), "inspect", INSPECT_TEXT);
     expect_help(&rt, rt.alloc(), "check", CHECK_TEXT);
+    expect_help(&rt, rt.alloc(), "about", ABOUT_TEXT);
 }
 
 /// Asserts that a text has this part.
@@ -108,7 +125,9 @@ const FORMS: &[&str] = &[
     "\n  ask PATH show|counters|stop|apply FILE\n",
     "\n  key   ",
     "\n  inspect INPUT   ",
-    "\n  check FILE   ",
+    "\n  check FILE [DISK]   ",
+    "\n  examine DISK   ",
+    "\n  about   ",
 ];
 
 #[test]

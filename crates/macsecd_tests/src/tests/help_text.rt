@@ -14,7 +14,9 @@ pub const HELP_TEXT: &str = "usage: macsecd [SUBCOMMAND VALUES..]
                                asks a running relay over its control socket
   key                          prints a fresh key
   inspect INPUT                prints what the SecTAG of each frame says
-  check FILE                   checks the commands of a TOML file
+  check FILE [DISK]            checks the commands of a TOML file
+  examine DISK                 prints what the journal of a disk file has
+  about                        prints which program this is
 
 macsecd SUBCOMMAND --help says more of each; --version prints the version.
 A fault is one line on standard error.
@@ -196,14 +198,57 @@ status: 0 done, 2 usage, 5 capture, output or memory
 ";
 
 pub const CHECK_TEXT: &str = "usage: macsecd check FILE
+       macsecd check FILE DISK
 
 Checks whether the commands of a TOML file can be read, as 'macsecd apply' reads
-them, and prints how many there are: '4 commands'. Whether an endpoint takes them
-is not looked at.
+them, and prints how many there are: '4 commands'. With DISK it prints a line for
+each instead, with what 'macsecd apply' would print of it there, as
+  1 would be ok
+  2 would be refused KeySpent
+Nothing is changed, and DISK is only read.
   FILE   as of apply: see 'macsecd apply --help'
-A fault is one line: the command, its key, and what is wrong with it, as
+  DISK   a disk file that was formatted
+A fault of FILE is one line: the command, its key, and what is wrong with it, as
   command 3 key: not 32 or 64 hex digits
 
-example: macsecd check examples/left.toml
-status: 0 done, 2 usage, 5 a fault of the file, output or memory
+example: macsecd check examples/left.toml left.disk
+status: 0 done, 2 usage, 3 a command would be refused, 4 disk, 5 a fault of the
+        file, output or memory
+";
+
+pub const EXAMINE_TEXT: &str = "usage: macsecd examine DISK
+
+Prints what the journal of a disk file has. The file is only read, and claimed
+beside other readers.
+  DISK   a disk file that was formatted
+It prints, a line each,
+  format 2                           1 was written by programs before 0.1.0
+  block 512                          octets of the device for a sector; or 4096
+  area 0                             the area that is in use, 0 or 1
+  generation 3                       of the area: 1 at first
+  slots used 12 of 256               records of the area
+  ceiling tx 0 1025                  of each transmit association, the first
+                                     packet number that is not reserved
+  ceiling rx 0200000000020001 0 17   of each receive association, by channel
+  spent tx 1 of 512                  keys that were ever installed
+  spent rx 1 of 512
+  whole                              all records can be read
+or of a bad journal the first sector of the disk that is at fault, from 0, as
+  fault in sector 4
+
+example: macsecd examine left.disk
+status: 0 done, 2 usage, 3 a sector is at fault, 4 disk, 5 output or memory
+";
+
+pub const ABOUT_TEXT: &str = "usage: macsecd about
+
+Prints which program this is, a line each:
+  macsecd 0.1.0
+  commit unknown              of the sources, or unknown
+  built for x86-64-v2         the processors that it is for, or x86-64-v3
+  journal writes format 2
+  journal reads formats 1, 2
+
+example: macsecd about
+status: 0 done, 2 usage, 5 output or memory
 ";

@@ -6,22 +6,22 @@ use super::stories::Step::{Failing, Keeping, Patch, Run, Text, Zeros};
 use super::stories::{Step, play};
 use std::test::Fail;
 
-const HEAD: &str =
+pub const HEAD: &str =
     "4d534543484541440000000100000000000000010000000112153524c0895e810000000400000004";
 
 /// That of a journal that has started over as often as may be.
-const LAST_HEAD: &str =
+pub const LAST_HEAD: &str =
     "4d5345434845414400000001ffffffffffffffff0000000112153524c0895e810000000400000004";
 
-const GATE: &str = "4d5345434f50454e";
+pub const GATE: &str = "4d5345434f50454e";
 
 /// The settings of a new endpoint.
-const SETTINGS: &str = "4d5245430100010000000000ff";
+pub const SETTINGS: &str = "4d5245430100010000000000ff";
 
 /// A transmit association, and that frames go out under it.
-const TX_INSTALL: &str = "4d5245430900ad7a2bd03eac835a6f620fdcb506b34500000001011e";
+pub const TX_INSTALL: &str = "4d5245430900ad7a2bd03eac835a6f620fdcb506b34500000001011e";
 
-const TX_USE: &str = "4d5245430a00";
+pub const TX_USE: &str = "4d5245430a00";
 
 const DISK_FAULT: Outcome = Outcome::Disk("macsecd: disk\n");
 
@@ -39,7 +39,7 @@ spent tx 1 rx 0
 );
 
 /// The key is spent, and a key of 256 bits is taken at the other number.
-const KEYS: &str = "[[command]]
+pub const KEYS: &str = "[[command]]
 do = 'tx-install'
 an = 1
 key = 'ad7a2bd03eac835a6f620fdcb506b345'

@@ -117,6 +117,7 @@ const WORDS_TOO_FEW: &[&[&str]] = &[
     &["ask", "control"],
     &["inspect"],
     &["check"],
+    &["examine"],
 ];
 
 /// Words that ask nothing that a relay is asked, and the line that says what it is asked.
@@ -173,7 +174,9 @@ const WORDS_TOO_MANY: &[&[&str]] = &[
     &["key", "more"],
     &["key", "--long", "more"],
     &["inspect", "plain.pcap", "more"],
-    &["check", "left.toml", "more"],
+    &["check", "left.toml", "left.disk", "more"],
+    &["examine", "left.disk", "more"],
+    &["about", "more"],
 ];
 
 #[test]
@@ -561,6 +564,15 @@ const TAKEN: &[(&[&str], Parts<'static>)] = &[
         &["check", "--", "--long"],
         ("check", ["--long", "", "", "", ""], [0, 0]),
     ),
+    (
+        &["check", "left.toml", "left.disk"],
+        ("check", ["left.toml", "left.disk", "", "", ""], [0, 0]),
+    ),
+    (
+        &["examine", "show"],
+        ("examine", ["show", "", "", "", ""], [0, 0]),
+    ),
+    (&["about"], ("about", ["", "", "", "", ""], [0, 0])),
 ];
 
 /// What a relay serves: a control socket, a file of counters, and a buffer in octets.
@@ -718,7 +730,12 @@ fn is_of_files(action: Action<'_>, wanted: &Parts<'_>) -> bool {
             [0, 0],
         ),
         Action::Inspect { input } => is_named(wanted, "inspect", [input, "", "", "", ""], [0, 0]),
-        Action::Check { file } => is_named(wanted, "check", [file, "", "", "", ""], [0, 0]),
+        Action::Check { file, disk } => {
+            let disk = disk.unwrap_or("");
+            is_named(wanted, "check", [file, disk, "", "", ""], [0, 0])
+        }
+        Action::Examine { disk } => is_named(wanted, "examine", [disk, "", "", "", ""], [0, 0]),
+        Action::About => is_named(wanted, "about", ["", "", "", "", ""], [0, 0]),
         _ => false,
     }
 }

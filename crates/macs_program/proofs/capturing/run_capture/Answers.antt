@@ -1,5 +1,4 @@
 use Rattle.macs_edge.specs.Passing.{run_of}
-use Rattle.macs_program.specs.Capturing.{side_of}
 use Rattle.macs_program.proofs.Captured.{captured}
 use Rattle.macs_program.proofs.capturing.run_capture.Goals as goal
 
@@ -9,4 +8,4 @@ returns-clause-runs g c =
     (run_of c.args.endpoint.now (g.R.Source.state c.args.source.now) (g.W.Sink.state c.args.sink.now))
     c.run_side-answer.new.endpoint (g.R.Source.state c.run_side-answer.new.source)
     (g.W.Sink.state c.run_side-answer.new.sink) (g.W.Sink.state c.handed_on.new.sink)
-    c.run_side-answer.result (side_of c.args.direction) c.handed_on.result c.run_side-answer.ensures c.handed_on.ensures.ended
+    c.run_side-answer.result c.args.side c.handed_on.result c.run_side-answer.ensures c.handed_on.ensures.ended

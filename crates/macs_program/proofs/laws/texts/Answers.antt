@@ -1,3 +1,4 @@
+use Rattle.macs_program.proofs.ExamineDrawn.{about-texts, examine-texts}
 use Rattle.macs_program.proofs.TextDrawn.{capture-octets, check-texts, failure-texts, fault-orders, frame-texts, line-texts, show-texts}
 use Rattle.macs_program.proofs.laws.texts.Goals as goal
 
@@ -18,6 +19,12 @@ returns-clause-checks c = check-texts
 
 pub returns-clause-shown : goal.returns-clause-shown
 returns-clause-shown c = show-texts
+
+pub returns-clause-examined : goal.returns-clause-examined
+returns-clause-examined c = examine-texts
+
+pub returns-clause-about : goal.returns-clause-about
+returns-clause-about c = about-texts
 
 pub returns-clause-captures : goal.returns-clause-captures
 returns-clause-captures c = capture-octets

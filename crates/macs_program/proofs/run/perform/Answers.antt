@@ -1,4 +1,4 @@
-use Rattle.macs_program.proofs.Performed.{applies, checks, formats, inspects, keys, opens, shows}
+use Rattle.macs_program.proofs.Performed.{applies, checks, examines, formats, inspects, keys, opens, shows, tells}
 use Rattle.macs_program.proofs.run.perform.Goals as goal
 
 pub returns-in-Open-clause-performs : goal.returns-in-Open-clause-performs
@@ -23,4 +23,10 @@ pub returns-in-Inspect-clause-performs : goal.returns-in-Inspect-clause-performs
 returns-in-Inspect-clause-performs g c = rw c.in-Inspect.is (inspects _ _ _ _ _ _ _ _ c.inspect.ensures.printed c.inspect.ensures.failed c.inspect.ensures.ended c.inspect.ensures.front c.inspect.ensures.broken)
 
 pub returns-in-Check-clause-performs : goal.returns-in-Check-clause-performs
-returns-in-Check-clause-performs g c = rw c.in-Check.is (checks _ _ _ _ _ _ _ _ c.check.ensures.printed c.check.ensures.ended c.check.ensures.silent c.check.ensures.broken)
+returns-in-Check-clause-performs g c = rw c.in-Check.is (checks _ _ _ _ _ _ _ _ _ c.check.ensures.printed c.check.ensures.ended c.check.ensures.silent c.check.ensures.broken)
+
+pub returns-in-Examine-clause-performs : goal.returns-in-Examine-clause-performs
+returns-in-Examine-clause-performs g c = rw c.in-Examine.is (examines _ _ _ _ _ _ _ _ c.examine.ensures.printed c.examine.ensures.ended c.examine.ensures.silent c.examine.ensures.broken)
+
+pub returns-in-About-clause-performs : goal.returns-in-About-clause-performs
+returns-in-About-clause-performs g c = rw c.in-About.is (tells _ _ _ _ _ _ _ c.about.ensures.printed c.about.ensures.ended c.about.ensures.silent c.about.ensures.broken)

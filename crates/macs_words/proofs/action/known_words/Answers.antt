@@ -12,4 +12,6 @@ returns c =
     let with-8 = c.with_words-words-8.ensures _ _ with-7 c.ask_words.ensures in
     let with-9 = c.with_words-words-9.ensures _ _ with-8 c.key_words.ensures in
     let with-10 = c.with_words-words-10.ensures _ _ with-9 c.file_words.ensures in
-    c.with_words.ensures _ _ with-10 c.file_words-2.ensures
+    let with-11 = c.with_words-words-11.ensures _ _ with-10 c.check_words.ensures in
+    let with-12 = c.with_words-words-12.ensures _ _ with-11 c.file_words-2.ensures in
+    c.with_words.ensures _ _ with-12 c.about_words.ensures

@@ -1,0 +1,48 @@
+//! `about`: which program this is.
+
+ghost use Rattle.std.specs.Prelude.{◌≡◌, ◌≢◌, ◌⊎◌, true, IfErr, IfOk, string_bytes};
+ghost use Rattle.std.specs.Io.KnownBytes.{Appends};
+ghost use Rattle.macs_program.specs.About.{about_text, word_line};
+
+use crate::build::{COMMIT, LEVEL};
+use crate::failure::Failure;
+use crate::output::print;
+use crate::status::Status;
+use crate::stream::Stream;
+use macs_texts::{ended, joined};
+use macs_words::Topic;
+use std::alloc::{AllocError, Global};
+
+/// The line of a word: what it is, and which.
+fn word_line(alloc: Global, name: &str, word: &str) -> Result<String, AllocError>
+    ensures { IfOk result (λ text. string_bytes text ≡ word_line name.now word.now) }
+{
+    ended(format!(in alloc; "{name} {word}")?)
+}
+
+/// What is said of the program: its version, the commit of its sources, its processors, and which formats of the journal
+/// it writes and reads.
+fn about_text(alloc: Global) -> Result<String, AllocError>
+    ensures { IfOk result (λ text. string_bytes text ≡ about_text) }
+{
+    let text = joined(
+        word_line(alloc, "journal writes format", "2"),
+        word_line(alloc, "journal reads formats", "1, 2"),
+    );
+    let text = joined(word_line(alloc, "built for", LEVEL), text);
+    let text = joined(word_line(alloc, "commit", COMMIT), text);
+    joined(String::from_str(alloc, Topic::Version.text()), text)
+}
+
+/// `about`: prints which program this is. It fails as `Memory`, and as `Output` where the text cannot be printed.
+pub fn about<W: Stream>(alloc: Global, out: &mut W) -> Result<Status, Failure>
+    ensures printed { IfOk result (λ status.
+        Appends (W.contents out.old) (W.contents out.new) about_text × (status ≡ Status.Done)) }
+    ensures ended { IfErr result (λ failure. (failure ≡ Failure.Memory) ⊎ (failure ≡ Failure.Output)) }
+    ensures silent { IfErr result (λ failure. failure ≢ Failure.Output → out.new ≡ out.old) }
+    ensures broken { IfErr result (λ failure. failure ≡ Failure.Output → W.failed out.new ≡ true) }
+{
+    let text = about_text(alloc)?;
+    print(out, text.as_str())?;
+    Ok(Status::Done)
+}

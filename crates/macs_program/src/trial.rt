@@ -1,0 +1,168 @@
+//! `check FILE DISK`: what each command would be answered.
+
+ghost use Rattle.std.specs.Prelude.{◌≡◌, IfErr, IfOk, string_bytes};
+ghost use Rattle.std.specs.declared.alloc.Global.{Global};
+ghost use Rattle.macs_disk.specs.MemDisks.{disk_of};
+ghost use Rattle.macs_disk.specs.declared.memory.MemDisk.{MemDisk};
+ghost use Rattle.macs_endpoint.specs.Calls.{IsCall};
+ghost use Rattle.macs_endpoint.specs.Opening.{IsOpening};
+ghost use Rattle.macs_endpoint.specs.State.{Commands, Ran};
+ghost use Rattle.macs_program.specs.Applying.{Applies, answer_of, outcomes_status};
+ghost use Rattle.macs_program.specs.Trying.{EndsOn, EndsTrial, TrialEnds, TrialFails, TriesIn, TriesOn};
+ghost use Rattle.macs_program.specs.Trying.{failure_in_memory, would_line, would_lines, would_text};
+
+use crate::applying::{give, status_after};
+use crate::capture_file::CaptureFile;
+use crate::disk_copy::copy_of;
+use crate::failure::{DiskFault, Failure};
+use crate::files::open_regular;
+use crate::status::Status;
+use macs_config::{Command, Refusal};
+use macs_disk::{FileFault, MemDisk, SectorDisk};
+use macs_endpoint::{Endpoint, OpenRefused};
+use macs_journal::JournalFault;
+use macs_texts::refusal_name;
+use std::alloc::{AllocError, Global};
+use std::rt::Files;
+
+/// What a fault of a disk in memory is: a call of it fails for want of memory alone.
+pub fn failure_in_memory(fault: DiskFault) -> Failure
+    ensures { result ≡ failure_in_memory fault }
+{
+    match fault {
+        DiskFault::Journal(JournalFault::Disk) => Failure::Memory,
+        _ => Failure::Disk(fault),
+    }
+}
+
+/// Gives a command to the endpoint in memory, and answers whether it was refused, and why.
+fn try_command<D: SectorDisk>(
+    endpoint: &mut Endpoint<D>,
+    command: Command,
+) -> Result<Option<Refusal>, Failure>
+    ensures tried { IfOk result (λ outcome.
+        IsCall D.disk endpoint.old (Commands command) (Ran (answer_of outcome)) endpoint.new) }
+    ensures ended { IfErr result (λ failure. EndsTrial D.disk endpoint.old command failure) }
+{
+    match give(endpoint, command) {
+        Ok(outcome) => Ok(outcome),
+        Err(fault) => Err(failure_in_memory(fault)),
+    }
+}
+
+/// Gives these commands to the endpoint, one after another, and answers which were refused, and why.
+fn try_commands<D: SectorDisk>(
+    alloc: Global,
+    endpoint: &mut Endpoint<D>,
+    commands: &[Command],
+) -> Result<Vec<Option<Refusal>>, Failure>
+    ensures tried { IfOk result (λ outcomes. Applies D.disk endpoint.old commands.now outcomes.items endpoint.new) }
+    ensures ended { IfErr result (TrialEnds D.disk endpoint.old commands.now) }
+{
+    let mut outcomes = Vec::new(alloc);
+    for i in 0..commands.len() {
+        let outcome = try_command(endpoint, commands[i])?;
+        let Ok(()) = outcomes.push(outcome) else {
+            return Err(Failure::Memory);
+        };
+    }
+    Ok(outcomes)
+}
+
+/// Gives these commands to an endpoint in memory, if it was opened.
+#[inline(never)]
+fn try_opened(
+    alloc: Global,
+    mut opened: Result<Endpoint<MemDisk>, OpenRefused<MemDisk>>,
+    commands: &[Command],
+) -> Result<Vec<Option<Refusal>>, Failure>
+    ensures tried { (copy : MemDisk Global) → IsOpening disk_of copy opened
+        → IfOk result (λ outcomes. TriesOn disk_of copy commands.now outcomes.items) }
+    ensures ended { (copy : MemDisk Global) → IsOpening disk_of copy opened
+        → IfErr result (EndsOn disk_of copy commands.now) }
+{
+    match &mut opened {
+        Ok(endpoint) => try_commands(alloc, endpoint, commands),
+        Err(refused) => Err(failure_in_memory(DiskFault::Journal(refused.fault))),
+    }
+}
+
+/// Gives these commands to the endpoint on a disk in memory.
+#[inline(never)]
+fn try_on(
+    alloc: Global,
+    copy: MemDisk,
+    commands: &[Command],
+) -> Result<Vec<Option<Refusal>>, Failure>
+    ensures tried { IfOk result (λ outcomes. TriesOn disk_of copy commands.now outcomes.items) }
+    ensures ended { IfErr result (EndsOn disk_of copy commands.now) }
+{
+    try_opened(alloc, Endpoint::open(copy), commands)
+}
+
+/// What these commands would be answered by the endpoint on the disk in a file, which is opened to be read alone. It
+/// fails as `Disk` with `File` where there is no regular file that can be opened; then as `copy_of` does, as the opening
+/// of an endpoint does, and with `GenerationsSpent` where a command would be answered so; and as `Memory`.
+pub fn try_in<T: Files>(
+    rt: &T,
+    alloc: Global,
+    path: &str,
+    commands: &[Command],
+) -> Result<Vec<Option<Refusal>>, Failure>
+where
+    T::File: CaptureFile,
+    ensures tried { IfOk result (λ outcomes. TriesIn T.File.file commands.now outcomes.items) }
+    ensures ended { IfErr result (TrialFails T.File.file commands.now) }
+{
+    match open_regular(rt, path) {
+        Ok(mut file) => {
+            let copy = copy_of(alloc, &mut file)?;
+            try_on(alloc, copy, commands)
+        }
+        Err(error) => Err(Failure::from(FileFault::from(error))),
+    }
+}
+
+/// What is said of a command by its number.
+fn would_text(alloc: Global, at: usize, outcome: Option<Refusal>) -> Result<String, AllocError>
+    ensures { IfOk result (λ text. string_bytes text ≡ would_text at outcome) }
+{
+    match outcome {
+        None => format!(in alloc; "{at} would be ok"),
+        Some(refusal) => {
+            let name = refusal_name(refusal);
+            format!(in alloc; "{at} would be refused {name}")
+        }
+    }
+}
+
+/// The line of a command by its number.
+fn would_line(alloc: Global, at: usize, outcome: Option<Refusal>) -> Result<String, AllocError>
+    ensures { IfOk result (λ text. string_bytes text ≡ would_line at outcome) }
+{
+    let mut text = would_text(alloc, at, outcome)?;
+    text.push('\n')?;
+    Ok(text)
+}
+
+/// The lines of commands, each with what it would be answered.
+pub fn would_lines(alloc: Global, outcomes: &[Option<Refusal>]) -> Result<String, AllocError>
+    ensures { IfOk result (λ text. string_bytes text ≡ would_lines 1 outcomes.now) }
+{
+    let mut text = String::new(alloc);
+    for i in 0..outcomes.len() {
+        text.push_str(would_line(alloc, i + 1, outcomes[i])?.as_str())?;
+    }
+    Ok(text)
+}
+
+/// How a run ends that gave its commands: refused where one was.
+pub fn outcomes_status(outcomes: &[Option<Refusal>]) -> Status
+    ensures { result ≡ outcomes_status outcomes.now }
+{
+    let mut status = Status::Done;
+    for i in 0..outcomes.len() {
+        status = status_after(status, outcomes[i].is_some());
+    }
+    status
+}

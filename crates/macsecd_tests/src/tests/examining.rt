@@ -1,0 +1,289 @@
+//! What the journal on a disk has, which stays as it is.
+
+use super::Outcome;
+use super::link_files::{LEFT, PLAIN};
+use super::older_files::{GATE, HEAD, LAST_HEAD, SETTINGS, TX_INSTALL, TX_USE};
+use super::stand_in::Broken::{Opening, Printed, Read};
+use super::stories::Step::{
+    Claimed, Closing, Failing, Filled, Folder, HasOctets, Hex, IsMissing, Keeping, Patch, Run,
+    Shared, Text, Zeros,
+};
+use super::stories::{Step, play};
+use std::io::ErrorKind::{NotFound, Other, OutOfMemory};
+use std::test::Fail;
+
+const FORMATTED: Outcome = Outcome::Done("formatted\n");
+
+const DISK: &str = "story-examine/disk";
+
+const SPACED: &str = "story-examine/spaced";
+
+const EXAMINE: &[&str] = &["examine", DISK];
+
+/// One record: the settings of a new endpoint.
+const NEW: Outcome = Outcome::Done(
+    "format 2
+block 512
+area 0
+generation 1
+slots used 1 of 256
+spent tx 0 of 512
+spent rx 0 of 512
+whole
+",
+);
+
+/// Four commands more: the ceiling of the transmit association is its start and a block, that of the receive
+/// association its start.
+const APPLIED: Outcome = Outcome::Done(
+    "format 2
+block 512
+area 0
+generation 1
+slots used 5 of 256
+ceiling tx 0 1025
+ceiling rx 0200000000020001 0 1
+spent tx 1 of 512
+spent rx 1 of 512
+whole
+",
+);
+
+/// One reservation more.
+const PROTECTED: Outcome = Outcome::Done(
+    "format 2
+block 512
+area 0
+generation 1
+slots used 6 of 256
+ceiling tx 0 2049
+ceiling rx 0200000000020001 0 1
+spent tx 1 of 512
+spent rx 1 of 512
+whole
+",
+);
+
+const NEW_SPACED: Outcome = Outcome::Done(
+    "format 2
+block 4096
+area 0
+generation 1
+slots used 1 of 256
+spent tx 0 of 512
+spent rx 0 of 512
+whole
+",
+);
+
+const EXAMINED: &[Step] = &[
+    Run(
+        &["format", DISK, "0200000000010001", "1024", "16"],
+        FORMATTED,
+    ),
+    Keeping(&[DISK], EXAMINE, NEW),
+    Text("story-examine/left.toml", LEFT),
+    Hex("story-examine/plain.pcap", PLAIN),
+    Run(
+        &["apply", DISK, "story-examine/left.toml"],
+        Outcome::Done("1 ok\n2 ok\n3 ok\n4 ok\n"),
+    ),
+    Keeping(&[DISK], EXAMINE, APPLIED),
+    Run(
+        &[
+            "protect",
+            DISK,
+            "story-examine/plain.pcap",
+            "story-examine/protected.pcap",
+        ],
+        Outcome::Done("protected 3 dropped 0\n"),
+    ),
+    Keeping(&[DISK], EXAMINE, PROTECTED),
+    Shared(DISK, EXAMINE, PROTECTED),
+    Closing(0, 0, EXAMINE),
+    Closing(9, 0, EXAMINE),
+    Run(
+        &[
+            "format",
+            SPACED,
+            "0200000000010001",
+            "1024",
+            "16",
+            "--block",
+            "4096",
+        ],
+        FORMATTED,
+    ),
+    Keeping(&[SPACED], &["examine", SPACED], NEW_SPACED),
+];
+
+#[test]
+fn a_journal_is_examined(rt: HostRuntime) -> Result<(), Fail> {
+    play(&rt, rt.alloc(), "story-examine", EXAMINED)
+}
+
+const OLDER: &str = "story-examine-older/disk";
+
+/// A file of an older program: it is not brought up to date.
+const OF_FORMAT_ONE: Outcome = Outcome::Done(
+    "format 1
+block 512
+area 0
+generation 1
+slots used 3 of 256
+ceiling tx 0 5
+spent tx 1 of 512
+spent rx 0 of 512
+whole
+",
+);
+
+/// The settings, the association and its key, in the other area.
+const BEGUN_ANEW: Outcome = Outcome::Done(
+    "format 2
+block 512
+area 1
+generation 2
+slots used 3 of 256
+ceiling tx 0 5
+spent tx 1 of 512
+spent rx 0 of 512
+whole
+",
+);
+
+const SHOWN: Outcome = Outcome::Done(
+    "sci 12153524c0895e81
+blocks tx 4 rx 4
+validate strict
+replay on window 0
+sci-mode explicit
+encoding 0
+tx 0 confidential offset 30 next 5
+spent tx 1 rx 0
+",
+);
+
+const EXAMINED_OLDER: &[Step] = &[
+    Zeros(OLDER, 526_336),
+    Patch(OLDER, 0, HEAD),
+    Patch(OLDER, 512, GATE),
+    Patch(OLDER, 2 * 512, SETTINGS),
+    Patch(OLDER, 4 * 512, TX_INSTALL),
+    Patch(OLDER, 5 * 512, GATE),
+    Patch(OLDER, 6 * 512, TX_USE),
+    Patch(OLDER, 7 * 512, GATE),
+    Keeping(&[OLDER], &["examine", OLDER], OF_FORMAT_ONE),
+    Run(&["show", OLDER], SHOWN),
+    Keeping(&[OLDER], &["examine", OLDER], BEGUN_ANEW),
+];
+
+#[test]
+fn an_older_file_is_examined(rt: HostRuntime) -> Result<(), Fail> {
+    play(&rt, rt.alloc(), "story-examine-older", EXAMINED_OLDER)
+}
+
+const FAULTY: &str = "story-examine-faults/disk";
+
+const FAULTY_WORDS: &[&str] = &["examine", FAULTY];
+
+const NO_FILE: Outcome = Outcome::Disk("macsecd: disk file\n");
+
+const DISK_FAULT: Outcome = Outcome::Disk("macsecd: disk\n");
+
+const BAD_JOURNAL: Outcome = Outcome::Disk("macsecd: bad journal\n");
+
+/// Nothing is printed before a fault, and no file is made.
+const FAULTS: &[Step] = &[
+    Run(FAULTY_WORDS, NO_FILE),
+    IsMissing(FAULTY),
+    Folder("story-examine-faults/folder"),
+    Run(&["examine", "story-examine-faults/folder"], NO_FILE),
+    Filled(FAULTY, 0, 526_337),
+    Run(FAULTY_WORDS, Outcome::Disk("macsecd: disk length\n")),
+    Filled(FAULTY, 0, 512),
+    Run(FAULTY_WORDS, Outcome::Disk("macsecd: too small\n")),
+    HasOctets(FAULTY, 512),
+    Filled(FAULTY, 0, 526_848),
+    Run(FAULTY_WORDS, Outcome::Disk("macsecd: not formatted\n")),
+    Run(&["format", FAULTY, "12153524c0895e81", "1", "1"], FORMATTED),
+    Run(FAULTY_WORDS, NEW),
+    Claimed(FAULTY, FAULTY_WORDS, NO_FILE),
+    // Standard output goes into the file.
+    Failing(FAULTY, Printed, FAULTY_WORDS, NO_FILE),
+    Failing(FAULTY, Opening(NotFound), FAULTY_WORDS, NO_FILE),
+    Failing(
+        FAULTY,
+        Opening(OutOfMemory),
+        FAULTY_WORDS,
+        Outcome::Fault("macsecd: memory\n"),
+    ),
+    // A sector is read in six parts here, and the last of 1,028 by the reads up to the 6,168th.
+    Failing(FAULTY, Read(1, Other), FAULTY_WORDS, DISK_FAULT),
+    Failing(FAULTY, Read(6_168, Other), FAULTY_WORDS, DISK_FAULT),
+    Failing(FAULTY, Read(6_169, Other), FAULTY_WORDS, NEW),
+    // A record that does not follow from those before it.
+    Patch(FAULTY, 4 * 512, TX_USE),
+    Patch(FAULTY, 5 * 512, GATE),
+    Keeping(&[FAULTY], FAULTY_WORDS, BAD_JOURNAL),
+];
+
+#[test]
+fn each_fault_of_an_examined_disk_is_told(rt: HostRuntime) -> Result<(), Fail> {
+    play(&rt, rt.alloc(), "story-examine-faults", FAULTS)
+}
+
+const SPOILED: &str = "story-examine-spoiled/disk";
+
+const SPOILED_WORDS: &[&str] = &["examine", SPOILED];
+
+/// The first sector at fault. A slot whose gate is closed has none, unless a gate behind it is open.
+const SPOILED_SECTORS: &[Step] = &[
+    Run(
+        &["format", SPOILED, "12153524c0895e81", "1", "1"],
+        FORMATTED,
+    ),
+    Patch(SPOILED, 4 * 512, "ff"),
+    Run(SPOILED_WORDS, NEW),
+    Patch(SPOILED, 5 * 512, GATE),
+    Keeping(
+        &[SPOILED],
+        SPOILED_WORDS,
+        Outcome::Refused("fault in sector 4\n"),
+    ),
+    Patch(SPOILED, 5 * 512, "00"),
+    Run(SPOILED_WORDS, NEW),
+    Patch(SPOILED, 513 * 512, GATE),
+    Run(SPOILED_WORDS, Outcome::Refused("fault in sector 5\n")),
+    Patch(SPOILED, 2 * 512, "ff"),
+    Run(SPOILED_WORDS, Outcome::Refused("fault in sector 2\n")),
+    Patch(SPOILED, 515 * 512, GATE),
+    Run(SPOILED_WORDS, Outcome::Refused("fault in sector 514\n")),
+    Patch(SPOILED, 0, "ff"),
+    Run(SPOILED_WORDS, Outcome::Refused("fault in sector 0\n")),
+];
+
+#[test]
+fn the_first_sector_at_fault_is_told(rt: HostRuntime) -> Result<(), Fail> {
+    play(&rt, rt.alloc(), "story-examine-spoiled", SPOILED_SECTORS)
+}
+
+const LAST: &str = "story-examine-last/disk";
+
+/// A file of an older program that cannot begin anew: no endpoint is opened on it.
+const LAST_GENERATION: &[Step] = &[
+    Zeros(LAST, 526_336),
+    Patch(LAST, 0, LAST_HEAD),
+    Patch(LAST, 512, GATE),
+    Patch(LAST, 2 * 512, SETTINGS),
+    Keeping(
+        &[LAST],
+        &["examine", LAST],
+        Outcome::Disk("macsecd: generations spent\n"),
+    ),
+];
+
+#[test]
+fn an_older_file_in_its_last_generation_is_not_examined(rt: HostRuntime) -> Result<(), Fail> {
+    play(&rt, rt.alloc(), "story-examine-last", LAST_GENERATION)
+}
