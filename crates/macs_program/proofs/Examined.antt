@@ -1,5 +1,5 @@
 -- What is said of the disk in a file, and how that fails.
-use Rattle.std.proofs.Common.{◌≡◌, ◌≢◌, ◌≤◌, ◌⊎◌, ◌∙◌, ◌%◌, inl, inr, ℕ, List, length, Result, Ok, Err, ap, refl, subst, sym}
+use Rattle.std.proofs.Common.{◌≡◌, ◌≢◌, ◌≤◌, ◌⊎◌, ◌∙◌, ◌/◌, ◌%◌, inl, inr, ℕ, List, length, Result, Ok, Err, ap, refl, subst, sym}
 use Rattle.std.specs.Prelude.{IsErrOf}
 use Rattle.std.specs.declared.alloc.Global.{Global}
 use Rattle.macs_config.specs.Config.{this_edition}
@@ -131,16 +131,17 @@ said-status image layout text status (inr (at, fault, is, refused)) = inr refuse
 
 -- a copy was made, and then the layout was found
 pub laid-copy : (old new : FileState) (copy : MemDisk Global) (layout : Layout) → (Behaves old → new ≡ old) → (Behaves old → old.size % 512 ≡ 0)
-    → (Behaves old → IsSure old → IsCopy old (disk_of copy)) → (Behaves new → IsSure new → layout ≡ layout_in new) → IsLaidCopy old copy layout
-laid-copy old new copy layout same whole copied found = λ behaves. (
+    → (Behaves old → least_sectors ≤ old.size / 512) → (Behaves old → IsSure old → IsCopy old (disk_of copy)) → (Behaves new → IsSure new → layout ≡ layout_in new) → IsLaidCopy old copy layout
+laid-copy old new copy layout same whole enough copied found = λ behaves. (
   whole behaves,
+  enough behaves,
   λ sure. (copied behaves sure, carried (λ (f : FileState). layout ≡ layout_in f) old new (same behaves) behaves sure found),
 )
 
 -- a layout that is not found for the length of the file is not found for its length before
 pub no-layout : {T : Type 0} (old new : FileState) (result : Result T FileFault) (fault : FileFault) → result ≡ Err fault → (Behaves old → new ≡ old)
     → (IsErrOf result file_faults.Length → Behaves new → new.size % 512 ≢ 0) → fault ≡ file_faults.Length → Behaves old → old.size % 512 ≢ 0
-no-layout old new result fault is same length named behaves =
+no-layout old new result fault is same known_length named behaves =
     let still = same behaves in
-    let known = length (rw is named) (subst Behaves (sym still) behaves) in
+    let known = known_length (rw is (ap Err named)) (subst Behaves (sym still) behaves) in
     subst (λ (f : FileState). f.size % 512 ≢ 0) still known

@@ -1,5 +1,5 @@
 -- What `examine` says of the disk in a file: what the recovery of its journal finds on a copy of it in memory, or its first fault.
-use Rattle.std.specs.Prelude.{◌≡◌, ◌⊎◌, ◌%◌, ◌++◌, ℕ, List, [], length, map, codes, Option, Some, None}
+use Rattle.std.specs.Prelude.{◌≡◌, ◌≤◌, ◌⊎◌, ◌/◌, ◌%◌, ◌++◌, ℕ, List, [], length, map, codes, Option, Some, None}
 use Rattle.std.specs.Fmt.{decimal}
 use Rattle.std.specs.Io.KnownBytes.{Appends}
 use Rattle.std.specs.List.{concat}
@@ -15,7 +15,7 @@ use Rattle.macs_disk.specs.declared.file_fault.FileFault.{FileFault}
 use Rattle.macs_disk.specs.declared.layout.Layout.{Layout}
 use Rattle.macs_disk.specs.declared.layout.Layout.TheVariants.{Packed, Spaced}
 use Rattle.macs_disk.specs.declared.memory.MemDisk.{MemDisk}
-use Rattle.macs_journal.specs.Areas.{slots}
+use Rattle.macs_journal.specs.Areas.{least_sectors, slots}
 use Rattle.macs_journal.specs.Found.{Content, HasJournal, IsBadJournal}
 use Rattle.macs_journal.specs.declared.fault.JournalFault.{JournalFault}
 use Rattle.macs_journal.specs.declared.fault.JournalFault.TheVariants.{BadJournal}
@@ -135,10 +135,10 @@ IsNotExamined copy failure =
 
 -- ---- on a disk in a file
 
--- a copy of the disk in a file of whole sectors, and the layout in which it lies there, where this is what the file is
+-- a copy of the disk in a file of whole sectors, no fewer than a journal has, and the layout in which it lies there, where this is what the file is
 abbrev pub IsLaidCopy : FileState → MemDisk Global → Layout → Type 0
 IsLaidCopy file copy layout =
-    Behaves file → (file.size % 512 ≡ 0) × (IsSure file → IsCopy file (disk_of copy) × (layout ≡ layout_in file))
+    Behaves file → (file.size % 512 ≡ 0) × (least_sectors ≤ file.size / 512) × (IsSure file → IsCopy file (disk_of copy) × (layout ≡ layout_in file))
 
 -- this is said of the disk in a file, and the run ends so
 pub record ExaminesIn {F : Type 0} (state_of : F → FileState) (text : List ℕ) (status : Status) : Type 0 where

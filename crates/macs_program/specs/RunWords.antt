@@ -1,6 +1,6 @@
 -- What is to be drawn from words on whole runs: what a run replies, what each action does and how it fails, and what was
 -- printed before.
-use Rattle.std.specs.Prelude.{◌≡◌, ◌≢◌, ◌⊎◌, ◌<◌, ◌/◌, ◌%◌, ◌++◌, ◌∷◌, [], true, false, ℕ, Bool, List, length, take, codes}
+use Rattle.std.specs.Prelude.{◌≡◌, ◌≢◌, ◌⊎◌, ◌<◌, ◌≤◌, ◌/◌, ◌%◌, ◌++◌, ◌∷◌, [], true, false, ℕ, Bool, List, length, take, codes}
 use Rattle.std.specs.Prelude.{string_bytes, Option, option_map, Some, None, IfSome, Ok, Err}
 use Rattle.std.specs.Borrow.{Bor}
 use Rattle.std.specs.Io.KnownBytes.{Appends}
@@ -137,7 +137,8 @@ pub record ReplyWords {F : Type 0} (file : F → FileState) : Type 0 where
   pub examined : (path : Bor Text) (input : InputRead) (before after : Option (List ℕ)) (status : Status)
       → Does file (Examine path) input before after status
       → (disk_file : F) × (copy : MemDisk Global) × (layout : Layout)
-      × (Behaves (file disk_file) → ((file disk_file).size % 512 ≡ 0) × (IsSure (file disk_file)
+      × (Behaves (file disk_file) → ((file disk_file).size % 512 ≡ 0) × (1028 ≤ (file disk_file).size / 512)
+      × (IsSure (file disk_file)
       → IsCopy (file disk_file) (disk_of copy) × (layout ≡ layout_in (file disk_file))))
       × (((content : Content) × (standing : Standing) × HasJournal (now (disk_of copy)).seen content
       × (meaning_of this_edition content ≡ Some standing)
@@ -221,7 +222,7 @@ pub record ReplyWords {F : Type 0} (file : F → FileState) : Type 0 where
       → Does file (Check from (Some path)) input before after status
       → (octets : List ℕ) × (commands : List Command) × SaysCommands octets commands
       × (disk_file : F) × (copy : MemDisk Global)
-      × (Behaves (file disk_file) → ((file disk_file).size % 512 ≡ 0)
+      × (Behaves (file disk_file) → ((file disk_file).size % 512 ≡ 0) × (1028 ≤ (file disk_file).size / 512)
       × (IsSure (file disk_file) → IsCopy (file disk_file) (disk_of copy)))
       × (old : EndpointValue (MemDisk Global)) × (new : EndpointValue (MemDisk Global)) × Opens disk_of copy old
       × (outcomes : List (Option Refusal)) × Applies disk_of old commands outcomes new
@@ -269,7 +270,8 @@ pub record FailWords {F : Type 0} (file : F → FileState) : Type 0 where
       → (failure ≡ failures.Output) ⊎ ((fault : FileFault) × (failure ≡ failure_of_file fault))
       ⊎ ((disk_file : F) × CopyFails (file disk_file) failure)
       ⊎ ((disk_file : F) × (copy : MemDisk Global) × (layout : Layout)
-      × (Behaves (file disk_file) → ((file disk_file).size % 512 ≡ 0) × (IsSure (file disk_file)
+      × (Behaves (file disk_file) → ((file disk_file).size % 512 ≡ 0) × (1028 ≤ (file disk_file).size / 512)
+      × (IsSure (file disk_file)
       → IsCopy (file disk_file) (disk_of copy) × (layout ≡ layout_in (file disk_file))))
       × ((failure ≡ failures.Memory) ⊎ ((fault : JournalFault) × (failure ≡ failures.Disk (disk.Journal fault))
       × IsUnfitTo this_edition (disk_of copy).sectors (now (disk_of copy)).seen fault
@@ -336,7 +338,7 @@ pub record FailWords {F : Type 0} (file : F → FileState) : Type 0 where
       × (((fault : FileFault) × (failure ≡ failure_of_file fault))
       ⊎ ((disk_file : F) × CopyFails (file disk_file) failure)
       ⊎ ((disk_file : F) × (copy : MemDisk Global)
-      × (Behaves (file disk_file) → ((file disk_file).size % 512 ≡ 0)
+      × (Behaves (file disk_file) → ((file disk_file).size % 512 ≡ 0) × (1028 ≤ (file disk_file).size / 512)
       × (IsSure (file disk_file) → IsCopy (file disk_file) (disk_of copy)))
       × EndsOn disk_of copy commands failure)))
   pub copying : (disk_file : FileState) (failure : Failure) → CopyFails disk_file failure

@@ -1,5 +1,5 @@
 -- What `check FILE DISK` does: the commands are given to the endpoint on a copy in memory of the disk, as `apply` gives them.
-use Rattle.std.specs.Prelude.{◌≡◌, ◌⊎◌, ◌+◌, ◌%◌, ◌++◌, ℕ, List, [], ◌∷◌, codes, Option, Some, None, Err}
+use Rattle.std.specs.Prelude.{◌≡◌, ◌⊎◌, ◌≤◌, ◌+◌, ◌/◌, ◌%◌, ◌++◌, ℕ, List, [], ◌∷◌, codes, Option, Some, None, Err}
 use Rattle.std.specs.Fmt.{decimal}
 use Rattle.std.specs.Io.KnownBytes.{Appends}
 use Rattle.std.specs.declared.alloc.Global.{Global}
@@ -15,6 +15,7 @@ use Rattle.macs_endpoint.specs.Opening.{Opens, RefusesOpening}
 use Rattle.macs_endpoint.specs.State.{Commands, Ran}
 use Rattle.macs_endpoint.specs.Value.{EndpointValue}
 use Rattle.macs_endpoint.specs.declared.fault.CommandFault.{CommandFault}
+use Rattle.macs_journal.specs.Areas.{least_sectors}
 use Rattle.macs_journal.specs.declared.fault.JournalFault.{JournalFault}
 use Rattle.macs_journal.specs.declared.fault.JournalFault.TheVariants as journal
 use Rattle.macs_texts.specs.Lines.{line}
@@ -87,10 +88,11 @@ EndsOn {D} disk_of copy commands failure =
 
 -- ---- on a disk in a file
 
--- a copy of the disk in a file of whole sectors, where this is what a file is
+-- a copy of the disk in a file of whole sectors, no fewer than a journal has, where this is what a file is
 abbrev pub IsCopyIn : {F : Type 0} → (F → FileState) → F → MemDisk Global → Type 0
 IsCopyIn state_of file copy =
-    Behaves (state_of file) → ((state_of file).size % 512 ≡ 0) × (IsSure (state_of file) → IsCopy (state_of file) (disk_of copy))
+    Behaves (state_of file) → ((state_of file).size % 512 ≡ 0) × (least_sectors ≤ (state_of file).size / 512)
+    × (IsSure (state_of file) → IsCopy (state_of file) (disk_of copy))
 
 -- the commands are given to the endpoint on a copy of the disk in a file
 pub record TriesIn {F : Type 0} (state_of : F → FileState) (commands : List Command) (outcomes : List (Option Refusal)) : Type 0 where

@@ -174,7 +174,7 @@ fn count_line(count: usize) -> Line
 
 /// The commands that a file says. It fails as `Commands` where it cannot be opened or read, and else says the first
 /// fault.
-fn commands_of_checked<T: Files>(rt: &T, alloc: Global, path: &str) -> Result<Vec<Command>, Failure>
+fn checked_commands<T: Files>(rt: &T, alloc: Global, path: &str) -> Result<Vec<Command>, Failure>
     ensures spelled { IfOk result (λ commands. (octets : List ℕ) × SaysCommands octets commands.items) }
     ensures ended { IfErr result (λ failure. (failure ≡ Failure.Commands)
         ⊎ ((octets : List ℕ) × Complains (IsSaidOfFile octets) failure)) }
@@ -236,7 +236,7 @@ where
     ensures silent { IfErr result (λ failure. failure ≢ Failure.Output → out.new ≡ out.old) }
     ensures broken { IfErr result (λ failure. failure ≡ Failure.Output → W.failed out.new ≡ true) }
 {
-    let commands = commands_of_checked(rt, alloc, path)?;
+    let commands = checked_commands(rt, alloc, path)?;
     match disk {
         None => print_count(commands.len(), out),
         Some(disk) => print_trial(rt, alloc, disk, commands.as_slice(), out),

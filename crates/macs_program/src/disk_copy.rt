@@ -1,6 +1,6 @@
 //! A copy in memory of the disk in a file, which is read and not changed.
 
-ghost use Rattle.std.specs.Prelude.{◌≡◌, ◌≢◌, ◌⊎◌, ◌<◌, ◌*◌, ◌/◌, ◌%◌, ◌^◌, IfErr, IfOk, IsErrOf, OnOk};
+ghost use Rattle.std.specs.Prelude.{◌≡◌, ◌≢◌, ◌⊎◌, ◌<◌, ◌≤◌, ◌*◌, ◌/◌, ◌%◌, ◌^◌, IfErr, IfOk, IsErrOf, OnOk};
 ghost use Rattle.macs_disk.specs.Disk.{now};
 ghost use Rattle.macs_disk.specs.Files.{Behaves, IsSure};
 ghost use Rattle.macs_disk.specs.Layouts.{layout_in};
@@ -144,13 +144,14 @@ fn copy_disk<F: DiskFile>(alloc: Global, file: &mut F, sectors: u64) -> Result<M
 
 /// A copy in memory of the disk in a file that is open to read, of 1,028 sectors. The file is claimed beside other
 /// readers, and no octet of it is changed. It fails as `Disk` with the first fault: `File` where the file is claimed by
-/// who writes it or cannot be measured, `Length` where it is not whole sectors, `Journal` with `TooSmall` where they are
+/// a writer or cannot be measured, `Length` where it is not whole sectors, `Journal` with `TooSmall` where they are
 /// fewer, and with `Disk` where one cannot be read; and as `Memory`.
 pub fn copy_of<F: CaptureFile>(alloc: Global, file: &mut F) -> Result<MemDisk, Failure>
     ensures same { Behaves (F.file file.old) → F.file file.new ≡ F.file file.old }
     ensures copied { Behaves (F.file file.old) → IsSure (F.file file.old)
         → IfOk result (λ copy. IsCopy (F.file file.old) (disk_of copy)) }
     ensures whole { Behaves (F.file file.old) → OnOk result ((F.file file.old).size % 512 ≡ 0) }
+    ensures enough { Behaves (F.file file.old) → OnOk result (least_sectors ≤ (F.file file.old).size / 512) }
     ensures failed { IfErr result (CopyFails (F.file file.old)) }
 {
     let sectors = measure(file)?;

@@ -64,10 +64,10 @@ pub fn is_printed_to<T: Files>(rt: &T, path: &str) -> bool {
     }
 }
 
-/// Opens a regular file to read it. An error where there is something else: to open a pipe would wait for who
-/// writes to it.
+/// Opens the regular file of a disk to read it. An error where there is something else, since opening a pipe would
+/// wait for a writer, or where standard output goes to it: lines would be written over its sectors.
 pub fn open_regular<T: Files>(rt: &T, path: &str) -> io::Result<T::File> {
-    if !rt.metadata(path)?.is_file() {
+    if !rt.metadata(path)?.is_file() || is_printed_to(rt, path) {
         return Err(io::Error::from(io::ErrorKind::InvalidInput));
     }
     fs::open(rt, path)

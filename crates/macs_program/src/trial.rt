@@ -11,7 +11,7 @@ ghost use Rattle.macs_program.specs.Applying.{Applies, answer_of, outcomes_statu
 ghost use Rattle.macs_program.specs.Trying.{EndsOn, EndsTrial, TrialEnds, TrialFails, TriesIn, TriesOn};
 ghost use Rattle.macs_program.specs.Trying.{failure_in_memory, would_line, would_lines, would_text};
 
-use crate::applying::{settle, status_after};
+use crate::applying::{give, status_after};
 use crate::capture_file::CaptureFile;
 use crate::disk_copy::copy_of;
 use crate::failure::{DiskFault, Failure};
@@ -44,7 +44,7 @@ fn try_command<D: SectorDisk>(
         IsCall D.disk endpoint.old (Commands command) (Ran (answer_of outcome)) endpoint.new) }
     ensures ended { IfErr result (λ failure. EndsTrial D.disk endpoint.old command failure) }
 {
-    match settle(endpoint, command) {
+    match give(endpoint, command) {
         Ok(outcome) => Ok(outcome),
         Err(fault) => Err(failure_in_memory(fault)),
     }

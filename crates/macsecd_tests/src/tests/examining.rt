@@ -3,7 +3,7 @@
 use super::Outcome;
 use super::link_files::{LEFT, PLAIN};
 use super::older_files::{GATE, HEAD, LAST_HEAD, SETTINGS, TX_INSTALL, TX_USE};
-use super::stand_in::Broken::{Opening, Read};
+use super::stand_in::Broken::{Opening, Printed, Read};
 use super::stories::Step::{
     Claimed, Closing, Failing, Filled, Folder, HasOctets, Hex, IsMissing, Keeping, Patch, Run,
     Shared, Text, Zeros,
@@ -209,6 +209,8 @@ const FAULTS: &[Step] = &[
     Run(&["format", FAULTY, "12153524c0895e81", "1", "1"], FORMATTED),
     Run(FAULTY_WORDS, NEW),
     Claimed(FAULTY, FAULTY_WORDS, NO_FILE),
+    // Standard output goes into the file.
+    Failing(FAULTY, Printed, FAULTY_WORDS, NO_FILE),
     Failing(FAULTY, Opening(NotFound), FAULTY_WORDS, NO_FILE),
     Failing(
         FAULTY,

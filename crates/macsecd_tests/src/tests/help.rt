@@ -34,7 +34,7 @@ fn prints_its_version(rt: HostRuntime) {
     expect(&rt, rt.alloc(), &["--version"], "", version);
 }
 
-/// What `about` prints of the sources as they stand in the repository.
+/// What `about` prints of the sources as they are in the repository.
 const PROGRAM: Outcome = Outcome::Done(
     "macsecd 0.1.0
 commit unknown

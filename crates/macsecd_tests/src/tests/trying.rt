@@ -3,8 +3,8 @@
 use super::Outcome;
 use super::applying::SIX_COMMANDS;
 use super::captures::SENDER;
-use super::older_files::{GATE, HEAD, KEYS, SETTINGS, TX_INSTALL, TX_USE};
-use super::stand_in::Broken::{Opening, Read};
+use super::older_files::{GATE, HEAD, KEYS, LAST_HEAD, SETTINGS, TX_INSTALL, TX_USE};
+use super::stand_in::Broken::{Opening, Printed, Read};
 use super::stories::Step::{
     Claimed, Closing, Failing, Filled, Folder, HasOctets, IsMissing, Keeping, Patch, Run, Shared,
     Text, Zeros,
@@ -106,7 +106,9 @@ const OLDER: &str = "story-trying-older/disk";
 
 const OLDER_KEYS: &str = "story-trying-older/keys.toml";
 
-/// A file of an older program: it is not brought up to date.
+const LAST: &str = "story-trying-older/last";
+
+/// Files of an older program: they are not brought up to date. One in its last generation cannot be.
 const TRIED_OLDER: &[Step] = &[
     Zeros(OLDER, 526_336),
     Patch(OLDER, 0, HEAD),
@@ -122,10 +124,19 @@ const TRIED_OLDER: &[Step] = &[
         &["check", OLDER_KEYS, OLDER],
         Outcome::Refused("1 would be refused KeySpent\n2 would be ok\n"),
     ),
+    Zeros(LAST, 526_336),
+    Patch(LAST, 0, LAST_HEAD),
+    Patch(LAST, 512, GATE),
+    Patch(LAST, 2 * 512, SETTINGS),
+    Keeping(
+        &[LAST],
+        &["check", OLDER_KEYS, LAST],
+        Outcome::Disk("macsecd: generations spent\n"),
+    ),
 ];
 
 #[test]
-fn an_older_file_is_tried(rt: HostRuntime) -> Result<(), Fail> {
+fn older_files_are_tried(rt: HostRuntime) -> Result<(), Fail> {
     play(&rt, rt.alloc(), "story-trying-older", TRIED_OLDER)
 }
 
@@ -159,6 +170,7 @@ const FAULTS: &[Step] = &[
     Run(&["format", FAULTY, "12153524c0895e81", "1", "1"], FORMATTED),
     Run(TRY, WOULD_BE_OK),
     Claimed(FAULTY, TRY, NO_FILE),
+    Failing(FAULTY, Printed, TRY, NO_FILE),
     Failing(FAULTY, Opening(NotFound), TRY, NO_FILE),
     Failing(
         FAULTY,

@@ -35,14 +35,14 @@ tell_refused-requires-clause-bad c = λ bad.
     subst (λ (i : Image). IsBadJournal i) (sym (c.in-Err.ensures.left bad).1)
     (bad-found (disk_of c.args.copy) c.in-Err.refused.fault bad c.in-Err.ensures.refused).1
 
-pub returns-clause-told : goal.returns-clause-told
-returns-clause-told c =
+pub returns-in-Err-clause-told : goal.returns-in-Err-clause-told
+returns-in-Err-clause-told c =
     IfOk-weaker c.tell_refused.result _ _ (λ said all.
     let (bad, says) = all in
     inr (subst (λ (i : Image). SaysFault i (string_bytes said.text) said.status) (c.in-Err.ensures.left bad).1 says)) c.tell_refused.ensures.told
 
-pub returns-clause-ended : goal.returns-clause-ended
-returns-clause-ended c =
+pub returns-in-Err-clause-ended : goal.returns-in-Err-clause-ended
+returns-in-Err-clause-ended c =
     IfErr-weaker c.tell_refused.result _ _ (λ failure ends. elim ends [
       | inl memory ↦ inl memory
       | inr (other, is) ↦ not-found (disk_of c.args.copy) c.in-Err.refused.fault failure is other c.in-Err.ensures.refused

@@ -26,7 +26,7 @@ returns-in_ok-layout-in-Ok-clause-told g c =
       file = c.in-Ok.file;
       copy = c.in_ok-copy-in-Ok.copy;
       layout = c.in_ok-layout-in-Ok.layout;
-      is_copy = laid-copy (file c.in-Ok.file) (file c.copy_of.new.file) c.in_ok-copy-in-Ok.copy c.in_ok-layout-in-Ok.layout copied.same copied.whole copied.copied
+      is_copy = laid-copy (file c.in-Ok.file) (file c.copy_of.new.file) c.in_ok-copy-in-Ok.copy c.in_ok-layout-in-Ok.layout copied.same copied.whole copied.enough copied.copied
           c.in_ok-layout-in-Ok.ensures.found;
       says = says;
     }) c.examine_copy.ensures.told
@@ -40,7 +40,7 @@ returns-in_ok-layout-in-Ok-clause-ended g c =
       c.in-Ok.file,
       c.in_ok-copy-in-Ok.copy,
       c.in_ok-layout-in-Ok.layout,
-      laid-copy (file c.in-Ok.file) (file c.copy_of.new.file) c.in_ok-copy-in-Ok.copy c.in_ok-layout-in-Ok.layout copied.same copied.whole copied.copied
+      laid-copy (file c.in-Ok.file) (file c.copy_of.new.file) c.in_ok-copy-in-Ok.copy c.in_ok-layout-in-Ok.layout copied.same copied.whole copied.enough copied.copied
           c.in_ok-layout-in-Ok.ensures.found,
       ends,
     ))) c.examine_copy.ensures.ended

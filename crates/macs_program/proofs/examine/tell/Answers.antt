@@ -5,8 +5,8 @@ use Rattle.macs_store.specs.Value.{standing_in}
 use Rattle.macs_program.proofs.Examined.{refused-so}
 use Rattle.macs_program.proofs.examine.tell.Goals as goal
 
-pub returns-in_ok-text-in-Ok-clause-told : goal.returns-in_ok-text-in-Ok-clause-told
-returns-in_ok-text-in-Ok-clause-told c = λ disk opening.
+pub returns-in-Ok-clause-told : goal.returns-in-Ok-clause-told
+returns-in-Ok-clause-told c = λ disk opening.
     let opens = rw c.in-Ok.is at opening in
     (standing_in c.in-Ok.store, opens.found refl, c.in_ok-text-in-Ok.ensures, refl)
 

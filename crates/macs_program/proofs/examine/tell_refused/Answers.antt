@@ -7,3 +7,6 @@ returns-in-BadJournal-clause-told c = IfOk-weaker c.tell_fault.result _ _ (λ sa
 
 pub returns-in-BadJournal-clause-ended : goal.returns-in-BadJournal-clause-ended
 returns-in-BadJournal-clause-ended c = IfErr-weaker c.tell_fault.result _ _ (λ failure memory. inl memory) c.tell_fault.ensures.ended
+
+pub tell_fault-requires-clause-bad : goal.tell_fault-requires-clause-bad
+tell_fault-requires-clause-bad c = c.requires.bad c.in-BadJournal.is

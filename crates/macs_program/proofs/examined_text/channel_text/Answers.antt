@@ -1,8 +1,8 @@
-use Rattle.std.proofs.Common.{◌∙◌, ℕ, List, Option, [], length, string_bytes, ap, refl}
+use Rattle.std.proofs.Common.{ℕ, List, [], length, string_bytes, ap, refl}
 use Rattle.macs_store.specs.Standing.{Standing}
 use Rattle.macs_store.specs.Value.{standing_in}
 use Rattle.macs_texts.proofs.Shown.{shown-more}
-use Rattle.macs_program.specs.Examining.{rx_ceiling_line, rx_ceiling_text}
+use Rattle.macs_program.specs.Examining.{rx_ceiling_text}
 use Rattle.macs_program.proofs.examined_text.channel_text.Goals as goal
 
 pub loop-an-preserved : goal.loop-an-preserved
@@ -12,4 +12,4 @@ loop-an-preserved g c =
     (string_bytes c.push_str.new.self) c.as_str.result.now (string_bytes c.in_ok-rx_line.field-0)
     (ap (λ (ns : List ℕ). length ns) c.all-an-items.ensures) c.loop-an-test.true refl
     c.loop-an.invariant c.in_ok-push_str.ensures.bytes c.as_str.ensures.value
-    (c.in_ok-rx_line.ensures ∙ ap (λ (o : Option ℕ). rx_ceiling_line c.args.sci _ o) c.rx_ceiling.ensures)
+    (rw c.rx_ceiling.ensures at c.in_ok-rx_line.ensures)

@@ -1,8 +1,8 @@
-use Rattle.std.proofs.Common.{◌∙◌, ℕ, List, Option, [], length, string_bytes, ap, refl}
+use Rattle.std.proofs.Common.{ℕ, List, [], length, string_bytes, ap, refl}
 use Rattle.macs_store.specs.Standing.{Standing}
 use Rattle.macs_store.specs.Value.{standing_in}
 use Rattle.macs_texts.proofs.Shown.{shown-more}
-use Rattle.macs_program.specs.Examining.{tx_ceiling_line, tx_ceiling_text}
+use Rattle.macs_program.specs.Examining.{tx_ceiling_text}
 use Rattle.macs_program.proofs.examined_text.tx_text.Goals as goal
 
 pub loop-an-preserved : goal.loop-an-preserved
@@ -11,4 +11,4 @@ loop-an-preserved g c =
     shown-more (tx_ceiling_text s) c.all-an-items.result 4 c.loop-an.an-index _ _ [] (string_bytes c.loop-an.text) (string_bytes c.push_str.new.self)
     c.as_str.result.now (string_bytes c.in_ok-tx_line.field-0) (ap (λ (ns : List ℕ). length ns) c.all-an-items.ensures) c.loop-an-test.true refl
     c.loop-an.invariant c.in_ok-push_str.ensures.bytes c.as_str.ensures.value
-    (c.in_ok-tx_line.ensures ∙ ap (λ (o : Option ℕ). tx_ceiling_line _ o) c.tx_ceiling.ensures)
+    (rw c.tx_ceiling.ensures at c.in_ok-tx_line.ensures)
