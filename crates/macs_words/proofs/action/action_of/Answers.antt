@@ -1,5 +1,6 @@
-use Rattle.std.proofs.Common.{◌≡◌, ◌∙◌, IfOk, List, Option, inl, inr, ap, subst, sym, absurd}
+use Rattle.std.proofs.Common.{◌≡◌, ◌∙◌, IfOk, List, Option, inl, inr, ap, subst, sym}
 use Rattle.std.proofs.lemmas.Result.{IfErr-weaker, IfOk-weaker}
+use Rattle.clap.proofs.BuiltLemmas.{on_ok_always}
 use Rattle.clap.specs.Words.{App, Row, Text, fault_of, is_simple, is_simple_and_free, subcommand_of, subcommand_rows_of, takes}
 use Rattle.macs_words.specs.declared.action.Action.{Action}
 use Rattle.macs_words.specs.Words.{Names, NamesNothing, NamesNoAction, macsecd, texts}
@@ -18,8 +19,8 @@ pub returns-in-Ok-clause-refused : goal.returns-in-Ok-clause-refused
 returns-in-Ok-clause-refused c =
     let words = texts c.args.words.now in
     let known = c.in_ok-known_words.ensures in
-    let none = ap (λ (app : App). fault_of app words) (sym known) ∙ c.in-Ok.ensures.kinds (ap is_simple_and_free known ∙ free) in
-    cc
+    on_ok_always c.action_read.result
+    (ap (λ (app : App). fault_of app words) (sym known) ∙ c.in-Ok.ensures.kinds (ap is_simple_and_free known ∙ free))
 
 pub returns-in-Ok-clause-taken : goal.returns-in-Ok-clause-taken
 returns-in-Ok-clause-taken c = λ taken.
@@ -33,7 +34,7 @@ returns-in-Ok-clause-taken c = λ taken.
           absurd (none action (subst (λ (o : Option (Text × List Row)). Names o action) (sym found) names) fits)
     ]) c.action_read.ensures.refused
 
-pub returns-in_ok-usage_fault_of-in-Err-clause-taken : goal.returns-clause-taken
+pub returns-in_ok-usage_fault_of-in-Err-clause-taken : goal.returns-in_ok-usage_fault_of-in-Err-clause-taken
 returns-in_ok-usage_fault_of-in-Err-clause-taken c = λ taken.
     let words = texts c.args.words.now in
     let known = c.in_ok-known_words.ensures in
