@@ -11,7 +11,7 @@ use std::net::Net;
 use std::rt::{Clock, Files};
 
 /// The desk of a relay of the program.
-type SystemDesk<'a, T> = ControlDesk<ControlSocket<'a, T>, MetricsPlace<'a, T>>;
+pub type SystemDesk<'a, T> = ControlDesk<ControlSocket<'a, T>, MetricsPlace<'a, T>>;
 
 /// How long a sleep of a relay is at most, in milliseconds: 0 where it does not sleep.
 fn limit_of(pace: Pace) -> u16 {

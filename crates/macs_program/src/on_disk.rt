@@ -34,7 +34,7 @@ ghost use Rattle.macs_texts.specs.Lines.{line};
 
 use crate::addresses::{Addresses, WireAddresses, addresses_of};
 use crate::applying::apply_commands;
-use crate::attendants::{desk_for, leave};
+use crate::attendants::{SystemDesk, desk_for, leave};
 use crate::capture_file::CaptureFile;
 use crate::captures::{Captures, SystemCaptures};
 use crate::capturing::pass_frames;
@@ -581,6 +581,25 @@ impl Wires {
         )
     }
 
+    /// Relays frames between them, attended by this desk. A wire leaves out so many receives in a row at most.
+    fn relay_attended<T: Files + Net + Clock, D: SectorDisk, W: Stream>(
+        self,
+        endpoint: &mut Endpoint<D>,
+        desk: &mut SystemDesk<'_, T>,
+        most: u8,
+        turns: u64,
+        out: &mut W,
+    ) -> Result<Status, Failure>
+        requires controlled { ⟦<UdpWire<Global, UdpSocket> as Wire>⟧.state self.controlled ≡ new_wire }
+        requires common { ⟦<UdpWire<Global, UdpSocket> as Wire>⟧.state self.common ≡ new_wire }
+        ensures { DoesRelay D.disk W.contents W.failed (attended turns) endpoint.old out.old result endpoint.new out.new }
+    {
+        let Wires { controlled, common } = self;
+        let mut controlled = controlled.sparing(most);
+        let mut common = common.sparing(most);
+        relay_frames_attended(endpoint, &mut controlled, &mut common, desk, turns, out)
+    }
+
     /// Relays frames between them, attended: it is reported to whoever started the program that it serves, once all is bound,
     /// and that it ends.
     fn attend<T: Files + Net + Clock + Env, D: SectorDisk, W: Stream>(
@@ -599,18 +618,7 @@ impl Wires {
         let mut desk = desk_for(rt, alloc, &running, self.sockets())?;
         let notifier = Notifier::of_environment(rt, alloc);
         notifier.ready();
-        let Wires { controlled, common } = self;
-        let most = left_out(running.pace);
-        let mut controlled = controlled.sparing(most);
-        let mut common = common.sparing(most);
-        let result = relay_frames_attended(
-            endpoint,
-            &mut controlled,
-            &mut common,
-            &mut desk,
-            turns,
-            out,
-        );
+        let result = self.relay_attended(endpoint, &mut desk, left_out(running.pace), turns, out);
         notifier.stopping();
         leave(rt, &running);
         result

@@ -231,6 +231,10 @@ FitsNumbers (Format disk sci tx_block rx_block block is_over) = (tx_block < 2 ^ 
 FitsNumbers (Relay disk controlled common running) = FitsPace running.pace
 FitsNumbers action = ⊤
 
+-- no action whose numbers have so many bits is named
+abbrev pub NamesNoAction : Option (Text × List Row) → Type 0
+NamesNoAction found = (action : Action) → Names found action → ¬ FitsNumbers action
+
 -- the command is this one, and has no global argument
 pub record IsClapCommand (command : Command) (app : App) : Type 0 where
   pub app_is : app_of command ≡ app

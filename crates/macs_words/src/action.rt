@@ -1,12 +1,12 @@
 //! What the program's words ask for.
 
-ghost use Rattle.std.specs.Prelude.{◌≡◌, ◌⊎◌, ◌↔◌, ◌<◌, ◌^◌, ℕ, Option, IfOk, IfErr, IfSome, IsSome, IsTrue, OnOk, Some, true, false, [], codes, option_map, string_bytes};
+ghost use Rattle.std.specs.Prelude.{◌≡◌, ◌≢◌, ◌⊎◌, ◌↔◌, ◌<◌, ◌^◌, ℕ, Option, IfOk, IfErr, IfSome, IsSome, IsTrue, OnOk, Some, true, false, [], codes, option_map, string_bytes};
 ghost use Rattle.clap.specs.Words.{App, Rule, Text, app_of, fault_of, first_of, found_of, new_app, rows_of, rule_of, subcommand_of, subcommand_rows_of, takes, with_rule, with_subcommand};
 ghost use Rattle.macs_words.specs.Controls.{IsPrintable};
 ghost use Rattle.macs_words.specs.Waits.{IsRoom, IsWaitLimit};
 ghost use Rattle.macs_words.specs.Words.{FitsNumbers, FitsPace, HasNumber, HasPace, HasPrintableCause, HasText, IsClapCommand, IsFaultOf};
 ghost use Rattle.macs_words.specs.Words.{HasQuestion, MayHaveNumber, MayHaveRoom, Names, NamesNothing, bare_app, count_rule, macsecd, number_rule};
-ghost use Rattle.macs_words.specs.Words.{plain_word, texts, value_rule};
+ghost use Rattle.macs_words.specs.Words.{NamesNoAction, plain_word, texts, value_rule};
 ghost use Rattle.macs_words.specs.Words.{flag_rule, last_rule, option_rule, room_rule, wait_rule};
 ghost use Rattle.macs_words.specs.declared.action.Question.{Question};
 ghost use Rattle.macs_words.specs.declared.pace.Pace.{Pace};
@@ -710,6 +710,25 @@ fn examine_in<'a>(values: &ArgMatches<'a>) -> Option<Action<'a>>
     Some(Action::Examine { disk })
 }
 
+/// The action of a subcommand that needs no frames and no running relay, with its values.
+fn lone_in<'a>(name: &str, values: &ArgMatches<'a>) -> Option<Action<'a>>
+    requires others { (name.now ≢ codes "open") × (name.now ≢ codes "format") × (name.now ≢ codes "apply")
+        × (name.now ≢ codes "show") × (name.now ≢ codes "protect") × (name.now ≢ codes "validate")
+        × (name.now ≢ codes "relay") × (name.now ≢ codes "ask") }
+    ensures read { IfSome result (Names (Some (name.now, rows_of (found_of values.now)))) }
+    ensures found { (action : Action) → Names (Some (name.now, rows_of (found_of values.now))) action
+        → IsSome result }
+{
+    match name {
+        "key" => key_in(values),
+        "inspect" => inspect_in(values),
+        "check" => check_in(values),
+        "examine" => examine_in(values),
+        "about" => Some(Action::About),
+        _ => None,
+    }
+}
+
 /// The action of the subcommand that was used with its values, `open` where there was none.
 fn action_in<'a>(matches: &ArgMatches<'a>) -> Option<Action<'a>>
     ensures read { IfSome result (Names (subcommand_rows_of matches.now)) }
@@ -728,12 +747,7 @@ fn action_in<'a>(matches: &ArgMatches<'a>) -> Option<Action<'a>>
         "validate" => validate_in(values),
         "relay" => relay_in(values),
         "ask" => ask_in(values),
-        "key" => key_in(values),
-        "inspect" => inspect_in(values),
-        "check" => check_in(values),
-        "examine" => examine_in(values),
-        "about" => Some(Action::About),
-        _ => None,
+        _ => lone_in(name, values),
     }
 }
 
@@ -745,6 +759,18 @@ fn missing_cause(alloc: Global, matches: &ArgMatches) -> Result<String, AllocErr
     match matches.subcommand() {
         Some(("ask", _)) => printable(alloc, "ask PATH show, counters, stop, or apply FILE"),
         _ => printable(alloc, "the following required arguments were not provided:"),
+    }
+}
+
+/// The action that was read. Refused as `Usage` where the words name none, then as `Memory` where memory runs out.
+fn action_read<'a>(alloc: Global, matches: &ArgMatches<'a>) -> Result<Action<'a>, UsageFault>
+    ensures read { IfOk result (Names (subcommand_rows_of matches.now)) }
+    ensures refused { IfErr result (λ fault. NamesNoAction (subcommand_rows_of matches.now)) }
+    ensures printable { IfErr result HasPrintableCause }
+{
+    match action_in(matches) {
+        Some(action) => Ok(action),
+        None => Err(UsageFault::Usage(missing_cause(alloc, matches)?)),
     }
 }
 
@@ -764,10 +790,7 @@ pub fn action_of<'a>(alloc: Global, words: &'a [&'a str]) -> Result<Action<'a>, 
     ensures printable { IfErr result HasPrintableCause }
 {
     match known_words(alloc)?.try_get_matches_from(words) {
-        Ok(matches) => match action_in(&matches) {
-            Some(action) => Ok(action),
-            None => Err(UsageFault::Usage(missing_cause(alloc, &matches)?)),
-        },
+        Ok(matches) => action_read(alloc, &matches),
         Err(error) => Err(usage_fault_of(alloc, &error)?),
     }
 }

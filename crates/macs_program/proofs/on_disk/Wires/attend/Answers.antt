@@ -1,6 +1,5 @@
-use Rattle.std.proofs.Common.{◌∙◌}
 use Rattle.std.proofs.lemmas.Result.{err_from_is_err_and}
-use Rattle.macs_program.proofs.Relayed.{frames-attended, no-wire, of-desk}
+use Rattle.macs_program.proofs.Relayed.{no-wire, of-desk}
 use Rattle.macs_program.proofs.on_disk.Wires.attend.Goals as goal
 
 pub returns-in_err-desk : goal.returns-in_err-desk
@@ -9,8 +8,4 @@ returns-in_err-desk g c =
     no-wire _ _ _ _ _ _ c.in_err-desk.field-0.0 p.0 c.from_residual.result p.1 p.2 (of-desk _ c.in_err-desk.ensures)
 
 pub returns : goal.returns
-returns g c =
-    let said = c.relay_frames_attended-result.ensures in
-    frames-attended _ _ _ _ _ _ _ _ _ _ _ _ c.relay_frames_attended-result.result
-    (c.sparing-controlled.ensures.state ∙ c.requires.controlled) (c.sparing-common.ensures.state ∙ c.requires.common)
-    said.printed said.ended said.silent said.broken
+returns g c = c.relay_attended-result.ensures
