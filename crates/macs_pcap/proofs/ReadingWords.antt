@@ -75,8 +75,8 @@ header_fault_is before after at left r is = elim (at_left
 -- another fault leaves what had failed before
 unfailed : (T : Type 0) (before after : Bool) (at : PcapFault) → at ≢ fault.Read
     → TellsFailedRead {T = T} before after (Err at) → after ≡ before
-unfailed T before after fault.Read other tells = absurd (other refl)
-unfailed T before after at other tells = tells
+unfailed T before after fault.Read other noted = absurd (other refl)
+unfailed T before after at other noted = noted
 
 -- ---- capture records
 
