@@ -2,3 +2,4 @@ mod Counted
 mod Reading
 mod CommandWords
 mod TakenWords
+mod OtherWords

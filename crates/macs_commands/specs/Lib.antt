@@ -2,3 +2,4 @@ pub mod Fields
 pub mod Lines
 pub mod CommandFiles
 pub mod CommandWords
+pub mod OtherWords

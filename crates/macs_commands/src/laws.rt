@@ -1,6 +1,7 @@
 //! Laws of the definitions: which commands a file says, in its own terms.
 
 ghost use Rattle.macs_commands.specs.CommandWords.{FileWords, LineWords, TakenWords, ValueWords};
+ghost use Rattle.macs_commands.specs.OtherWords.{OtherWords};
 
 /// The words of `commands_of` say this: which commands a file says, in which order, and with which
 /// values.
@@ -13,4 +14,6 @@ pub fn words()
     ensures taken { TakenWords }
     // What a value at a key is.
     ensures values { ValueWords }
+    // Which text is no command's word, and which file is refused for its shape.
+    ensures others { OtherWords }
 {}

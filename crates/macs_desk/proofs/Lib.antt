@@ -4,3 +4,4 @@ pub mod Looking
 pub mod Queued
 pub mod Served
 mod DeskWords
+mod SpeakWords

@@ -3,3 +3,4 @@ pub mod Replies
 pub mod Listening
 pub mod Serving
 pub mod DeskWords
+pub mod SpeakWords

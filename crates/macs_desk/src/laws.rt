@@ -9,6 +9,7 @@ ghost use Rattle.macs_endpoint.specs.declared.fault.RefillFault.{RefillFault};
 ghost use Rattle.macs_requests.specs.Talks.{Talk};
 ghost use Rattle.macs_desk.specs.DeskWords.{AnswerWords, ListenWords, QueueWords, ReportWords};
 ghost use Rattle.macs_desk.specs.Serving.{ClientsAreTold, DeskState, Speaks};
+ghost use Rattle.macs_desk.specs.SpeakWords.{SpeakWords};
 
 use macs_disk::SectorDisk;
 
@@ -35,4 +36,6 @@ pub fn words<D: SectorDisk>()
     ensures listens { ListenWords }
     // What is reported.
     ensures reports { ReportWords D.disk }
+    // What a desk says over a whole relay, call by call.
+    ensures speaks { SpeakWords }
 {}

@@ -137,6 +137,7 @@ module _ {D : Type 0} (disk_of : D → Disk) where
     none = λ old new slept is. is;
     rested = λ turns slept old new summary is. is;
     failed = λ turns slept old new at is. (is.0, is.1, is.2, is.3, is.4, is.5, is.6);
+    relayed = λ turns slept old result endpoint controlled common is. is;
     one = λ turns slept old new (between, before, progress, was, earlier, last, which, count). (
       between,
       before,

@@ -2,7 +2,7 @@
 -- datagrams are known.
 use Rattle.std.specs.Prelude.{◌≡◌, ◌≢◌, ◌<◌, ◌≤◌, ◌⊎◌, ◌↔◌, ◌+◌, ◌-◌, ◌^◌, ◌++◌, ℕ, suc, Bool, true, false, IsTrue}
 use Rattle.std.specs.Prelude.{List, [], ◌∷◌, flat_map, length, map, take, Contains, Option, Some, None, Result, Ok, Err}
-use Rattle.std.specs.Prelude.{OnErr, OnOk}
+use Rattle.std.specs.Prelude.{IfOk, OnErr, OnOk}
 use Rattle.std.specs.Io.KnownBytes.{Appends}
 use Rattle.std.specs.declared.io.ErrorKind.{ErrorKind}
 use Rattle.std.specs.declared.io.ErrorKind.TheVariants.{WouldBlock}
@@ -51,7 +51,7 @@ use Rattle.macs_edge.specs.Passing.{BecomesCapture, HandsAllIn, HasPassed, Passe
 use Rattle.macs_edge.specs.Passing.{TakesRecord, WritesCapture}
 use Rattle.macs_edge.specs.Relaying.{Carries, Fills, Forwards, HandsOver, LaneValue, Relay, Relays, TakesTurn, Way}
 use Rattle.macs_edge.specs.Relaying.{filled, one_dropped, one_fault, relay_of, summary_of, way_of}
-use Rattle.macs_edge.specs.Resting.{IsQuiet, RelaysResting, TakesTurnsResting}
+use Rattle.macs_edge.specs.Resting.{IsQuiet, IsRelayedResting, RelaysResting, TakesTurnsResting}
 use Rattle.macs_edge.specs.Settling.{Halts, HandsIn, Settles, Waits, call_on}
 use Rattle.macs_edge.specs.WireDatagrams.{ReceivesDatagram, SendsDatagram}
 use Rattle.macs_edge.specs.Wires.{WireState, saturated}
@@ -85,7 +85,8 @@ FlowsInTurns disk_of turns old result new = (flow : IsFlow disk_of old new (summ
 
 -- A turn is quiet where its step found no work, both lanes are empty after it, and nothing was counted in it. A relay
 -- that rests sleeps once after each quiet turn, and not after another. It takes all its turns so; or fewer, and then
--- one whose step is answered with the fault, with no sleep after it.
+-- one whose step is answered with the fault, with no sleep after it. So many sleeps are said of it, and its two lanes
+-- make its summary.
 pub record RestWords {D : Type 0} (disk_of : D → Disk) : Type 0 where
   pub quiet : (progress : Progress) (old new : Relay D) → IsQuiet progress old new ↔ ((progress ≡ Idle)
       × (new.to_common.waiting ≡ None)
@@ -98,6 +99,12 @@ pub record RestWords {D : Type 0} (disk_of : D → Disk) : Type 0 where
       → RelaysResting {T = RelaySummary} disk_of turns old slept (Err at) new
       → (done : ℕ) × (between : Relay D) × (step : StepFault) × (at ≡ refill_fault_named step) × (done < turns)
       × TakesTurnsResting disk_of done old slept between × TakesTurn disk_of (Err step) between new
+  pub relayed : (turns slept : ℕ) (old : Relay D) (result : Result RelaySummary RefillFault)
+      (endpoint : EndpointValue D) (controlled common : WireState)
+      → IsRelayedResting disk_of turns old slept result endpoint controlled common
+      → (to_common : LaneValue) × (to_controlled : LaneValue)
+      × RelaysResting disk_of turns old slept result (relay_of endpoint controlled common to_common to_controlled)
+      × IfOk result (λ summary. summary ≡ summary_of to_common to_controlled)
   pub one : (turns slept : ℕ) (old new : Relay D) → TakesTurnsResting disk_of (suc turns) old slept new
       → (between : Relay D) × (before : ℕ)
       × (progress : Progress) × TakesTurnsResting disk_of turns old before between

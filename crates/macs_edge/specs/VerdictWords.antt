@@ -1,23 +1,30 @@
 -- What is to be drawn of the words on verdicts that are reported.
-use Rattle.std.specs.Prelude.{◌≡◌, ◌≢◌, ◌⊎◌, ◌+◌, ℕ, Bool, List, [], ◌∷◌, length, Ok, Err}
+use Rattle.std.specs.Prelude.{◌≡◌, ◌≢◌, ◌⊎◌, ◌+◌, ℕ, Bool, List, [], ◌∷◌, length, Result, Ok, Err}
 use Rattle.macs_disk.specs.Disk.{Disk}
 use Rattle.macs_rxsc.specs.declared.verdict.Verdict.{Verdict}
 use Rattle.macs_rxsc.specs.declared.verdict.Verdict.TheVariants.{HeldBack}
 use Rattle.macs_endpoint.specs.State.{Logs, Received, Receives, State}
 use Rattle.macs_endpoint.specs.Step.{Step}
 use Rattle.macs_endpoint.specs.Value.{state_of}
-use Rattle.macs_pcap.specs.Reading.{HoldsOfLeft}
+use Rattle.macs_pcap.specs.Header.{header_text}
+use Rattle.macs_pcap.specs.Reading.{HoldsOfLeft, ReadsHeader}
 use Rattle.macs_pcap.specs.Records.{CaptureRecord}
+use Rattle.macs_pcap.specs.Writing.{WritesText}
+use Rattle.macs_pcap.specs.declared.fault.PcapFault.{PcapFault}
+use Rattle.macs_pcap.specs.declared.fault.PcapFault.TheVariants.{Write}
+use Rattle.macs_pcap.specs.declared.header.Header.{Header}
 use Rattle.macs_edge.specs.Passing.{HasPassed, Run, Stops}
-use Rattle.macs_edge.specs.Telling.{Judges, JudgesRun, Telling, Tells, TellsAll}
+use Rattle.macs_edge.specs.Telling.{Judges, JudgesRecords, JudgesRun, Telling, Tells, TellsAll, TellsRun}
 use Rattle.macs_edge.specs.declared.passing.RunFault.{RunFault}
+use Rattle.macs_edge.specs.declared.passing.RunFault.TheVariants.{Pcap}
 use Rattle.macs_edge.specs.declared.passing.Summary.{Summary}
 use Rattle.macs_edge.specs.declared.settling.Side.TheVariants.{Common}
 
 -- Where no record is taken there is no verdict. Else the first is that with which `receive` answers the frame of the
 -- first record, never that it is held back, and the others are those of the others: as many as there are records. Each
 -- is reported once, in their order. A run that is answered Ok took all records up to the end, and has a verdict on each, as
--- many as it counts. One that ends in a fault has those on the records before it.
+-- many as it counts. One that ends in a fault has those on the records before it; where its header is not read, or not
+-- written, there is none. Those that are reported are those of the run, and no others.
 pub record VerdictWords {D V T : Type 0} (disk_of : D → Disk) (tells : Tells V T) : Type 0 where
   pub none : (old new : State) (verdicts : List Verdict) → Judges Common old [] verdicts new
       → (verdicts ≡ []) × (new ≡ old)
@@ -48,3 +55,24 @@ pub record VerdictWords {D V T : Type 0} (disk_of : D → Disk) (tells : Tells V
       × ((logs : Logs) → (after : Logs)
       × Judges Common (state_of between.endpoint logs) records verdicts (state_of until.endpoint after))
       × Stops disk_of Common big (length records) until fault new)
+  pub broken : (big : Bool) (old new : Run D) (at : RunFault) (verdicts : List Verdict)
+      → JudgesRecords disk_of Common big old (Err at) verdicts new
+      → (records : List CaptureRecord) × (passed : List CaptureRecord) × (until : Run D)
+      × HasPassed disk_of Common big old records passed until
+      × ((logs : Logs) → (after : Logs)
+      × Judges Common (state_of old.endpoint logs) records verdicts (state_of until.endpoint after))
+      × Stops disk_of Common big (length records) until at new
+  pub cut : (old new : Run D) (at : RunFault) (verdicts : List Verdict)
+      → JudgesRun disk_of Common old (Err at) verdicts new
+      → ((cause : PcapFault) × (at ≡ Pcap cause) × ReadsHeader old.source new.source (Err cause)
+      × (new.endpoint ≡ old.endpoint) × (new.sink ≡ old.sink) × (verdicts ≡ []))
+      ⊎ ((header : Header) × ReadsHeader old.source new.source (Ok header) × (at ≡ Pcap Write)
+      × WritesText {T = Unit {0}} old.sink new.sink (header_text header) (Err Write)
+      × (new.endpoint ≡ old.endpoint) × (verdicts ≡ []))
+      ⊎ ((header : Header) × (between : Run D) × ReadsHeader old.source between.source (Ok header)
+      × WritesText {T = Unit {0}} old.sink between.sink (header_text header) (Ok tt)
+      × (between.endpoint ≡ old.endpoint) × JudgesRecords disk_of Common header.big between (Err at) verdicts new)
+  pub told : (old new : Run D) (before after : Telling V T) (result : Result Summary RunFault)
+      → TellsRun disk_of tells Common old before result new after
+      → (verdicts : List Verdict) × JudgesRun disk_of Common old result verdicts new
+      × TellsAll tells before verdicts after

@@ -8,4 +8,6 @@ refused-words disk_of = record {
   evening = λ old identity refused e. (e.day, e.failed);
   morning = λ old identity an key evening out refused i. (i.for_disk, i.called, i.loses, i.chain);
   watch = λ old identity sci an key frame out refused i. (i.for_disk, i.served, i.loses, i.chain);
+  either_night = λ old identity an key evening out refused is. is;
+  either_watch = λ old identity sci an key frame out refused is. is;
 }

@@ -14,11 +14,12 @@ use Rattle.macs_headline.specs.Days.{IsRefusedDay, exchange_with, link_of}
 use Rattle.macs_headline.specs.Deeds.{Chain, Formatting, Living, PassingOn, Refusing}
 use Rattle.macs_headline.specs.Endings.{LosesPower}
 use Rattle.macs_headline.specs.History.{Formats, Refuses}
-use Rattle.macs_headline.specs.Nights.{IsRefusedEvening, IsRefusedMorning}
-use Rattle.macs_headline.specs.Watches.{IsEvening, IsRefusedWatchMorning, evening_turns}
+use Rattle.macs_headline.specs.Nights.{IsRefusedEvening, IsRefusedMorning, IsRefusedNight}
+use Rattle.macs_headline.specs.Watches.{IsEvening, IsRefusedWatch, IsRefusedWatchMorning, evening_turns}
 
 -- A day that is refused is a `format` and an opening that is refused, and so is its history; in the evening a device call failed then, or the disk is worn. An
--- opening of the morning is refused as Disk alone, after the calls of the evening, each answered, and the power loss.
+-- opening of the morning is refused as Disk alone, after the calls of the evening, each answered, and the power loss. A
+-- night and a watch are refused in the evening or in the morning, and so in no other way.
 pub record RefusedWords {D : Type 0} (disk_of : D → Disk) : Type 0 where
   pub day : (old : D) (identity : Identity) (refused : RecoverRefused D) (i : IsRefusedDay disk_of old identity refused)
       → Chain disk_of old (link_of (Formatting identity i.formatted) i.between ∷ link_of (Refusing refused.fault) refused.disk ∷ []) refused.disk
@@ -43,3 +44,11 @@ pub record RefusedWords {D : Type 0} (disk_of : D → Disk) : Type 0 where
       × Chain disk_of old (link_of (Formatting identity i.formatted) i.between
       ∷ link_of (Living i.start (evening_turns sci an key frame s.early out i.evening s.one s.two s.three s.four s.last) s.last None) i.left
       ∷ link_of PassingOn i.lost ∷ link_of (Refusing refused.fault) refused.disk ∷ []) refused.disk
+  pub either_night : (old : D) (identity : Identity) (an : ℕ) (key : Key) (evening out : List ℕ)
+      (refused : RecoverRefused D) → IsRefusedNight disk_of old identity an key evening out refused
+      → IsRefusedEvening disk_of old identity refused
+      ⊎ IsRefusedMorning disk_of old identity an key evening out refused
+  pub either_watch : (old : D) (identity : Identity) (sci : List ℕ) (an : ℕ) (key : Key) (frame out : List ℕ)
+      (refused : RecoverRefused D) → IsRefusedWatch disk_of old identity sci an key frame out refused
+      → IsRefusedEvening disk_of old identity refused
+      ⊎ IsRefusedWatchMorning disk_of old identity sci an key frame out refused

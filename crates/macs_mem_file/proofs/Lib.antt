@@ -1,2 +1,3 @@
 mod BlockFlags
 mod MemoryFile
+mod MemoryWords

@@ -1,3 +1,4 @@
 pub mod Blocks
 pub mod MemFiles
 pub mod Evidence
+pub mod MemoryWords

@@ -4,6 +4,7 @@
 
 mod blocks;
 mod file;
+pub mod laws;
 mod open;
 mod plan;
 

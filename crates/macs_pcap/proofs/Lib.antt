@@ -6,3 +6,4 @@ pub mod WrittenRecord
 pub mod WrittenHeader
 mod LetGo
 mod ReadingWords
+mod WritingWords

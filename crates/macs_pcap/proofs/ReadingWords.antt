@@ -1,11 +1,14 @@
 -- All that is to be drawn of the words on reading a capture.
-use Rattle.std.proofs.Common.{◌≡◌, ◌<◌, ◌⊎◌, inl, inr, ℕ, Bool, List, Option, Some, None, Result, Ok, Err, refl, sym, subst}
-use Rattle.std.specs.Prelude.{IfSome, take}
-use Rattle.macs_pcap.specs.Faults.{header_fault, record_fault}
-use Rattle.macs_pcap.specs.Header.{BeginsWithHeader}
-use Rattle.macs_pcap.specs.Reading.{AnswersFault, HoldsOfLeft, ReadsHeader, ReadsRecord, Takes, fault_in}
+use Rattle.std.proofs.Common.{◌≡◌, ◌≢◌, ◌<◌, ◌⊎◌, ◌-◌, ◌==◌, inl, inr, ℕ, Bool, true, false, cond, List, length, Option, Some}
+use Rattle.std.proofs.Common.{None, Result, Ok, Err, refl, sym, subst}
+use Rattle.std.specs.Option.{option_or}
+use Rattle.std.specs.Prelude.{IfSome, nat_le, nat_lt, take}
+use Rattle.macs_pcap.specs.Faults.{header_fault, max_records, record_fault}
+use Rattle.macs_pcap.specs.Header.{BeginsWithHeader, longest}
+use Rattle.macs_pcap.specs.Reading.{AnswersFault, HoldsOfLeft, ReadsHeader, ReadsRecord, Takes, TellsFailedRead, WantsRoom}
+use Rattle.macs_pcap.specs.Reading.{fault_in}
 use Rattle.macs_pcap.specs.ReadingWords.{HeaderWords, ReadWords}
-use Rattle.macs_pcap.specs.Records.{kept_in}
+use Rattle.macs_pcap.specs.Records.{kept_in, original_in}
 use Rattle.macs_pcap.specs.States.{SourceState}
 use Rattle.macs_pcap.specs.declared.fault.PcapFault.{PcapFault}
 use Rattle.macs_pcap.specs.declared.fault.PcapFault.TheVariants as fault
@@ -67,7 +70,33 @@ header_fault_is before after at left r is = elim (at_left
       | inr some ↦ inr (sym some)
     ]
 
+-- ---- reads that failed
+
+-- another fault leaves what had failed before
+unfailed : (T : Type 0) (before after : Bool) (at : PcapFault) → at ≢ fault.Read
+    → TellsFailedRead {T = T} before after (Err at) → after ≡ before
+unfailed T before after fault.Read other noted = absurd (other refl)
+unfailed T before after at other noted = noted
+
 -- ---- capture records
+
+-- no fault of octets is a want of memory
+never_memory : (a b d e f g : Bool) → cond {A = Option PcapFault} a None (cond {A = Option PcapFault} b (Some fault.CutFile)
+    (option_or (cond {A = Option PcapFault} d (Some fault.TooManyRecords)
+    (cond {A = Option PcapFault} e (Some fault.RecordTooLong) (cond {A = Option PcapFault} f (Some fault.CutRecord) None)))
+    (cond {A = Option PcapFault} g (Some fault.CutFile) None))) ≢ Some fault.Memory
+never_memory true b d e f g is = absurd (cc)
+never_memory false true d e f g is = absurd (cc)
+never_memory false false true e f g is = absurd (cc)
+never_memory false false false true f g is = absurd (cc)
+never_memory false false false false true g is = absurd (cc)
+never_memory false false false false false true is = absurd (cc)
+never_memory false false false false false false is = absurd (cc)
+
+not_memory : (big : Bool) (count : ℕ) (left : List ℕ) → record_fault big count left ≢ Some fault.Memory
+not_memory big count left = never_memory (length left == 0) (nat_lt (length left) 16) (nat_le max_records count)
+    (nat_lt longest (kept_in big (take 16 left))) (nat_lt (kept_in big (take 16 left)) (original_in big (take 16 left)))
+    (nat_lt (length left - 16) (kept_in big (take 16 left)))
 
 module _ (big : Bool) (count room : ℕ) (before after : SourceState) (frame left : List ℕ) where
   no_fault : (stamp : Option Stamp) → ReadsRecord big count room before after frame (Ok stamp)
@@ -87,6 +116,14 @@ module _ (big : Bool) (count room : ℕ) (before after : SourceState) (frame lef
     | inr (inr some) ↦ inr (inr (sym some))
   ]
 
+  wanted : ReadsRecord big count room before after frame (Err fault.Memory) → before.left ≡ Some left
+      → WantsRoom big count room left
+  wanted r is = elim (at_left (AnswersFault big count room (Err fault.Memory)) before.left left is r.fault) [
+    | inl read ↦ absurd (cc)
+    | inr (inl (memory, wants)) ↦ wants
+    | inr (inr some) ↦ absurd (not_memory big count left (sym some))
+  ]
+
 pub read-words : ReadWords
 read-words = record {
   sound = sound;
@@ -95,6 +132,8 @@ read-words = record {
   header_fault_is = header_fault_is;
   header_names = λ before after at r. r.names;
   header_failed = λ before after r. r.read;
+  header_steady = λ before after header r. r.read;
+  header_unfailed = λ before after at r other. unfailed Header before.failed after.failed at other r.read;
   no_fault = λ big count room before after frame left stamp r is.
       no_fault big count room before after frame left stamp r is;
   taken = λ big count room before after frame left stamp r is.
@@ -104,11 +143,16 @@ read-words = record {
       (rest, so, none.0, none.1);
   faulty = λ big count room before after frame left at r is.
       faulty big count room before after frame left at r is;
+  wanted = λ big count room before after frame left r is.
+      let wants = wanted big count room before after frame left r is in (wants.header, wants.few, wants.wanted);
   unread = λ big count room before after frame at r. r.unread;
   memory = λ big count room before after frame r. r.memory refl;
   few = λ big count room before after frame stamp r. r.few;
   names = λ big count room before after frame at r. r.names;
   failed = λ big count room before after frame r. r.read;
+  steady = λ big count room before after frame stamp r. r.read;
+  unfailed = λ big count room before after frame at r other.
+      unfailed (Option Stamp) before.failed after.failed at other r.read;
   empty_end = λ big count room before after frame r. r.empty refl;
   empty_fault = λ big count room before after frame at r. r.empty refl;
   fits = λ big count room before after frame stamp r. r.fits;

@@ -8,3 +8,4 @@ pub mod Reading
 pub mod Writing
 pub mod Value
 pub mod ReadingWords
+pub mod WritingWords

@@ -6,7 +6,7 @@ use Rattle.macs_pcap.specs.Faults.{header_fault, record_fault}
 use Rattle.macs_pcap.specs.Header.{BeginsWithHeader, has_magic, has_version, is_big, is_of_ethernet}
 use Rattle.macs_pcap.specs.Numbers.{number_at}
 use Rattle.macs_pcap.specs.Reading.{ReadsHeader, ReadsRecord}
-use Rattle.macs_pcap.specs.Records.{BeginsWithRecord, kept_in}
+use Rattle.macs_pcap.specs.Records.{BeginsWithRecord, IsSoundRecordHeader, kept_in}
 use Rattle.macs_pcap.specs.States.{SourceState}
 use Rattle.macs_pcap.specs.declared.fault.PcapFault.{PcapFault}
 use Rattle.macs_pcap.specs.declared.fault.PcapFault.TheVariants as fault
@@ -26,8 +26,9 @@ pub record HeaderWords : Type 0 where
 
 -- Where the octets are known that are left: a header that is read has no fault, and is there; one that is not has the
 -- fault that is answered, or a read failed. So it is of a capture record, but that memory may also be refused, for a
--- frame that is longer than the buffer has room for. Where a record ends the reading before its frame, its header of 16
--- octets is gone and nothing else. At the end nothing is left. Without a record the frame is empty.
+-- frame that is longer than the buffer has room for, and whose header is sound. Where a record ends the reading before its
+-- frame, its header of 16 octets is gone and nothing else. At the end nothing is left. Without a record the frame is
+-- empty. A source notes a failed read exactly where that is answered.
 pub record ReadWords : Type 0 where
   pub sound : (before after : SourceState) (header : Header) (left : List ℕ) → ReadsHeader before after (Ok header)
       → before.left ≡ Some left → header_fault left ≡ None
@@ -40,6 +41,10 @@ pub record ReadWords : Type 0 where
   pub header_names : (before after : SourceState) (at : PcapFault) → ReadsHeader before after (Err at)
       → (at ≢ fault.Write) × (at ≢ fault.Memory)
   pub header_failed : (before after : SourceState) → ReadsHeader before after (Err fault.Read) → after.failed ≡ true
+  pub header_steady : (before after : SourceState) (header : Header) → ReadsHeader before after (Ok header)
+      → after.failed ≡ before.failed
+  pub header_unfailed : (before after : SourceState) (at : PcapFault) → ReadsHeader before after (Err at)
+      → at ≢ fault.Read → after.failed ≡ before.failed
   pub no_fault : (big : Bool) (count room : ℕ) (before after : SourceState) (frame left : List ℕ)
       (stamp : Option Stamp) → ReadsRecord big count room before after frame (Ok stamp) → before.left ≡ Some left
       → record_fault big count left ≡ None
@@ -54,6 +59,9 @@ pub record ReadWords : Type 0 where
       → ReadsRecord big count room before after frame (Err at) → before.left ≡ Some left
       → (at ≡ fault.Read) ⊎ ((at ≡ fault.Memory) × (room < kept_in big (take 16 left)))
       ⊎ (record_fault big count left ≡ Some at)
+  pub wanted : (big : Bool) (count room : ℕ) (before after : SourceState) (frame left : List ℕ)
+      → ReadsRecord big count room before after frame (Err fault.Memory) → before.left ≡ Some left
+      → IsSoundRecordHeader big (take 16 left) × (count < 2 ^ 32 - 1) × (room < kept_in big (take 16 left))
   pub unread : (big : Bool) (count room : ℕ) (before after : SourceState) (frame : List ℕ) (at : PcapFault)
       → ReadsRecord big count room before after frame (Err at)
       → (at ≡ fault.TooManyRecords) ⊎ (at ≡ fault.RecordTooLong) ⊎ (at ≡ fault.CutRecord) ⊎ (at ≡ fault.Memory)
@@ -66,6 +74,10 @@ pub record ReadWords : Type 0 where
       → ReadsRecord big count room before after frame (Err at) → at ≢ fault.Write
   pub failed : (big : Bool) (count room : ℕ) (before after : SourceState) (frame : List ℕ)
       → ReadsRecord big count room before after frame (Err fault.Read) → after.failed ≡ true
+  pub steady : (big : Bool) (count room : ℕ) (before after : SourceState) (frame : List ℕ) (stamp : Option Stamp)
+      → ReadsRecord big count room before after frame (Ok stamp) → after.failed ≡ before.failed
+  pub unfailed : (big : Bool) (count room : ℕ) (before after : SourceState) (frame : List ℕ) (at : PcapFault)
+      → ReadsRecord big count room before after frame (Err at) → at ≢ fault.Read → after.failed ≡ before.failed
   pub empty_end : (big : Bool) (count room : ℕ) (before after : SourceState) (frame : List ℕ)
       → ReadsRecord big count room before after frame (Ok None) → frame ≡ []
   pub empty_fault : (big : Bool) (count room : ℕ) (before after : SourceState) (frame : List ℕ) (at : PcapFault)

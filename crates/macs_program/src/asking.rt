@@ -79,6 +79,8 @@ fn failure_in(status: u8) -> Failure
 fn print_answer<W: Stream>(answer: &Answer, out: &mut W) -> Result<Status, Failure>
     ensures printed { IfOk result (λ status. (text : List ℕ)
         × Appends (W.contents out.old) (W.contents out.new) text × (status ≡ Status.Done)) }
+    ensures text { IfOk result (λ status. (answer.now.status ≡ 0)
+        × Appends (W.contents out.old) (W.contents out.new) answer.now.text.items) }
     ensures failed { IfErr result IsOfAsking }
     ensures silent { IfErr result (λ failure. failure ≢ Failure.Output → out.new ≡ out.old) }
     ensures broken { IfErr result (λ failure. failure ≡ Failure.Output → W.failed out.new ≡ true) }

@@ -600,8 +600,8 @@ impl Wires {
         relay_frames_attended(endpoint, &mut controlled, &mut common, desk, turns, out)
     }
 
-    /// Relays frames between them, attended: it is reported to whoever started the program that it serves, once all is bound,
-    /// and that it ends.
+    /// Relays frames between them, attended. Whoever started the program is notified once all is bound, and when the
+    /// relay ends.
     fn attend<T: Files + Net + Clock + Env, D: SectorDisk, W: Stream>(
         self,
         rt: &T,

@@ -6,3 +6,4 @@ pub mod Subcommands
 pub mod Taken
 mod ActionWords
 mod TakenWords
+mod AskedWords

@@ -4,3 +4,4 @@ pub mod Words
 pub mod Help
 pub mod ActionWords
 pub mod TakenWords
+pub mod AskedWords

@@ -1,6 +1,7 @@
 //! Laws of the definitions: which action words name, in terms of what is at each value.
 
 ghost use Rattle.macs_words.specs.ActionWords.{ActionWords, HelpWords};
+ghost use Rattle.macs_words.specs.AskedWords.{AskedWords};
 ghost use Rattle.macs_words.specs.TakenWords.{KnownWords, PlainWords, TakenWords};
 
 /// The words of `action_of` and `topic_of` say this: which action is named, with which values, and what
@@ -16,4 +17,6 @@ pub fn words()
     ensures plain { PlainWords }
     // What asks for help, and for the version.
     ensures help { HelpWords }
+    // What asks for no help, and where the words of the program begin.
+    ensures asked { AskedWords }
 {}

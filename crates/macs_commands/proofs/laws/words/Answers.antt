@@ -1,4 +1,5 @@
 use Rattle.macs_commands.proofs.CommandWords.{file-words, line-words, value-words}
+use Rattle.macs_commands.proofs.OtherWords.{other-words}
 use Rattle.macs_commands.proofs.TakenWords.{taken-words}
 use Rattle.macs_commands.proofs.laws.words.Goals as goal
 
@@ -13,3 +14,6 @@ returns-clause-taken c = taken-words
 
 pub returns-clause-values : goal.returns-clause-values
 returns-clause-values c = value-words
+
+pub returns-clause-others : goal.returns-clause-others
+returns-clause-others c = other-words

@@ -1,4 +1,5 @@
 use Rattle.macs_desk.proofs.DeskWords.{answer-words, listen-words, queue-words, report-words}
+use Rattle.macs_desk.proofs.SpeakWords.{speak-words}
 use Rattle.macs_desk.proofs.laws.words.Goals as goal
 
 pub returns-clause-answers : goal.returns-clause-answers
@@ -12,3 +13,6 @@ returns-clause-listens g c = listen-words
 
 pub returns-clause-reports : goal.returns-clause-reports
 returns-clause-reports g c = report-words g.D.SectorDisk.disk
+
+pub returns-clause-speaks : goal.returns-clause-speaks
+returns-clause-speaks g c = speak-words

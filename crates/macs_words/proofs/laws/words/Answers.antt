@@ -1,4 +1,5 @@
 use Rattle.macs_words.proofs.ActionWords.{action-words, help-words}
+use Rattle.macs_words.proofs.AskedWords.{asked-words}
 use Rattle.macs_words.proofs.TakenWords.{known-words, plain-words, taken-words}
 use Rattle.macs_words.proofs.laws.words.Goals as goal
 
@@ -16,3 +17,6 @@ returns-clause-plain c = plain-words
 
 pub returns-clause-help : goal.returns-clause-help
 returns-clause-help c = help-words
+
+pub returns-clause-asked : goal.returns-clause-asked
+returns-clause-asked c = asked-words
