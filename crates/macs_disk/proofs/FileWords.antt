@@ -1,10 +1,9 @@
 -- What is to be drawn of files that are written, of marks, and of disks in memory.
-use Rattle.std.proofs.Common.{◌≡◌, ◌≢◌, ◌<◌, ◌≤◌, ◌+◌, ◌*◌, ◌&&◌, ◌||◌, ◌∙◌, ℕ, Bool, true, false, nat_le, nat_lt, List, ◌∷◌, length, Option, Some, None, unwrap_or, refl, ap}
+use Rattle.std.proofs.Common.{◌≡◌, ◌<◌, ◌≤◌, ◌+◌, ◌*◌, ◌&&◌, ◌||◌, ℕ, Bool, true, false, nat_le, nat_lt, List, ◌∷◌, length, Option, Some, unwrap_or, refl, ap}
 use Rattle.std.proofs.lemmas.Bool.{le-leb, le-ltb, lt-leb, lt-ltb}
 use Rattle.macs_disk.specs.Disk.{now}
 use Rattle.macs_disk.specs.FileWords.{FreshWords, MarkWords, MemoryWords, WriteWords}
 use Rattle.macs_disk.specs.Files.{has_some}
-use Rattle.macs_disk.specs.Memory.{Memory}
 use Rattle.macs_disk.proofs.FileWrites.{put-at, put-before}
 use Rattle.macs_disk.proofs.Images.{put-other, put-same}
 

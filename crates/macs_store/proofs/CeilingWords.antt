@@ -1,5 +1,5 @@
 -- What is to be drawn of ceilings, and of records behind a snapshot.
-use Rattle.std.proofs.Common.{◌≡◌, ◌≢◌, ◌≤◌, ◌∙◌, ℕ, Bool, false, cond, List, Option, Some, None, refl, ap}
+use Rattle.std.proofs.Common.{◌≡◌, ◌≤◌, ◌∙◌, ℕ, Bool, false, cond, List, Option, Some, None, refl, ap}
 use Rattle.std.specs.Option.{option_map}
 use Rattle.std.proofs.lemmas.Bool.{le-ltb}
 use Rattle.macs_config.specs.Numbers.{block_beyond}
@@ -7,7 +7,7 @@ use Rattle.macs_config.specs.Tables.{put, put_at}
 use Rattle.macs_config.proofs.Tables.{put-here, put-other, put_at-here, put_at-other}
 use Rattle.macs_store.specs.CeilingWords.{CeilingWords, ReplayWords}
 use Rattle.macs_store.specs.Replay.{accepted_standing, is_raise}
-use Rattle.macs_store.specs.Standing.{Standing, standing_with_rx_ceiling, standing_with_tx_ceiling}
+use Rattle.macs_store.specs.Standing.{standing_with_rx_ceiling, standing_with_tx_ceiling}
 
 -- what is put at an SCI and a number stands there
 placed : (f : List ℕ → ℕ → Option ℕ) (sci : List ℕ) (an : ℕ) (ceiling : Option ℕ) (g : ℕ → Option ℕ)
