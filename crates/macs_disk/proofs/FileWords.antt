@@ -68,7 +68,7 @@ memory-words = record {
 -- ---- marks and first calls
 
 pub mark-words : MarkWords
-mark-words = record { text = refl; place = refl; }
+mark-words = record { text = refl; place = refl }
 
 pub fresh-words : FreshWords
 fresh-words = record { fresh = λ disk is. (is.clock, is.failures, is.worn) }

@@ -9,13 +9,21 @@ returns-clause-headless c = λ sectors area image found within opened lacks larg
 pub returns-clause-alike : goal.returns-clause-alike
 returns-clause-alike c = λ sectors image found first second has_first has_second same large is.
     bad_alone sectors image found (inr (inl (record {
-      first = first; second = second; has_first = has_first; has_second = has_second; odd = inl same;
+      first = first;
+      second = second;
+      has_first = has_first;
+      has_second = has_second;
+      odd = inl same;
     }))) large is
 
 pub returns-clause-apart : goal.returns-clause-apart
 returns-clause-apart c = λ sectors image found first second has_first has_second differ large is.
     bad_alone sectors image found (inr (inl (record {
-      first = first; second = second; has_first = has_first; has_second = has_second; odd = inr differ;
+      first = first;
+      second = second;
+      has_first = has_first;
+      has_second = has_second;
+      odd = inr differ;
     }))) large is
 
 pub returns-clause-later : goal.returns-clause-later
