@@ -49,13 +49,17 @@ seal_refusal key tag plain room = first (seal_refusals key tag plain room)
 abbrev pub IsFault : (frame key sci : List ℕ) → ℕ → OpenFault → Type 0
 IsFault frame key sci offset fault = IsFirst (OpenFaultHolds frame key sci offset) open_faults fault
 
+-- a frame has no fault: it also names no other SCI
+pub record IsFaultless (frame key sci : List ℕ) (offset : ℕ) : Type 0 where
+  pub none : (fault : OpenFault) → ¬ IsFault frame key sci offset fault
+
 -- a refusal that a frame itself has, under a key, an SCI and an offset, or that its plain frame has for want of room
 abbrev pub FrameRefusal : (frame key sci : List ℕ) → (offset room : ℕ) → Refusal → Type 0
 FrameRefusal frame key sci offset room Key = ⊥
 FrameRefusal frame key sci offset room Field = ⊥
 FrameRefusal frame key sci offset room Runt = IsFault frame key sci offset (TagRefused IsRunt)
 FrameRefusal frame key sci offset room Oversize = IsFault frame key sci offset (TagRefused IsOversize)
-FrameRefusal frame key sci offset room Room = (plain : List ℕ) × Verified frame key sci offset plain × (room < length plain)
+FrameRefusal frame key sci offset room Room = IsFaultless frame key sci offset × (plain : List ℕ) × Verified frame key sci offset plain × (room < length plain)
 FrameRefusal frame key sci offset room NoTag = IsFault frame key sci offset (TagRefused HasNoTag)
 FrameRefusal frame key sci offset room BadTag = IsFault frame key sci offset (TagRefused HasBadTag)
 FrameRefusal frame key sci offset room ForKay = IsFault frame key sci offset (TagRefused IsForKayAlone)
@@ -78,5 +82,5 @@ pub record IsOpened (frame key sci : List ℕ) (offset : ℕ) (old new : List �
 
 -- what the answer to an opening says: of the room as it was and is, and of what was and is said of the frame
 abbrev pub OpenAnswer : MacsKey → (sci frame : List ℕ) → (offset : ℕ) → (old new : List ℕ) → (was is : MacsOpened) → Option Refusal → Type 0
-OpenAnswer key sci frame offset old new was is None = (is_key key ≡ true) × (is_offset offset ≡ true) × IsOpened frame (key_octets key) sci offset old new is
+OpenAnswer key sci frame offset old new was is None = (is_key key ≡ true) × (is_offset offset ≡ true) × IsFaultless frame (key_octets key) sci offset × IsOpened frame (key_octets key) sci offset old new is
 OpenAnswer key sci frame offset old new was is (Some refusal) = OpenRefusal key sci frame offset (length old) refusal × (new ≡ old) × (is ≡ was)

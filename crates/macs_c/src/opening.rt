@@ -5,7 +5,7 @@ ghost use Rattle.macs_aes.specs.Keys.{octets_of_key};
 ghost use Rattle.macs_fields.specs.Fields.{octets_of};
 ghost use Rattle.macs_c.specs.Fields.{is_offset};
 ghost use Rattle.macs_c.specs.Keys.{is_key, key_octets};
-ghost use Rattle.macs_c.specs.Refusals.{FrameRefusal, IsOpened, OpenRefusal, IsFault};
+ghost use Rattle.macs_c.specs.Refusals.{FrameRefusal, IsFault, IsFaultless, IsOpened, OpenRefusal};
 ghost use Rattle.macs_frame.specs.declared.opening.OpenFault.{OpenFault};
 
 use crate::fields::{MacsOpened, MacsSci, offset_of};
@@ -42,6 +42,7 @@ fn open_under(
     out: &mut [u8],
 ) -> Result<MacsOpened, Refusal>
     ensures refused { IfErr result (FrameRefusal frame.now (octets_of_key key.now) sci (octets_of offset) (length out.old)) }
+    ensures faultless { OnOk result (IsFaultless frame.now (octets_of_key key.now) sci (octets_of offset)) }
     ensures opened { IfOk result (IsOpened frame.now (octets_of_key key.now) sci (octets_of offset) out.old out.new) }
     ensures same { OnErr result (out.new ≡ out.old) }
 {
@@ -71,6 +72,7 @@ pub(crate) fn open_into(
     ensures refused { IfErr result (OpenRefusal key.now sci.now.octets frame.now offset (length out.old)) }
     ensures key { OnOk result (is_key key.now ≡ true) }
     ensures offset { OnOk result (is_offset offset ≡ true) }
+    ensures faultless { OnOk result (IsFaultless frame.now (key_octets key.now) sci.now.octets offset) }
     ensures opened { IfOk result (IsOpened frame.now (key_octets key.now) sci.now.octets offset out.old out.new) }
     ensures same { OnErr result (out.new ≡ out.old) }
 {

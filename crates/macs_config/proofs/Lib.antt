@@ -14,3 +14,4 @@ pub mod Listed
 pub mod Refused
 pub mod SpentForGood
 pub mod Editions
+mod SnapshotWords

@@ -9,3 +9,4 @@ pub mod Value
 pub mod Places
 pub mod Filter
 pub mod Judged
+pub mod SnapshotWords

@@ -8,6 +8,7 @@ ghost use Rattle.macs_config.specs.Apply.{IsCommand, IsKey, LongKey, apply, refu
 ghost use Rattle.macs_config.specs.Config.{Config, Edition, IsConfig, IsUpTo, default, spent_of};
 ghost use Rattle.macs_config.specs.Identity.{Identity, IsIdentity};
 ghost use Rattle.macs_config.specs.Snapshot.{config_of_parts};
+ghost use Rattle.macs_config.specs.SnapshotWords.{OrderWords, PartWords};
 ghost use Rattle.macs_config.specs.declared.command.Command.{Command};
 ghost use Rattle.macs_config.specs.declared.command.Role.{Role};
 ghost use Rattle.macs_config.specs.declared.part.Part.{Part};
@@ -130,4 +131,12 @@ pub fn larger_has()
 pub fn long_keys_taken()
     ensures { (edition : Edition) (identity : Identity) (c : Config) (command : Command) → IsCommand command
         → edition.long_keys ≡ true → ¬ (refusal_of edition identity c command ≡ Some LongKey) }
+{}
+
+/// The words on snapshots say this.
+pub fn snapshots()
+    // Which part may not follow those in front of it.
+    ensures parts { PartWords }
+    // Which orders of parts are refused.
+    ensures order { OrderWords }
 {}

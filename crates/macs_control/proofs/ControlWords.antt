@@ -33,6 +33,8 @@ link-words = record {
   answer = λ all text status rest is. is;
   begins = λ all text rest is. is;
   begins_line = λ all line rest is. is;
+  not_read = λ held link. refl;
+  not_known = λ held. refl;
 }
 
 path : (first : ℕ) (rest : List ℕ) → first ≢ 64 → name_octets (first ∷ rest) ≡ first ∷ rest

@@ -1,8 +1,8 @@
 -- What is to be drawn of the words on a control socket: by which calls it gets its name, and what passes over it.
-use Rattle.std.specs.Prelude.{◌≡◌, ◌⊎◌, ◌≤◌, ◌++◌, ℕ, true, false, List, [], ◌∷◌, take, Option, Some}
+use Rattle.std.specs.Prelude.{◌≡◌, ◌⊎◌, ◌≤◌, ◌++◌, ℕ, true, false, List, [], ◌∷◌, take, Option, Some, None}
 use Rattle.macs_requests.specs.Inboxes.{HasNoFeed}
 use Rattle.macs_requests.specs.Requests.{end_line}
-use Rattle.macs_control.specs.Asking.{BeginsWith, BeginsWithAnswer, BeginsWithLine}
+use Rattle.macs_control.specs.Asking.{BeginsWith, BeginsWithAnswer, BeginsWithLine, unread}
 use Rattle.macs_control.specs.Binding.{Binds, Clears, CutCalls, IsBound, IsClear, IsNotBound, IsTaken, Listens, Makes}
 use Rattle.macs_control.specs.Binding.{Reaches, Removes, SetsMode, SocketCall, named_calls, with_calls}
 use Rattle.macs_control.specs.Links.{Fills, GivesOctets, Hears, HearsOf, IsAtMost, Link, TakesOctets}
@@ -41,7 +41,7 @@ pub record SocketWords : Type 0 where
 
 -- The first line that a client sent is heard, and nothing is lost: what was held comes first, then what came. Without a
 -- whole line nothing changes. What it is sent comes after what it was sent, whole, or a front of it. An answer is what
--- comes before the line that ends it.
+-- comes before the line that ends it. What is not read yet is what is held and then what comes, where that is known.
 pub record LinkWords : Type 0 where
   pub line : (text left : List ℕ) (line : _) → HearsOf text (hears.Line line) left
       → (text ≡ line.items ++ 10 ∷ left) × HasNoFeed line.items
@@ -75,3 +75,5 @@ pub record LinkWords : Type 0 where
       → (left : List ℕ) × (rest ≡ Some left) × (all ≡ text ++ left)
   pub begins_line : (all line : List ℕ) (rest : Option (List ℕ)) → BeginsWithLine (Some all) line rest
       → (left : List ℕ) × (rest ≡ Some left) × (all ≡ line ++ 10 ∷ left) × HasNoFeed line
+  pub not_read : (held : List ℕ) (link : Link) → unread held (Some link) ≡ Some (held ++ link.coming)
+  pub not_known : (held : List ℕ) → unread held None ≡ None

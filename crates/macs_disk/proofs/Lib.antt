@@ -17,3 +17,4 @@ pub mod FoundAgain
 pub mod FrontKept
 mod FailedCalls
 mod InterruptedCalls
+mod FileWords

@@ -19,3 +19,4 @@ mod Answering
 mod Words
 mod Drawn
 pub mod Judged
+mod NotedWords

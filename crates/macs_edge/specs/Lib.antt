@@ -17,3 +17,4 @@ pub mod Counts
 pub mod Words
 pub mod Drawn
 pub mod VerdictWords
+pub mod NotedWords

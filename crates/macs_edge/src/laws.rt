@@ -9,6 +9,7 @@ ghost use Rattle.macs_edge.specs.Commanding.{IsAttendedFlow};
 ghost use Rattle.macs_edge.specs.Drawn.{CountWords, DeskWords, FaultWords, FlowsInTurns, PassWords, RestWords};
 ghost use Rattle.macs_edge.specs.Drawn.{SocketWords, TurnWords};
 ghost use Rattle.macs_edge.specs.Flows.{IsFlow};
+ghost use Rattle.macs_edge.specs.NotedWords.{NotedWords, SparedWords};
 ghost use Rattle.macs_edge.specs.Passing.{BecomesCapture, Passes};
 ghost use Rattle.macs_edge.specs.Relaying.{Relay, Relays, empty_lane, summary_of};
 ghost use Rattle.macs_edge.specs.VerdictWords.{VerdictWords};
@@ -94,6 +95,14 @@ pub fn drawn<D: SectorDisk>()
     ensures desk { DeskWords D.disk }
     // Which calls fail of a wire that is made to fail.
     ensures faults { FaultWords }
+{}
+
+/// The words on what is noted and counted, and on a socket that is asked less often, say this.
+pub fn noted()
+    // What is noted stays noted, and is counted once.
+    ensures noted { NotedWords }
+    // Which receives are left out.
+    ensures spared { SparedWords }
 {}
 
 /// What is to be drawn of verdicts that are reported: which they are, of which frames, in which order, and how many.

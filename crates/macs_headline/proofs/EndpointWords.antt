@@ -1,8 +1,11 @@
 -- What is to be drawn of the endpoint's contracts on openings, ceilings, refills, commands, turns, counters and events.
 use Rattle.std.proofs.Common.{◌≡◌, ◌≢◌, ◌<◌, ◌≤◌, ◌⊎◌, ◌+◌, ◌-◌, ◌*◌, ◌++◌, ◌==◌, inl, inr, ℕ, zero, suc, Bool, true, false, cond, List, [], ◌∷◌, length, Option, Some, None, Result, Ok, Err, refl, sym, ◌∙◌, ap, subst, arith, le_refl}
+use Rattle.std.specs.Option.{option_map}
 use Rattle.std.proofs.lemmas.Bool.{cases_eq, ne_eqb}
-use Rattle.macs_config.specs.Numbers.{one_more}
+use Rattle.macs_config.specs.Numbers.{block_beyond, one_more}
+use Rattle.macs_config.specs.Tables.{put}
 use Rattle.macs_config.specs.declared.command.Command.{Command}
+use Rattle.macs_config.proofs.Tables.{put-here, put_at-here}
 use Rattle.macs_disk.specs.Disk.{Disk, LeftSince}
 use Rattle.macs_disk.specs.States.{Image}
 use Rattle.macs_txsc.specs.Transmit.{TxSide, counters_after_fault, fault_count}
@@ -230,6 +233,13 @@ module _ {D : Type 0} (disk_of : D → Disk) where
     one = λ t r old new next raise is first. one_raised t r old new next raise is.raises is.raised is.is_next first;
     then = λ t r old new next is. is.is_next;
     first = λ t r s an is. ap (λ (need : Option ℕ). either_raise need (rx.first_need_of r s.ceilings.rx s.identity.rx_block)) is;
+    raised = λ s an ceiling is.
+        put-here s.ceilings.tx an (option_map (λ from. block_beyond from s.identity.tx_block) (s.ceilings.tx an))
+        ∙ ap (option_map (λ from. block_beyond from s.identity.tx_block)) is;
+    raised_beyond = λ s need.
+        ap (λ (f : ℕ → Option ℕ). f need.an)
+        (put_at-here s.ceilings.rx need.sci (put (s.ceilings.rx need.sci) need.an (Some (block_beyond need.pn s.identity.rx_block))))
+        ∙ put-here (s.ceilings.rx need.sci) need.an (Some (block_beyond need.pn s.identity.rx_block));
     turn = λ old new command call. call.behaves.turn;
     turn_left = λ old new raise call is. call.behaves.turn ∙ ap (turn_after_refill old.turn) is;
     spent = λ old new command call none. call.behaves.ceilings ∙ reserved_none (standing_in old.store) old.reserving none;

@@ -1,7 +1,7 @@
 -- What the endpoint's own laws count and ask for is counted and built call by call.
-use Rattle.std.proofs.Common.{◌≡◌, ◌≢◌, ◌≤◌, ◌+◌, ◌==◌, inl, inr, ℕ, Bool, true, false, cond, List, [], ◌∷◌, Result, Ok, Err, refl, ap, arith}
+use Rattle.std.proofs.Common.{◌≡◌, ◌≢◌, ◌≤◌, ◌+◌, ◌==◌, inl, inr, ℕ, Bool, true, false, cond, List, [], ◌∷◌, Result, Ok, Err, refl, ap, ◌∙◌, arith}
 use Rattle.std.specs.Prelude.{Option, Some, None}
-use Rattle.std.proofs.lemmas.Bool.{cases_eq}
+use Rattle.std.proofs.lemmas.Bool.{cases_eq, eq-eqb, ne_eqb}
 use Rattle.macs_aes.specs.declared.keys.Key.{Key}
 use Rattle.macs_config.specs.declared.command.Command.{Command}
 use Rattle.macs_config.specs.declared.command.Command.TheVariants.{RxDrop, RxInstall, RxRemove, TxInstall, TxRemove}
@@ -43,6 +43,17 @@ none_sent : (encoding : Option ℕ) (an : ℕ) (reply : Reply) → ((pn : ℕ) (
 none_sent (Some encoding) an (Protected (Ok pn) out) other = absurd (other pn out refl)
 none_sent encoding an reply other = refl
 
+sent_under : (encoding : Option ℕ) (an pn : ℕ) (out : List ℕ) (reply : Reply) → reply ≡ Protected (Ok pn) out → encoding ≡ Some an
+    → frames_in_reply encoding an reply ≡ 1
+sent_under encoding an pn out reply is same =
+    ap (λ (r : Reply). frames_in_reply encoding an r) is ∙ ap (λ (e : Option ℕ). frames_in_reply e an (Protected (Ok pn) out)) same
+    ∙ ap (λ (b : Bool). cond b 1 0) (eq-eqb an an refl)
+
+sent_under_another : (encoding : Option ℕ) (an : ℕ) (reply : Reply) → encoding ≢ Some an → frames_in_reply encoding an reply ≡ 0
+sent_under_another (Some encoding) an (Protected (Ok pn) out) differ =
+    ap (λ (b : Bool). cond b 1 0) (ne_eqb encoding an (λ same. differ (ap Some same)))
+sent_under_another encoding an reply differ = refl
+
 pub turns-are-counted : {D : Type 0} → TurnsAreCounted D
 turns-are-counted {D} = record {
   stepped = λ turn turns is. ap (λ (call : Call). steps_in_call call + steps_made turns) is;
@@ -54,6 +65,10 @@ turns-are-counted {D} = record {
   not_done = λ turn turns other. let none = none_done turn.reply other in omega (arith, none);
   sent = λ an e turn turns. let few = few_sent (standing_in e.store).config.encoding an turn.reply in omega (arith, few);
   not_sent = λ an e turn turns other. let none = none_sent (standing_in e.store).config.encoding an turn.reply other in omega (arith, none);
+  sent_under = λ an pn out e turn turns is same.
+      let one = sent_under (standing_in e.store).config.encoding an pn out turn.reply is same in omega (arith, one);
+  sent_under_another = λ an e turn turns differ.
+      let none = sent_under_another (standing_in e.store).config.encoding an turn.reply differ in omega (arith, none);
   none_sent = λ an e. refl;
 }
 

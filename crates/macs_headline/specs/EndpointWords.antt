@@ -1,6 +1,6 @@
 -- What is to be drawn of the endpoint's contracts on openings, on ceilings and refills, on commands that are kept, on turns, on counters, and on events that are
 -- served: words in what these promise, and in no law of the endpoint.
-use Rattle.std.specs.Prelude.{◌≡◌, ◌≢◌, ◌<◌, ◌≤◌, ◌⊎◌, ◌+◌, ◌-◌, ◌*◌, ◌++◌, true, ℕ, List, [], ◌∷◌, length, map, Option, Some, None, Result, Ok, Err}
+use Rattle.std.specs.Prelude.{◌≡◌, ◌≢◌, ◌<◌, ◌≤◌, ◌⊎◌, ◌+◌, ◌-◌, ◌*◌, ◌^◌, ◌++◌, true, ℕ, min, List, [], ◌∷◌, length, map, Option, Some, None, Result, Ok, Err}
 use Rattle.arrayvec.specs.ArrayVec.{ArrayVec}
 use Rattle.macs_config.specs.Identity.{Identity}
 use Rattle.macs_config.specs.Numbers.{one_more}
@@ -13,6 +13,7 @@ use Rattle.macs_txsc.specs.Value as txsc
 use Rattle.macs_txsc.specs.declared.fault.TxFault.{TxFault}
 use Rattle.macs_rxsc.specs.Counting.{count_of}
 use Rattle.macs_rxsc.specs.Counting as counting
+use Rattle.macs_rxsc.specs.Needs.{Need}
 use Rattle.macs_rxsc.specs.Receive.{RxSide}
 use Rattle.macs_rxsc.specs.Value as rxsc
 use Rattle.macs_rxsc.specs.declared.verdict.Verdict.{Verdict}
@@ -25,7 +26,7 @@ use Rattle.macs_store.specs.Standing.{Standing}
 use Rattle.macs_store.specs.Value.{IsIdle, StoreValue, generation, standing_in, used_slots}
 use Rattle.macs_store.specs.Value as store
 use Rattle.macs_endpoint.specs.Calls.{IsCall}
-use Rattle.macs_endpoint.specs.Ceilings.{IsRefilled, Raise, RaiseTx, first_raise, standing_with_raise}
+use Rattle.macs_endpoint.specs.Ceilings.{IsRefilled, Raise, RaiseRx, RaiseTx, first_raise, standing_with_raise}
 use Rattle.macs_endpoint.specs.Counting.{new_channel_counters}
 use Rattle.macs_endpoint.specs.Formatting.{IsFormat}
 use Rattle.macs_endpoint.specs.KeptCommands.{KeepsCommand}
@@ -72,7 +73,8 @@ pub record OpeningsCount {D : Type 0} (disk_of : D → Disk) : Type 0 where
   pub format_small : (old new : D) (identity : Identity) (result : Result (Unit {0}) JournalFault) → IsFormat disk_of old identity result new
       → (disk_of old).sectors < least_sectors → (result ≡ Err TooSmall) × (new ≡ old)
 
--- A ceiling that the transmit side needs comes first. A command that is kept leaves the turn to a reservation, and a refill that finished one to a command.
+-- A ceiling that the transmit side needs comes first. A ceiling is raised by a whole block: from where it is, or from the
+-- number that was seen, up to 2^32. A command that is kept leaves the turn to a reservation, and a refill that finished one to a command.
 -- After a refill nothing was raised where nothing is needed first, and else nothing, or that, and then the others so. A command that is answered as
 -- GenerationsSpent leaves the standing, with the reservation that was under way; and a refill that is answered as Disk, where none was under way, what was raised so.
 -- One that is answered as Ok leaves what was raised so, the reservation under way first, until none is needed; and its
@@ -86,6 +88,10 @@ pub record CeilingsAreRaised {D : Type 0} (disk_of : D → Disk) : Type 0 where
   pub then : (t : TxSide) (r : RxSide) (old new : Standing) (next : Option Raise) → IsRefilled t r old new next → first_raise new t r ≡ next
   pub first : (t : TxSide) (r : RxSide) (s : Standing) (an : ℕ) → transmit.need_of t s.ceilings.tx s.identity.tx_block ≡ Some an
       → first_raise s t r ≡ Some (RaiseTx an)
+  pub raised : (s : Standing) (an ceiling : ℕ) → s.ceilings.tx an ≡ Some ceiling
+      → (standing_with_raise s (RaiseTx an)).ceilings.tx an ≡ Some (min (ceiling + s.identity.tx_block) (2 ^ 32))
+  pub raised_beyond : (s : Standing) (need : Need)
+      → (standing_with_raise s (RaiseRx need)).ceilings.rx need.sci need.an ≡ Some (min (need.pn + s.identity.rx_block) (2 ^ 32))
   pub turn : (old new : EndpointValue D) (command : Command) → IsCall disk_of old (Commands command) (Ran (Ok tt)) new → new.turn ≡ Reservation
   pub turn_left : (old new : EndpointValue D) (raise : Raise) → IsCall disk_of old Refills (Refilled (Ok tt)) new → old.reserving ≡ Some raise
       → new.turn ≡ CommandTurn

@@ -16,7 +16,7 @@ use Rattle.macs_endpoint.specs.declared.fault.StepFault.TheVariants as step
 use Rattle.macs_endpoint.specs.declared.progress.Step.TheVariants.{Done, Reserved}
 
 -- Of calls, one more is counted where the first is a step; where its answer says that a reservation used its turn, made or refused; where it says that a
--- submitted command is done with, kept or refused; and where a frame went out under the association. Else no more than of the others.
+-- submitted command is done with, kept or refused; and where a frame went out under the association, which is the encoding one then. Else no more than of the others.
 pub record TurnsAreCounted (D : Type 0) : Type 0 where
   pub stepped : (turn : Transition D) (turns : List (Transition D)) → turn.call ≡ Advances → steps_made (turn ∷ turns) ≡ 1 + steps_made turns
   pub no_step : (turn : Transition D) (turns : List (Transition D)) → turn.call ≢ Advances → steps_made (turn ∷ turns) ≡ steps_made turns
@@ -35,6 +35,11 @@ pub record TurnsAreCounted (D : Type 0) : Type 0 where
       → frames_sent an e (turn ∷ turns) ≤ 1 + frames_sent an turn.after turns
   pub not_sent : (an : ℕ) (e : EndpointValue D) (turn : Transition D) (turns : List (Transition D))
       → ((pn : ℕ) (out : List ℕ) → turn.reply ≢ Protected (Ok pn) out) → frames_sent an e (turn ∷ turns) ≡ frames_sent an turn.after turns
+  pub sent_under : (an pn : ℕ) (out : List ℕ) (e : EndpointValue D) (turn : Transition D) (turns : List (Transition D))
+      → turn.reply ≡ Protected (Ok pn) out → (standing_in e.store).config.encoding ≡ Some an
+      → frames_sent an e (turn ∷ turns) ≡ 1 + frames_sent an turn.after turns
+  pub sent_under_another : (an : ℕ) (e : EndpointValue D) (turn : Transition D) (turns : List (Transition D))
+      → (standing_in e.store).config.encoding ≢ Some an → frames_sent an e (turn ∷ turns) ≡ frames_sent an turn.after turns
   pub none_sent : (an : ℕ) (e : EndpointValue D) → frames_sent an e [] ≡ 0
 
 -- An association stays over no calls, and over one more that neither installs it, removes it, nor drops its channel. Work lasts over no calls, and over one more

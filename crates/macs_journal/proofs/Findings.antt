@@ -1,14 +1,14 @@
 -- What a disk stands for.
-use Rattle.std.proofs.Common.{◌≡◌, ◌<◌, ℕ, List, Ok, Err, Result, refl, sym, ap, arith}
+use Rattle.std.proofs.Common.{◌≡◌, ◌<◌, ◌≤◌, inl, inr, ℕ, zero, suc, List, Ok, Err, Result, refl, sym, ap, arith}
 use Rattle.macs_disk.specs.States.{Image}
 use Rattle.macs_record.specs.Heads.{Head}
 use Rattle.macs_record.specs.declared.record.Record.{Record}
-use Rattle.macs_journal.specs.Areas.{slots}
-use Rattle.macs_journal.specs.Found.{Content, HasJournal, IsCurrent, JournalIs}
+use Rattle.macs_journal.specs.Areas.{least_sectors, other_area, slots}
+use Rattle.macs_journal.specs.Found.{Content, HasHead, HasJournal, IsBadJournal, IsCurrent, IsHeadless, JournalIs}
 use Rattle.macs_journal.specs.Recovery.{AreRecords, IsCountOf}
 use Rattle.macs_journal.specs.declared.fault.JournalFault.{JournalFault}
 use Rattle.macs_journal.specs.declared.fault.JournalFault.TheVariants.{Stopped, TooSmall, Disk, AlreadyFormatted, NotFormatted, BadJournal, GenerationsSpent}
-use Rattle.macs_journal.proofs.Current.{bad_not_blank, not_blank, not_both, one_content}
+use Rattle.macs_journal.proofs.Current.{bad_not_blank, current, not_blank, not_both, one_content, one_current}
 
 -- the content that was read is found
 pub read_found : (image : Image) (area free : ℕ) (head : Head) (records : List Record) → IsCurrent image area head
@@ -70,3 +70,27 @@ one_finding sectors image (Err BadJournal) (Err AlreadyFormatted) is_a is_b = ab
 one_finding sectors image (Err BadJournal) (Err GenerationsSpent) is_a is_b = absurd is_b
 one_finding sectors image (Err BadJournal) (Err NotFormatted) is_a is_b = absurd (bad_not_blank image is_a.1 is_b.1)
 one_finding sectors image (Err BadJournal) (Err BadJournal) is_a is_b = refl
+
+-- ---- spoiled heads
+
+-- a bad journal is found as such alone
+pub bad_alone : (sectors : ℕ) (image : Image) (found : Result Content JournalFault) → IsBadJournal image → least_sectors ≤ sectors
+    → JournalIs sectors image found → found ≡ Err BadJournal
+bad_alone sectors image found bad large is = one_finding sectors image found (Err BadJournal) is (large, bad)
+
+-- a journal is bad where either area has an open head gate without a head
+pub headless_at : (image : Image) (area : ℕ) → area ≤ 1 → IsHeadless image area → IsBadJournal image
+headless_at image zero within lacks = inl (inl lacks)
+headless_at image (suc zero) within lacks = inl (inr lacks)
+headless_at image (suc (suc more)) within lacks = absurd (omega (arith, within))
+
+-- of two heads of one journal the later one is found
+pub later_found : (image : Image) (area : ℕ) (c : Content) (head before : Head) → area ≤ 1 → HasHead image area head
+    → HasHead image (other_area area) before → before.generation < head.generation → before.identity ≡ head.identity
+    → HasJournal image c → (c.area ≡ area) × (c.head ≡ head)
+later_found image area c head before within has other less same found =
+    one_current image c.area area c.head head (current image c found) (record {
+      is_area = within;
+      has = has;
+      past = λ open_gate. record { past = before; is = other.is; earlier = less; same = same };
+    })

@@ -1,6 +1,7 @@
 -- All that is to be drawn of the words on requests.
 use Rattle.std.proofs.Common.{refl}
 use Rattle.macs_requests.specs.RequestWords.{FieldWords, LineWords}
+use Rattle.macs_requests.specs.TalkWords.{TalkWords}
 use Rattle.macs_requests.proofs.Told.{named}
 
 pub line-words : LineWords
@@ -36,4 +37,12 @@ field-words = record {
   no_keys = λ validate on window mode sci an. (tt, tt, tt, tt, tt, tt, tt, tt);
   asked = λ command is. is;
   asked_plain = (tt, tt, tt);
+}
+
+pub talk-words : TalkWords
+talk-words = record {
+  talk = λ before more. refl;
+  no_talk = λ more. refl;
+  notes = λ before more. refl;
+  no_notes = λ more. refl;
 }

@@ -6,3 +6,4 @@ pub mod Requests
 pub mod Inboxes
 pub mod Talks
 pub mod RequestWords
+pub mod TalkWords

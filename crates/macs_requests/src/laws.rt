@@ -3,6 +3,7 @@
 ghost use Rattle.std.specs.Prelude.{◌<◌, length};
 ghost use Rattle.macs_requests.specs.RequestWords.{FieldWords, LineWords};
 ghost use Rattle.macs_requests.specs.Requests.{IsAsked, request_line};
+ghost use Rattle.macs_requests.specs.TalkWords.{TalkWords};
 ghost use Rattle.macs_requests.specs.declared.requests.Request.{Request};
 
 /// The line of a request has less than 256 octets, without its end.
@@ -17,4 +18,6 @@ pub fn words()
     ensures lines { LineWords }
     // The words of fields, and which commands are in range.
     ensures fields { FieldWords }
+    // What is noted of a desk stays noted.
+    ensures talks { TalkWords }
 {}

@@ -1,5 +1,5 @@
 -- The numbers of each association stay in their order.
-use Rattle.std.proofs.Common.{◌≡◌, ◌<◌, ◌≤◌, ◌^◌, ◌==◌, ℕ, Bool, true, false, cond, List, bytes_eq, Option, Some, None, IsSome, IfSome, inl, inr, refl, ap, sym, subst, arith}
+use Rattle.std.proofs.Common.{◌≡◌, ◌<◌, ◌≤◌, ◌+◌, ◌^◌, ◌==◌, ℕ, Bool, true, false, cond, List, bytes_eq, Option, Some, None, IsSome, IfSome, inl, inr, refl, ap, sym, subst, arith}
 use Rattle.std.specs.Prelude.{nat_lt}
 use Rattle.std.specs.Option.{option_map}
 use Rattle.std.proofs.lemmas.Slice.Eq.{bytes_eq-Decides}
@@ -7,7 +7,7 @@ use borrow.Author.Tests.{eqb-true, ltb-true}
 use Rattle.macs_config.specs.Tables.{put, put_at}
 use Rattle.macs_config.specs.declared.association.RxSa.{RxSa}
 use Rattle.macs_config.specs.declared.command.Validate.{Validate}
-use Rattle.macs_rxsc.specs.Receive.{AreOrdered, Arrival, Numbers, Outcome, IsOutcome, RxSide, IsNumbered, numbers_after_delivery, arrival_outcome, numbers_after_hold, put_numbers, first_numbers, numbers_under_window}
+use Rattle.macs_rxsc.specs.Receive.{AreOrdered, Arrival, InOrder, Numbers, Outcome, IsOutcome, RxSide, IsNumbered, numbers_after_delivery, arrival_outcome, numbers_after_hold, put_numbers, first_numbers, numbers_under_window}
 
 -- ---- numbers
 
@@ -165,3 +165,26 @@ ordered-received side ceilings frame o old (inr arrives) =
     subst (λ n. IsNumbered side.replay.window (side.rx a.sci a.an) n (ceilings a.sci a.an)) arrives.1.are_numbers (old a.sci a.an) in
     subst (λ (numbers : List ℕ → ℕ → Option Numbers). AllOrdered (record side { numbers = numbers }) ceilings) (sym (ap (λ (x : Outcome). x.numbers) arrives.2))
     (arrived_ordered side ceilings old a here (ceilings a.sci a.an) refl)
+
+-- ---- what their order is
+
+numbered : (window : ℕ) (sa : Option RxSa) (n : Option Numbers) (c : Option ℕ) (numbers : Numbers) (ceiling : ℕ)
+    → IsNumbered window sa n c → n ≡ Some numbers → c ≡ Some ceiling → InOrder window numbers ceiling
+numbered window (Some sa) (Some n) (Some c) numbers ceiling is has_numbers has_ceiling =
+    let same : n ≡ numbers = cc in
+    let high : c ≡ ceiling = cc in
+    subst (λ (x : Numbers). InOrder window x ceiling) same (subst (λ (x : ℕ). InOrder window n x) high is)
+numbered window (Some sa) (Some n) None numbers ceiling is has_numbers has_ceiling = absurd is
+numbered window (Some sa) None c numbers ceiling is has_numbers has_ceiling = absurd is
+numbered window None (Some n) c numbers ceiling is has_numbers has_ceiling = absurd is
+numbered window None None (Some c) numbers ceiling is has_numbers has_ceiling = absurd is
+numbered window None None None numbers ceiling is has_numbers has_ceiling = cc
+
+pub in-order : (window : ℕ) (sa : Option RxSa) (n : Option Numbers) (c : Option ℕ) (numbers : Numbers) (ceiling : ℕ)
+    → IsNumbered window sa n c → n ≡ Some numbers → c ≡ Some ceiling
+    → (1 ≤ numbers.lowest) × (numbers.next ≤ numbers.lowest + window) × (numbers.lowest ≤ numbers.next)
+    × (numbers.next ≤ ceiling) × (ceiling ≤ 2 ^ 32)
+in-order window sa n c numbers ceiling is has_numbers has_ceiling =
+    let i = numbered window sa n c numbers ceiling is has_numbers has_ceiling in
+    let within = i.windowed in
+    (i.numbered, omega (arith, within), i.ordered, i.below, i.bounded)

@@ -10,3 +10,4 @@ pub mod Value
 pub mod Keeps
 pub mod Stepping
 pub mod Opening
+pub mod CeilingWords
