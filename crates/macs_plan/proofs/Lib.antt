@@ -1,0 +1,8 @@
+mod Pairs
+mod Inserted
+mod Readable
+mod Files
+mod Distinct
+mod Sound
+mod Taken
+mod Stages

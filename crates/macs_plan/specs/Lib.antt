@@ -1,0 +1,4 @@
+pub mod Planning
+pub mod Reading
+pub mod Writing
+pub mod Accepting
