@@ -199,15 +199,29 @@ pub fn planned(
     }
 }
 
+/// The commands of a stage at an end of the link that a file says.
+fn file_planned(
+    alloc: Global,
+    file: &Table,
+    end: End,
+    stage: Stage,
+) -> Result<Vec<Command>, PlanFault>
+    ensures commands { IfOk result (λ commands. file_planned (table_view file.now) end stage ≡ Ok commands.items) }
+    ensures fault { IfErr result (λ fault. fault ≢ Memory → file_planned (table_view file.now) end stage ≡ Err fault) }
+{
+    let link = link_of(alloc, file)?;
+    let _before = link.before;
+    let commands = planned(alloc, &link, end, stage)?;
+    Ok(commands)
+}
+
 /// The command file of a stage at an end of the link that a file says, as text. Refused with the file's first
 /// fault, as `OneKey`, or as `Memory`.
 pub fn plan(alloc: Global, file: &Table, end: End, stage: Stage) -> Result<String, PlanFault>
     ensures text { IfOk result (λ text. PlansText (file_planned (table_view file.now) end stage) (string_bytes text)) }
     ensures fault { IfErr result (λ fault. fault ≢ Memory → file_planned (table_view file.now) end stage ≡ Err fault) }
 {
-    let link = link_of(alloc, file)?;
-    let _before = link.before;
-    let commands = planned(alloc, &link, end, stage)?;
+    let commands = file_planned(alloc, file, end, stage)?;
     match command_file(alloc, commands.as_slice()) {
         Ok(text) => Ok(text),
         Err(_) => Err(PlanFault::Memory),

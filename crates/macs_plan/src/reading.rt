@@ -17,8 +17,7 @@ use toml::{Table, Value};
 /// The link that a file says. Its keys are `left` and `right`, each a table with the SCI of that end at `sci`, 16
 /// hex digits, and `key`, an array of tables, one for each pair of keys, the newest last. Such a table has the
 /// association number at `an`, 0 to 3, and the SAKs of the frames from each end at `left` and `right`, 32 hex digits
-/// or 64. Refused with the file's first fault, or as `Memory`; that this comes only from a growth that was refused is
-/// tested.
+/// or 64. Refused with the file's first fault, or as `Memory`.
 pub fn link_of<A: Allocator>(alloc: A, file: &Table) -> Result<Link, PlanFault>
     ensures link { IfOk result (λ link. file_link (table_view file.now) ≡ Ok link) }
     ensures fault { IfErr result (λ fault. fault ≢ Memory → file_link (table_view file.now) ≡ Err fault) }
