@@ -74,10 +74,10 @@ read_more commands i command within same all read =
     subst (λ (l : List Command). AllRead l) (sym (taken_more commands i command within same)) (one_more (take i commands) command all read)
 
 pub tables_more : (commands : List Command) (i : ℕ) (command : Command) → i < length commands → command ≡ get_or commands i command
-    → (values new : List Value) (value : Value) (members : Members) → items_view values ≡ tables_of (take i commands)
-    → new ≡ values ++ value ∷ [] → view value ≡ table members → members ≡ table_of command
+    → (values new : List Value) (value : Value) (entry : Members) → items_view values ≡ tables_of (take i commands)
+    → new ≡ values ++ value ∷ [] → view value ≡ table entry → entry ≡ table_of command
     → items_view new ≡ tables_of (take (i + 1) commands)
-tables_more commands i command within same values new value members so_far after seen named =
+tables_more commands i command within same values new value entry so_far after seen named =
     ap items_view after ∙ items_view-push values value ∙ ap (push_item (items_view values)) (seen ∙ ap table named)
     ∙ ap (λ (x : Items). push_item x (table (table_of command))) so_far
     ∙ sym (tables_pushed (take i commands) command)

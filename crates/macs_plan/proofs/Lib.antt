@@ -6,3 +6,4 @@ mod Distinct
 mod Sound
 mod Taken
 mod Stages
+mod LinkWords

@@ -20,7 +20,7 @@ pub joined_one : (done : List KeyPair) (pair : KeyPair) (rest : Result (List Key
 joined_one done pair (Ok rest) = ap Ok (sym (append_assoc done (pair ∷ []) rest))
 joined_one done pair (Err fault) = refl
 
-is_table_of : (d : Data) (ms : Members) → as_table d ≡ Some ms → d ≡ table ms
+pub is_table_of : (d : Data) (ms : Members) → as_table d ≡ Some ms → d ≡ table ms
 is_table_of (table xs) ms e = cc
 is_table_of (string s) ms e = cc
 is_table_of (integer z) ms e = cc

@@ -1,6 +1,6 @@
 -- A link that is read has two SCIs, and no key twice.
 use Rattle.std.proofs.Common.{◌≡◌, ◌≢◌, ◌∙◌, ◌==◌, ◌||◌, ◌&&◌, ℕ, Bool, true, false, not, cond, List, [], ◌∷◌, Option, Some, None, Result, Ok, Err, bytes_eq, codes, refl, sym, ap, subst}
-use Rattle.std.proofs.lemmas.Bool.{and_parts, eqb-false, not-true, or_parts, true≢false}
+use Rattle.std.proofs.lemmas.Bool.{and_parts, eqb-false, eqb-true, not-true, or_parts, true≢false}
 use Rattle.toml.specs.Data.{Items, Members}
 use Rattle.macs_aes.specs.Keys.{octets_of_key}
 use Rattle.macs_config.specs.Config.{are_distinct, is_among}
@@ -20,34 +20,42 @@ use Rattle.macs_plan.specs.declared.plan_fault.PlanFault.TheVariants as fault
 
 -- ---- what is behind an answer
 
-bound : {X Y : Type 0} (r : Result X PlanFault) (f : X → Result Y PlanFault) (y : Y) → (r >>= f) ≡ Ok y → (x : X) × (r ≡ Ok x) × (f x ≡ Ok y)
+pub bound : {X Y : Type 0} (r : Result X PlanFault) (f : X → Result Y PlanFault) (y : Y) → (r >>= f) ≡ Ok y → (x : X) × (r ≡ Ok x) × (f x ≡ Ok y)
 bound (Ok x) f y is = (x, refl, is)
 bound (Err cause) f y is = absurd (cc)
 
-passed : (b : Bool) (cause : PlanFault) (r : Result Link PlanFault) (link : Link) → cond b (Err cause) r ≡ Ok link → (b ≡ false) × (r ≡ Ok link)
+pub passed : (b : Bool) (cause : PlanFault) (r : Result Link PlanFault) (link : Link) → cond b (Err cause) r ≡ Ok link → (b ≡ false) × (r ≡ Ok link)
 passed true cause r link is = absurd (cc)
 passed false cause r link is = (refl, is)
 
-chosen : (b : Bool) (cause : PlanFault) (r : Result Link PlanFault) (link : Link) → cond b r (Err cause) ≡ Ok link → r ≡ Ok link
-chosen true cause r link is = is
+chosen : (b : Bool) (cause : PlanFault) (r : Result Link PlanFault) (link : Link) → cond b r (Err cause) ≡ Ok link
+    → (b ≡ true) × (r ≡ Ok link)
+chosen true cause r link is = (refl, is)
 chosen false cause r link is = absurd (cc)
 
--- there are ends and pairs that are not refused
-abbrev IsMade : Link → Type 0
-IsMade link = (left right : List ℕ) × (pairs : List KeyPair) × (sound_link left right pairs ≡ Ok link)
+abbrev pub read_as : Link → Result Link PlanFault
+read_as link = Ok link
 
-from_tables : (left right : Members) (items : Items) (link : Link) → tables_link left right items ≡ Ok link → IsMade link
+pub same_link : (a b : Link) → read_as a ≡ read_as b → a ≡ b
+same_link a b is = cc
+
+-- the tables of two ends and of pairs, and what is behind each
+pub from_tables : (left right : Members) (items : Items) (link : Link) → tables_link left right items ≡ Ok link
+    → (one other : List ℕ) × (pairs : List KeyPair) × (end_sci place.Left left ≡ Ok one) × (end_sci place.Right right ≡ Ok other)
+    × (key_pairs 1 items ≡ Ok pairs) × (sound_link one other pairs ≡ Ok link)
 from_tables left right items link is =
     let (one, has_one, first) = bound (end_sci place.Left left) _ link is in
-    let (two, has_two, second) = bound (end_sci place.Right right) _ link first in
+    let (other, has_other, second) = bound (end_sci place.Right right) _ link first in
     let (pairs, has_pairs, third) = bound (key_pairs 1 items) _ link second in
-    (one, two, pairs, third)
+    (one, other, pairs, has_one, has_other, has_pairs, third)
 
-from_shape : (n : ℕ) (left right : Members) (items : Items) (link : Link) → shaped_link n left right items ≡ Ok link → IsMade link
+pub from_shape : (n : ℕ) (left right : Members) (items : Items) (link : Link) → shaped_link n left right items ≡ Ok link
+    → (n ≡ 3) × (tables_link left right items ≡ Ok link)
 from_shape n left right items link is =
-    from_tables left right items link (chosen ((n == 3) && is_keys items) fault.Shape (tables_link left right items) link is)
+    let tests = chosen ((n == 3) && is_keys items) fault.Shape (tables_link left right items) link is in
+    (eqb-true n 3 (and_parts (n == 3) (is_keys items) tests.0).0, tests.1)
 
-abbrev with_tables : ℕ → Option Members → Option Members → Option Items → Result Link PlanFault
+abbrev pub with_tables : ℕ → Option Members → Option Members → Option Items → Result Link PlanFault
 with_tables n left right items = elim left [
   | None ↦ Err fault.Shape
   | Some one ↦ elim right [
@@ -59,8 +67,11 @@ with_tables n left right items = elim left [
   ]
 ]
 
-from_file : (n : ℕ) (left right : Option Members) (items : Option Items) (link : Link) → with_tables n left right items ≡ Ok link → IsMade link
-from_file n (Some left) (Some right) (Some items) link is = from_shape n left right items link is
+pub from_file : (n : ℕ) (left right : Option Members) (items : Option Items) (link : Link) → with_tables n left right items ≡ Ok link
+    → (one two : Members) × (three : Items) × (left ≡ Some one) × (right ≡ Some two) × (items ≡ Some three)
+    × (n ≡ 3) × (tables_link one two three ≡ Ok link)
+from_file n (Some left) (Some right) (Some items) link is =
+    let shaped = from_shape n left right items link is in (left, right, items, refl, refl, refl, shaped.0, shaped.1)
 from_file n (Some left) (Some right) None link is = absurd (cc)
 from_file n (Some left) None items link is = absurd (cc)
 from_file n None right items link is = absurd (cc)
@@ -71,11 +82,11 @@ differ : (a b : List ℕ) → bytes_eq b a ≡ false → a ≢ b
 differ a b is same = true≢false (sym (subst (λ (x : List ℕ). bytes_eq x a ≡ true) same (bytes_eq-itself a)) ∙ is)
 
 -- the pairs that count: the one before, where there is one, and those after it
-abbrev with_earlier : Option KeyPair → List KeyPair → List KeyPair
+abbrev pub with_earlier : Option KeyPair → List KeyPair → List KeyPair
 with_earlier None pairs = pairs
 with_earlier (Some earlier) pairs = earlier ∷ pairs
 
-abbrev link_with : List ℕ → List ℕ → Option KeyPair → KeyPair → Link
+abbrev pub link_with : List ℕ → List ℕ → Option KeyPair → KeyPair → Link
 link_with left right earlier pair = record { left = left; right = right; newest = pair; before = earlier }
 
 some_same : (a b : KeyPair) → Some a ≡ Some b → a ≡ b
@@ -149,11 +160,8 @@ later_keys pair pairs once =
 later_numbers : (pair next : KeyPair) (pairs : List KeyPair) → reuses_an (pair ∷ next ∷ pairs) ≡ false → reuses_an (next ∷ pairs) ≡ false
 later_numbers pair next pairs number = (or_parts (next.an == pair.an) (reuses_an (next ∷ pairs)) number).1
 
-abbrev read_as : Link → Result Link PlanFault
-read_as link = Ok link
-
 of_link : (made link : Link) → read_as made ≡ read_as link → IsSound made → IsSound link
-of_link made link is sound = let same : made ≡ link = cc in subst (λ (x : Link). IsSound x) same sound
+of_link made link is sound = subst (λ (x : Link). IsSound x) (same_link made link is) sound
 
 newest_sound : (left right : List ℕ) (earlier : Option KeyPair) (pairs : List KeyPair) (link : Link) → left ≢ right
     → are_distinct (keys_of (with_earlier earlier pairs)) ≡ true → reuses_an (with_earlier earlier pairs) ≡ false
@@ -180,6 +188,7 @@ from_sound left right pairs link is =
 
 pub refuses : Refuses
 refuses members link is =
-    let (left, right, pairs, made) =
+    let (left, right, items, at_left, at_right, at_key, three, tables) =
     from_file (count members) (table_at (codes "left") members) (table_at (codes "right") members) (items_at (codes "key") members) link is in
-    from_sound left right pairs link made
+    let (one, other, pairs, has_one, has_other, has_pairs, made) = from_tables left right items link tables in
+    from_sound one other pairs link made

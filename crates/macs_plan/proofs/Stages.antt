@@ -14,7 +14,7 @@ use Rattle.macs_config.specs.declared.association.TxSa.{TxSa}
 use Rattle.macs_config.specs.declared.command.Command.TheVariants.{TxUse, TxRemove, RxAdd, RxRemove}
 use Rattle.macs_config.proofs.Channels.{bytes_eq-itself, same_octets}
 use Rattle.macs_config.proofs.Tables.{put-here, put-other, put_at-here, put_rx-here}
-use Rattle.macs_plan.specs.Accepting.{Begins, Begun, HasKeys, IsGone, IsSound, IsUnspent, Receives, Rekeyed, Rekeys, Sends}
+use Rattle.macs_plan.specs.Accepting.{Begins, Begun, HasKeys, IsGone, IsSound, IsUnspent, Meets, Receives, Rekeyed, Rekeys, Sends}
 use Rattle.macs_plan.specs.Planning.{first_keys, other_end, own_key, pair_before, receive_too, receives, remove_old, sci_of, send_so, sends}
 use Rattle.macs_plan.specs.declared.link.End.{End}
 use Rattle.macs_plan.specs.declared.link.End.TheVariants.{Left, Right}
@@ -246,3 +246,27 @@ module _ (identity : Identity) (link : Link) (end : End) (sound : IsSound link) 
 
 pub begins : Begins
 begins identity link end sound has own = begun identity link end sound has own
+
+-- ---- both ends
+
+pub meets : Meets
+meets link Left pair sender receiver sent received = (
+  pair.an,
+  record { key = octets_of_key (own_key pair Left); protection = sent.tx.0 },
+  record { key = octets_of_key (own_key pair Left); offset = received.rx.0 },
+  sent.encoding,
+  sent.tx.1,
+  received.channel,
+  received.rx.1,
+  refl,
+)
+meets link Right pair sender receiver sent received = (
+  pair.an,
+  record { key = octets_of_key (own_key pair Right); protection = sent.tx.0 },
+  record { key = octets_of_key (own_key pair Right); offset = received.rx.0 },
+  sent.encoding,
+  sent.tx.1,
+  received.channel,
+  received.rx.1,
+  refl,
+)

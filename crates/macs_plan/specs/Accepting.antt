@@ -7,6 +7,8 @@ use Rattle.macs_config.specs.Apply.{apply}
 use Rattle.macs_config.specs.Config.{Config, default, has_channel, is_spent, max_spent, rx_fingerprint, this_edition, tx_fingerprint}
 use Rattle.macs_config.specs.Identity.{Identity}
 use Rattle.macs_config.specs.declared.association.Protection.{Protection}
+use Rattle.macs_config.specs.declared.association.RxSa.{RxSa}
+use Rattle.macs_config.specs.declared.association.TxSa.{TxSa}
 use Rattle.macs_config.specs.declared.command.Command.{Command}
 use Rattle.macs_plan.specs.Planning.{first_keys, other_end, own_key, planned, receive_too, remove_old, sci_of, send_so}
 use Rattle.macs_plan.specs.Reading.{file_link}
@@ -76,6 +78,13 @@ abbrev pub HasKeys : KeyPair → Type 0
 HasKeys pair = (end : End) → HasItsLength (own_key pair end)
 
 -- ---- the laws
+
+-- Where one end sends under a pair and the other one receives under it, the frames of the first are received by the second: under its
+-- SCI, at their association number and with their key.
+abbrev pub Meets : Type 0
+Meets = (link : Link) (end : End) (pair : KeyPair) (one other : Config) → Sends end pair one → Receives link (other_end end) pair other
+    → (an : ℕ) × (tx : TxSa) × (rx : RxSa) × (one.encoding ≡ Some an) × (one.tx an ≡ Some tx)
+    × (has_channel other (sci_of link end) ≡ true) × (other.rx (sci_of link end) an ≡ Some rx) × (rx.key ≡ tx.key)
 
 -- at its first keys a new endpoint takes them, and sends and receives under the newest pair
 abbrev pub Begun : Identity → Link → End → Type 0

@@ -2,3 +2,4 @@ pub mod Planning
 pub mod Reading
 pub mod Writing
 pub mod Accepting
+pub mod LinkWords

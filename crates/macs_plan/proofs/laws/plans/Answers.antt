@@ -1,9 +1,12 @@
 use Rattle.macs_plan.proofs.Sound.{refuses}
-use Rattle.macs_plan.proofs.Stages.{begins, rekeys}
+use Rattle.macs_plan.proofs.Stages.{begins, meets, rekeys}
 use Rattle.macs_plan.proofs.laws.plans.Goals as goal
 
 pub returns-clause-refuses : goal.returns-clause-refuses
 returns-clause-refuses c = refuses
+
+pub returns-clause-meets : goal.returns-clause-meets
+returns-clause-meets c = meets
 
 pub returns-clause-begins : goal.returns-clause-begins
 returns-clause-begins c = begins
