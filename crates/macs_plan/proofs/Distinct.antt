@@ -1,12 +1,10 @@
 -- Keys and numbers that come again, one pair after the other.
-use Rattle.std.proofs.Common.{◌≡◌, ◌∙◌, ◌<◌, ◌≤◌, ◌+◌, ◌==◌, ◌||◌, ◌&&◌, ℕ, Bool, true, false, not, List, [], ◌∷◌, length, drop, get_or, Option, Some, Result, bytes_eq, refl, sym, ap, arith, drop_of_length-le, length-drop}
+use Rattle.std.proofs.Common.{◌≡◌, ◌∙◌, ◌<◌, ◌≤◌, ◌+◌, ◌==◌, ◌||◌, ◌&&◌, ℕ, Bool, true, false, not, List, [], ◌∷◌, length, drop, get_or, Option, Some, bytes_eq, refl, sym, ap, arith, drop_of_length-le, length-drop}
 use Rattle.std.proofs.lemmas.List.{drop_more}
 use Rattle.macs_aes.specs.Keys.{octets_of_key}
 use Rattle.macs_config.specs.Config.{are_distinct, is_among}
 use Rattle.macs_plan.specs.Reading.{keys_of, newest_link, reuses_an}
 use Rattle.macs_plan.specs.declared.link.KeyPair.{KeyPair}
-use Rattle.macs_plan.specs.declared.link.Link.{Link}
-use Rattle.macs_plan.specs.declared.plan_fault.PlanFault.{PlanFault}
 
 -- ---- tests
 

@@ -1,5 +1,5 @@
 -- A command file is read as the commands that it was written for.
-use Rattle.std.proofs.Common.{◌≡◌, ◌∙◌, ◌≤◌, ◌+◌, ℕ, suc, true, List, [], ◌∷◌, ◌++◌, Result, Ok, Err, IfOk, String, string_bytes, length, take, get_or, ◌<◌, subst, sym, refl, ap, arith}
+use Rattle.std.proofs.Common.{◌≡◌, ◌∙◌, ◌≤◌, ◌+◌, ℕ, true, List, [], ◌∷◌, ◌++◌, Result, Ok, Err, IfOk, String, string_bytes, length, take, get_or, ◌<◌, subst, sym, refl, ap, arith}
 use Rattle.std.specs.declared.alloc.Global.{Global}
 use Rattle.std.proofs.lemmas.List.{take_more}
 use Rattle.toml.specs.Data.{Items, Members, item, items_depth, members_depth, push_item, table}

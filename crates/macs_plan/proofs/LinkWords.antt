@@ -1,15 +1,14 @@
 -- All that is to be drawn of the words on a link's file.
-use Rattle.std.proofs.Common.{◌≡◌, ◌≢◌, ◌∙◌, ◌<◌, ◌≤◌, ◌+◌, ◌++◌, ◌==◌, ◌&&◌, ℕ, Bool, true, false, cond, List, [], ◌∷◌, length, Option, Some, None, Result, Ok, Err, bytes_eq, codes, nat_lt, refl, sym, ap, subst, arith, inl, inr}
+use Rattle.std.proofs.Common.{◌≡◌, ◌≢◌, ◌∙◌, ◌≤◌, ◌+◌, ℕ, Bool, true, false, cond, List, [], ◌∷◌, length, Option, Some, None, Result, Ok, Err, bytes_eq, codes, nat_lt, refl, sym, ap, subst, arith, inl, inr}
 use Rattle.std.specs.Prelude.{option_and_then}
 use Rattle.std.proofs.lemmas.Bool.{cases_Bool, le-ltb, lt-ltb, ltb-false, ne_eqb}
-use Rattle.toml.specs.Data.{Data, Items, Members, array, as_array, as_table, boolean, datetime, float, get_member, integer, item, no_items, string, table}
+use Rattle.toml.specs.Data.{Data, Items, Members, array, as_array, as_table, boolean, datetime, float, get_member, integer, item, string, table}
 use Rattle.macs_aes.specs.declared.keys.Key.{Key}
-use Rattle.macs_config.specs.Config.{are_distinct}
 use Rattle.macs_config.proofs.Channels.{bytes_eq-itself, same_octets}
 use Rattle.macs_commands.specs.CommandFiles.{count}
 use Rattle.macs_commands.specs.Fields.{an_in, sci_in}
 use Rattle.macs_plan.specs.LinkWords.{IsNewest, LinkWords, PairWords, RefusedWords}
-use Rattle.macs_plan.specs.Reading.{◌>>=◌, end_sci, file_link, followed, is_keys, items_at, key_at, key_pair, key_pairs, keys_of, newest_link, only, required, reuses_an, shaped_link, sound_link, table_at, tables_link}
+use Rattle.macs_plan.specs.Reading.{◌>>=◌, end_sci, file_link, followed, is_keys, items_at, key_at, key_pair, key_pairs, newest_link, required, reuses_an, sound_link, table_at, tables_link}
 use Rattle.macs_plan.specs.declared.link.KeyPair.{KeyPair}
 use Rattle.macs_plan.specs.declared.link.Link.{Link}
 use Rattle.macs_plan.specs.declared.plan_fault.Place.{Place}
@@ -19,7 +18,7 @@ use Rattle.macs_plan.specs.declared.plan_fault.PlanFault.TheVariants as fault
 use Rattle.macs_plan.specs.declared.plan_fault.ValueName.{ValueName}
 use Rattle.macs_plan.specs.declared.plan_fault.ValueName.TheVariants as name
 use Rattle.macs_plan.proofs.Pairs.{is_table_of}
-use Rattle.macs_plan.proofs.Sound.{bound, from_file, from_tables, link_with, passed, same_link, with_earlier, with_tables}
+use Rattle.macs_plan.proofs.Sound.{from_file, from_tables, link_with, passed, same_link, with_earlier, with_tables}
 
 -- ---- values at a key
 
@@ -51,9 +50,16 @@ whole : (m : Members) (link : Link) → file_link m ≡ Ok link
     × (count m ≡ 3) × (tables_link left right items ≡ Ok link)
 whole m link is =
     let (left, right, items, at_left, at_right, at_key, three, tables) =
-    from_file (count m) (table_at (codes "left") m) (table_at (codes "right") m) (items_at (codes "key") m) link is in
-    (left, right, items, table_there (codes "left") m left at_left, table_there (codes "right") m right at_right,
-    array_there (codes "key") m items at_key, three, tables)
+    from_file (count m) (table_at (codes "left") m) (table_at (codes "right") m) (items_at (codes "key") m) link is in (
+      left,
+      right,
+      items,
+      table_there (codes "left") m left at_left,
+      table_there (codes "right") m right at_right,
+      array_there (codes "key") m items at_key,
+      three,
+      tables,
+    )
 
 abbrev asked : Bool → Result Link PlanFault → Result Link PlanFault
 asked b r = cond b r (Err fault.Shape)
@@ -165,9 +171,12 @@ pair_read at m pair is =
     let (left, has_left, two) = had (place.Key at) name.Left (key_at (codes "left") m) _ pair one in
     let (right, has_right, three) = had (place.Key at) name.Right (key_at (codes "right") m) _ pair two in
     let (few, end) = kept (nat_lt 3 (count m)) (place.Key at) (made_of an left right) pair three in
-    let same = same_pair (made_of an left right) pair end in
-    (has_an ∙ ap (λ (p : KeyPair). Some p.an) same, has_left ∙ ap (λ (p : KeyPair). Some p.left) same,
-    has_right ∙ ap (λ (p : KeyPair). Some p.right) same, ltb-false 3 (count m) few)
+    let same = same_pair (made_of an left right) pair end in (
+      has_an ∙ ap (λ (p : KeyPair). Some p.an) same,
+      has_left ∙ ap (λ (p : KeyPair). Some p.left) same,
+      has_right ∙ ap (λ (p : KeyPair). Some p.right) same,
+      ltb-false 3 (count m) few,
+    )
 
 abbrev pairs_as : List KeyPair → Result (List KeyPair) PlanFault
 pairs_as l = Ok l

@@ -1,5 +1,5 @@
 -- The table of a command is read as that command.
-use Rattle.std.proofs.Common.{◌≡◌, ◌∙◌, ℕ, ◌<◌, ◌^◌, ◌%◌, ◌/◌, Bool, true, false, List, length, get_or, nat_le, le-leb, Option, Some, None, Result, Ok, Err, refl, sym, ap, arith, inl, inr}
+use Rattle.std.proofs.Common.{◌≡◌, ◌∙◌, ℕ, ◌<◌, ◌^◌, ◌%◌, ◌/◌, List, length, le-leb, Option, Some, None, Result, Ok, Err, refl, sym, ap, arith, inl, inr}
 use Rattle.std.specs.List.{All}
 use Rattle.std.specs.Option.{option_map}
 use Rattle.std.proofs.lemmas.Bool.{cases_lt}
@@ -10,7 +10,7 @@ use Rattle.hex.proofs.HexLemmas.{decode_sized-encode_lower, decode_sized-ok, dec
 use Rattle.macs_aes.specs.Keys.{HasItsLength, octets_of_key}
 use Rattle.macs_aes.specs.declared.keys.Key.{Key}
 use Rattle.macs_aes.specs.declared.keys.Key.TheVariants.{Long, Short}
-use Rattle.macs_fields.specs.Fields.{IsOctets, IsSci}
+use Rattle.macs_fields.specs.Fields.{IsOctets}
 use Rattle.macs_config.specs.Apply.{IsCommand, IsKey}
 use Rattle.macs_config.specs.declared.command.Command.{Command}
 use Rattle.macs_config.specs.declared.command.Command.TheVariants.{SetValidate, SetReplay, SetSciMode, TxInstall, TxUse, TxRemove, RxAdd, RxDrop, RxInstall, RxRemove}

@@ -1,5 +1,5 @@
 -- A link that is read has two SCIs, and no key twice.
-use Rattle.std.proofs.Common.{◌≡◌, ◌≢◌, ◌∙◌, ◌==◌, ◌||◌, ◌&&◌, ℕ, Bool, true, false, not, cond, List, [], ◌∷◌, Option, Some, None, Result, Ok, Err, bytes_eq, codes, refl, sym, ap, subst}
+use Rattle.std.proofs.Common.{◌≡◌, ◌≢◌, ◌∙◌, ◌==◌, ◌&&◌, ℕ, Bool, true, false, not, cond, List, [], ◌∷◌, Option, Some, None, Result, Ok, Err, bytes_eq, codes, refl, sym, subst}
 use Rattle.std.proofs.lemmas.Bool.{and_parts, eqb-false, eqb-true, not-true, or_parts, true≢false}
 use Rattle.toml.specs.Data.{Items, Members}
 use Rattle.macs_aes.specs.Keys.{octets_of_key}
@@ -8,7 +8,7 @@ use Rattle.macs_config.proofs.Channels.{bytes_eq-itself}
 use Rattle.macs_commands.specs.CommandFiles.{count}
 use Rattle.macs_plan.specs.Accepting.{IsSound, Refuses}
 use Rattle.macs_plan.specs.Planning.{own_key}
-use Rattle.macs_plan.specs.Reading.{◌>>=◌, file_link, is_keys, items_at, keys_of, newest_link, reuses_an, shaped_link, sound_link, table_at, tables_link}
+use Rattle.macs_plan.specs.Reading.{◌>>=◌, is_keys, items_at, keys_of, newest_link, reuses_an, shaped_link, sound_link, table_at, tables_link}
 use Rattle.macs_plan.specs.Reading.{end_sci, key_pairs}
 use Rattle.macs_plan.specs.declared.link.End.{End}
 use Rattle.macs_plan.specs.declared.link.End.TheVariants.{Left, Right}

@@ -1,5 +1,5 @@
 -- A command that finds its place free, its key new and room for it is taken.
-use Rattle.std.proofs.Common.{◌≡◌, ◌≢◌, ◌<◌, ℕ, Bool, true, false, ◌==◌, List, length, nat_le, bytes_eq, Option, Some, None, Ok, refl}
+use Rattle.std.proofs.Common.{◌≡◌, ◌≢◌, ◌<◌, ℕ, true, false, List, length, bytes_eq, Some, None, Ok, refl}
 use Rattle.std.proofs.lemmas.Bool.{lt-leb, ne_eqb}
 use Rattle.macs_aes.specs.Keys.{HasItsLength, octets_of_key}
 use Rattle.macs_aes.specs.declared.keys.Key.{Key}

@@ -1,5 +1,5 @@
 -- What the commands of a link find at an end, stage by stage, and that they are taken.
-use Rattle.std.specs.Prelude.{◌≡◌, ◌≢◌, ◌<◌, ◌∷◌, ℕ, true, false, List, [], length, Option, Some, None, Ok}
+use Rattle.std.specs.Prelude.{◌≡◌, ◌≢◌, ◌<◌, ◌∷◌, ℕ, true, false, List, [], length, Some, None, Ok}
 use Rattle.toml.specs.Data.{Members}
 use Rattle.macs_aes.specs.Keys.{HasItsLength, octets_of_key}
 use Rattle.macs_fields.specs.declared.fields.Offset.{Offset}
@@ -10,7 +10,7 @@ use Rattle.macs_config.specs.declared.association.Protection.{Protection}
 use Rattle.macs_config.specs.declared.association.RxSa.{RxSa}
 use Rattle.macs_config.specs.declared.association.TxSa.{TxSa}
 use Rattle.macs_config.specs.declared.command.Command.{Command}
-use Rattle.macs_plan.specs.Planning.{first_keys, other_end, own_key, planned, receive_too, remove_old, sci_of, send_so}
+use Rattle.macs_plan.specs.Planning.{other_end, own_key, planned, sci_of}
 use Rattle.macs_plan.specs.Reading.{file_link}
 use Rattle.macs_plan.specs.declared.link.End.{End}
 use Rattle.macs_plan.specs.declared.link.KeyPair.{KeyPair}

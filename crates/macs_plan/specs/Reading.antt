@@ -1,5 +1,5 @@
 -- The link that a file says, or the file's first fault.
-use Rattle.std.specs.Prelude.{◌≡◌, ◌+◌, ◌==◌, ◌||◌, ◌&&◌, not, ℕ, nat_lt, codes, if◌then◌else◌, Bool, true, false, List, [], ◌∷◌, Option, Some, None, option_and_then, Result, Ok, Err}
+use Rattle.std.specs.Prelude.{◌+◌, ◌==◌, ◌||◌, ◌&&◌, not, ℕ, nat_lt, codes, if◌then◌else◌, Bool, false, List, [], ◌∷◌, Option, Some, None, option_and_then, Result, Ok, Err}
 use Rattle.std.specs.Str.{bytes_eq}
 use Rattle.toml.specs.Data.{Items, Members, as_array, as_table, get_member, item, no_items, table}
 use Rattle.macs_aes.specs.Keys.{octets_of_key}

@@ -1,4 +1,4 @@
-use Rattle.std.proofs.Common.{◌≡◌, ◌∙◌, List, ap, length, subst, take}
+use Rattle.std.proofs.Common.{◌≡◌, ◌∙◌, List, ap, subst, take}
 use Rattle.std.proofs.lemmas.List.{take_all}
 use Rattle.toml.specs.Data.{array, no_members}
 use Rattle.toml.specs.View.{members_view}
