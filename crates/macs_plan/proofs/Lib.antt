@@ -1,0 +1,9 @@
+mod Pairs
+mod Inserted
+mod Readable
+mod Files
+mod Distinct
+mod Sound
+mod Taken
+mod Stages
+mod LinkWords

@@ -1,0 +1,5 @@
+use Rattle.macs_plan.proofs.lines.set_sci_mode.Goals as goal
+
+pub returns : goal.returns
+returns c =
+    rw c.sci_mode_word.ensures at (c.with.ensures _ _ c.with_word-table.ensures c.string.ensures)

@@ -1,0 +1,5 @@
+pub mod Planning
+pub mod Reading
+pub mod Writing
+pub mod Accepting
+pub mod LinkWords

@@ -1,0 +1,102 @@
+-- Commands as a command file.
+use Rattle.std.specs.Prelude.{◌≡◌, ℕ, pos, codes, false, List, [], ◌∷◌, Some, Result, Ok}
+use Rattle.std.specs.Cmp.Lexicographic.{slice_cmp}
+use Rattle.std.specs.Ordering.{match_ordering, nat_cmp}
+use Rattle.hex.specs.Hex.{encode_lower}
+use Rattle.toml.specs.Data.{Data, Items, Members, array, boolean, integer, item, member, no_items, no_members, string, table}
+use Rattle.toml.specs.Parse.{parse_document}
+use Rattle.toml.specs.Text.{IsDocumentText}
+use Rattle.macs_aes.specs.Keys.{HasItsLength, octets_of_key}
+use Rattle.macs_config.specs.declared.command.Command.{Command}
+use Rattle.macs_config.specs.declared.command.Command.TheVariants.{SetValidate, SetReplay, SetSciMode, TxInstall, TxUse, TxRemove, RxAdd, RxDrop, RxInstall, RxRemove}
+use Rattle.macs_config.specs.declared.command.SciMode.{SciMode}
+use Rattle.macs_config.specs.declared.command.SciMode.TheVariants.{Explicit, EndStation, Implicit}
+use Rattle.macs_config.specs.declared.command.Validate.{Validate}
+use Rattle.macs_config.specs.declared.command.Validate.TheVariants.{Strict, Check}
+use Rattle.macs_commands.specs.CommandFiles.{file_commands}
+use Rattle.macs_plan.specs.declared.plan_fault.PlanFault.{PlanFault}
+
+-- ---- values
+
+abbrev pub number : ℕ → Data
+number n = integer (pos n)
+
+-- octets as hex digits, two for each
+abbrev pub digits : List ℕ → Data
+digits octets = string (encode_lower octets)
+
+-- the word of a mode of validation
+abbrev pub validate_word : Validate → List ℕ
+validate_word Strict = codes "strict"
+validate_word Check = codes "check"
+
+-- the word of a mode of naming the channel
+abbrev pub sci_mode_word : SciMode → List ℕ
+sci_mode_word Explicit = codes "explicit"
+sci_mode_word EndStation = codes "end-station"
+sci_mode_word Implicit = codes "implicit"
+
+-- ---- tables
+
+-- the table of a command, its keys in the order of their octets
+abbrev pub table_of : Command → Members
+table_of (SetValidate mode) =
+    member (codes "do") (string (codes "set-validate")) (member (codes "mode") (string (validate_word mode)) no_members)
+table_of (SetReplay on window) =
+    member (codes "do") (string (codes "set-replay")) (member (codes "on") (boolean on)
+    (member (codes "window") (number window) no_members))
+table_of (SetSciMode mode) =
+    member (codes "do") (string (codes "set-sci-mode")) (member (codes "mode") (string (sci_mode_word mode)) no_members)
+table_of (TxInstall an key start confidential offset) =
+    member (codes "an") (number an) (member (codes "confidential") (boolean confidential)
+    (member (codes "do") (string (codes "tx-install")) (member (codes "key") (digits (octets_of_key key))
+    (member (codes "offset") (number offset) (member (codes "start") (number start) no_members)))))
+table_of (TxUse an) = member (codes "an") (number an) (member (codes "do") (string (codes "tx-use")) no_members)
+table_of (TxRemove an) = member (codes "an") (number an) (member (codes "do") (string (codes "tx-remove")) no_members)
+table_of (RxAdd sci) = member (codes "do") (string (codes "rx-add")) (member (codes "sci") (digits sci) no_members)
+table_of (RxDrop sci) = member (codes "do") (string (codes "rx-drop")) (member (codes "sci") (digits sci) no_members)
+table_of (RxInstall sci an key start offset) =
+    member (codes "an") (number an) (member (codes "do") (string (codes "rx-install"))
+    (member (codes "key") (digits (octets_of_key key)) (member (codes "offset") (number offset)
+    (member (codes "sci") (digits sci) (member (codes "start") (number start) no_members)))))
+table_of (RxRemove sci an) =
+    member (codes "an") (number an) (member (codes "do") (string (codes "rx-remove"))
+    (member (codes "sci") (digits sci) no_members))
+
+-- the tables of commands
+abbrev pub tables_of : List Command → Items
+tables_of [] = no_items
+tables_of (command ∷ commands) = item (table (table_of command)) (tables_of commands)
+
+-- the members of a whole command file
+abbrev pub file_of : List Command → Members
+file_of commands = member (codes "command") (array (tables_of commands)) no_members
+
+-- a text is written for these members, and is read as them
+abbrev pub IsTextOf : Members → List ℕ → Type 0
+IsTextOf members text = IsDocumentText false members text × (parse_document text ≡ Some members)
+
+-- a text is the command file of these commands: it is written so, and it is read as just these
+pub record SaysCommands (commands : List Command) (text : List ℕ) : Type 0 where
+  pub written : IsDocumentText false (file_of commands) text
+  pub read : parse_document text ≡ Some (file_of commands)
+  pub taken : file_commands (file_of commands) ≡ Ok commands
+
+-- a text is the command file of what is planned
+abbrev pub PlansText : Result (List Command) PlanFault → List ℕ → Type 0
+PlansText planned text = (commands : List Command) × (planned ≡ Ok commands) × SaysCommands commands text
+
+-- the key of an install has its length
+abbrev pub HasItsKey : Command → Type 0
+HasItsKey (TxInstall an key start confidential offset) = HasItsLength key
+HasItsKey (RxInstall sci an key start offset) = HasItsLength key
+HasItsKey command = Unit {0}
+
+-- ---- how a table is made
+
+-- the members with a value at a key
+abbrev pub put_member : List ℕ → Data → Members → Members
+put_member key value no_members = member key value no_members
+put_member key value (member other old members) =
+    match_ordering (slice_cmp nat_cmp key other) (member key value (member other old members)) (member other value members)
+    (member other old (put_member key value members))

@@ -1,0 +1,229 @@
+//! The commands of a stage at one end, and their file.
+
+ghost use Rattle.std.specs.Prelude.{◌≡◌, ◌≢◌, IfOk, IfErr, Ok, Err, Some, List, string_bytes};
+ghost use Rattle.toml.specs.Data.{Members};
+ghost use Rattle.toml.specs.Parse.{parse_document};
+ghost use Rattle.toml.specs.Text.{IsDocumentText};
+ghost use Rattle.toml.specs.View.{table_view};
+ghost use Rattle.macs_config.specs.declared.command.Command.{Command};
+ghost use Rattle.macs_commands.specs.CommandFiles.{file_commands};
+ghost use Rattle.macs_plan.specs.Planning.{file_planned, first_keys, other_end, own_key, pair_before, planned, receive_too, receives, remove_old, sci_of, send_so, sends};
+ghost use Rattle.macs_plan.specs.Writing.{PlansText};
+ghost use Rattle.macs_plan.specs.declared.plan_fault.PlanFault.TheVariants.{Memory};
+
+use crate::link::{End, KeyPair, Link};
+use crate::plan_fault::PlanFault;
+use crate::reading::link_of;
+use crate::writing::command_file;
+use macs_aes::Key;
+use macs_config::Command;
+use macs_fields::Sci;
+use std::alloc::Global;
+use toml::Table;
+
+/// What is done at an end, stage by stage: the first keys; then, for each new pair, both ends first receive under
+/// it too, then send under it, and then the pair before goes.
+#[derive(Clone, Copy, Debug, PartialEq, Eq)]
+pub enum Stage {
+    First,
+    Receive,
+    Send,
+    Remove,
+}
+
+/// The other end.
+fn other_end(end: End) -> End
+    ensures { result ≡ other_end end }
+{
+    match end {
+        End::Left => End::Right,
+        End::Right => End::Left,
+    }
+}
+
+/// The SCI of an end.
+fn sci_of(link: &Link, end: End) -> Sci
+    ensures { result ≡ sci_of link.now end }
+{
+    match end {
+        End::Left => link.left,
+        End::Right => link.right,
+    }
+}
+
+/// The key of the frames from an end.
+fn own_key(pair: &KeyPair, end: End) -> Key
+    ensures { result ≡ own_key pair.now end }
+{
+    match end {
+        End::Left => pair.left,
+        End::Right => pair.right,
+    }
+}
+
+/// An end sends under a pair.
+fn sends(pair: &KeyPair, end: End) -> Command
+    ensures { result ≡ sends pair.now end }
+{
+    Command::TxInstall {
+        an: pair.an,
+        key: own_key(pair, end),
+        start: 1,
+        confidential: true,
+        offset: 0,
+    }
+}
+
+/// It receives under a pair.
+fn receives(link: &Link, pair: &KeyPair, end: End) -> Command
+    ensures { result ≡ receives link.now pair.now end }
+{
+    let other = other_end(end);
+    Command::RxInstall {
+        sci: sci_of(link, other),
+        an: pair.an,
+        key: own_key(pair, other),
+        start: 1,
+        offset: 0,
+    }
+}
+
+/// These commands, unless there is no memory for them.
+fn listed<const N: usize>(alloc: Global, commands: [Command; N]) -> Result<Vec<Command>, PlanFault>
+    ensures commands { IfOk result (λ listed. listed.items ≡ commands.entry) }
+    ensures fault { IfErr result (λ fault. fault ≡ Memory) }
+{
+    match Vec::from_array(alloc, commands) {
+        Ok(listed) => Ok(listed),
+        Err(_) => Err(PlanFault::Memory),
+    }
+}
+
+/// The first keys.
+fn first_keys(alloc: Global, link: &Link, end: End) -> Result<Vec<Command>, PlanFault>
+    ensures commands { IfOk result (λ commands. commands.items ≡ first_keys link.now end) }
+    ensures fault { IfErr result (λ fault. fault ≡ Memory) }
+{
+    let newest = link.newest;
+    let commands = [
+        sends(&newest, end),
+        Command::TxUse { an: newest.an },
+        Command::RxAdd {
+            sci: sci_of(link, other_end(end)),
+        },
+        receives(link, &newest, end),
+    ];
+    listed(alloc, commands)
+}
+
+/// The end receives under the newest pair too.
+fn receive_too(alloc: Global, link: &Link, end: End) -> Result<Vec<Command>, PlanFault>
+    ensures commands { IfOk result (λ commands. commands.items ≡ receive_too link.now end) }
+    ensures fault { IfErr result (λ fault. fault ≡ Memory) }
+{
+    let newest = link.newest;
+    listed(alloc, [receives(link, &newest, end)])
+}
+
+/// It sends under the newest pair.
+fn send_so(alloc: Global, link: &Link, end: End) -> Result<Vec<Command>, PlanFault>
+    ensures commands { IfOk result (λ commands. commands.items ≡ send_so link.now end) }
+    ensures fault { IfErr result (λ fault. fault ≡ Memory) }
+{
+    let newest = link.newest;
+    let commands = [sends(&newest, end), Command::TxUse { an: newest.an }];
+    listed(alloc, commands)
+}
+
+/// The pair before goes.
+fn remove_old(
+    alloc: Global,
+    link: &Link,
+    end: End,
+    earlier: &KeyPair,
+) -> Result<Vec<Command>, PlanFault>
+    ensures commands { IfOk result (λ commands. commands.items ≡ remove_old link.now end earlier.now) }
+    ensures fault { IfErr result (λ fault. fault ≡ Memory) }
+{
+    let commands = [
+        Command::TxRemove { an: earlier.an },
+        Command::RxRemove {
+            sci: sci_of(link, other_end(end)),
+            an: earlier.an,
+        },
+    ];
+    listed(alloc, commands)
+}
+
+/// The pair before the newest.
+fn pair_before(link: &Link) -> Result<KeyPair, PlanFault>
+    ensures { result ≡ pair_before link.now }
+{
+    match link.before {
+        Some(earlier) => Ok(earlier),
+        None => Err(PlanFault::OneKey),
+    }
+}
+
+/// The commands of a stage at an end, in order. Refused as `OneKey` where keys are to be changed and the link has
+/// one pair alone, or as `Memory`.
+pub fn planned(
+    alloc: Global,
+    link: &Link,
+    end: End,
+    stage: Stage,
+) -> Result<Vec<Command>, PlanFault>
+    ensures commands { IfOk result (λ commands. planned link.now end stage ≡ Ok commands.items) }
+    ensures fault { IfErr result (λ fault. fault ≢ Memory → planned link.now end stage ≡ Err fault) }
+{
+    match stage {
+        Stage::First => {
+            let commands = first_keys(alloc, link, end)?;
+            Ok(commands)
+        }
+        Stage::Receive => {
+            let _earlier = pair_before(link)?;
+            let commands = receive_too(alloc, link, end)?;
+            Ok(commands)
+        }
+        Stage::Send => {
+            let _earlier = pair_before(link)?;
+            let commands = send_so(alloc, link, end)?;
+            Ok(commands)
+        }
+        Stage::Remove => {
+            let earlier = pair_before(link)?;
+            let commands = remove_old(alloc, link, end, &earlier)?;
+            Ok(commands)
+        }
+    }
+}
+
+/// The commands of a stage at an end of the link that a file says.
+fn file_planned(
+    alloc: Global,
+    file: &Table,
+    end: End,
+    stage: Stage,
+) -> Result<Vec<Command>, PlanFault>
+    ensures commands { IfOk result (λ commands. file_planned (table_view file.now) end stage ≡ Ok commands.items) }
+    ensures fault { IfErr result (λ fault. fault ≢ Memory → file_planned (table_view file.now) end stage ≡ Err fault) }
+{
+    let link = link_of(alloc, file)?;
+    let _before = link.before;
+    let commands = planned(alloc, &link, end, stage)?;
+    Ok(commands)
+}
+
+/// The command file of a stage at an end of the link that a file says, as text. Refused with the file's first
+/// fault, as `OneKey`, or as `Memory`.
+pub fn plan(alloc: Global, file: &Table, end: End, stage: Stage) -> Result<String, PlanFault>
+    ensures text { IfOk result (λ text. PlansText (file_planned (table_view file.now) end stage) (string_bytes text)) }
+    ensures fault { IfErr result (λ fault. fault ≢ Memory → file_planned (table_view file.now) end stage ≡ Err fault) }
+{
+    let commands = file_planned(alloc, file, end, stage)?;
+    match command_file(alloc, commands.as_slice()) {
+        Ok(text) => Ok(text),
+        Err(_) => Err(PlanFault::Memory),
+    }
+}
