@@ -202,7 +202,7 @@ pub const CHECK_TEXT: &str = "usage: macsecd check FILE
 
 Checks whether the commands of a TOML file can be read, as 'macsecd apply' reads
 them, and prints how many there are: '4 commands'. With DISK it prints a line for
-each instead, with what 'macsecd apply' would print of it there, as
+each instead, with what 'macsecd apply' would answer there, as
   1 would be ok
   2 would be refused KeySpent
 Nothing is changed, and DISK is only read.
