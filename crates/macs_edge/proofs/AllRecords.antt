@@ -9,7 +9,7 @@ use Rattle.macs_pcap.specs.declared.fault.PcapFault.{PcapFault}
 use Rattle.macs_pcap.specs.declared.header.Header.{Header}
 use Rattle.macs_pcap.proofs.Fronts.{front}
 use Rattle.macs_pcap.proofs.WrittenRecord.{begins-none}
-use Rattle.macs_edge.specs.Passing.{AreAllRecords}
+use Rattle.macs_edge.specs.CaptureRuns.{AreAllRecords}
 
 -- ---- one header, one record
 

@@ -15,10 +15,10 @@ use Rattle.macs_endpoint.specs.State.{Reply, State}
 use Rattle.macs_endpoint.specs.Step.{Step}
 use Rattle.macs_endpoint.specs.Value.{EndpointValue, state_of}
 use Rattle.macs_edge.specs.Settling.{HandsIn, IsJudged, Settles, call_on, verdict_of}
-use Rattle.macs_edge.specs.Passing.{Counts, HandsAllIn, HasPassed, Passes, Run, Stops, TakesNext, TakesRecord, one_more, passed_record}
+use Rattle.macs_edge.specs.CaptureRuns.{Counts, HandsAllIn, HasPassed, Passes, Run, Stops, TakesNext, TakesRecord, one_more, passed_record}
 use Rattle.macs_edge.specs.Telling.{HasJudged, Judges, Telling, Tells, TellsAll, TellsRecords, listed}
-use Rattle.macs_edge.specs.declared.passing.RunFault.{RunFault}
-use Rattle.macs_edge.specs.declared.passing.Summary.{Summary}
+use Rattle.macs_edge.specs.declared.capture_runs.RunFault.{RunFault}
+use Rattle.macs_edge.specs.declared.capture_runs.Summary.{Summary}
 use Rattle.macs_edge.specs.declared.settling.Side.{Side}
 use Rattle.macs_edge.proofs.Living.{lives-append}
 

@@ -34,7 +34,7 @@ use Rattle.macs_edge.specs.Datagrams.{Datagram, SocketState}
 use Rattle.macs_edge.specs.Drawn.{CountWords, DeskWords, FaultWords, FlowsInTurns, PassWords, RestWords, SocketWords}
 use Rattle.macs_edge.specs.Drawn.{TurnWords}
 use Rattle.macs_edge.specs.FaultWires.{CallsValue, failed_among}
-use Rattle.macs_edge.specs.Passing.{BecomesCapture, HasPassed, Passes, Run, RunsOver, RunsRecords, passed_record}
+use Rattle.macs_edge.specs.CaptureRuns.{BecomesCapture, HasPassed, Passes, Run, RunsOver, RunsRecords, passed_record}
 use Rattle.macs_edge.specs.Relaying.{FillsWaiting, HandsWaiting, LaneValue, Relay, Relays, TakesTurn, TakesTurns, Way, empty_lane, summary_of}
 use Rattle.macs_edge.specs.Resting.{IsQuiet, TakesTurnsResting, one_if}
 use Rattle.macs_edge.specs.Settling.{Settles, call_on}
@@ -43,9 +43,9 @@ use Rattle.macs_edge.specs.Wires.{WireState}
 use Rattle.macs_edge.specs.declared.attending.DeskEvent.{DeskEvent}
 use Rattle.macs_edge.specs.declared.attending.Order.{Order}
 use Rattle.macs_edge.specs.declared.attending.Order.TheVariants.{End, Go, Submit}
-use Rattle.macs_edge.specs.declared.passing.RunFault.{RunFault}
-use Rattle.macs_edge.specs.declared.passing.RunFault.TheVariants.{Pcap}
-use Rattle.macs_edge.specs.declared.passing.Summary.{Summary}
+use Rattle.macs_edge.specs.declared.capture_runs.RunFault.{RunFault}
+use Rattle.macs_edge.specs.declared.capture_runs.RunFault.TheVariants.{Pcap}
+use Rattle.macs_edge.specs.declared.capture_runs.Summary.{Summary}
 use Rattle.macs_edge.specs.declared.relaying.RelaySummary.{RelaySummary}
 use Rattle.macs_edge.specs.declared.settling.Side.{Side}
 use Rattle.macs_edge.specs.declared.wire.Got.{Got}

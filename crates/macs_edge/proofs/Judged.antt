@@ -16,13 +16,13 @@ use Rattle.macs_pcap.specs.Writing.{WritesText}
 use Rattle.macs_pcap.specs.declared.fault.PcapFault.{PcapFault}
 use Rattle.macs_pcap.specs.declared.fault.PcapFault.TheVariants.{Write}
 use Rattle.macs_pcap.specs.declared.header.Header.{Header}
-use Rattle.macs_edge.specs.Passing.{HasPassed, Run, Stops}
+use Rattle.macs_edge.specs.CaptureRuns.{HasPassed, Run, Stops}
 use Rattle.macs_edge.specs.Settling.{Settles, verdict_of}
 use Rattle.macs_edge.specs.Telling.{HasJudged, Judges, JudgesRecords, JudgesRun, Tells, listed}
 use Rattle.macs_edge.specs.VerdictWords.{VerdictWords}
-use Rattle.macs_edge.specs.declared.passing.RunFault.{RunFault}
-use Rattle.macs_edge.specs.declared.passing.RunFault.TheVariants.{Pcap}
-use Rattle.macs_edge.specs.declared.passing.Summary.{Summary}
+use Rattle.macs_edge.specs.declared.capture_runs.RunFault.{RunFault}
+use Rattle.macs_edge.specs.declared.capture_runs.RunFault.TheVariants.{Pcap}
+use Rattle.macs_edge.specs.declared.capture_runs.Summary.{Summary}
 use Rattle.macs_edge.specs.declared.settling.Side.TheVariants.{Common}
 
 -- what settles a frame from the network is a verdict

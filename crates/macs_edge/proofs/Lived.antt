@@ -11,13 +11,13 @@ use Rattle.macs_endpoint.specs.declared.progress.Step.{Step as Progress}
 use Rattle.macs_edge.specs.Attending.{Attends, AttendsTurns, Does, IsAttended, Obeys, TakesAllAttended}
 use Rattle.macs_edge.specs.declared.attending.DeskEvent.{DeskEvent}
 use Rattle.macs_edge.specs.Settling.{call_on}
-use Rattle.macs_edge.specs.Passing.{Run, RunsOver, RunsRecords, Stops}
+use Rattle.macs_edge.specs.CaptureRuns.{Run, RunsOver, RunsRecords, Stops}
 use Rattle.macs_edge.specs.Relaying.{Carries, HandsWaiting, IsRelayed, Relay, Relays, TakesTurn, TakesTurns, Way}
 use Rattle.macs_edge.specs.Relaying.{way_of}
 use Rattle.macs_edge.specs.Wires.{WireState}
-use Rattle.macs_edge.specs.declared.passing.RunFault.{RunFault}
-use Rattle.macs_edge.specs.declared.passing.RunFault.TheVariants.{Device, Pcap}
-use Rattle.macs_edge.specs.declared.passing.Summary.{Summary}
+use Rattle.macs_edge.specs.declared.capture_runs.RunFault.{RunFault}
+use Rattle.macs_edge.specs.declared.capture_runs.RunFault.TheVariants.{Device, Pcap}
+use Rattle.macs_edge.specs.declared.capture_runs.Summary.{Summary}
 use Rattle.macs_edge.specs.declared.relaying.RelaySummary.{RelaySummary}
 use Rattle.macs_edge.specs.declared.attending.Order.{Order}
 use Rattle.macs_edge.specs.declared.attending.Order.TheVariants.{Go, Submit, End}

@@ -14,7 +14,7 @@ use Rattle.macs_endpoint.specs.State.{Advanced, AdvancedLong, Protected, Protect
 use Rattle.macs_endpoint.specs.Step.{Step, state_after_delivery, state_after_frame}
 use Rattle.macs_endpoint.specs.declared.fault.ProtectFault.TheVariants as protect
 use Rattle.macs_edge.specs.Settling.{Settles, call_on}
-use Rattle.macs_edge.specs.Passing.{Passes, passed_record}
+use Rattle.macs_edge.specs.CaptureRuns.{Passes, passed_record}
 use Rattle.macs_edge.specs.declared.settling.Side.{Side}
 use Rattle.macs_edge.specs.declared.settling.Side.TheVariants.{Controlled, Common}
 

@@ -2,10 +2,10 @@
 use Rattle.std.proofs.Common.{Bool, List, inl, inr, Result, Ok, Err}
 use Rattle.macs_disk.specs.Disk.{Disk}
 use Rattle.macs_rxsc.specs.declared.verdict.Verdict.{Verdict}
-use Rattle.macs_edge.specs.Passing.{Run, RunsOver, RunsRecords}
+use Rattle.macs_edge.specs.CaptureRuns.{Run, RunsOver, RunsRecords}
 use Rattle.macs_edge.specs.Telling.{JudgesRecords, JudgesRun}
-use Rattle.macs_edge.specs.declared.passing.RunFault.{RunFault}
-use Rattle.macs_edge.specs.declared.passing.Summary.{Summary}
+use Rattle.macs_edge.specs.declared.capture_runs.RunFault.{RunFault}
+use Rattle.macs_edge.specs.declared.capture_runs.Summary.{Summary}
 use Rattle.macs_edge.specs.declared.settling.Side.{Side}
 
 module _ {D : Type 0} (disk_of : D → Disk) (side : Side) (old new : Run D) (verdicts : List Verdict) where

@@ -14,10 +14,10 @@ use Rattle.macs_pcap.specs.declared.fault.PcapFault.{PcapFault}
 use Rattle.macs_pcap.specs.declared.header.Header.{Header}
 use Rattle.macs_endpoint.specs.State.{Logs, State}
 use Rattle.macs_endpoint.specs.Value.{EndpointValue, state_of}
-use Rattle.macs_edge.specs.Passing.{AreAllRecords, BecomesCapture, HasPassed, Passes, Run, RunsOver, RunsRecords, Stops, TakesRecord, WritesCapture, passed_record}
-use Rattle.macs_edge.specs.declared.passing.RunFault.{RunFault}
-use Rattle.macs_edge.specs.declared.passing.RunFault.TheVariants.{Pcap, Device}
-use Rattle.macs_edge.specs.declared.passing.Summary.{Summary}
+use Rattle.macs_edge.specs.CaptureRuns.{AreAllRecords, BecomesCapture, HasPassed, Passes, Run, RunsOver, RunsRecords, Stops, TakesRecord, WritesCapture, passed_record}
+use Rattle.macs_edge.specs.declared.capture_runs.RunFault.{RunFault}
+use Rattle.macs_edge.specs.declared.capture_runs.RunFault.TheVariants.{Pcap, Device}
+use Rattle.macs_edge.specs.declared.capture_runs.Summary.{Summary}
 use Rattle.macs_edge.specs.declared.settling.Side.{Side}
 use Rattle.macs_edge.proofs.AllRecords.{all-once, front-of-all, header-once}
 use Rattle.macs_edge.proofs.Behind.{left-more, longer, passes-more, texts-append}

@@ -47,8 +47,8 @@ use Rattle.macs_edge.specs.Datagrams.{Datagram, GivesDatagram, SocketState, Take
 use Rattle.macs_edge.specs.FaultWires.{CallsValue, FailsNext, FaultWireValue, asked_once_more, failed_among}
 use Rattle.macs_edge.specs.FaultWires.{fault_wire_state}
 use Rattle.macs_edge.specs.Flows.{IsFlow}
-use Rattle.macs_edge.specs.Passing.{BecomesCapture, HandsAllIn, HasPassed, Passes, Run, RunsOver, RunsRecords, Stops}
-use Rattle.macs_edge.specs.Passing.{TakesRecord, WritesCapture}
+use Rattle.macs_edge.specs.CaptureRuns.{BecomesCapture, HandsAllIn, HasPassed, Passes, Run, RunsOver, RunsRecords, Stops}
+use Rattle.macs_edge.specs.CaptureRuns.{TakesRecord, WritesCapture}
 use Rattle.macs_edge.specs.Relaying.{Carries, Fills, Forwards, HandsOver, LaneValue, Relay, Relays, TakesTurn, Way}
 use Rattle.macs_edge.specs.Relaying.{filled, one_dropped, one_fault, relay_of, summary_of, way_of}
 use Rattle.macs_edge.specs.Resting.{IsQuiet, IsRelayedResting, RelaysResting, TakesTurnsResting}
@@ -64,9 +64,9 @@ use Rattle.macs_edge.specs.declared.attending.Order.{Order}
 use Rattle.macs_edge.specs.declared.attending.Order.TheVariants.{End, Go, Submit}
 use Rattle.macs_edge.specs.declared.counts.WireCounts.{WireCounts}
 use Rattle.macs_edge.specs.declared.datagrams.Arrived.{Arrived}
-use Rattle.macs_edge.specs.declared.passing.RunFault.{RunFault}
-use Rattle.macs_edge.specs.declared.passing.RunFault.TheVariants.{Device, Pcap}
-use Rattle.macs_edge.specs.declared.passing.Summary.{Summary}
+use Rattle.macs_edge.specs.declared.capture_runs.RunFault.{RunFault}
+use Rattle.macs_edge.specs.declared.capture_runs.RunFault.TheVariants.{Device, Pcap}
+use Rattle.macs_edge.specs.declared.capture_runs.Summary.{Summary}
 use Rattle.macs_edge.specs.declared.relaying.RelaySummary.{RelaySummary}
 use Rattle.macs_edge.specs.declared.settling.Side.{Side}
 use Rattle.macs_edge.specs.declared.settling.Side.TheVariants.{Common, Controlled}

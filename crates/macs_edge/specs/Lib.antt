@@ -1,5 +1,5 @@
 pub mod Settling
-pub mod Passing
+pub mod CaptureRuns
 pub mod Telling
 pub mod Wires
 pub mod MemWires

@@ -12,11 +12,11 @@ use Rattle.macs_pcap.specs.Writing.{WritesText}
 use Rattle.macs_pcap.specs.declared.fault.PcapFault.{PcapFault}
 use Rattle.macs_pcap.specs.declared.fault.PcapFault.TheVariants.{Write}
 use Rattle.macs_pcap.specs.declared.header.Header.{Header}
-use Rattle.macs_edge.specs.Passing.{Counts, HasPassed, Run, Stops}
+use Rattle.macs_edge.specs.CaptureRuns.{Counts, HasPassed, Run, Stops}
 use Rattle.macs_edge.specs.Settling.{Settles, call_on, verdict_of}
-use Rattle.macs_edge.specs.declared.passing.RunFault.{RunFault}
-use Rattle.macs_edge.specs.declared.passing.RunFault.TheVariants.{Pcap}
-use Rattle.macs_edge.specs.declared.passing.Summary.{Summary}
+use Rattle.macs_edge.specs.declared.capture_runs.RunFault.{RunFault}
+use Rattle.macs_edge.specs.declared.capture_runs.RunFault.TheVariants.{Pcap}
+use Rattle.macs_edge.specs.declared.capture_runs.Summary.{Summary}
 use Rattle.macs_edge.specs.declared.settling.Side.{Side}
 
 -- what is done with a verdict: what gets it, what that passes it on to, and what both become

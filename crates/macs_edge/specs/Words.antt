@@ -22,11 +22,11 @@ use Rattle.macs_endpoint.specs.declared.fault.RefillFault.TheVariants as refill
 use Rattle.macs_endpoint.specs.declared.fault.StepFault.{StepFault}
 use Rattle.macs_endpoint.specs.declared.fault.StepFault.TheVariants as step
 use Rattle.macs_edge.specs.Flows.{AllBut, IsFlow, Sent, TakenOff, Took, given}
-use Rattle.macs_edge.specs.Passing.{BecomesCapture, Counts, Passes}
+use Rattle.macs_edge.specs.CaptureRuns.{BecomesCapture, Counts, Passes}
 use Rattle.macs_edge.specs.Relaying.{IsRelayed, LaneValue, Relay, Relays, TakesTurn, TakesTurns, relay_of, summary_of}
 use Rattle.macs_edge.specs.Settling.{Halts, HaltsIn, HandsIn, IsSettled, Settles, Waits, call_on}
 use Rattle.macs_edge.specs.Wires.{Receives, Sends, WireState}
-use Rattle.macs_edge.specs.declared.passing.Summary.{Summary}
+use Rattle.macs_edge.specs.declared.capture_runs.Summary.{Summary}
 use Rattle.macs_edge.specs.declared.relaying.RelaySummary.{RelaySummary}
 use Rattle.macs_edge.specs.declared.settling.Side.{Side}
 use Rattle.macs_edge.specs.declared.settling.Side.TheVariants.{Common, Controlled}

@@ -10,7 +10,7 @@ ghost use Rattle.macs_edge.specs.Drawn.{CountWords, DeskWords, FaultWords, Flows
 ghost use Rattle.macs_edge.specs.Drawn.{SocketWords, TurnWords};
 ghost use Rattle.macs_edge.specs.Flows.{IsFlow};
 ghost use Rattle.macs_edge.specs.NotedWords.{NotedWords, SparedWords};
-ghost use Rattle.macs_edge.specs.Passing.{BecomesCapture, Passes};
+ghost use Rattle.macs_edge.specs.CaptureRuns.{BecomesCapture, Passes};
 ghost use Rattle.macs_edge.specs.Relaying.{Relay, Relays, empty_lane, summary_of};
 ghost use Rattle.macs_edge.specs.VerdictWords.{VerdictWords};
 ghost use Rattle.macs_edge.specs.declared.attending.DeskEvent.{DeskEvent};

@@ -2,10 +2,10 @@
 use Rattle.std.proofs.Common.{◌≡◌, ◌⊎◌, true, List, Result, Ok, Err, OnErr, OnOk, inl, inr, subst}
 use Rattle.std.specs.Io.KnownBytes.{Keeps}
 use Rattle.macs_disk.specs.Disk.{Disk}
-use Rattle.macs_edge.specs.Passing.{Run, RunsOver, run_of}
+use Rattle.macs_edge.specs.CaptureRuns.{Run, RunsOver, run_of}
 use Rattle.macs_edge.specs.Telling.{JudgesRun}
-use Rattle.macs_edge.specs.declared.passing.RunFault.{RunFault}
-use Rattle.macs_edge.specs.declared.passing.Summary.{Summary}
+use Rattle.macs_edge.specs.declared.capture_runs.RunFault.{RunFault}
+use Rattle.macs_edge.specs.declared.capture_runs.Summary.{Summary}
 use Rattle.macs_edge.specs.declared.settling.Side.{Side}
 use Rattle.macs_edge.specs.declared.settling.Side.TheVariants.{Common}
 use Rattle.macs_endpoint.specs.Value.{EndpointValue}

@@ -14,8 +14,8 @@ use Rattle.std.specs.Io.KnownBytes.{Appends, Keeps}
 use Rattle.macs_disk.specs.Files.{FileState}
 use Rattle.macs_disk.specs.declared.layout.Layout.{Layout}
 use Rattle.macs_disk.specs.declared.layout.Layout.TheVariants.{Packed, Spaced}
-use Rattle.macs_edge.specs.declared.passing.RunFault.{RunFault}
-use Rattle.macs_edge.specs.declared.passing.Summary.{Summary}
+use Rattle.macs_edge.specs.declared.capture_runs.RunFault.{RunFault}
+use Rattle.macs_edge.specs.declared.capture_runs.Summary.{Summary}
 use Rattle.macs_endpoint.specs.Calls.{IsCall}
 use Rattle.macs_endpoint.specs.State.{Commands, Ran, State, no_logs}
 use Rattle.macs_endpoint.specs.Step.{Step, state_after_command}

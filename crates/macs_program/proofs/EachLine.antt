@@ -4,10 +4,10 @@ use Rattle.std.proofs.Common.{Option, Result, Ok, Err, IfErr, IfOk, inl, inr, ap
 use Rattle.std.proofs.KnownBytes.{Appends-nil, Appends-trans}
 use Rattle.std.specs.Io.KnownBytes.{Appends}
 use Rattle.macs_disk.specs.Disk.{Disk}
-use Rattle.macs_edge.specs.Passing.{Run, run_of}
+use Rattle.macs_edge.specs.CaptureRuns.{Run, run_of}
 use Rattle.macs_edge.specs.Telling.{Telling, TellsAll, telling_of}
 use Rattle.macs_edge.specs.Wires.{saturated}
-use Rattle.macs_edge.specs.declared.passing.Summary.{Summary}
+use Rattle.macs_edge.specs.declared.capture_runs.Summary.{Summary}
 use Rattle.macs_edge.proofs.Judged.{verdicts-few}
 use Rattle.macs_pcap.specs.Faults.{max_records}
 use Rattle.macs_rxsc.specs.declared.verdict.Kind.TheVariants as kind

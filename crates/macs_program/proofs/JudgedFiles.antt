@@ -6,8 +6,8 @@ use Rattle.std.specs.Io.KnownBytes.{Appends}
 use Rattle.macs_disk.specs.Disk.{Disk}
 use Rattle.macs_disk.specs.FileDisks.{disk_in_file}
 use Rattle.macs_disk.specs.Files.{FileState}
-use Rattle.macs_edge.specs.Passing.{run_of}
-use Rattle.macs_edge.specs.declared.passing.Summary.{Summary}
+use Rattle.macs_edge.specs.CaptureRuns.{run_of}
+use Rattle.macs_edge.specs.declared.capture_runs.Summary.{Summary}
 use Rattle.macs_endpoint.specs.Value.{EndpointValue}
 use Rattle.macs_pcap.specs.States.{SinkState, SourceState}
 use Rattle.macs_rxsc.specs.declared.verdict.Verdict.{Verdict}

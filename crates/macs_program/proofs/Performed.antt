@@ -17,7 +17,7 @@ use Rattle.macs_program.specs.Inspecting.{InspectFails, Inspects, IsOfInspecting
 use Rattle.macs_program.specs.Judging.{PrintsVerdicts}
 use Rattle.macs_program.specs.Keys.{GivesKey, IsOfKey}
 use Rattle.macs_program.specs.Run.{Does, FailsAs, Performs, Prints, WrongValues}
-use Rattle.macs_edge.specs.declared.passing.Summary.{Summary}
+use Rattle.macs_edge.specs.declared.capture_runs.Summary.{Summary}
 use Rattle.macs_program.specs.Summing.{pass_status}
 use Rattle.macs_program.specs.declared.failure.Failure.{Failure}
 use Rattle.macs_program.specs.declared.failure.Failure.TheVariants as failures

@@ -12,8 +12,8 @@ use Rattle.macs_disk.specs.Layouts.{layout_in}
 use Rattle.macs_disk.specs.declared.file.FileDisk.{FileDisk}
 use Rattle.macs_disk.specs.declared.layout.Layout.{Layout}
 use Rattle.macs_disk.specs.declared.layout.Layout.TheVariants.{Packed, Spaced}
-use Rattle.macs_edge.specs.Passing.{run_of}
-use Rattle.macs_edge.specs.declared.passing.Summary.{Summary}
+use Rattle.macs_edge.specs.CaptureRuns.{run_of}
+use Rattle.macs_edge.specs.declared.capture_runs.Summary.{Summary}
 use Rattle.macs_edge.specs.declared.settling.Side.{Side}
 use Rattle.macs_edge.specs.declared.settling.Side.TheVariants.{Common, Controlled}
 use Rattle.macs_endpoint.specs.Value.{EndpointValue}

@@ -7,8 +7,8 @@ use Rattle.macs_disk.specs.FileDisks.{IsFresh, IsOpened, disk_in_file, file_give
 use Rattle.macs_disk.specs.Files.{Behaves, FileState}
 use Rattle.macs_disk.specs.declared.file.FileDisk.{FileDisk}
 use Rattle.macs_disk.specs.declared.file_fault.FileFault.{FileFault}
-use Rattle.macs_edge.specs.Passing.{run_of}
-use Rattle.macs_edge.specs.declared.passing.Summary.{Summary}
+use Rattle.macs_edge.specs.CaptureRuns.{run_of}
+use Rattle.macs_edge.specs.declared.capture_runs.Summary.{Summary}
 use Rattle.macs_edge.specs.declared.settling.Side.{Side}
 use Rattle.macs_endpoint.specs.Opening.{IsOpening, Opens, RefusesOpening}
 use Rattle.macs_endpoint.specs.State.{no_logs}

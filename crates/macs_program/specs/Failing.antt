@@ -6,8 +6,8 @@ use Rattle.macs_commands.specs.declared.config_fault.ConfigFault.{ConfigFault}
 use Rattle.macs_commands.specs.declared.config_fault.ConfigFault.TheVariants as config
 use Rattle.macs_edge.specs.declared.udp_wire.BindFault.{BindFault}
 use Rattle.macs_edge.specs.declared.udp_wire.BindFault.TheVariants as bind
-use Rattle.macs_edge.specs.declared.passing.RunFault.{RunFault}
-use Rattle.macs_edge.specs.declared.passing.RunFault.TheVariants.{Device, Pcap}
+use Rattle.macs_edge.specs.declared.capture_runs.RunFault.{RunFault}
+use Rattle.macs_edge.specs.declared.capture_runs.RunFault.TheVariants.{Device, Pcap}
 use Rattle.macs_control.specs.declared.asking.AskFault.{AskFault}
 use Rattle.macs_control.specs.declared.asking.AskFault.TheVariants as asking
 use Rattle.macs_control.specs.declared.control_socket.ControlFault.{ControlFault}

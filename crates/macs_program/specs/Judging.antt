@@ -7,11 +7,11 @@ use Rattle.macs_disk.specs.Disk.{Disk}
 use Rattle.macs_disk.specs.FileDisks.{disk_in_file}
 use Rattle.macs_disk.specs.Files.{FileState}
 use Rattle.macs_disk.specs.declared.file.FileDisk.{FileDisk}
-use Rattle.macs_edge.specs.Passing.{Run, run_of}
+use Rattle.macs_edge.specs.CaptureRuns.{Run, run_of}
 use Rattle.macs_edge.specs.Telling.{JudgesRun, Tells}
 use Rattle.macs_edge.specs.Wires.{saturated}
-use Rattle.macs_edge.specs.declared.passing.RunFault.{RunFault}
-use Rattle.macs_edge.specs.declared.passing.Summary.{Summary}
+use Rattle.macs_edge.specs.declared.capture_runs.RunFault.{RunFault}
+use Rattle.macs_edge.specs.declared.capture_runs.Summary.{Summary}
 use Rattle.macs_edge.specs.declared.settling.Side.TheVariants.{Common}
 use Rattle.macs_endpoint.specs.Value.{EndpointValue}
 use Rattle.macs_pcap.specs.States.{SinkState, SourceState}

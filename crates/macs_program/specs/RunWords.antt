@@ -21,8 +21,8 @@ use Rattle.macs_disk.specs.declared.file_fault.FileFault.{FileFault}
 use Rattle.macs_disk.specs.declared.file_fault.FileFault.TheVariants as file_fault
 use Rattle.macs_disk.specs.declared.layout.Layout.{Layout}
 use Rattle.macs_disk.specs.declared.memory.MemDisk.{MemDisk}
-use Rattle.macs_edge.specs.Passing.{run_of}
-use Rattle.macs_edge.specs.declared.passing.Summary.{Summary}
+use Rattle.macs_edge.specs.CaptureRuns.{run_of}
+use Rattle.macs_edge.specs.declared.capture_runs.Summary.{Summary}
 use Rattle.macs_edge.specs.declared.relaying.RelaySummary.{RelaySummary}
 use Rattle.macs_edge.specs.declared.settling.Side.{Side}
 use Rattle.macs_edge.specs.declared.settling.Side.TheVariants.{Common, Controlled}

@@ -21,8 +21,8 @@ use Rattle.macs_control.specs.declared.control_socket.ControlFault.TheVariants a
 use Rattle.macs_endpoint.specs.declared.fault.RefillFault.TheVariants as refill
 use Rattle.macs_disk.specs.declared.file_fault.FileFault.TheVariants as file
 use Rattle.macs_disk.specs.declared.layout.Layout.{Layout}
-use Rattle.macs_edge.specs.declared.passing.RunFault.TheVariants as run
-use Rattle.macs_edge.specs.declared.passing.Summary.{Summary}
+use Rattle.macs_edge.specs.declared.capture_runs.RunFault.TheVariants as run
+use Rattle.macs_edge.specs.declared.capture_runs.Summary.{Summary}
 use Rattle.macs_edge.specs.declared.relaying.RelaySummary.{RelaySummary}
 use Rattle.macs_edge.specs.declared.settling.Side.TheVariants.{Common, Controlled}
 use Rattle.macs_edge.specs.declared.udp_wire.BindFault.TheVariants as bind

@@ -2,9 +2,9 @@
 
 ghost use Rattle.std.specs.Prelude.{◌≡◌, ◌≢◌, ◌⊎◌, true, IfErr, IfOk, Ok};
 ghost use Rattle.std.specs.Io.KnownBytes.{Appends};
-ghost use Rattle.macs_edge.specs.Passing.{RunsOver, run_of};
-ghost use Rattle.macs_edge.specs.declared.passing.RunFault.{RunFault};
-ghost use Rattle.macs_edge.specs.declared.passing.Summary.{Summary};
+ghost use Rattle.macs_edge.specs.CaptureRuns.{RunsOver, run_of};
+ghost use Rattle.macs_edge.specs.declared.capture_runs.RunFault.{RunFault};
+ghost use Rattle.macs_edge.specs.declared.capture_runs.Summary.{Summary};
 ghost use Rattle.macs_program.specs.Capturing.{EndsFlushed, EndsPass, PassesCapture};
 ghost use Rattle.macs_program.specs.Failing.{failure_of_run, failure_status};
 ghost use Rattle.macs_program.specs.Summing.{pass_status, summary_line};

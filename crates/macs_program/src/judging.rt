@@ -1,7 +1,7 @@
 //! `validate --each`: a capture through an endpoint, with a line for the verdict on each frame.
 
 ghost use Rattle.std.specs.Prelude.{◌≡◌, ◌≤◌, length, IfErr, List};
-ghost use Rattle.macs_edge.specs.Passing.{run_of};
+ghost use Rattle.macs_edge.specs.CaptureRuns.{run_of};
 ghost use Rattle.macs_edge.specs.Telling.{TellsAll, telling_of};
 ghost use Rattle.macs_program.specs.Judging.{IsOfRun, JudgesCapture, PrintsEach, TellsLine, ValidatesEach, verdict_line};
 ghost use Rattle.macs_rxsc.specs.declared.verdict.Verdict.{Verdict};

@@ -11,7 +11,7 @@ ghost use Rattle.macs_config.specs.Identity.{Identity};
 ghost use Rattle.macs_disk.specs.declared.layout.Layout.{Layout};
 ghost use Rattle.macs_config.specs.declared.refusal.Refusal.{Refusal};
 ghost use Rattle.macs_edge.specs.UdpWires.{peer_of};
-ghost use Rattle.macs_edge.specs.declared.passing.Summary.{Summary};
+ghost use Rattle.macs_edge.specs.declared.capture_runs.Summary.{Summary};
 ghost use Rattle.macs_edge.specs.declared.relaying.RelaySummary.{RelaySummary};
 ghost use Rattle.macs_fields.specs.First.{IsFirst};
 ghost use Rattle.macs_program.specs.Addresses.{AddressFaultHolds, SpellsBoth, address_faults};

@@ -1,4 +1,4 @@
-use Rattle.macs_edge.specs.Passing.{run_of}
+use Rattle.macs_edge.specs.CaptureRuns.{run_of}
 use Rattle.macs_program.proofs.Captured.{captured}
 use Rattle.macs_program.proofs.capturing.run_capture.Goals as goal
 

@@ -1,5 +1,5 @@
 use Rattle.std.proofs.Common.{subst, sym}
-use Rattle.macs_edge.specs.Passing.{RunsOver, run_of}
+use Rattle.macs_edge.specs.CaptureRuns.{RunsOver, run_of}
 use Rattle.macs_edge.specs.declared.settling.Side.{Side}
 use Rattle.macs_program.proofs.capturing.run_side.Goals as goal
 

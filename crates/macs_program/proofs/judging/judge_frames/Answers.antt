@@ -1,5 +1,5 @@
 use Rattle.std.proofs.lemmas.Result.{err_from_is_err_and}
-use Rattle.macs_edge.specs.Passing.{run_of}
+use Rattle.macs_edge.specs.CaptureRuns.{run_of}
 use Rattle.macs_program.proofs.EachLine.{each-stopped, each-summed, each-unsummed}
 use Rattle.macs_program.proofs.judging.judge_frames.Goals as goal
 

@@ -1,4 +1,4 @@
-use Rattle.macs_edge.specs.Passing.{run_of}
+use Rattle.macs_edge.specs.CaptureRuns.{run_of}
 use Rattle.macs_program.proofs.EachLine.{each-broken, each-printed}
 use Rattle.macs_program.proofs.judging.print_each.Goals as goal
 

@@ -1,4 +1,4 @@
-use Rattle.macs_edge.specs.Passing.{run_of}
+use Rattle.macs_edge.specs.CaptureRuns.{run_of}
 use Rattle.macs_program.proofs.Captured.{judged}
 use Rattle.macs_program.proofs.judging.run_judging.Goals as goal
 

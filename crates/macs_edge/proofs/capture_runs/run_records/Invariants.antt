@@ -1,9 +1,9 @@
 -- so many records were taken, so many of them passed, and the verdict of each was reported
 use Rattle.std.proofs.Common.{◌^◌, ◌-◌}
-use Rattle.macs_edge.specs.Passing.{run_of}
+use Rattle.macs_edge.specs.CaptureRuns.{run_of}
 use Rattle.macs_edge.specs.Telling.{telling_of}
 use Rattle.macs_edge.proofs.Behind.{HasTaken}
-use Rattle.macs_edge.proofs.passing.run_records.Given as goal
+use Rattle.macs_edge.proofs.capture_runs.run_records.Given as goal
 
 abbrev pub invariant-loop-passes : goal.invariant-loop-passes
 invariant-loop-passes g l = HasTaken g.D.SectorDisk.disk g.V.Verdicts.tells l.fn.side l.fn.big

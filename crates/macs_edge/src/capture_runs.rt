@@ -2,7 +2,7 @@
 
 ghost use Rattle.std.specs.Prelude.{◌≡◌, ◌+◌, ◌<◌, ◌^◌, ◌-◌};
 ghost use Rattle.macs_endpoint.specs.Lives.{LivesOn};
-ghost use Rattle.macs_edge.specs.Passing.{RunsOver, TakesNext, WritesCapture, one_more, run_of};
+ghost use Rattle.macs_edge.specs.CaptureRuns.{RunsOver, TakesNext, WritesCapture, one_more, run_of};
 ghost use Rattle.macs_edge.specs.Telling.{TellsRecords, TellsRun, telling_of};
 
 use crate::settling::{Side, settle};
@@ -34,7 +34,7 @@ pub enum RunFault {
 
 impl From<PcapFault> for RunFault {
     ghost use Rattle.std.specs.Prelude.{◌≡◌};
-    ghost use Rattle.macs_edge.specs.declared.passing.RunFault.TheVariants.{Pcap};
+    ghost use Rattle.macs_edge.specs.declared.capture_runs.RunFault.TheVariants.{Pcap};
 
     ghost from_gives = { λ fault e. e ≡ Pcap fault };
 
@@ -45,7 +45,7 @@ impl From<PcapFault> for RunFault {
 
 impl From<RefillFault> for RunFault {
     ghost use Rattle.std.specs.Prelude.{◌≡◌};
-    ghost use Rattle.macs_edge.specs.declared.passing.RunFault.TheVariants.{Device};
+    ghost use Rattle.macs_edge.specs.declared.capture_runs.RunFault.TheVariants.{Device};
 
     ghost from_gives = { λ fault e. e ≡ Device fault };
 

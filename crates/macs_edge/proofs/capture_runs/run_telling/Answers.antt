@@ -3,9 +3,9 @@ use Rattle.std.proofs.lemmas.Result.{err_from_is_err_and}
 use Rattle.macs_pcap.specs.Header.{header_text}
 use Rattle.macs_pcap.specs.Writing.{WritesText}
 use Rattle.macs_pcap.specs.declared.fault.PcapFault.{PcapFault}
-use Rattle.macs_edge.specs.Passing.{run_of}
+use Rattle.macs_edge.specs.CaptureRuns.{run_of}
 use Rattle.macs_edge.specs.Telling.{telling_of}
-use Rattle.macs_edge.proofs.passing.run_telling.Goals as goal
+use Rattle.macs_edge.proofs.capture_runs.run_telling.Goals as goal
 
 pub returns-in_err-header : goal.returns-in_err-header
 returns-in_err-header g c =

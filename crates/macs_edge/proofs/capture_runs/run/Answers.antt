@@ -1,6 +1,6 @@
-use Rattle.macs_edge.specs.Passing.{run_of}
+use Rattle.macs_edge.specs.CaptureRuns.{run_of}
 use Rattle.macs_edge.proofs.Told.{judged-run}
-use Rattle.macs_edge.proofs.passing.run.Goals as goal
+use Rattle.macs_edge.proofs.capture_runs.run.Goals as goal
 
 pub returns-clause-runs : goal.returns-clause-runs
 returns-clause-runs g c =

@@ -1,10 +1,10 @@
 use Rattle.std.proofs.Common.{◌<◌, ◌+◌, ◌-◌, ◌^◌, refl, arith}
 use Rattle.std.proofs.lemmas.Result.{err_from_is_err_and}
 use Rattle.macs_pcap.specs.Faults.{max_records}
-use Rattle.macs_edge.specs.Passing.{run_of}
+use Rattle.macs_edge.specs.CaptureRuns.{run_of}
 use Rattle.macs_edge.specs.Telling.{telling_of}
 use Rattle.macs_edge.proofs.Behind.{none-taken, taken-all, taken-few, taken-more, taken-room, taken-stops}
-use Rattle.macs_edge.proofs.passing.run_records.Goals as goal
+use Rattle.macs_edge.proofs.capture_runs.run_records.Goals as goal
 
 pub loop-passes-init : goal.loop-passes-init
 loop-passes-init g c =

@@ -3,9 +3,9 @@ use Rattle.std.proofs.lemmas.Result.{err_from_is_err_and}
 use Rattle.macs_pcap.specs.Records.{CaptureRecord, record_text}
 use Rattle.macs_pcap.specs.Writing.{WritesText}
 use Rattle.macs_edge.specs.Settling.{Halts, call_on}
-use Rattle.macs_edge.specs.Passing.{run_of}
+use Rattle.macs_edge.specs.CaptureRuns.{run_of}
 use Rattle.macs_edge.proofs.Behind.{next-dropped, next-passed, read_as, took}
-use Rattle.macs_edge.proofs.passing.take_next.Goals as goal
+use Rattle.macs_edge.proofs.capture_runs.take_next.Goals as goal
 
 pub returns-in_err-passes : goal.returns-in_err-passes
 returns-in_err-passes g c =

@@ -19,9 +19,9 @@ use Rattle.macs_pcap.specs.declared.header.Header.{Header}
 use Rattle.macs_pcap.specs.declared.header.Stamp.{Stamp}
 use Rattle.macs_rxsc.specs.declared.verdict.Verdict.{Verdict}
 use Rattle.macs_edge.specs.Settling.{Halts, HandsIn, IsSettled, Settles, call_on, verdict_of}
-use Rattle.macs_edge.specs.declared.passing.RunFault.{RunFault}
-use Rattle.macs_edge.specs.declared.passing.RunFault.TheVariants.{Pcap, Device}
-use Rattle.macs_edge.specs.declared.passing.Summary.{Summary}
+use Rattle.macs_edge.specs.declared.capture_runs.RunFault.{RunFault}
+use Rattle.macs_edge.specs.declared.capture_runs.RunFault.TheVariants.{Pcap, Device}
+use Rattle.macs_edge.specs.declared.capture_runs.Summary.{Summary}
 use Rattle.macs_edge.specs.declared.settling.Side.{Side}
 
 -- ---- what passes

@@ -1,8 +1,8 @@
-use Rattle.macs_edge.specs.Passing.{run_of}
+use Rattle.macs_edge.specs.CaptureRuns.{run_of}
 use Rattle.macs_edge.specs.declared.settling.Side.TheVariants as side
 use Rattle.macs_edge.proofs.Lived.{lives-run}
 use Rattle.macs_edge.proofs.Whole.{whole-written}
-use Rattle.macs_edge.proofs.passing.run_validate.Goals as goal
+use Rattle.macs_edge.proofs.capture_runs.run_validate.Goals as goal
 
 pub returns-clause-writes : goal.returns-clause-writes
 returns-clause-writes g c =
