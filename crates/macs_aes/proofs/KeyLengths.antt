@@ -6,7 +6,8 @@ use Rattle.macs_aes.specs.declared.keys.Key.{Key}
 use Rattle.macs_aes.specs.declared.keys.Key.TheVariants.{Short, Long}
 
 -- a key has 16 octets or 32
-pub either_length : (key : Key) → HasItsLength key → (length (octets_of_key key) ≡ 16) ⊎ (length (octets_of_key key) ≡ 32)
+pub either_length : (key : Key) → HasItsLength key
+    → (length (octets_of_key key) ≡ 16) ⊎ (length (octets_of_key key) ≡ 32)
 either_length (Short octets) size = inl size
 either_length (Long octets) size = inr size
 

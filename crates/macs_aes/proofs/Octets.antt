@@ -1,5 +1,6 @@
 -- The octets of words: of a sum of columns, and of a round key.
-use Rattle.std.proofs.Common.{◌≡◌, ℕ, ◌+◌, ◌*◌, ◌/◌, ◌%◌, ◌^◌, ◌<◌, ◌∙◌, List, [], ◌∷◌, ◌++◌, get_or, slice_index, bit_xor, ap, sym, arith}
+use Rattle.std.proofs.Common.{◌≡◌, ℕ, ◌+◌, ◌*◌, ◌/◌, ◌%◌, ◌^◌, ◌<◌, ◌∙◌, List, [], ◌∷◌, ◌++◌, get_or, slice_index}
+use Rattle.std.proofs.Common.{bit_xor, ap, sym, arith}
 use Rattle.std.specs.Int.{w32, to_be_bytes}
 use Rattle.std.proofs.lemmas.Nat.{xor_mod, xor_shr}
 use Rattle.macs_aes.specs.Cipher.{add_round_key, round_key}
@@ -33,14 +34,18 @@ sum_same : (v w u : ℕ) → u ≡ w → to_be_bytes w32 (bit_xor v w) ≡ colum
 sum_same v w u e = octets-xor v w ∙ ap (λ o. column_sum (to_be_bytes w32 v) (to_be_bytes w32 o)) (sym e)
 
 -- a round key is added word by word
-pub columns-add_round_key : (a b c d : ℕ) (ka kb kc kd words : List ℕ) (round : ℕ) → words_in ka kb kc kd ≡ words → round < 15
-    → state_of_columns (bit_xor a (slice_index ka round)) (bit_xor b (slice_index kb round)) (bit_xor c (slice_index kc round)) (bit_xor d (slice_index kd round))
+pub columns-add_round_key : (a b c d : ℕ) (ka kb kc kd words : List ℕ) (round : ℕ) → words_in ka kb kc kd ≡ words
+    → round < 15
+    → state_of_columns (bit_xor a (slice_index ka round)) (bit_xor b (slice_index kb round))
+    (bit_xor c (slice_index kc round)) (bit_xor d (slice_index kd round))
     ≡ add_round_key words round (state_of_columns a b c d)
 columns-add_round_key a b c d ka kb kc kd words round e h =
-    let at : (r : ℕ) → r < 4 → slice_index words (4 * round + r) ≡ slice_index (get_or (ka ∷ kb ∷ kc ∷ kd ∷ []) r []) round =
+    let at : (r : ℕ) → r < 4
+    → slice_index words (4 * round + r) ≡ slice_index (get_or (ka ∷ kb ∷ kc ∷ kd ∷ []) r []) round =
     λ r k. column_at ka kb kc kd words round r e h k in
     state-cong _ _ _ _ _ _ _ _
-    (sum_same a _ _ (at 0 (omega arith))) (sum_same b _ _ (at 1 (omega arith))) (sum_same c _ _ (at 2 (omega arith))) (sum_same d _ _ (at 3 (omega arith)))
+    (sum_same a _ _ (at 0 (omega arith))) (sum_same b _ _ (at 1 (omega arith))) (sum_same c _ _ (at 2 (omega arith)))
+    (sum_same d _ _ (at 3 (omega arith)))
 
 -- the four octets of a word
 abbrev pub four_of : List ℕ → List ℕ
@@ -56,7 +61,9 @@ pub columns-round_key : (oa ob oc od ka kb kc kd words : List ℕ) (round : ℕ)
     → oc ≡ to_be_bytes w32 (slice_index kc round) → od ≡ to_be_bytes w32 (slice_index kd round)
     → four_of oa ++ four_of ob ++ four_of oc ++ four_of od ≡ round_key words round
 columns-round_key oa ob oc od ka kb kc kd words round e h ea eb ec ed =
-    let at : (r : ℕ) → r < 4 → slice_index words (4 * round + r) ≡ slice_index (get_or (ka ∷ kb ∷ kc ∷ kd ∷ []) r []) round =
+    let at : (r : ℕ) → r < 4
+    → slice_index words (4 * round + r) ≡ slice_index (get_or (ka ∷ kb ∷ kc ∷ kd ∷ []) r []) round =
     λ r k. column_at ka kb kc kd words round r e h k in
     state-cong _ _ _ _ _ _ _ _
-    (four_same oa _ _ ea (at 0 (omega arith))) (four_same ob _ _ eb (at 1 (omega arith))) (four_same oc _ _ ec (at 2 (omega arith))) (four_same od _ _ ed (at 3 (omega arith)))
+    (four_same oa _ _ ea (at 0 (omega arith))) (four_same ob _ _ eb (at 1 (omega arith)))
+    (four_same oc _ _ ec (at 2 (omega arith))) (four_same od _ _ ed (at 3 (omega arith)))

@@ -53,7 +53,8 @@ unfolding octets_at from_table fourth_of octet_product product_below remainder
 fourth_are = refl
 
 -- a table with such entries, at an octet
-entry_at : (table : List ℕ) (f : ℕ → List ℕ) → map (octets_at table) (range_with_len 0 256) ≡ map (from_table f) (range_with_len 0 256)
+entry_at : (table : List ℕ) (f : ℕ → List ℕ)
+    → map (octets_at table) (range_with_len 0 256) ≡ map (from_table f) (range_with_len 0 256)
     → (x : ℕ) → x < 256 → to_be_bytes w32 (get_or table x 0) ≡ f (s_box x)
 unfolding octets_at from_table
 entry_at table f same x h =
@@ -61,15 +62,18 @@ entry_at table f same x h =
     ∙ get_or-map-range_with_len (from_table f) 0 256 x x [] h (omega arith) ∙ ap f (table_at x h)
 
 -- the sum of two words from the octets of each
-both : (v w : ℕ) (s t : List ℕ) → to_be_bytes w32 v ≡ s → to_be_bytes w32 w ≡ t → to_be_bytes w32 (bit_xor v w) ≡ column_sum s t
+both : (v w : ℕ) (s t : List ℕ) → to_be_bytes w32 v ≡ s → to_be_bytes w32 w ≡ t
+    → to_be_bytes w32 (bit_xor v w) ≡ column_sum s t
 both v w s t e f = octets-xor v w ∙ ap₂ column_sum e f
 
 -- the first of four in the last place
 turned : (w x y z : ℕ) → bit_xor (bit_xor (bit_xor w x) y) z ≡ bit_xor (bit_xor (bit_xor x y) z) w
-turned w x y z = ap (λ (v : ℕ). bit_xor v z) (xor_assoc w x y) ∙ xor_assoc w (bit_xor x y) z ∙ xor_comm w (bit_xor (bit_xor x y) z)
+turned w x y z = ap (λ (v : ℕ). bit_xor v z) (xor_assoc w x y) ∙ xor_assoc w (bit_xor x y) z
+    ∙ xor_comm w (bit_xor (bit_xor x y) z)
 
 -- what the four octets add makes the column mixed
-sums_are : (p q r s : ℕ) → column_sum (column_sum (column_sum (first_of p) (second_of q)) (third_of r)) (fourth_of s) ≡ mixed_column p q r s
+sums_are : (p q r s : ℕ)
+    → column_sum (column_sum (column_sum (first_of p) (second_of q)) (third_of r)) (fourth_of s) ≡ mixed_column p q r s
 unfolding first_of second_of third_of fourth_of
 sums_are p q r s =
     let x : ℕ → ℕ = octet_product 2 in
@@ -79,9 +83,11 @@ sums_are p q r s =
 
 -- four words added are a mixed column
 pub column_mixed : (a b c d : ℕ) → a < 256 → b < 256 → c < 256 → d < 256
-    → to_be_bytes w32 (bit_xor (bit_xor (bit_xor (get_or FIRST a 0) (get_or SECOND b 0)) (get_or THIRD c 0)) (get_or FOURTH d 0))
+    → to_be_bytes w32
+    (bit_xor (bit_xor (bit_xor (get_or FIRST a 0) (get_or SECOND b 0)) (get_or THIRD c 0)) (get_or FOURTH d 0))
     ≡ mixed_column (s_box a) (s_box b) (s_box c) (s_box d)
 column_mixed a b c d ha hb hc hd =
-    both _ _ _ _ (both _ _ _ _ (both _ _ _ _ (entry_at FIRST first_of first_are a ha) (entry_at SECOND second_of second_are b hb))
+    both _ _ _ _ (both _ _ _ _
+    (both _ _ _ _ (entry_at FIRST first_of first_are a ha) (entry_at SECOND second_of second_are b hb))
     (entry_at THIRD third_of third_are c hc)) (entry_at FOURTH fourth_of fourth_are d hd)
     ∙ sums_are (s_box a) (s_box b) (s_box c) (s_box d)

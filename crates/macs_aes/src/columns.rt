@@ -1,5 +1,5 @@
-//! SubBytes and MixColumns of a column, by four tables of words (FIPS 197, 5.1.1 and 5.1.3). The leftmost
-//! octet of a word, its most significant, is that of the top row (3.5).
+//! SubBytes and MixColumns of a column, by four tables of words (FIPS 197, 5.1.1 and 5.1.3). The
+//! leftmost octet of a word, its most significant, is that of the top row (3.5).
 
 ghost use Rattle.std.specs.Prelude.{◌≡◌, [], ◌∷◌};
 ghost use Rattle.std.specs.Int.{w32, to_be_bytes};
@@ -8,8 +8,8 @@ ghost use Rattle.macs_aes.specs.SBox.{s_box};
 
 use crate::sbox::substitute;
 
-/// What an octet of the top row adds to its column: 02, 01, 01 and 03 times its S-box, from the top row
-/// down.
+/// What an octet of the top row adds to its column: 02, 01, 01 and 03 times its S-box, from the top
+/// row down.
 const FIRST: [u32; 256] = [
     0xc66363a5, 0xf87c7c84, 0xee777799, 0xf67b7b8d, 0xfff2f20d, 0xd66b6bbd, 0xde6f6fb1, 0x91c5c554,
     0x60303050, 0x02010103, 0xce6767a9, 0x562b2b7d, 0xe7fefe19, 0xb5d7d762, 0x4dababe6, 0xec76769a,
@@ -153,8 +153,8 @@ const FOURTH: [u32; 256] = [
     0x4141c382, 0x9999b029, 0x2d2d775a, 0x0f0f111e, 0xb0b0cb7b, 0x5454fca8, 0xbbbbd66d, 0x16163a2c,
 ];
 
-/// A column of four octets, from the top row down, after SubBytes and MixColumns (FIPS 197, 5.1.1 and
-/// 5.1.3).
+/// A column of four octets, from the top row down, after SubBytes and MixColumns (FIPS 197, 5.1.1
+/// and 5.1.3).
 #[inline(always)]
 pub(crate) fn mixed_column(a: u8, b: u8, c: u8, d: u8) -> u32
     ensures { to_be_bytes w32 result ≡ mixed_column (s_box a) (s_box b) (s_box c) (s_box d) }

@@ -8,11 +8,11 @@ use crate::Block;
 use crate::schedule::{ROUND_KEYS, WORDS};
 use std::marker::Model;
 
-/// The words of all round keys by columns: word 4 i + c is word i of column c, counted from the left. In
-/// clauses it is the list of all words in their own order.
+/// The words of all round keys by columns: word 4 i + c is word i of column c, counted from the
+/// left. In clauses it is the list of all words in their own order.
 ///
-/// So the words of one round are kept apart, and are added to a state one by one. Side by side they would be
-/// added as one vector, and a block would take one and a half times as long.
+/// So the words of one round are kept apart, and are added to a state one by one. Side by side they
+/// would be added as one vector, and a block would take one and a half times as long.
 #[derive(Drop)]
 pub(crate) struct KeyColumns {
     pub(crate) a: [u32; ROUND_KEYS],

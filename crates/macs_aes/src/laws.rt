@@ -1,4 +1,5 @@
-//! Laws of the field of 256 elements, for the crates above. Each function does nothing: its contract is the law.
+//! Laws of the field of 256 elements, for the crates above. Each function does nothing: its
+//! contract is the law.
 
 ghost use Rattle.std.specs.Prelude.{◌≡◌};
 ghost use Rattle.macs_gf.specs.Gf256.{inverse};

@@ -10,8 +10,8 @@ use crate::key_columns::KeyColumns;
 use crate::schedule::{ROUND_KEYS, Schedule};
 use std::marker::Model;
 
-/// A state, as the words of its columns from the left (FIPS 197, 3.5). In clauses it is the list of its
-/// 16 octets.
+/// A state, as the words of its columns from the left (FIPS 197, 3.5). In clauses it is the list of
+/// its 16 octets.
 #[derive(Drop)]
 struct State {
     a: u32,

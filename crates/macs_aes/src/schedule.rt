@@ -27,7 +27,8 @@ pub(crate) const WORDS: usize = 4 * ROUND_KEYS;
 /// The leftmost octets of Rcon\[1\] to Rcon\[10\]: x^0 to x^9.
 const ROUND_CONSTANTS: [u8; 10] = [0x01, 0x02, 0x04, 0x08, 0x10, 0x20, 0x40, 0x80, 0x1b, 0x36];
 
-/// A key, expanded for its ten or fourteen rounds. In clauses it is its key, a list of 16 octets or of 32.
+/// A key, expanded for its ten or fourteen rounds. In clauses it is its key, a list of 16 octets or
+/// of 32.
 #[derive(Drop)]
 pub struct Schedule {
     /// The value of a schedule. Its length says how many rounds there are.
@@ -46,7 +47,8 @@ impl Model for Schedule {
 
     ghost view = { λ s. octets_of_key s.key };
 
-    ghost invariant = { λ s. HasItsLength s.key × ((i : ℕ) → i ≤ rounds_of (octets_of_key s.key) → round_key s.words i ≡ round_key (key_words (octets_of_key s.key)) i) };
+    ghost invariant = { λ s. HasItsLength s.key × ((i : ℕ) → i ≤ rounds_of (octets_of_key s.key)
+        → round_key s.words i ≡ round_key (key_words (octets_of_key s.key)) i) };
 }
 
 /// SubWord: the S-box on each octet of a word.
@@ -126,12 +128,14 @@ impl Schedule {
 
     /// The words of the key expansion. What comes after those of a short key is not read.
     pub(crate) fn words(&self) -> &KeyColumns
-        ensures { (i : ℕ) → i ≤ rounds_of self.now → round_key result.now i ≡ round_key (key_words self.now) i }
+        ensures { (i : ℕ) → i ≤ rounds_of self.now
+            → round_key result.now i ≡ round_key (key_words self.now) i }
     {
         &self.words
     }
 
-    /// The number of rounds, Nr (FIPS 197, 5, figure 4): 10 for a key of 16 octets, 14 for one of 32.
+    /// The number of rounds, Nr (FIPS 197, 5, figure 4): 10 for a key of 16 octets, 14 for one of
+    /// 32.
     pub fn rounds(&self) -> usize
         ensures rounds { result ≡ rounds_of self.now }
         ensures ten_or_fourteen { (result ≡ 10) ⊎ (result ≡ 14) }
@@ -142,8 +146,8 @@ impl Schedule {
         }
     }
 
-    /// The key of round i, i from 0 to the number of rounds: words 4 i to 4 i + 3 of the key expansion, as
-    /// the columns of a state (5.1.4).
+    /// The key of round i, i from 0 to the number of rounds: words 4 i to 4 i + 3 of the key
+    /// expansion, as the columns of a state (5.1.4).
     pub fn round_key(&self, i: usize) -> Block
         requires { i ≤ rounds_of self.now }
         ensures { result ≡ round_key (key_words self.now) i }

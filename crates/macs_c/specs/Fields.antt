@@ -11,7 +11,8 @@ is_offset octets = (octets == 0) || (octets == 30) || (octets == 50)
 
 -- the fields are in their ranges
 abbrev pub is_in_range : MacsTag → Bool
-is_in_range tag = nat_lt tag.an 4 && nat_lt 0 tag.pn && nat_lt tag.name 3 && nat_lt tag.encrypted 2 && is_offset tag.offset
+is_in_range tag = nat_lt tag.an 4 && nat_lt 0 tag.pn && nat_lt tag.name 3 && nat_lt tag.encrypted 2
+    && is_offset tag.offset
 
 -- how the SecTAG names the channel (9.5, 9.9)
 abbrev pub name_of : MacsTag → ScName
@@ -19,4 +20,11 @@ name_of tag = if tag.name == 1 then Explicit tag.sci.octets else if tag.name == 
 
 -- the SecTAG: E and C are alike (9.5)
 abbrev pub sec_tag : MacsTag → SecTag
-sec_tag tag = record { an = tag.an; pn = tag.pn; name = name_of tag; encrypted = tag.encrypted == 1; changed = tag.encrypted == 1 }
+sec_tag tag = record {
+  an = tag.an;
+  pn = tag.pn;
+  name = name_of tag;
+  encrypted = tag.encrypted == 1;
+  changed =
+      tag.encrypted == 1;
+}

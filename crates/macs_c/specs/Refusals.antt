@@ -1,17 +1,22 @@
 -- Why a frame is not sealed or not opened, and the codes of answers.
-use Rattle.std.specs.Prelude.{◌≡◌, ◌+◌, ◌<◌, ◌≤◌, ℕ, Bool, true, false, not, List, drop, take, [], ◌∷◌, Option, Some, None, length, nat_lt}
+use Rattle.std.specs.Prelude.{◌≡◌, ◌+◌, ◌<◌, ◌≤◌, ℕ, Bool, true, false, not, List, drop, take, [], ◌∷◌, Option, Some}
+use Rattle.std.specs.Prelude.{None, length, nat_lt}
 use Rattle.macs_fields.specs.First.{IsFirst, first}
 use Rattle.macs_frame.specs.Opening.{OpenFaultHolds, Verified, open_faults}
 use Rattle.macs_frame.specs.Protection.{overhead, protected_frame}
 use Rattle.macs_frame.specs.declared.opening.OpenFault.{OpenFault}
-use Rattle.macs_frame.specs.declared.opening.OpenFault.TheVariants.{Tag as TagRefused, OtherSci as NamesOther, NotValid as IsNotValid}
-use Rattle.macs_frame.specs.declared.tag.TagFault.TheVariants.{Runt as IsRunt, Oversize as IsOversize, NoTag as HasNoTag, BadTag as HasBadTag, ForKay as IsForKayAlone}
+use Rattle.macs_frame.specs.declared.opening.OpenFault.TheVariants.{Tag as TagRefused, OtherSci as NamesOther}
+use Rattle.macs_frame.specs.declared.opening.OpenFault.TheVariants.{NotValid as IsNotValid}
+use Rattle.macs_frame.specs.declared.tag.TagFault.TheVariants.{Runt as IsRunt, Oversize as IsOversize}
+use Rattle.macs_frame.specs.declared.tag.TagFault.TheVariants.{NoTag as HasNoTag, BadTag as HasBadTag}
+use Rattle.macs_frame.specs.declared.tag.TagFault.TheVariants.{ForKay as IsForKayAlone}
 use Rattle.macs_c.specs.declared.keys.MacsKey.{MacsKey}
 use Rattle.macs_frame.specs.Tag.{tag_of}
 use Rattle.macs_c.specs.declared.fields.MacsOpened.{MacsOpened}
 use Rattle.macs_c.specs.declared.fields.MacsTag.{MacsTag}
 use Rattle.macs_c.specs.declared.refusals.Refusal.{Refusal}
-use Rattle.macs_c.specs.declared.refusals.Refusal.TheVariants.{Key, Field, Runt, Oversize, Room, NoTag, BadTag, ForKay, OtherSci, NotValid}
+use Rattle.macs_c.specs.declared.refusals.Refusal.TheVariants.{Key, Field, Runt, Oversize, Room, NoTag, BadTag, ForKay}
+use Rattle.macs_c.specs.declared.refusals.Refusal.TheVariants.{OtherSci, NotValid}
 use Rattle.macs_c.specs.Fields.{is_in_range, is_offset, name_of, sec_tag}
 use Rattle.macs_c.specs.Keys.{is_key, key_octets}
 
@@ -36,7 +41,8 @@ sealed_frame key tag plain = protected_frame (key_octets key) tag.sci.octets (se
 -- why a plain frame is not sealed into so much room, in the order in which it is looked for
 abbrev pub seal_refusals : MacsKey → MacsTag → List ℕ → ℕ → List (Refusal × Bool)
 seal_refusals key tag plain room =
-    (Key, not (is_key key)) ∷ (Field, not (is_in_range tag)) ∷ (Runt, nat_lt (length plain) 14) ∷ (Oversize, nat_lt 9216 (length plain + overhead (name_of tag)))
+    (Key, not (is_key key)) ∷ (Field, not (is_in_range tag)) ∷ (Runt, nat_lt (length plain) 14)
+    ∷ (Oversize, nat_lt 9216 (length plain + overhead (name_of tag)))
     ∷ (Room, nat_lt room (length (sealed_frame key tag plain))) ∷ []
 
 -- the first of them, if there is one
@@ -59,7 +65,8 @@ FrameRefusal frame key sci offset room Key = ⊥
 FrameRefusal frame key sci offset room Field = ⊥
 FrameRefusal frame key sci offset room Runt = IsFault frame key sci offset (TagRefused IsRunt)
 FrameRefusal frame key sci offset room Oversize = IsFault frame key sci offset (TagRefused IsOversize)
-FrameRefusal frame key sci offset room Room = IsFaultless frame key sci offset × (plain : List ℕ) × Verified frame key sci offset plain × (room < length plain)
+FrameRefusal frame key sci offset room Room = IsFaultless frame key sci offset × (plain : List ℕ)
+    × Verified frame key sci offset plain × (room < length plain)
 FrameRefusal frame key sci offset room NoTag = IsFault frame key sci offset (TagRefused HasNoTag)
 FrameRefusal frame key sci offset room BadTag = IsFault frame key sci offset (TagRefused HasBadTag)
 FrameRefusal frame key sci offset room ForKay = IsFault frame key sci offset (TagRefused IsForKayAlone)
@@ -70,7 +77,8 @@ FrameRefusal frame key sci offset room NotValid = IsFault frame key sci offset I
 abbrev pub OpenRefusal : MacsKey → (sci frame : List ℕ) → (offset room : ℕ) → Refusal → Type 0
 OpenRefusal key sci frame offset room Key = is_key key ≡ false
 OpenRefusal key sci frame offset room Field = (is_key key ≡ true) × (is_offset offset ≡ false)
-OpenRefusal key sci frame offset room refusal = (is_key key ≡ true) × (is_offset offset ≡ true) × FrameRefusal frame (key_octets key) sci offset room refusal
+OpenRefusal key sci frame offset room refusal = (is_key key ≡ true) × (is_offset offset ≡ true)
+    × FrameRefusal frame (key_octets key) sci offset room refusal
 
 -- what is at the front of a room is the frame's plain frame, and what is said of the frame
 pub record IsOpened (frame key sci : List ℕ) (offset : ℕ) (old new : List ℕ) (opened : MacsOpened) : Type 0 where
@@ -81,6 +89,9 @@ pub record IsOpened (frame key sci : List ℕ) (offset : ℕ) (old new : List �
   pub an : opened.an ≡ (tag_of frame).an
 
 -- what the answer to an opening says: of the room as it was and is, and of what was and is said of the frame
-abbrev pub OpenAnswer : MacsKey → (sci frame : List ℕ) → (offset : ℕ) → (old new : List ℕ) → (was is : MacsOpened) → Option Refusal → Type 0
-OpenAnswer key sci frame offset old new was is None = (is_key key ≡ true) × (is_offset offset ≡ true) × IsFaultless frame (key_octets key) sci offset × IsOpened frame (key_octets key) sci offset old new is
-OpenAnswer key sci frame offset old new was is (Some refusal) = OpenRefusal key sci frame offset (length old) refusal × (new ≡ old) × (is ≡ was)
+abbrev pub OpenAnswer : MacsKey → (sci frame : List ℕ) → (offset : ℕ) → (old new : List ℕ) → (was is : MacsOpened)
+    → Option Refusal → Type 0
+OpenAnswer key sci frame offset old new was is None = (is_key key ≡ true) × (is_offset offset ≡ true)
+    × IsFaultless frame (key_octets key) sci offset × IsOpened frame (key_octets key) sci offset old new is
+OpenAnswer key sci frame offset old new was is (Some refusal) = OpenRefusal key sci frame offset (length old) refusal
+    × (new ≡ old) × (is ≡ was)

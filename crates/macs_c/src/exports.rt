@@ -11,18 +11,21 @@ use crate::opening::open_into;
 use crate::refusals::{Refusal, code_of};
 use crate::sealing::seal_into;
 
-/// Keeps a key of 16 or 32 octets. The answer is 0, or 1 where they are not so many: then `key` stays
-/// as it was.
+/// Keeps a key of 16 or 32 octets. The answer is 0, or 1 where they are not so many: then `key`
+/// stays as it was.
 #[unsafe(no_mangle)]
 pub extern "C" fn macs_key_new(octets: &[u8], key: &mut MacsKey) -> u32
-    ensures kept { result ≡ 0 → IsKeyLength (length octets.now) × (is_key key.new ≡ true) × (key_octets key.new ≡ octets.now) }
-    ensures refused { result ≢ 0 → (result ≡ 1) × (¬ IsKeyLength (length octets.now)) × (key.new ≡ key.old) }
+    ensures kept { result ≡ 0 → IsKeyLength (length octets.now) × (is_key key.new ≡ true)
+        × (key_octets key.new ≡ octets.now) }
+    ensures refused { result ≢ 0
+        → (result ≡ 1) × (¬ IsKeyLength (length octets.now)) × (key.new ≡ key.old) }
 {
     if keep(octets, key) { 0 } else { 1 }
 }
 
-/// Protects a plain frame (10.5) into `out`, and says in `written` how many octets it has. The answer
-/// is 0, or the code of the first refusal that holds: then `out` and `written` stay as they were.
+/// Protects a plain frame (10.5) into `out`, and says in `written` how many octets it has. The
+/// answer is 0, or the code of the first refusal that holds: then `out` and `written` stay as they
+/// were.
 #[unsafe(no_mangle)]
 pub extern "C" fn macs_seal_frame(
     key: &MacsKey,
@@ -33,9 +36,11 @@ pub extern "C" fn macs_seal_frame(
 ) -> u32
     ensures code { result ≡ code_of (seal_refusal key.now tag.now plain.now (length out.old)) }
     ensures sealed { seal_refusal key.now tag.now plain.now (length out.old) ≡ None
-        → (out.new ≡ sealed_frame key.now tag.now plain.now ++ drop (length (sealed_frame key.now tag.now plain.now)) out.old)
+        → (out.new ≡ sealed_frame key.now tag.now plain.now
+        ++ drop (length (sealed_frame key.now tag.now plain.now)) out.old)
         × (written.new ≡ length (sealed_frame key.now tag.now plain.now)) }
-    ensures same { (refusal : Refusal) → seal_refusal key.now tag.now plain.now (length out.old) ≡ Some refusal
+    ensures same { (refusal : Refusal)
+        → seal_refusal key.now tag.now plain.now (length out.old) ≡ Some refusal
         → (out.new ≡ out.old) × (written.new ≡ written.old) }
 {
     match seal_into(key, tag, plain, out) {
@@ -47,9 +52,9 @@ pub extern "C" fn macs_seal_frame(
     }
 }
 
-/// Opens a protected frame (10.6) into `out`, and says in `opened` what its SecTAG says and how many
-/// octets the plain frame has. The answer is 0, or the code of a refusal: then `out` and `opened` stay
-/// as they were.
+/// Opens a protected frame (10.6) into `out`, and says in `opened` what its SecTAG says and how
+/// many octets the plain frame has. The answer is 0, or the code of a refusal: then `out` and
+/// `opened` stay as they were.
 #[unsafe(no_mangle)]
 pub extern "C" fn macs_open_frame(
     key: &MacsKey,
@@ -60,7 +65,8 @@ pub extern "C" fn macs_open_frame(
     opened: &mut MacsOpened,
 ) -> u32
     ensures { (answer : Option Refusal) × (result ≡ code_of answer)
-        × OpenAnswer key.now sci.now.octets frame.now offset out.old out.new opened.old opened.new answer }
+        × OpenAnswer key.now sci.now.octets frame.now offset out.old out.new opened.old
+        opened.new answer }
 {
     match open_into(key, sci, offset, frame, out) {
         Ok(found) => {

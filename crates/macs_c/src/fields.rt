@@ -66,7 +66,8 @@ pub(crate) fn offset_of(octets: u8) -> Option<Offset>
 /// The SecTAG and the offset, `None` where a field is out of its range.
 pub(crate) fn fields_of(tag: &MacsTag) -> Option<(SecTag, Offset)>
     ensures some { IsSome result ↔ (is_in_range tag.now ≡ true) }
-    ensures fields { IfSome result (λ found. (found.0 ≡ sec_tag tag.now) × (octets_of found.1 ≡ tag.now.offset)) }
+    ensures fields { IfSome result
+        (λ found. (found.0 ≡ sec_tag tag.now) × (octets_of found.1 ≡ tag.now.offset)) }
 {
     let an = An::new(tag.an)?;
     let pn = Pn::new(tag.pn)?;

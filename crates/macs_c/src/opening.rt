@@ -41,9 +41,12 @@ fn open_under(
     frame: &[u8],
     out: &mut [u8],
 ) -> Result<MacsOpened, Refusal>
-    ensures refused { IfErr result (FrameRefusal frame.now (octets_of_key key.now) sci (octets_of offset) (length out.old)) }
-    ensures faultless { OnOk result (IsFaultless frame.now (octets_of_key key.now) sci (octets_of offset)) }
-    ensures opened { IfOk result (IsOpened frame.now (octets_of_key key.now) sci (octets_of offset) out.old out.new) }
+    ensures refused { IfErr result
+        (FrameRefusal frame.now (octets_of_key key.now) sci (octets_of offset) (length out.old)) }
+    ensures faultless { OnOk result
+        (IsFaultless frame.now (octets_of_key key.now) sci (octets_of offset)) }
+    ensures opened { IfOk result
+        (IsOpened frame.now (octets_of_key key.now) sci (octets_of offset) out.old out.new) }
     ensures same { OnErr result (out.new ≡ out.old) }
 {
     let mut plain = FrameBuf::new();
@@ -69,11 +72,14 @@ pub(crate) fn open_into(
     frame: &[u8],
     out: &mut [u8],
 ) -> Result<MacsOpened, Refusal>
-    ensures refused { IfErr result (OpenRefusal key.now sci.now.octets frame.now offset (length out.old)) }
+    ensures refused { IfErr result
+        (OpenRefusal key.now sci.now.octets frame.now offset (length out.old)) }
     ensures key { OnOk result (is_key key.now ≡ true) }
     ensures offset { OnOk result (is_offset offset ≡ true) }
-    ensures faultless { OnOk result (IsFaultless frame.now (key_octets key.now) sci.now.octets offset) }
-    ensures opened { IfOk result (IsOpened frame.now (key_octets key.now) sci.now.octets offset out.old out.new) }
+    ensures faultless { OnOk result
+        (IsFaultless frame.now (key_octets key.now) sci.now.octets offset) }
+    ensures opened { IfOk result
+        (IsOpened frame.now (key_octets key.now) sci.now.octets offset out.old out.new) }
     ensures same { OnErr result (out.new ≡ out.old) }
 {
     let Some(octets) = key_of(key) else {

@@ -1,6 +1,7 @@
 //! A frame sealed into a caller's room.
 
-ghost use Rattle.std.specs.Prelude.{◌≡◌, ◌+◌, ◌++◌, ◌≤◌, ◌<◌, ◌↔◌, Err, IfErr, IfOk, OnErr, OnOk, Some, None, drop, length};
+ghost use Rattle.std.specs.Prelude.{◌≡◌, ◌+◌, ◌++◌, ◌≤◌, ◌<◌, ◌↔◌, Err, IfErr, IfOk, OnErr, OnOk};
+ghost use Rattle.std.specs.Prelude.{Some, None, drop, length};
 ghost use Rattle.macs_aes.specs.Keys.{octets_of_key};
 ghost use Rattle.macs_fields.specs.Fields.{octets_of};
 ghost use Rattle.macs_frame.specs.Protection.{overhead, protected_frame};
@@ -45,12 +46,16 @@ fn seal_under(
     requires fits { length plain.now + overhead tag.now.name ≤ 9216 }
     requires alike { tag.now.encrypted ≡ tag.now.changed }
     ensures refused { IfErr result (λ r. r ≡ Room) }
-    ensures room { OnErr result (length out.old < length (protected_frame (octets_of_key key.now) sci tag.now (octets_of offset) plain.now)) }
-    ensures enough { OnOk result (length (protected_frame (octets_of_key key.now) sci tag.now (octets_of offset) plain.now) ≤ length out.old) }
-    ensures count { IfOk result (λ n. n ≡ length (protected_frame (octets_of_key key.now) sci tag.now (octets_of offset) plain.now)) }
+    ensures room { OnErr result (length out.old < length
+        (protected_frame (octets_of_key key.now) sci tag.now (octets_of offset) plain.now)) }
+    ensures enough { OnOk result (length (protected_frame (octets_of_key key.now) sci tag.now
+        (octets_of offset) plain.now) ≤ length out.old) }
+    ensures count { IfOk result (λ n. n ≡ length
+        (protected_frame (octets_of_key key.now) sci tag.now (octets_of offset) plain.now)) }
     ensures put { OnOk result (out.new
         ≡ protected_frame (octets_of_key key.now) sci tag.now (octets_of offset) plain.now
-        ++ drop (length (protected_frame (octets_of_key key.now) sci tag.now (octets_of offset) plain.now)) out.old) }
+        ++ drop (length (protected_frame (octets_of_key key.now) sci tag.now (octets_of offset)
+        plain.now)) out.old) }
     ensures same { OnErr result (out.new ≡ out.old) }
 {
     let mut frame = FrameBuf::new();
@@ -65,11 +70,13 @@ pub(crate) fn seal_into(
     plain: &[u8],
     out: &mut [u8],
 ) -> Result<usize, Refusal>
-    ensures refused { IfErr result (λ r. seal_refusal key.now tag.now plain.now (length out.old) ≡ Some r) }
+    ensures refused { IfErr result
+        (λ r. seal_refusal key.now tag.now plain.now (length out.old) ≡ Some r) }
     ensures allowed { OnOk result (seal_refusal key.now tag.now plain.now (length out.old) ≡ None) }
     ensures count { IfOk result (λ n. n ≡ length (sealed_frame key.now tag.now plain.now)) }
     ensures sealed { OnOk result (out.new
-        ≡ sealed_frame key.now tag.now plain.now ++ drop (length (sealed_frame key.now tag.now plain.now)) out.old) }
+        ≡ sealed_frame key.now tag.now plain.now
+        ++ drop (length (sealed_frame key.now tag.now plain.now)) out.old) }
     ensures same { OnErr result (out.new ≡ out.old) }
 {
     let Some(octets) = key_of(key) else {

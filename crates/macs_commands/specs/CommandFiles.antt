@@ -1,5 +1,6 @@
 -- The commands of a whole command file, or its first fault.
-use Rattle.std.specs.Prelude.{◌+◌, ◌==◌, ℕ, suc, nat_lt, codes, if◌then◌else◌, Bool, true, false, List, [], ◌∷◌, Some, None, Result, Ok, Err}
+use Rattle.std.specs.Prelude.{◌+◌, ◌==◌, ℕ, suc, nat_lt, codes, if◌then◌else◌, Bool, true, false, List, [], ◌∷◌, Some}
+use Rattle.std.specs.Prelude.{None, Result, Ok, Err}
 use Rattle.toml.specs.Data.{Data, Items, Members, array, get_member, item, member, no_items, no_members, table}
 use Rattle.macs_config.specs.declared.command.Command.{Command}
 use Rattle.macs_commands.specs.Lines.{command_of, keys_of, word_in}

@@ -27,7 +27,8 @@ use Rattle.macs_commands.specs.declared.word.Word.TheVariants as word
 -- A file without the key `command` says no command. Else the key has an array, each item of which is a table that says
 -- one: the first the first command, and the others those after it, to the last. A table says the command of its word,
 -- which is at `do`, and has no more keys than that takes. Each such file and table is taken. The first fault is that of
--- the first table that has one: that its word is none, else the key of its command that is wrong, else one key too many.
+-- the first table that has one: that its word is none, else the key of its command that is wrong, else one key too
+-- many.
 pub record FileWords : Type 0 where
   pub none : (m : Members) (commands : List Command) → get_member (codes "command") m ≡ None
       → file_commands m ≡ Ok commands → commands ≡ []

@@ -1,5 +1,6 @@
 -- What is at a key of a table: a number, a flag, a text, a mode, an association number, an SCI or a key.
-use Rattle.std.specs.Prelude.{◌-◌, ◌^◌, ℕ, nat_le, pos, codes, if◌then◌else◌, Bool, List, Option, Some, None, option_and_then, Ok, Err}
+use Rattle.std.specs.Prelude.{◌-◌, ◌^◌, ℕ, nat_le, pos, codes, if◌then◌else◌, Bool, List, Option, Some, None}
+use Rattle.std.specs.Prelude.{option_and_then, Ok, Err}
 use Rattle.std.specs.Str.{bytes_eq}
 use Rattle.std.specs.Option.{option_map}
 use Rattle.hex.specs.Hex.{decode_sized}
@@ -31,7 +32,8 @@ key_of text = elim (octets_of 16 text) [
 
 -- what is done with frames that do not verify, by its word
 abbrev pub validate_of : List ℕ → Option Validate
-validate_of text = if bytes_eq text (codes "strict") then Some Strict else if bytes_eq text (codes "check") then Some Check else None
+validate_of text = if bytes_eq text (codes "strict") then Some Strict else if bytes_eq text (codes "check")
+    then Some Check else None
 
 -- how frames name the channel, by its word
 abbrev pub sci_mode_of : List ℕ → Option SciMode

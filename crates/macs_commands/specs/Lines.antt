@@ -3,10 +3,13 @@ use Rattle.std.specs.Prelude.{ℕ, codes, if◌then◌else◌, List, Option, Som
 use Rattle.std.specs.Str.{bytes_eq}
 use Rattle.toml.specs.Data.{Members}
 use Rattle.macs_config.specs.declared.command.Command.{Command}
-use Rattle.macs_config.specs.declared.command.Command.TheVariants.{SetValidate, SetReplay, SetSciMode, TxInstall, TxUse, TxRemove, RxAdd, RxDrop, RxInstall, RxRemove}
-use Rattle.macs_commands.specs.Fields.{an_in, confidential_in, key_in, offset_in, on_in, sci_in, sci_mode_in, start_in, text_at, validate_in, window_in}
+use Rattle.macs_config.specs.declared.command.Command.TheVariants.{SetValidate, SetReplay, SetSciMode, TxInstall, TxUse}
+use Rattle.macs_config.specs.declared.command.Command.TheVariants.{TxRemove, RxAdd, RxDrop, RxInstall, RxRemove}
+use Rattle.macs_commands.specs.Fields.{an_in, confidential_in, key_in, offset_in, on_in, sci_in, sci_mode_in, start_in}
+use Rattle.macs_commands.specs.Fields.{text_at, validate_in, window_in}
 use Rattle.macs_commands.specs.declared.config_fault.KeyName.{KeyName}
-use Rattle.macs_commands.specs.declared.config_fault.KeyName.TheVariants.{Mode, On, Window, An, Key, Start, Confidential, Offset, Sci}
+use Rattle.macs_commands.specs.declared.config_fault.KeyName.TheVariants.{Mode, On, Window, An, Key, Start}
+use Rattle.macs_commands.specs.declared.config_fault.KeyName.TheVariants.{Confidential, Offset, Sci}
 use Rattle.macs_commands.specs.declared.word.Word.{Word}
 use Rattle.macs_commands.specs.declared.word.Word.TheVariants as word
 
@@ -67,8 +70,8 @@ abbrev pub ◌>>=◌ : {X Y : Type 0} → Result X KeyName → (X → Result Y K
 Ok x >>= f = f x
 Err name >>= f = Err name
 
--- the command that a table says with its word, or the first key in the order of the line that is absent, of another kind or out of
--- range
+-- the command that a table says with its word, or the first key in the order of the line that is absent, of another
+-- kind or out of range
 abbrev pub command_of : Word → Members → Result Command KeyName
 command_of word.SetValidate members = do
   mode ← required Mode (validate_in members)

@@ -2,7 +2,8 @@
 
 ghost use Rattle.std.specs.Prelude.{◌≡◌, ◌≢◌, ◌<◌, ◌^◌, length, IfOk, IfErr, Ok, Err};
 ghost use Rattle.toml.specs.View.{items_view, table_view};
-ghost use Rattle.macs_commands.specs.CommandFiles.{are_tables, count, file_commands, table_command, table_commands};
+ghost use Rattle.macs_commands.specs.CommandFiles.{are_tables, count, file_commands, table_command};
+ghost use Rattle.macs_commands.specs.CommandFiles.{table_commands};
 ghost use Rattle.macs_commands.specs.declared.config_fault.ConfigFault.TheVariants.{Memory};
 
 use crate::config_fault::ConfigFault;
@@ -12,8 +13,8 @@ use macs_config::Command;
 use std::alloc::Allocator;
 use toml::{Table, Value};
 
-/// The commands of a command file, in order. Its only key is `command`, an array of tables; without it
-/// there are no commands. Each table has the key `do` and exactly the keys of its line:
+/// The commands of a command file, in order. Its only key is `command`, an array of tables; without
+/// it there are no commands. Each table has the key `do` and exactly the keys of its line:
 ///
 /// | `do` | keys |
 /// |---|---|
@@ -26,13 +27,15 @@ use toml::{Table, Value};
 /// | `rx-install` | `sci`, `an`, `key`, `start`, `offset` |
 /// | `rx-remove` | `sci`, `an` |
 ///
-/// `an` is 0 to 3, `start` 0 to 2^32 - 1, `offset` 0 to 255 octets, `key` a text of 32 hex digits or 64, `sci`
-/// one of 16, of either case. A start of 0 and an offset that is none are read here, and refused when the
-/// command is applied. Refused with the file's first fault, or as `Memory`; that this comes only from a
-/// growth that was refused is tested.
+/// `an` is 0 to 3, `start` 0 to 2^32 - 1, `offset` 0 to 255 octets, `key` a text of 32 hex digits
+/// or 64, `sci` one of 16, of either case. A start of 0 and an offset that is none are read here,
+/// and refused when the command is applied. Refused with the file's first fault, or as `Memory`;
+/// that this comes only from a growth that was refused is tested.
 pub fn commands_of<A: Allocator>(alloc: A, file: &Table) -> Result<Vec<Command, A>, ConfigFault>
-    ensures commands { IfOk result (λ commands. file_commands (table_view file.now) ≡ Ok commands.items) }
-    ensures fault { IfErr result (λ fault. fault ≢ Memory → file_commands (table_view file.now) ≡ Err fault) }
+    ensures commands { IfOk result
+        (λ commands. file_commands (table_view file.now) ≡ Ok commands.items) }
+    ensures fault { IfErr result (λ fault. fault ≢ Memory
+        → file_commands (table_view file.now) ≡ Err fault) }
 {
     let Some(value) = value(file, "command") else {
         if keys(file) == 0 {
@@ -74,8 +77,10 @@ fn are_tables(values: &[Value]) -> bool
 /// The commands of these tables, which are counted from 1.
 fn table_commands<A: Allocator>(alloc: A, tables: &[Value]) -> Result<Vec<Command, A>, ConfigFault>
     requires { length tables.now < 2 ^ 63 }
-    ensures commands { IfOk result (λ commands. table_commands 1 (items_view tables.now) ≡ Ok commands.items) }
-    ensures fault { IfErr result (λ fault. fault ≢ Memory → table_commands 1 (items_view tables.now) ≡ Err fault) }
+    ensures commands { IfOk result
+        (λ commands. table_commands 1 (items_view tables.now) ≡ Ok commands.items) }
+    ensures fault { IfErr result (λ fault. fault ≢ Memory
+        → table_commands 1 (items_view tables.now) ≡ Err fault) }
 {
     let mut commands = Vec::new(alloc);
     for i in 0..tables.len() {

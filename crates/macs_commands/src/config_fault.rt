@@ -14,16 +14,16 @@ pub enum KeyName {
     Sci,
 }
 
-/// The first fault of a command file. `Shape` comes before all others, then the tables in order, and in
-/// a table `Word`, `Key` and `Extra` in this order. Tables are counted from 1.
+/// The first fault of a command file. `Shape` comes before all others, then the tables in order,
+/// and in a table `Word`, `Key` and `Extra` in this order. Tables are counted from 1.
 #[derive(Clone, Copy, Debug, PartialEq, Eq)]
 pub enum ConfigFault {
     /// A key besides `command` is outside the tables, or `command` is no array of tables.
     Shape,
     /// A table has no key `do`, or no command has this word.
     Word { at: usize },
-    /// A key of the command is absent, of another kind or out of range: the first such one in the order
-    /// of the command's line.
+    /// A key of the command is absent, of another kind or out of range: the first such one in the
+    /// order of the command's line.
     Key { at: usize, name: KeyName },
     /// A table has a key that its command does not have.
     Extra { at: usize },

@@ -3,7 +3,10 @@
 ghost use Rattle.std.specs.Prelude.{◌≡◌, ◌<◌, codes, option_map};
 ghost use Rattle.toml.specs.Data.{get_member};
 ghost use Rattle.toml.specs.View.{table_view, view};
-ghost use Rattle.macs_commands.specs.Fields.{an_in, confidential_in, flag_at, key_in, key_of, number_at, number_to, octets_of, offset_in, on_in, sci_in, sci_mode_in, start_in, text_at, validate_in, window_in};
+ghost use Rattle.macs_commands.specs.Fields.{an_in, confidential_in, flag_at, key_in, key_of};
+ghost use Rattle.macs_commands.specs.Fields.{number_at, number_to, octets_of, offset_in, on_in};
+ghost use Rattle.macs_commands.specs.Fields.{sci_in, sci_mode_in, start_in, text_at, validate_in};
+ghost use Rattle.macs_commands.specs.Fields.{window_in};
 ghost use Rattle.macs_commands.specs.Lines.{required, word_in};
 ghost use Rattle.macs_commands.specs.declared.config_fault.KeyName.TheVariants as name;
 

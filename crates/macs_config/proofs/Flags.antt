@@ -1,5 +1,6 @@
 -- Flags in rows of bits: one more set, for one more fingerprint.
-use Rattle.std.proofs.Common.{◌≡◌, ◌∙◌, ◌<◌, ◌*◌, ◌^◌, ◌%◌, ◌/◌, ◌++◌, [], ◌∷◌, ℕ, true, false, List, length, set, get_or, bit_or, bytes_eq, inl, inr, ap, sym, subst, arith}
+use Rattle.std.proofs.Common.{◌≡◌, ◌∙◌, ◌<◌, ◌*◌, ◌^◌, ◌%◌, ◌/◌, ◌++◌, [], ◌∷◌, ℕ, true, false, List, length, set}
+use Rattle.std.proofs.Common.{get_or, bit_or, bytes_eq, inl, inr, ap, sym, subst, arith}
 use Rattle.std.proofs.lemmas.Bool.{cases_eq, eq-eqb, eqb-true, or_cases}
 use Rattle.std.proofs.lemmas.List.{get_or-set_same, get_or-set_other}
 use Rattle.std.proofs.lemmas.Nat.Bits.{bit_at-lt, bit_at_or, bit_at_set_same}
@@ -32,11 +33,13 @@ module _ (rows : List ℕ) (at mask : ℕ) (within : at < length rows) where
   unfolding has_flag
   flag-kept other is =
       eq-eqb (bit_at (get_or more (get_or other 0 0) 0) (get_or other 1 0 / 16)) 1
-      (bit_kept (get_or other 0 0) (get_or other 1 0 / 16) (eqb-true (bit_at (get_or rows (get_or other 0 0) 0) (get_or other 1 0 / 16)) 1 is))
+      (bit_kept (get_or other 0 0) (get_or other 1 0 / 16)
+      (eqb-true (bit_at (get_or rows (get_or other 0 0) 0) (get_or other 1 0 / 16)) 1 is))
 
 -- what is set is
 pub flag-set : (rows fingerprint : List ℕ) → get_or fingerprint 0 0 < length rows → get_or fingerprint 1 0 / 16 < 16
-    → has_flag (set rows (get_or fingerprint 0 0) (bit_or (get_or rows (get_or fingerprint 0 0) 0) (1 * 2 ^ (get_or fingerprint 1 0 / 16) % 2 ^ 16))) fingerprint ≡ true
+    → has_flag (set rows (get_or fingerprint 0 0) (bit_or (get_or rows (get_or fingerprint 0 0) 0)
+    (1 * 2 ^ (get_or fingerprint 1 0 / 16) % 2 ^ 16))) fingerprint ≡ true
 unfolding has_flag
 flag-set rows fingerprint within few =
     let at = get_or fingerprint 0 0 in
@@ -55,7 +58,8 @@ only_one item other is = elim (or_cases (bytes_eq item other) false is) [
 pub filter-push : (spent : List (List ℕ)) (item old new : List ℕ) → IsFilter spent old → has_flag new item ≡ true
     → ((other : List ℕ) → has_flag old other ≡ true → has_flag new other ≡ true) → IsFilter (spent ++ item ∷ []) new
 filter-push spent item old new was is_set kept other is =
-    elim (or_cases (is_spent spent other) (is_spent (item ∷ []) other) (sym (among-append spent (item ∷ []) other) ∙ is)) [
+    elim (or_cases (is_spent spent other) (is_spent (item ∷ []) other)
+    (sym (among-append spent (item ∷ []) other) ∙ is)) [
       | inl before ↦ kept other (was other before)
       | inr last ↦ subst (λ (it : List ℕ). has_flag new it ≡ true) (only_one item other last) is_set
     ]

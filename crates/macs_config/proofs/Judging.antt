@@ -1,5 +1,7 @@
 -- What the check of a command judges, and what it makes of a configuration.
-use Rattle.std.proofs.Common.{◌≡◌, ◌==◌, ◌∙◌, ◌↔◌, ◌⊎◌, if◌then◌else◌, [], ◌∷◌, ◌||◌, ◌&&◌, ◌<◌, ℕ, List, Bool, true, false, not, nat_le, length, get_or, Option, Some, None, is_none, is_some, Result, Ok, Err, refl, sym, ap, arith, inl, inr}
+use Rattle.std.proofs.Common.{◌≡◌, ◌==◌, ◌∙◌, ◌↔◌, ◌⊎◌, if◌then◌else◌, [], ◌∷◌, ◌||◌, ◌&&◌, ◌<◌, ℕ, List, Bool, true}
+use Rattle.std.proofs.Common.{false, not, nat_le, length, get_or, Option, Some, None, is_none, is_some, Result, Ok, Err}
+use Rattle.std.proofs.Common.{refl, sym, ap, arith, inl, inr}
 use Rattle.std.proofs.lemmas.Bool.{eq-eqb, ne_eqb}
 use Rattle.std.proofs.lemmas.List.{get_or_default}
 use Rattle.macs_aes.specs.Keys.{HasItsLength, key_of_octets, key_of_octets-octets_of_key, octets_of_key}
@@ -10,9 +12,11 @@ use Rattle.macs_fields.specs.declared.fields.Offset.{Offset}
 use Rattle.macs_fields.specs.declared.fields.Offset.TheVariants.{Zero, Thirty, Fifty}
 use Rattle.macs_config.specs.Apply.{LongKey, Named, Reason, answer_or_refusal, config_after, offset_at, refusal_of}
 use Rattle.macs_config.specs.Association.{is_confidential, offset_of}
-use Rattle.macs_config.specs.Config.{Config, has_channel, is_spent, max_spent, rx_fingerprint, takes_key, this_edition, tx_fingerprint}
+use Rattle.macs_config.specs.Config.{Config, has_channel, is_spent, max_spent, rx_fingerprint, takes_key, this_edition}
+use Rattle.macs_config.specs.Config.{tx_fingerprint}
 use Rattle.macs_config.specs.Identity.{Identity}
-use Rattle.macs_config.specs.Judged.{IsJudged, asked_by, config_changed, judged_of, judged_of-asked_by, octets-back, rx_install, tx_install}
+use Rattle.macs_config.specs.Judged.{IsJudged, asked_by, config_changed, judged_of, judged_of-asked_by, octets-back}
+use Rattle.macs_config.specs.Judged.{rx_install, tx_install}
 use Rattle.macs_config.specs.declared.association.Protection.{Protection}
 use Rattle.macs_config.specs.declared.association.RxSa.{RxSa}
 use Rattle.macs_config.specs.declared.association.TxSa.{TxSa}
@@ -20,9 +24,12 @@ use Rattle.macs_config.specs.declared.association.Protection.TheVariants.{Confid
 use Rattle.macs_config.specs.declared.checked.Judged.{Judged}
 use Rattle.macs_config.specs.declared.checked.Judged.TheVariants as judged
 use Rattle.macs_config.specs.declared.command.Command.{Command}
-use Rattle.macs_config.specs.declared.command.Command.TheVariants.{SetValidate, SetReplay, SetSciMode, TxInstall, TxUse, TxRemove, RxAdd, RxDrop, RxInstall, RxRemove}
+use Rattle.macs_config.specs.declared.command.Command.TheVariants.{SetValidate, SetReplay, SetSciMode, TxInstall, TxUse}
+use Rattle.macs_config.specs.declared.command.Command.TheVariants.{TxRemove, RxAdd, RxDrop, RxInstall, RxRemove}
 use Rattle.macs_config.specs.declared.refusal.Refusal.{Refusal}
-use Rattle.macs_config.specs.declared.refusal.Refusal.TheVariants.{StartRange, OffsetChoice, OwnSci, EndStationSci, NoChannel, ChannelTaken, ChannelsFull, SlotTaken, SlotEmpty, InUse, KeySpent, SpentFull}
+use Rattle.macs_config.specs.declared.refusal.Refusal.TheVariants.{StartRange, OffsetChoice, OwnSci, EndStationSci}
+use Rattle.macs_config.specs.declared.refusal.Refusal.TheVariants.{NoChannel, ChannelTaken, ChannelsFull, SlotTaken}
+use Rattle.macs_config.specs.declared.refusal.Refusal.TheVariants.{SlotEmpty, InUse, KeySpent, SpentFull}
 
 -- ---- what it makes of a configuration
 
@@ -71,7 +78,8 @@ right-offset Zero = refl
 right-offset Thirty = refl
 right-offset Fifty = refl
 
-pub right-protection : (p : Protection) → (is_none (offset_at (octets_of (offset_of p))) || is_wrong (is_confidential p) (octets_of (offset_of p))) ≡ false
+pub right-protection : (p : Protection)
+    → (is_none (offset_at (octets_of (offset_of p))) || is_wrong (is_confidential p) (octets_of (offset_of p))) ≡ false
 right-protection Integrity = refl
 right-protection (Confidentiality Zero) = refl
 right-protection (Confidentiality Thirty) = refl
@@ -88,7 +96,8 @@ module _ (confidential : Bool) (octets : ℕ) where
         ap (λ (n : ℕ). is_none (offset_at n) || is_wrong confidential n) is
         ∙ ap (λ (none : Bool). none || is_wrong confidential (octets_of offset)) (right-offset offset)
 
-    pub no-protection : ((p : Protection) → (None ≡ Some p) ↔ ((confidential ≡ is_confidential p) × (offset ≡ offset_of p)))
+    pub no-protection : ((p : Protection)
+        → (None ≡ Some p) ↔ ((confidential ≡ is_confidential p) × (offset ≡ offset_of p)))
         → (is_none (offset_at octets) || is_wrong confidential octets) ≡ true
     no-protection none = chosen ∙ no-protection-of confidential offset none
 
@@ -100,7 +109,8 @@ pub an-offset : (octets : ℕ) (offset : Offset) → octets ≡ octets_of offset
 an-offset octets offset is = ap (λ (n : ℕ). is_none (offset_at n)) is ∙ right-offset offset
 
 -- what is at a place of the table, by a read with any default
-pub slot-is : (tx : List (Option TxSa)) (place an : ℕ) (other : Option TxSa) (result test : Bool) → place < length tx → place ≡ an
+pub slot-is : (tx : List (Option TxSa)) (place an : ℕ) (other : Option TxSa) (result test : Bool) → place < length tx
+    → place ≡ an
     → result ≡ is_some (get_or tx place other) → result ≡ test → is_some (get_or tx an None) ≡ test
 slot-is tx place an other result test within same is holds =
     ap (λ (n : ℕ). is_some (get_or tx n None)) (sym same)
@@ -122,13 +132,17 @@ module _ (command : Command) where
   -- what a check answers by the tests that an install can fail
   abbrev answer_by : Bool → Bool → Bool → Bool → Bool → Bool → Bool → Result Command Reason
   answer_by start offset none taken spent full long = answer_or_refusal (first (
-      (Named StartRange, start) ∷ (Named OffsetChoice, offset) ∷ (Named OwnSci, false) ∷ (Named EndStationSci, false) ∷ (Named NoChannel, none) ∷ (Named ChannelTaken, false)
-      ∷ (Named ChannelsFull, false) ∷ (Named SlotTaken, taken) ∷ (Named SlotEmpty, false) ∷ (Named InUse, false) ∷ (Named KeySpent, spent) ∷ (Named SpentFull, full) ∷ (LongKey, long) ∷ [])) command
+      (Named StartRange, start) ∷ (Named OffsetChoice, offset) ∷ (Named OwnSci, false) ∷ (Named EndStationSci, false)
+      ∷ (Named NoChannel, none) ∷ (Named ChannelTaken, false)
+      ∷ (Named ChannelsFull, false) ∷ (Named SlotTaken, taken) ∷ (Named SlotEmpty, false) ∷ (Named InUse, false)
+      ∷ (Named KeySpent, spent) ∷ (Named SpentFull, full) ∷ (LongKey, long) ∷ [])) command
 
   refused-as : (spent full long : Bool) (refusal : Refusal) → Some refusal ≡ key_refused spent full
       → Err (Named refusal) ≡ answer_by false false false false spent full long
-  refused-as true full long refusal is = ap (λ (r : Refusal). Err (Named r)) (let same : refusal ≡ KeySpent = cc in same)
-  refused-as false true long refusal is = ap (λ (r : Refusal). Err (Named r)) (let same : refusal ≡ SpentFull = cc in same)
+  refused-as true full long refusal is =
+      ap (λ (r : Refusal). Err (Named r)) (let same : refusal ≡ KeySpent = cc in same)
+  refused-as false true long refusal is =
+      ap (λ (r : Refusal). Err (Named r)) (let same : refusal ≡ SpentFull = cc in same)
   refused-as false false long refusal is = cc
 
   taken-as : (spent full long : Bool) → long ≡ false → None ≡ key_refused spent full
@@ -155,17 +169,21 @@ module _ (command : Command) where
           by-slot is = sym (λ i. answer_by (above i) (right i) (there i) (is i) spent full long)
 
           module _ (free : taken ≡ false) where
-            all-pass : answer_by false false false false spent full long ≡ answer_by start offset none taken spent full long
+            all-pass : answer_by false false false false spent full long
+                ≡ answer_by start offset none taken spent full long
             all-pass = sym (λ i. answer_by (above i) (right i) (there i) (free i) spent full long)
 
-            by-key : (refusal : Refusal) → Some refusal ≡ key_refused spent full → Err (Named refusal) ≡ answer_by start offset none taken spent full long
+            by-key : (refusal : Refusal) → Some refusal ≡ key_refused spent full
+                → Err (Named refusal) ≡ answer_by start offset none taken spent full long
             by-key refusal is = refused-as spent full long refusal is ∙ all-pass
 
-            by-none : long ≡ false → None ≡ key_refused spent full → Ok command ≡ answer_by start offset none taken spent full long
+            by-none : long ≡ false → None ≡ key_refused spent full
+                → Ok command ≡ answer_by start offset none taken spent full long
             by-none short is = taken-as spent full long short is ∙ all-pass
 
 -- the key that is made of octets that are taken is none that is too long
-key-taken : (octets : List ℕ) → takes_key this_edition octets ≡ true → not (takes_key this_edition (octets_of_key (key_of_octets octets))) ≡ false
+key-taken : (octets : List ℕ) → takes_key this_edition octets ≡ true
+    → not (takes_key this_edition (octets_of_key (key_of_octets octets))) ≡ false
 key-taken octets taken = ap (λ (key : List ℕ). not (takes_key this_edition key)) (octets-back octets) ∙ ap not taken
 
 -- ---- a transmit install
@@ -198,18 +216,23 @@ module _ (identity : Identity) (c : Config) (an : ℕ) (key : Key) (start : ℕ)
 
     module _ (right : tx_wrong ≡ false) where
       pub tx-no-slot : is_some (c.tx an) ≡ true → Err (Named SlotTaken) ≡ tx_answer
-      tx-no-slot = by-slot tx_asked (start == 0) tx_wrong false (is_some (c.tx an)) tx_spent tx_full tx_long above right refl
+      tx-no-slot =
+          by-slot tx_asked (start == 0) tx_wrong false (is_some (c.tx an)) tx_spent tx_full tx_long above right refl
 
       module _ (free : is_some (c.tx an) ≡ false) where
-        pub tx-no-key : (refusal : Refusal) → Some refusal ≡ key_refused tx_spent tx_full → Err (Named refusal) ≡ tx_answer
-        tx-no-key = by-key tx_asked (start == 0) tx_wrong false (is_some (c.tx an)) tx_spent tx_full tx_long above right refl free
+        pub tx-no-key : (refusal : Refusal) → Some refusal ≡ key_refused tx_spent tx_full
+            → Err (Named refusal) ≡ tx_answer
+        tx-no-key = by-key tx_asked (start == 0) tx_wrong false (is_some (c.tx an)) tx_spent tx_full tx_long above
+            right refl free
 
         pub tx-passes : tx_long ≡ false → None ≡ key_refused tx_spent tx_full → Ok tx_asked ≡ tx_answer
-        tx-passes = by-none tx_asked (start == 0) tx_wrong false (is_some (c.tx an)) tx_spent tx_full tx_long above right refl free
+        tx-passes = by-none tx_asked (start == 0) tx_wrong false (is_some (c.tx an)) tx_spent tx_full tx_long above
+            right refl free
 
 module _ (an : ℕ) (sa : TxSa) (start : ℕ) where
   -- what was judged of it
-  pub tx-judged : (fingerprint : List ℕ) → 0 < start → fingerprint ≡ tx_fingerprint sa.key → IsJudged (judged.TxInstall an sa start fingerprint)
+  pub tx-judged : (fingerprint : List ℕ) → 0 < start → fingerprint ≡ tx_fingerprint sa.key
+      → IsJudged (judged.TxInstall an sa start fingerprint)
   tx-judged fingerprint above is = (
     ap Some (is ∙ ap tx_fingerprint (sym (octets-back sa.key))),
     a-start start above,
@@ -217,11 +240,13 @@ module _ (an : ℕ) (sa : TxSa) (start : ℕ) where
   )
 
   -- its key is taken
-  pub tx-short : (length sa.key ≡ 16) ⊎ (length sa.key ≡ 32) → not (takes_key this_edition (octets_of_key (key_of_octets sa.key))) ≡ false
+  pub tx-short : (length sa.key ≡ 16) ⊎ (length sa.key ≡ 32)
+      → not (takes_key this_edition (octets_of_key (key_of_octets sa.key))) ≡ false
   tx-short size = key-taken sa.key (each-taken sa.key size)
 
   -- the command that asked for it
-  pub tx-asked : (key : Key) → HasItsLength key → (from : ℕ) (confidential : Bool) (octets : ℕ) → sa.key ≡ octets_of_key key → start ≡ from
+  pub tx-asked : (key : Key) → HasItsLength key → (from : ℕ) (confidential : Bool) (octets : ℕ)
+      → sa.key ≡ octets_of_key key → start ≡ from
       → confidential ≡ is_confidential sa.protection → octets ≡ octets_of (offset_of sa.protection)
       → tx_install an sa start ≡ TxInstall an key from confidential octets
   tx-asked key size from confidential octets of first hidden clear =
@@ -250,30 +275,38 @@ module _ (identity : Identity) (c : Config) (sci : List ℕ) (an : ℕ) (key : K
   rx_answer = answer_or_refusal (refusal_of this_edition identity c rx_asked) rx_asked
 
   pub rx-no-start : (start == 0) ≡ true → Err (Named StartRange) ≡ rx_answer
-  rx-no-start = by-start rx_asked (start == 0) (is_none (offset_at octets)) rx_none (is_some (c.rx sci an)) rx_spent rx_full rx_long
+  rx-no-start = by-start rx_asked (start == 0) (is_none (offset_at octets)) rx_none (is_some (c.rx sci an)) rx_spent
+      rx_full rx_long
 
   module _ (above : (start == 0) ≡ false) where
     pub rx-no-offset : is_none (offset_at octets) ≡ true → Err (Named OffsetChoice) ≡ rx_answer
-    rx-no-offset = by-offset rx_asked (start == 0) (is_none (offset_at octets)) rx_none (is_some (c.rx sci an)) rx_spent rx_full rx_long above
+    rx-no-offset = by-offset rx_asked (start == 0) (is_none (offset_at octets)) rx_none (is_some (c.rx sci an)) rx_spent
+        rx_full rx_long above
 
     module _ (right : is_none (offset_at octets) ≡ false) where
       pub rx-no-channel : rx_none ≡ true → Err (Named NoChannel) ≡ rx_answer
-      rx-no-channel = by-channel rx_asked (start == 0) (is_none (offset_at octets)) rx_none (is_some (c.rx sci an)) rx_spent rx_full rx_long above right
+      rx-no-channel = by-channel rx_asked (start == 0) (is_none (offset_at octets)) rx_none (is_some (c.rx sci an))
+          rx_spent rx_full rx_long above right
 
       module _ (there : rx_none ≡ false) where
         pub rx-no-slot : is_some (c.rx sci an) ≡ true → Err (Named SlotTaken) ≡ rx_answer
-        rx-no-slot = by-slot rx_asked (start == 0) (is_none (offset_at octets)) rx_none (is_some (c.rx sci an)) rx_spent rx_full rx_long above right there
+        rx-no-slot = by-slot rx_asked (start == 0) (is_none (offset_at octets)) rx_none (is_some (c.rx sci an)) rx_spent
+            rx_full rx_long above right there
 
         module _ (free : is_some (c.rx sci an) ≡ false) where
-          pub rx-no-key : (refusal : Refusal) → Some refusal ≡ key_refused rx_spent rx_full → Err (Named refusal) ≡ rx_answer
-          rx-no-key = by-key rx_asked (start == 0) (is_none (offset_at octets)) rx_none (is_some (c.rx sci an)) rx_spent rx_full rx_long above right there free
+          pub rx-no-key : (refusal : Refusal) → Some refusal ≡ key_refused rx_spent rx_full
+              → Err (Named refusal) ≡ rx_answer
+          rx-no-key = by-key rx_asked (start == 0) (is_none (offset_at octets)) rx_none (is_some (c.rx sci an)) rx_spent
+              rx_full rx_long above right there free
 
           pub rx-passes : rx_long ≡ false → None ≡ key_refused rx_spent rx_full → Ok rx_asked ≡ rx_answer
-          rx-passes = by-none rx_asked (start == 0) (is_none (offset_at octets)) rx_none (is_some (c.rx sci an)) rx_spent rx_full rx_long above right there free
+          rx-passes = by-none rx_asked (start == 0) (is_none (offset_at octets)) rx_none (is_some (c.rx sci an))
+              rx_spent rx_full rx_long above right there free
 
 module _ (sci : List ℕ) (an : ℕ) (sa : RxSa) (start : ℕ) where
   -- what was judged of it
-  pub rx-judged : (fingerprint : List ℕ) → 0 < start → fingerprint ≡ rx_fingerprint sci sa.key → IsJudged (judged.RxInstall sci an sa start fingerprint)
+  pub rx-judged : (fingerprint : List ℕ) → 0 < start → fingerprint ≡ rx_fingerprint sci sa.key
+      → IsJudged (judged.RxInstall sci an sa start fingerprint)
   rx-judged fingerprint above is = (
     ap Some (is ∙ ap (rx_fingerprint sci) (sym (octets-back sa.key))),
     a-start start above,
@@ -281,11 +314,13 @@ module _ (sci : List ℕ) (an : ℕ) (sa : RxSa) (start : ℕ) where
   )
 
   -- its key is taken
-  pub rx-short : (length sa.key ≡ 16) ⊎ (length sa.key ≡ 32) → not (takes_key this_edition (octets_of_key (key_of_octets sa.key))) ≡ false
+  pub rx-short : (length sa.key ≡ 16) ⊎ (length sa.key ≡ 32)
+      → not (takes_key this_edition (octets_of_key (key_of_octets sa.key))) ≡ false
   rx-short size = key-taken sa.key (each-taken sa.key size)
 
   -- the command that asked for it
-  pub rx-asked : (key : Key) → HasItsLength key → (from octets : ℕ) → sa.key ≡ octets_of_key key → start ≡ from → octets ≡ octets_of sa.offset
+  pub rx-asked : (key : Key) → HasItsLength key → (from octets : ℕ) → sa.key ≡ octets_of_key key → start ≡ from
+      → octets ≡ octets_of sa.offset
       → rx_install sci an sa start ≡ RxInstall sci an key from octets
   rx-asked key size from octets of first clear =
       let back = ap key_of_octets of ∙ key_of_octets-octets_of_key key size in

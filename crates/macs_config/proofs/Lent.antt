@@ -5,7 +5,8 @@ use Rattle.std.proofs.lemmas.List.{length-set}
 use Rattle.arrayvec.proofs.ArrayVecLemmas.{items-with_items}
 
 -- what the array holds then
-pub lent : {X : Type 0} (items ws : List X) (place : ℕ) (new : X) → ws ≡ items → refill (length items) items (set ws place new) ≡ set items place new
+pub lent : {X : Type 0} (items ws : List X) (place : ℕ) (new : X) → ws ≡ items
+    → refill (length items) items (set ws place new) ≡ set items place new
 lent {X = X} items ws place new same =
     ap (λ (xs : List X). refill (length items) items (set xs place new)) same
     ∙ items-with_items (record { items = items }) (set items place new) (length-set items place new)

@@ -6,8 +6,10 @@ use Rattle.macs_fields.specs.declared.fields.Offset.{Offset}
 use Rattle.macs_fields.specs.declared.fields.Offset.TheVariants.{Zero, Thirty, Fifty}
 use Rattle.macs_config.specs.Apply.{offset_at}
 
-module _ (result : Option Offset) (octets : ℕ) (exact : (offset : Offset) → (result ≡ Some offset) ↔ (octets ≡ octets_of offset)) where
-  by : (made : Option Offset) → made ≡ result → (zero thirty fifty : Bool) → (octets == 0) ≡ zero → (octets == 30) ≡ thirty → (octets == 50) ≡ fifty
+module _ (result : Option Offset) (octets : ℕ) (exact : (offset : Offset)
+    → (result ≡ Some offset) ↔ (octets ≡ octets_of offset)) where
+  by : (made : Option Offset) → made ≡ result → (zero thirty fifty : Bool) → (octets == 0) ≡ zero
+      → (octets == 30) ≡ thirty → (octets == 50) ≡ fifty
       → result ≡ cond zero (Some Zero) (cond thirty (Some Thirty) (cond fifty (Some Fifty) None))
   by made is true thirty fifty e0 e30 e50 = (exact Zero).1 (eqb-true octets 0 e0)
   by made is false true fifty e0 e30 e50 = (exact Thirty).1 (eqb-true octets 30 e30)

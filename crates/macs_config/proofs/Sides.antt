@@ -1,6 +1,7 @@
 -- What holds of every configuration, side by side.
 use Rattle.std.proofs.Common.{◌≡◌, ◌≤◌, ◌<◌, ℕ, true, false, List, length, Option, Some, IsSome, IfSome}
-use Rattle.macs_config.specs.Config.{Config, Edition, IsConfig, are_distinct, is_among, is_ascending, is_spent, max_spent, rx_fingerprint, spent_of, takes_key, tx_fingerprint}
+use Rattle.macs_config.specs.Config.{Config, Edition, IsConfig, are_distinct, is_among, is_ascending, is_spent}
+use Rattle.macs_config.specs.Config.{max_spent, rx_fingerprint, spent_of, takes_key, tx_fingerprint}
 use Rattle.macs_config.specs.Identity.{Identity, is_port_one}
 use Rattle.macs_config.specs.declared.association.RxSa.{RxSa}
 use Rattle.macs_config.specs.declared.association.TxSa.{TxSa}
@@ -19,7 +20,8 @@ pub record IsSpentList (spent : List (List ℕ)) : Type 0 where
   pub fit : length spent ≤ max_spent
 
 -- the transmit side
-pub record IsTransmitSide (edition : Edition) (encoding : Option ℕ) (tx : ℕ → Option TxSa) (spent : List (List ℕ)) : Type 0 where
+pub record IsTransmitSide (edition : Edition) (encoding : Option ℕ) (tx : ℕ → Option TxSa)
+    (spent : List (List ℕ)) : Type 0 where
   pub encoding_stands : IfSome encoding (λ an. IsSome (tx an))
   pub are_taken : (an : ℕ) (sa : TxSa) → tx an ≡ Some sa → takes_key edition sa.key ≡ true
   pub are_spent : (an : ℕ) (sa : TxSa) → tx an ≡ Some sa → an < 4 → is_spent spent (tx_fingerprint sa.key) ≡ true
@@ -32,10 +34,12 @@ pub record AreChannels (edition : Edition) (identity : Identity) (channels : Lis
   pub own_sci_free : is_among channels identity.sci ≡ false
 
 -- the associations of the receive side
-pub record IsReceiveSide (edition : Edition) (channels : List (List ℕ)) (rx : List ℕ → ℕ → Option RxSa) (spent : List (List ℕ)) : Type 0 where
+pub record IsReceiveSide (edition : Edition) (channels : List (List ℕ)) (rx : List ℕ → ℕ → Option RxSa)
+    (spent : List (List ℕ)) : Type 0 where
   pub have_channels : (sci : List ℕ) (an : ℕ) (sa : RxSa) → rx sci an ≡ Some sa → is_among channels sci ≡ true
   pub are_taken : (sci : List ℕ) (an : ℕ) (sa : RxSa) → rx sci an ≡ Some sa → takes_key edition sa.key ≡ true
-  pub are_spent : (sci : List ℕ) (an : ℕ) (sa : RxSa) → rx sci an ≡ Some sa → an < 4 → is_spent spent (rx_fingerprint sci sa.key) ≡ true
+  pub are_spent : (sci : List ℕ) (an : ℕ) (sa : RxSa) → rx sci an ≡ Some sa → an < 4
+      → is_spent spent (rx_fingerprint sci sa.key) ≡ true
   pub spent_keys : IsSpentList spent
 
 by_role : (P : List (List ℕ) → Type 0) (c : Config) → P c.spent_tx → P c.spent_rx → (role : Role) → P (spent_of role c)
@@ -62,7 +66,8 @@ module _ (edition : Edition) (identity : Identity) (c : Config) where
     spent_keys = record { once = is.spent_once Receive; fit = is.spent_fit Receive };
   }
 
-  pub from_sides : IsPortOf identity c.mode → IsTransmitSide edition c.encoding c.tx c.spent_tx → AreChannels edition identity c.channels
+  pub from_sides : IsPortOf identity c.mode → IsTransmitSide edition c.encoding c.tx c.spent_tx
+      → AreChannels edition identity c.channels
       → IsReceiveSide edition c.channels c.rx c.spent_rx → IsConfig edition identity c
   from_sides port transmit channels receive = record {
     encoding_stands = transmit.encoding_stands;

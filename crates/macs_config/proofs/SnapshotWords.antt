@@ -1,10 +1,13 @@
 -- What is to be drawn of the parts of a snapshot.
-use Rattle.std.proofs.Common.{◌≡◌, ◌<◌, ◌+◌, ◌++◌, ◌&&◌, ℕ, Bool, true, false, cond, not, nat_le, nat_lt, List, [], ◌∷◌, length, Option, Some, None, is_none, bytes_eq, refl, ap, arith}
+use Rattle.std.proofs.Common.{◌≡◌, ◌<◌, ◌+◌, ◌++◌, ◌&&◌, ℕ, Bool, true, false, cond, not, nat_le, nat_lt, List, [], ◌∷◌}
+use Rattle.std.proofs.Common.{length, Option, Some, None, is_none, bytes_eq, refl, ap, arith}
 use Rattle.std.proofs.lemmas.Bool.{le-ltb, lt-leb}
 use Rattle.std.specs.List.{list_all}
-use Rattle.macs_config.specs.Config.{Config, Edition, are_distinct, default, has_channel, is_among, max_spent, spent_of, takes_key}
+use Rattle.macs_config.specs.Config.{Config, Edition, are_distinct, default, has_channel, is_among, max_spent, spent_of}
+use Rattle.macs_config.specs.Config.{takes_key}
 use Rattle.macs_config.specs.Identity.{Identity}
-use Rattle.macs_config.specs.Snapshot.{are_new, are_ordered, config_with_part, config_with_parts, config_of_parts, may_follow, place_of, whole_config}
+use Rattle.macs_config.specs.Snapshot.{are_new, are_ordered, config_with_part, config_with_parts, config_of_parts}
+use Rattle.macs_config.specs.Snapshot.{may_follow, place_of, whole_config}
 use Rattle.macs_config.specs.SnapshotWords.{OrderWords, PartWords}
 use Rattle.macs_config.specs.declared.part.Part.{Part}
 use Rattle.macs_config.specs.declared.part.Part.TheVariants.{TxSa, Channel, RxSa, Spent}
@@ -40,8 +43,10 @@ module _ (edition : Edition) (identity : Identity) (c : Config) where
 -- a fingerprint that is there is not new
 not_new : (spent : List (List ℕ)) (one : List ℕ) (more : List (List ℕ)) → is_among spent one ≡ true
     → are_new spent (one ∷ more) ≡ false
-not_new spent one more is = no_right (are_distinct (one ∷ more)) (list_all (λ item. not (is_among spent item)) (one ∷ more))
-    (no_left (not (is_among spent one)) (list_all (λ item. not (is_among spent item)) more) (not-is (is_among spent one) is))
+not_new spent one more is =
+    no_right (are_distinct (one ∷ more)) (list_all (λ item. not (is_among spent item)) (one ∷ more))
+    (no_left (not (is_among spent one)) (list_all (λ item. not (is_among spent item)) more)
+    (not-is (is_among spent one) is))
 
 pub part-words : PartWords
 part-words = record {
@@ -50,14 +55,17 @@ part-words = record {
   tx_key = λ edition identity c an sa parts is. stopped edition identity c (TxSa an sa) parts
       (no_right (is_none (c.tx an)) (takes_key edition sa.key) is);
   channel_twice = λ edition identity c sci parts is. stopped edition identity c (Channel sci) parts
-      (no_left (not (bytes_eq sci identity.sci) && not (has_channel c sci)) (nat_lt (length c.channels) edition.channels)
+      (no_left (not (bytes_eq sci identity.sci) && not (has_channel c sci))
+      (nat_lt (length c.channels) edition.channels)
       (no_right (not (bytes_eq sci identity.sci)) (not (has_channel c sci)) (not-is (has_channel c sci) is)));
   own_channel = λ edition identity c parts. stopped edition identity c (Channel identity.sci) parts
-      (no_left (not (bytes_eq identity.sci identity.sci) && not (has_channel c identity.sci)) (nat_lt (length c.channels) edition.channels)
+      (no_left (not (bytes_eq identity.sci identity.sci) && not (has_channel c identity.sci))
+      (nat_lt (length c.channels) edition.channels)
       (no_left (not (bytes_eq identity.sci identity.sci)) (not (has_channel c identity.sci))
       (not-is (bytes_eq identity.sci identity.sci) (bytes_eq-itself identity.sci))));
   channels_full = λ edition identity c sci parts is. stopped edition identity c (Channel sci) parts
-      (no_right (not (bytes_eq sci identity.sci) && not (has_channel c sci)) (nat_lt (length c.channels) edition.channels)
+      (no_right (not (bytes_eq sci identity.sci) && not (has_channel c sci))
+      (nat_lt (length c.channels) edition.channels)
       (le-ltb (length c.channels) edition.channels is));
   rx_twice = λ edition identity c sci an before sa parts is. stopped edition identity c (RxSa sci an sa) parts
       (no_left (has_channel c sci && is_none (c.rx sci an)) (takes_key edition sa.key)
@@ -68,17 +76,21 @@ part-words = record {
       (no_left (has_channel c sci && is_none (c.rx sci an)) (takes_key edition sa.key)
       (no_left (has_channel c sci) (is_none (c.rx sci an)) is));
   spent_twice = λ edition identity c role one more parts is. stopped edition identity c (Spent role (one ∷ more)) parts
-      (no_left (are_new (spent_of role c) (one ∷ more)) (nat_le (length (spent_of role c) + length (one ∷ more)) max_spent)
+      (no_left (are_new (spent_of role c) (one ∷ more))
+      (nat_le (length (spent_of role c) + length (one ∷ more)) max_spent)
       (not_new (spent_of role c) one more is));
-  spent_full = λ edition identity c role fingerprints parts is. stopped edition identity c (Spent role fingerprints) parts
-      (no_right (are_new (spent_of role c) fingerprints) (nat_le (length (spent_of role c) + length fingerprints) max_spent)
+  spent_full =
+      λ edition identity c role fingerprints parts is. stopped edition identity c (Spent role fingerprints) parts
+      (no_right (are_new (spent_of role c) fingerprints)
+      (nat_le (length (spent_of role c) + length fingerprints) max_spent)
       (not_le (length (spent_of role c) + length fingerprints) max_spent is));
 }
 
 -- ---- the order
 
 -- two parts out of order are out of order wherever they come
-not_ordered : (place : ℕ) (front : List Part) (second third : Part) (parts : List Part) → place_of third < place_of second
+not_ordered : (place : ℕ) (front : List Part) (second third : Part) (parts : List Part)
+    → place_of third < place_of second
     → are_ordered place (front ++ (second ∷ third ∷ parts)) ≡ false
 not_ordered place [] second third parts less =
     no_right (nat_le place (place_of second)) (are_ordered (place_of second) (third ∷ parts))

@@ -5,12 +5,14 @@ use Rattle.macs_config.specs.Apply.{apply, config_after, refusal_of, spent_by}
 use Rattle.macs_config.specs.Config.{Config, Edition, spent_of}
 use Rattle.macs_config.specs.Identity.{Identity}
 use Rattle.macs_config.specs.declared.command.Command.{Command}
-use Rattle.macs_config.specs.declared.command.Command.TheVariants.{RxAdd, RxDrop, RxInstall, RxRemove, SetReplay, SetSciMode, SetValidate, TxInstall, TxRemove, TxUse}
+use Rattle.macs_config.specs.declared.command.Command.TheVariants.{RxAdd, RxDrop, RxInstall, RxRemove, SetReplay}
+use Rattle.macs_config.specs.declared.command.Command.TheVariants.{SetSciMode, SetValidate, TxInstall, TxRemove, TxUse}
 use Rattle.macs_config.specs.declared.command.Role.{Role}
 use Rattle.macs_config.specs.declared.command.Role.TheVariants.{Receive, Transmit}
 use Rattle.macs_config.proofs.Kept.{applied_by}
 
-changed-spends : (role : Role) (old : Config) (command : Command) → spent_of role (config_after old command) ≡ spent_of role old ++ spent_by role command
+changed-spends : (role : Role) (old : Config) (command : Command)
+    → spent_of role (config_after old command) ≡ spent_of role old ++ spent_by role command
 changed-spends Transmit old (SetValidate validate) = sym (append-nil old.spent_tx)
 changed-spends Transmit old (SetReplay on window) = sym (append-nil old.spent_tx)
 changed-spends Transmit old (SetSciMode mode) = sym (append-nil old.spent_tx)
@@ -36,4 +38,5 @@ pub spent-for-good : (edition : Edition) (identity : Identity) (old new : Config
     → apply edition identity old command ≡ Ok new → spent_of role new ≡ spent_of role old ++ spent_by role command
 spent-for-good edition identity old new command role done =
     let made = applied_by (refusal_of edition identity old command) (config_after old command) new done in
-    subst (λ (c : Config). spent_of role c ≡ spent_of role old ++ spent_by role command) made.1 (changed-spends role old command)
+    subst (λ (c : Config). spent_of role c ≡ spent_of role old ++ spent_by role command) made.1
+    (changed-spends role old command)

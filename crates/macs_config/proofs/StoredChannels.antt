@@ -1,5 +1,6 @@
 -- Channels as they are kept, against the channels of the definitions.
-use Rattle.std.proofs.Common.{◌≡◌, ◌∙◌, ◌<◌, ◌≤◌, ℕ, false, List, [], ◌∷◌, map, get_or, Option, Some, None, IfSome, IfNone, is_some, filter, bytes_eq, refl, sym, ◌+◌, length, take}
+use Rattle.std.proofs.Common.{◌≡◌, ◌∙◌, ◌<◌, ◌≤◌, ℕ, false, List, [], ◌∷◌, map, get_or, Option, Some, None, IfSome}
+use Rattle.std.proofs.Common.{IfNone, is_some, filter, bytes_eq, refl, sym, ◌+◌, length, take}
 use Rattle.std.specs.List.{All, insert}
 use Rattle.std.proofs.lemmas.List.Elements.{All-head, All-tail}
 use Rattle.std.proofs.lemmas.List.Folds.{list_any_more}
@@ -22,13 +23,16 @@ scis_of channels = map sci_of channels
 
 -- no channel before the next place has the SCI
 pub not_before_next : (scis : List (List ℕ)) (sci : List ℕ) (place : ℕ) → place < length scis
-    → bytes_eq (get_or scis place []) sci ≡ false → is_among (take place scis) sci ≡ false → is_among (take (place + 1) scis) sci ≡ false
-not_before_next scis sci place within other before = rw (list_any_more (λ other. bytes_eq other sci) scis place [] within) (rw (before, other) refl)
+    → bytes_eq (get_or scis place []) sci ≡ false → is_among (take place scis) sci ≡ false
+    → is_among (take (place + 1) scis) sci ≡ false
+not_before_next scis sci place within other before =
+    rw (list_any_more (λ other. bytes_eq other sci) scis place [] within) (rw (before, other) refl)
 
 -- ---- receive associations
 
 -- an association is read of the first channel with the SCI
-pub rx_lookup : (an : ℕ) → IsLookup sci_of (λ channel. get_or channel.associations an None) None (λ channels sci. rx_at channels sci an)
+pub rx_lookup : (an : ℕ)
+    → IsLookup sci_of (λ channel. get_or channel.associations an None) None (λ channels sci. rx_at channels sci an)
 rx_lookup an = record { nothing = λ sci. refl; next = λ channel channels sci. refl }
 
 -- a channel that nothing is installed in
@@ -39,7 +43,8 @@ pub rx_at-insert : (channels : List Channel) (place : ℕ) (sci : List ℕ) → 
     → (s : List ℕ) (an : ℕ) → rx_at (insert channels place (empty sci)) s an ≡ rx_at channels s an
 rx_at-insert channels place sci none s an =
     lookup-insert (rx_lookup an) channels place (empty sci) none s
-    ∙ (λ i. put_at-same (λ t. rx_at channels t an) sci _ (lookup-none (rx_lookup an) channels sci none ∙ sym (none_at an)) i s)
+    ∙ (λ i. put_at-same (λ t. rx_at channels t an) sci _
+    (lookup-none (rx_lookup an) channels sci none ∙ sym (none_at an)) i s)
 
 pub rx_at-filter : (channels : List Channel) (sci s : List ℕ) (an : ℕ)
     → rx_at (filter (is_other sci_of sci) channels) s an ≡ put_at (rx_at channels) sci (λ number. None) s an
@@ -53,17 +58,20 @@ abbrev pub EndsAtFour : Channel → Type 0
 EndsAtFour channel = (an : ℕ) → 4 ≤ an → get_or channel.associations an None ≡ None
 
 -- and then nothing is read at them
-pub rx_at-above : (channels : List Channel) → All EndsAtFour channels → (sci : List ℕ) (an : ℕ) → 4 ≤ an → rx_at channels sci an ≡ None
+pub rx_at-above : (channels : List Channel) → All EndsAtFour channels → (sci : List ℕ) (an : ℕ) → 4 ≤ an
+    → rx_at channels sci an ≡ None
 rx_at-above [] all sci an above = refl
 rx_at-above (c ∷ cs) all sci an above =
-    rw (All-head EndsAtFour c cs all an above, rx_at-above cs (All-tail EndsAtFour c cs all) sci an above) (either (bytes_eq c.sci sci) None)
+    rw (All-head EndsAtFour c cs all an above, rx_at-above cs (All-tail EndsAtFour c cs all) sci an above)
+    (either (bytes_eq c.sci sci) None)
 
 -- ---- a configuration with other channels
 
 -- what is kept, with other channels, is a configuration with the SCIs and associations of those
 pub read-channels : (contents : Contents) (items : List Channel) (scis : List (List ℕ)) (rx : List ℕ → ℕ → Option RxSa)
     → scis_of items ≡ scis → ((s : List ℕ) (an : ℕ) → rx_at items s an ≡ rx s an)
-    → config_in (record contents { channels = record { items = items } }) ≡ record (config_in contents) { channels = scis; rx = rx }
+    → config_in (record contents { channels = record { items = items } })
+    ≡ record (config_in contents) { channels = scis; rx = rx }
 read-channels contents items scis rx same_scis same_rx =
     λ i. record (config_in contents) { channels = same_scis i; rx = fun_ext (λ s. fun_ext (λ an. same_rx s an)) i }
 

@@ -1,5 +1,6 @@
 -- What a command makes of the configuration, and why one is refused.
-use Rattle.std.specs.Prelude.{◌<◌, ◌⊎◌, ◌^◌, ℕ, if◌then◌else◌, ◌==◌, nat_le, Bool, false, not, ◌&&◌, ◌||◌, List, [], ◌∷◌, ◌++◌, length, Option, Some, None, is_none, is_some, Result, Ok, Err}
+use Rattle.std.specs.Prelude.{◌<◌, ◌⊎◌, ◌^◌, ℕ, if◌then◌else◌, ◌==◌, nat_le, Bool, false, not, ◌&&◌, ◌||◌, List, []}
+use Rattle.std.specs.Prelude.{◌∷◌, ◌++◌, length, Option, Some, None, is_none, is_some, Result, Ok, Err}
 use Rattle.std.specs.List.{filter}
 use Rattle.std.specs.Str.{bytes_eq}
 use Rattle.macs_aes.specs.Keys.{octets_of_key}
@@ -8,15 +9,19 @@ use Rattle.macs_fields.specs.First.{first}
 use Rattle.macs_fields.specs.declared.fields.Offset.{Offset}
 use Rattle.macs_fields.specs.declared.fields.Offset.TheVariants.{Zero, Thirty, Fifty}
 use Rattle.macs_config.specs.Association.{is_end_station, protection_of}
-use Rattle.macs_config.specs.Config.{Edition, Config, has_channel, is_spent, max_spent, put_among, rx_fingerprint, takes_key, tx_fingerprint}
+use Rattle.macs_config.specs.Config.{Edition, Config, has_channel, is_spent, max_spent, put_among, rx_fingerprint}
+use Rattle.macs_config.specs.Config.{takes_key, tx_fingerprint}
 use Rattle.macs_config.specs.Identity.{Identity, is_port_one}
 use Rattle.macs_config.specs.Tables.{put, put_at}
 use Rattle.macs_config.specs.declared.command.Command.{Command}
-use Rattle.macs_config.specs.declared.command.Command.TheVariants.{SetValidate, SetReplay, SetSciMode, TxInstall, TxUse, TxRemove, RxAdd, RxDrop, RxInstall, RxRemove}
+use Rattle.macs_config.specs.declared.command.Command.TheVariants.{SetValidate, SetReplay, SetSciMode, TxInstall, TxUse}
+use Rattle.macs_config.specs.declared.command.Command.TheVariants.{TxRemove, RxAdd, RxDrop, RxInstall, RxRemove}
 use Rattle.macs_config.specs.declared.command.Role.{Role}
 use Rattle.macs_config.specs.declared.command.Role.TheVariants.{Transmit, Receive}
 use Rattle.macs_config.specs.declared.refusal.Refusal.{Refusal}
-use Rattle.macs_config.specs.declared.refusal.Refusal.TheVariants.{StartRange, OffsetChoice, OwnSci, EndStationSci, NoChannel, ChannelTaken, ChannelsFull, SlotTaken, SlotEmpty, InUse, KeySpent, SpentFull}
+use Rattle.macs_config.specs.declared.refusal.Refusal.TheVariants.{StartRange, OffsetChoice, OwnSci, EndStationSci}
+use Rattle.macs_config.specs.declared.refusal.Refusal.TheVariants.{NoChannel, ChannelTaken, ChannelsFull, SlotTaken}
+use Rattle.macs_config.specs.declared.refusal.Refusal.TheVariants.{SlotEmpty, InUse, KeySpent, SpentFull}
 
 -- ---- ranges
 
@@ -41,7 +46,8 @@ IsCommand (RxRemove sci an) = IsSci sci × IsAn an
 
 -- ---- why a command is refused
 
--- one of the refusals that this program names, or the one that an edition without long keys had besides them: the key is longer than it takes
+-- one of the refusals that this program names, or the one that an edition without long keys had besides them: the key
+-- is longer than it takes
 pub data Reason : Type 0 where
   Named : Refusal → Reason
   LongKey : Reason
@@ -169,7 +175,11 @@ config_after c (SetValidate validate) = record c { validate = validate }
 config_after c (SetReplay on window) = record c { replay = record { on = on; window = window } }
 config_after c (SetSciMode mode) = record c { mode = mode }
 config_after c (TxInstall an key start confidential offset) = record c {
-  tx = put c.tx an (Some (record { key = octets_of_key key; protection = protection_of confidential (offset_or_zero (offset_at offset)) }));
+  tx = put c.tx an (Some (record {
+    key = octets_of_key key;
+    protection =
+        protection_of confidential (offset_or_zero (offset_at offset));
+  }));
   spent_tx = c.spent_tx ++ tx_fingerprint (octets_of_key key) ∷ [];
 }
 config_after c (TxUse an) = record c { encoding = Some an }
@@ -180,7 +190,8 @@ config_after c (RxDrop sci) = record c {
   rx = put_at c.rx sci (λ an. None);
 }
 config_after c (RxInstall sci an key start offset) = record c {
-  rx = put_at c.rx sci (put (c.rx sci) an (Some (record { key = octets_of_key key; offset = offset_or_zero (offset_at offset) })));
+  rx = put_at c.rx sci
+      (put (c.rx sci) an (Some (record { key = octets_of_key key; offset = offset_or_zero (offset_at offset) })));
   spent_rx = c.spent_rx ++ rx_fingerprint sci (octets_of_key key) ∷ [];
 }
 config_after c (RxRemove sci an) = record c { rx = put_at c.rx sci (put (c.rx sci) an None) }

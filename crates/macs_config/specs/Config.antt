@@ -1,5 +1,6 @@
 -- The configuration of a MAC Security Entity.
-use Rattle.std.specs.Prelude.{◌≡◌, ◌≤◌, ◌<◌, ℕ, Bool, true, false, ◌&&◌, ◌||◌, ◌==◌, not, if◌then◌else◌, List, [], ◌∷◌, ◌++◌, length, Option, Some, None, IsSome, IfSome}
+use Rattle.std.specs.Prelude.{◌≡◌, ◌≤◌, ◌<◌, ℕ, Bool, true, false, ◌&&◌, ◌||◌, ◌==◌, not, if◌then◌else◌, List, [], ◌∷◌}
+use Rattle.std.specs.Prelude.{◌++◌, length, Option, Some, None, IsSome, IfSome}
 use Rattle.std.specs.List.{list_any}
 use Rattle.std.specs.Str.{bytes_eq}
 use Rattle.std.specs.Cmp.Lexicographic.{slice_cmp}
@@ -16,8 +17,8 @@ use Rattle.macs_config.specs.declared.command.SciMode.TheVariants.{Explicit, End
 use Rattle.macs_config.specs.declared.command.Role.{Role}
 use Rattle.macs_config.specs.declared.command.Role.TheVariants.{Transmit, Receive}
 
--- what an edition of the product takes: how many receive channels, whether keys of 32 octets besides those of 16, and whether areas of
--- format two besides those of format one
+-- what an edition of the product takes: how many receive channels, whether keys of 32 octets besides those of 16, and
+-- whether areas of format two besides those of format one
 pub record Edition : Type 0 where
   pub channels : ℕ
   pub long_keys : Bool
@@ -37,8 +38,8 @@ pub record IsUpTo (small large : Edition) : Type 0 where
   pub long_keys : small.long_keys ≡ true → large.long_keys ≡ true
   pub format_two : small.format_two ≡ true → large.format_two ≡ true
 
--- an edition takes a key of so many octets: 32, for GCM-AES-256 (IEEE Std 802.1AE-2018, 14.6), where it takes long keys, and 16, for
--- GCM-AES-128 (14.5)
+-- an edition takes a key of so many octets: 32, for GCM-AES-256 (IEEE Std 802.1AE-2018, 14.6), where it takes long
+-- keys, and 16, for GCM-AES-128 (14.5)
 abbrev pub takes_key : Edition → List ℕ → Bool
 takes_key edition key = (edition.long_keys && (length key == 32)) || (length key == 16)
 
@@ -46,8 +47,8 @@ takes_key edition key = (edition.long_keys && (length key == 32)) || (length key
 abbrev pub max_spent : ℕ
 max_spent = 512
 
--- Associations by their numbers, receive associations by SCI and number; the receive channels as their SCIs, ascending; the
--- fingerprints of spent keys in the order of installing. It holds no start, next number or ceiling.
+-- Associations by their numbers, receive associations by SCI and number; the receive channels as their SCIs, ascending;
+-- the fingerprints of spent keys in the order of installing. It holds no start, next number or ceiling.
 pub record Config : Type 0 where
   pub validate : Validate
   pub replay : Replay
@@ -105,7 +106,8 @@ is_ascending (sci ∷ next ∷ others) = comes_before sci next && is_ascending (
 abbrev pub tx_fingerprint : List ℕ → List ℕ
 tx_fingerprint key = sha256 key
 
--- what stands for a key under an SCI on the receive side: the SHA-256 of the SCI and the key, one after the other, 32 octets
+-- what stands for a key under an SCI on the receive side: the SHA-256 of the SCI and the key, one after the other, 32
+-- octets
 abbrev pub rx_fingerprint : List ℕ → List ℕ → List ℕ
 rx_fingerprint sci key = sha256 (sci ++ key)
 
@@ -125,8 +127,8 @@ are_distinct (item ∷ items) = not (is_among items item) && are_distinct items
 
 -- ---- what holds of every configuration
 
--- Associations that exist have keys that the edition takes, and that are spent. Two of them may have one key: a key is spent for a
--- side and, on the receive side, for an SCI.
+-- Associations that exist have keys that the edition takes, and that are spent. Two of them may have one key: a key is
+-- spent for a side and, on the receive side, for an SCI.
 pub record IsConfig (edition : Edition) (identity : Identity) (c : Config) : Type 0 where
   pub encoding_stands : IfSome c.encoding (λ an. IsSome (c.tx an))
   pub end_station : c.mode ≡ EndStation → is_port_one identity.sci ≡ true

@@ -3,7 +3,8 @@ use Rattle.std.specs.Prelude.{◌≡◌, ℕ, ◌/◌, ◌==◌, Bool, true, Lis
 use Rattle.std.specs.Int.{bit_at}
 use Rattle.macs_config.specs.Config.{is_spent}
 
--- whether a fingerprint's flag is set: a filter has a row for each value of its first octet, with a flag for each value of the second octet's first four bits
+-- whether a fingerprint's flag is set: a filter has a row for each value of its first octet, with a flag for each value
+-- of the second octet's first four bits
 unfoldable pub has_flag : List ℕ → List ℕ → Bool
 has_flag filter fingerprint = bit_at (get_or filter (get_or fingerprint 0 0) 0) (get_or fingerprint 1 0 / 16) == 1
 

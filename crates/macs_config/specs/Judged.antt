@@ -1,5 +1,6 @@
 -- What the check of a command read and judged, and the command that it was.
-use Rattle.std.proofs.Common.{◌≡◌, ap, refl, ℕ, Bool, true, false, if◌then◌else◌, ◌==◌, List, [], ◌∷◌, ◌++◌, length, Option, Some, None, not, bytes_eq}
+use Rattle.std.proofs.Common.{◌≡◌, ap, refl, ℕ, Bool, true, false, if◌then◌else◌, ◌==◌, List, [], ◌∷◌, ◌++◌, length}
+use Rattle.std.proofs.Common.{Option, Some, None, not, bytes_eq}
 use Rattle.std.specs.List.{filter}
 use Rattle.macs_aes.specs.Keys.{key_of_octets, octets_of_key}
 use Rattle.macs_aes.specs.declared.keys.Key.TheVariants.{Long, Short}
@@ -17,11 +18,13 @@ use Rattle.macs_config.specs.declared.association.TxSa.{TxSa}
 use Rattle.macs_config.specs.declared.checked.Judged.{Judged}
 use Rattle.macs_config.specs.declared.checked.Judged.TheVariants as judged
 use Rattle.macs_config.specs.declared.command.Command.{Command}
-use Rattle.macs_config.specs.declared.command.Command.TheVariants.{SetValidate, SetReplay, SetSciMode, TxInstall, TxUse, TxRemove, RxAdd, RxDrop, RxInstall, RxRemove}
+use Rattle.macs_config.specs.declared.command.Command.TheVariants.{SetValidate, SetReplay, SetSciMode, TxInstall, TxUse}
+use Rattle.macs_config.specs.declared.command.Command.TheVariants.{TxRemove, RxAdd, RxDrop, RxInstall, RxRemove}
 
 -- the command that installs a transmit association, with its first packet number
 abbrev pub tx_install : ℕ → TxSa → ℕ → Command
-tx_install an sa start = TxInstall an (key_of_octets sa.key) start (is_confidential sa.protection) (octets_of (offset_of sa.protection))
+tx_install an sa start =
+    TxInstall an (key_of_octets sa.key) start (is_confidential sa.protection) (octets_of (offset_of sa.protection))
 
 -- the command that installs a receive association of a channel, with its first packet number
 abbrev pub rx_install : List ℕ → ℕ → RxSa → ℕ → Command
@@ -83,7 +86,11 @@ judged_of (SetValidate validate) = judged.SetValidate validate
 judged_of (SetReplay on window) = judged.SetReplay on window
 judged_of (SetSciMode mode) = judged.SetSciMode mode
 judged_of (TxInstall an key start confidential offset) =
-    judged.TxInstall an (record { key = octets_of_key key; protection = protection_of confidential (offset_or_zero (offset_at offset)) }) start
+    judged.TxInstall an (record {
+      key = octets_of_key key;
+      protection =
+          protection_of confidential (offset_or_zero (offset_at offset));
+    }) start
     (tx_fingerprint (octets_of_key key))
 judged_of (TxUse an) = judged.TxUse an
 judged_of (TxRemove an) = judged.TxRemove an
@@ -107,7 +114,8 @@ choice-back Zero = refl
 choice-back Thirty = refl
 choice-back Fifty = refl
 
-protection-back : (p : Protection) → protection_of (is_confidential p) (offset_or_zero (offset_at (octets_of (offset_of p)))) ≡ p
+protection-back : (p : Protection)
+    → protection_of (is_confidential p) (offset_or_zero (offset_at (octets_of (offset_of p)))) ≡ p
 protection-back Integrity = refl
 protection-back (Confidentiality offset) = ap (λ (o : Offset). Confidentiality o) (choice-back offset)
 

@@ -1,10 +1,12 @@
 -- A configuration replayed from the parts of a snapshot of it.
-use Rattle.std.specs.Prelude.{ℕ, ◌+◌, nat_le, nat_lt, Bool, true, false, not, ◌&&◌, if◌then◌else◌, List, [], ◌∷◌, ◌++◌, length, Option, Some, None, is_none, is_some}
+use Rattle.std.specs.Prelude.{ℕ, ◌+◌, nat_le, nat_lt, Bool, true, false, not, ◌&&◌, if◌then◌else◌, List, [], ◌∷◌, ◌++◌}
+use Rattle.std.specs.Prelude.{length, Option, Some, None, is_none, is_some}
 use Rattle.std.specs.Option.{option_and_then, option_map, option_map_or}
 use Rattle.std.specs.List.{list_all}
 use Rattle.std.specs.Str.{bytes_eq}
 use Rattle.macs_config.specs.Association.{is_end_station}
-use Rattle.macs_config.specs.Config.{Edition, Config, are_distinct, default, has_channel, is_among, is_spent, max_spent, put_among, rx_fingerprint, spent_of, takes_key, tx_fingerprint}
+use Rattle.macs_config.specs.Config.{Edition, Config, are_distinct, default, has_channel, is_among, is_spent, max_spent}
+use Rattle.macs_config.specs.Config.{put_among, rx_fingerprint, spent_of, takes_key, tx_fingerprint}
 use Rattle.macs_config.specs.Identity.{Identity, is_port_one}
 use Rattle.macs_config.specs.Tables.{put, put_at}
 use Rattle.macs_config.specs.declared.command.Role.TheVariants.{Transmit, Receive}
@@ -37,9 +39,9 @@ are_ordered place (part ∷ parts) = nat_le place (place_of part) && are_ordered
 abbrev pub are_new : List (List ℕ) → List (List ℕ) → Bool
 are_new spent fingerprints = are_distinct fingerprints && list_all (λ item. not (is_among spent item)) fingerprints
 
--- A part may follow what the parts in front of it made: its association or channel does not exist yet; its key is one that the
--- edition takes; its channel is not the own SCI and is one of as many as there may be, or exists, for an association; its
--- fingerprints are new and fit.
+-- A part may follow what the parts in front of it made: its association or channel does not exist yet; its key is one
+-- that the edition takes; its channel is not the own SCI and is one of as many as there may be, or exists, for an
+-- association; its fingerprints are new and fit.
 abbrev pub may_follow : Edition → Identity → Config → Part → Bool
 may_follow edition identity c (Settings validate replay mode encoding) = false
 may_follow edition identity c (TxSa an sa) = is_none (c.tx an) && takes_key edition sa.key
@@ -63,7 +65,8 @@ config_with_part c (Spent Receive fingerprints) = record c { spent_rx = c.spent_
 abbrev pub config_with_parts : Edition → Identity → Config → List Part → Option Config
 config_with_parts edition identity c [] = Some c
 config_with_parts edition identity c (part ∷ parts) =
-    if may_follow edition identity c part then config_with_parts edition identity (config_with_part c part) parts else None
+    if may_follow edition identity c part
+    then config_with_parts edition identity (config_with_part c part) parts else None
 
 -- ---- the whole
 
@@ -92,8 +95,8 @@ abbrev pub whole_config : Identity → Option Config → Option Config
 whole_config identity None = None
 whole_config identity (Some c) = if is_whole identity c then Some c else None
 
--- Settings, once, and then the other parts in the snapshot's order, none of which is refused: the configuration that they
--- make, where it is whole
+-- Settings, once, and then the other parts in the snapshot's order, none of which is refused: the configuration that
+-- they make, where it is whole
 abbrev pub config_of_parts : Edition → Identity → List Part → Option Config
 config_of_parts edition identity [] = None
 config_of_parts edition identity (part ∷ parts) =
@@ -108,12 +111,14 @@ abbrev pub all_parts : List (Option Part) → Option (List Part)
 all_parts [] = Some []
 all_parts (one ∷ others) = option_and_then (λ part. option_map (λ parts. part ∷ parts) (all_parts others)) one
 
--- What the parts at these places make of what those in front of them made, the last of which has this place in a snapshot's
--- order: None where a place has no part, a part is out of order, or one may not follow.
+-- What the parts at these places make of what those in front of them made, the last of which has this place in a
+-- snapshot's order: None where a place has no part, a part is out of order, or one may not follow.
 abbrev pub config_with_listed : Edition → Identity → ℕ → Config → List (Option Part) → Option Config
 config_with_listed edition identity place c listed =
-    option_and_then (λ parts. if are_ordered place parts then config_with_parts edition identity c parts else None) (all_parts listed)
+    option_and_then (λ parts. if are_ordered place parts then config_with_parts edition identity c parts else None)
+    (all_parts listed)
 
 -- the configuration that the parts at these places make up, None where a place has none, or the snapshot is refused
 abbrev pub config_of_listed : Edition → Identity → List (Option Part) → Option Config
-config_of_listed edition identity listed = option_and_then (λ parts. config_of_parts edition identity parts) (all_parts listed)
+config_of_listed edition identity listed =
+    option_and_then (λ parts. config_of_parts edition identity parts) (all_parts listed)

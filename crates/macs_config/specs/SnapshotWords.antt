@@ -1,4 +1,5 @@
--- What is to be drawn of the parts of a snapshot: which are refused behind those in front of them, and in which order they come.
+-- What is to be drawn of the parts of a snapshot: which are refused behind those in front of them, and in which order
+-- they come.
 use Rattle.std.specs.Prelude.{◌≡◌, ◌<◌, ◌≤◌, ◌+◌, ◌++◌, ℕ, true, false, List, [], ◌∷◌, length, Some, None}
 use Rattle.macs_config.specs.Config.{Config, Edition, has_channel, is_among, max_spent, spent_of, takes_key}
 use Rattle.macs_config.specs.Identity.{Identity}
@@ -10,10 +11,11 @@ use Rattle.macs_config.specs.declared.part.Part.{Part}
 use Rattle.macs_config.specs.declared.part.Part.TheVariants.{TxSa, Channel, RxSa, Spent}
 
 -- A snapshot is refused where behind some of its parts there comes an association or a channel that stands already; an
--- association to receive whose channel does not stand; a key that the edition does not take; the own SCI as a channel, or one
--- more channel than the edition may have; a fingerprint that is spent already, or more of them than fit.
+-- association to receive whose channel does not stand; a key that the edition does not take; the own SCI as a channel,
+-- or one more channel than the edition may have; a fingerprint that is spent already, or more of them than fit.
 pub record PartWords : Type 0 where
-  pub tx_twice : (edition : Edition) (identity : Identity) (c : Config) (an : ℕ) (before sa : TxAssociation) (parts : List Part)
+  pub tx_twice : (edition : Edition) (identity : Identity) (c : Config) (an : ℕ) (before sa : TxAssociation)
+      (parts : List Part)
       → c.tx an ≡ Some before → config_with_parts edition identity c (TxSa an sa ∷ parts) ≡ None
   pub tx_key : (edition : Edition) (identity : Identity) (c : Config) (an : ℕ) (sa : TxAssociation) (parts : List Part)
       → takes_key edition sa.key ≡ false → config_with_parts edition identity c (TxSa an sa ∷ parts) ≡ None
@@ -23,7 +25,8 @@ pub record PartWords : Type 0 where
       → config_with_parts edition identity c (Channel identity.sci ∷ parts) ≡ None
   pub channels_full : (edition : Edition) (identity : Identity) (c : Config) (sci : List ℕ) (parts : List Part)
       → edition.channels ≤ length c.channels → config_with_parts edition identity c (Channel sci ∷ parts) ≡ None
-  pub rx_twice : (edition : Edition) (identity : Identity) (c : Config) (sci : List ℕ) (an : ℕ) (before sa : RxAssociation)
+  pub rx_twice : (edition : Edition) (identity : Identity) (c : Config) (sci : List ℕ) (an : ℕ)
+      (before sa : RxAssociation)
       (parts : List Part)
       → c.rx sci an ≡ Some before → config_with_parts edition identity c (RxSa sci an sa ∷ parts) ≡ None
   pub rx_key : (edition : Edition) (identity : Identity) (c : Config) (sci : List ℕ) (an : ℕ) (sa : RxAssociation)
@@ -34,7 +37,8 @@ pub record PartWords : Type 0 where
       → has_channel c sci ≡ false → config_with_parts edition identity c (RxSa sci an sa ∷ parts) ≡ None
   pub spent_twice : (edition : Edition) (identity : Identity) (c : Config) (role : Role) (one : List ℕ)
       (more : List (List ℕ)) (parts : List Part)
-      → is_among (spent_of role c) one ≡ true → config_with_parts edition identity c (Spent role (one ∷ more) ∷ parts) ≡ None
+      → is_among (spent_of role c) one ≡ true
+      → config_with_parts edition identity c (Spent role (one ∷ more) ∷ parts) ≡ None
   pub spent_full : (edition : Edition) (identity : Identity) (c : Config) (role : Role) (fingerprints : List (List ℕ))
       (parts : List Part)
       → max_spent < length (spent_of role c) + length fingerprints
@@ -47,6 +51,7 @@ pub record OrderWords : Type 0 where
   pub ordered : (edition : Edition) (identity : Identity) (part second third : Part) (front parts : List Part)
       → place_of third < place_of second
       → config_of_parts edition identity (part ∷ (front ++ (second ∷ third ∷ parts))) ≡ None
-  pub settings : (edition : Edition) (identity : Identity) (first second : Part) (parts : List Part) → place_of second ≡ 1
+  pub settings : (edition : Edition) (identity : Identity) (first second : Part) (parts : List Part)
+      → place_of second ≡ 1
       → config_of_parts edition identity (first ∷ second ∷ parts) ≡ None
   pub empty : (edition : Edition) (identity : Identity) → config_of_parts edition identity [] ≡ None

@@ -65,8 +65,8 @@ pub struct TxSa {
     pub protection: Protection,
 }
 
-/// A receive association: its key of 16 or 32 octets, and the confidentiality offset of its encrypted
-/// frames.
+/// A receive association: its key of 16 or 32 octets, and the confidentiality offset of its
+/// encrypted frames.
 #[derive(Clone, Copy, PartialEq, Eq)]
 pub struct RxSa {
     pub key: KeyOctets,

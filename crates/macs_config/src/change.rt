@@ -13,7 +13,8 @@ use crate::contents::Contents;
 
 /// Does what a command asks for that is not refused, as its check judged it.
 pub(crate) fn change(contents: &mut Contents, judged: &Judged)
-    requires { (identity : Identity) × (refusal_of this_edition identity (config_in contents.old) (asked_by judged.now) ≡ None) }
+    requires { (identity : Identity)
+        × (refusal_of this_edition identity (config_in contents.old) (asked_by judged.now) ≡ None) }
     ensures { config_in contents.new ≡ config_changed (config_in contents.old) judged.now }
 {
     match *judged {

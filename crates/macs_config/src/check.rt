@@ -6,7 +6,10 @@ ghost use Rattle.macs_config.specs.Config.{is_spent, max_spent, this_edition};
 ghost use Rattle.macs_config.specs.Identity.{is_port_one};
 ghost use Rattle.macs_config.specs.Judged.{IsJudged, asked_by, rx_install, tx_install};
 ghost use Rattle.macs_config.specs.Value.{config_in};
-ghost use Rattle.macs_config.specs.declared.command.Command.TheVariants.{SetSciMode, TxInstall, TxUse, TxRemove, RxAdd, RxDrop, RxInstall, RxRemove};
+ghost use Rattle.macs_config.specs.declared.command.Command.TheVariants.{SetSciMode, TxInstall};
+ghost use Rattle.macs_config.specs.declared.command.Command.TheVariants.{TxUse, TxRemove, RxAdd};
+ghost use Rattle.macs_config.specs.declared.command.Command.TheVariants.{RxDrop, RxInstall};
+ghost use Rattle.macs_config.specs.declared.command.Command.TheVariants.{RxRemove};
 ghost use Rattle.macs_config.specs.declared.refusal.Refusal.TheVariants.{KeySpent, SpentFull};
 
 use crate::association::{Protection, RxSa, TxSa};
@@ -29,7 +32,8 @@ pub(crate) fn check(
     identity: &Identity,
     command: &Command,
 ) -> Result<Checked, Refusal>
-    ensures { with_reason result ≡ answer_or_refusal (refusal_of this_edition identity.now (config_in contents.now) command.now) command.now }
+    ensures { with_reason result ≡ answer_or_refusal
+        (refusal_of this_edition identity.now (config_in contents.now) command.now) command.now }
 {
     match *command {
         Command::SetValidate(validate) => Ok(Checked::of(Judged::SetValidate(validate))),
@@ -85,7 +89,8 @@ fn unless_refused(refusal: Option<Refusal>, judged: Judged) -> Result<Checked, R
 }
 
 fn sci_mode_refusal(identity: &Identity, mode: SciMode) -> Option<Refusal>
-    ensures { (c : _) → reason_named result ≡ refusal_of this_edition identity.now c (SetSciMode mode) }
+    ensures { (c : _)
+        → reason_named result ≡ refusal_of this_edition identity.now c (SetSciMode mode) }
 {
     if mode == SciMode::EndStation && !is_port_one(identity.sci()) {
         Some(Refusal::EndStationSci)
@@ -110,8 +115,10 @@ fn check_tx_install(
     confidential: bool,
     offset: u8,
 ) -> Result<Checked, Refusal>
-    ensures { (identity : _) → with_reason result ≡ answer_or_refusal (refusal_of this_edition identity (config_in contents.now)
-        (TxInstall an key.now start confidential offset)) (TxInstall an key.now start confidential offset) }
+    ensures { (identity : _) → with_reason result
+        ≡ answer_or_refusal (refusal_of this_edition identity (config_in contents.now)
+        (TxInstall an key.now start confidential offset))
+        (TxInstall an key.now start confidential offset) }
 {
     let Some(start) = Pn::new(start) else {
         return Err(Refusal::StartRange);
@@ -129,7 +136,8 @@ fn check_tx_install(
 
 /// What is judged of an install of a transmit association.
 pub(crate) fn check_tx(contents: &Contents, an: An, sa: TxSa, start: Pn) -> Result<Checked, Refusal>
-    ensures { (identity : _) → with_reason result ≡ answer_or_refusal (refusal_of this_edition identity (config_in contents.now)
+    ensures { (identity : _) → with_reason result
+        ≡ answer_or_refusal (refusal_of this_edition identity (config_in contents.now)
         (tx_install an sa start)) (tx_install an sa start) }
 {
     let _number = start.get(); // It is above 0.
@@ -150,7 +158,8 @@ pub(crate) fn check_tx(contents: &Contents, an: An, sa: TxSa, start: Pn) -> Resu
 }
 
 fn tx_use_refusal(contents: &Contents, an: An) -> Option<Refusal>
-    ensures { (identity : _) → reason_named result ≡ refusal_of this_edition identity (config_in contents.now) (TxUse an) }
+    ensures { (identity : _) → reason_named result
+        ≡ refusal_of this_edition identity (config_in contents.now) (TxUse an) }
 {
     if contents.tx[an.get() as usize].is_some() {
         None
@@ -160,7 +169,8 @@ fn tx_use_refusal(contents: &Contents, an: An) -> Option<Refusal>
 }
 
 fn tx_remove_refusal(contents: &Contents, an: An) -> Option<Refusal>
-    ensures { (identity : _) → reason_named result ≡ refusal_of this_edition identity (config_in contents.now) (TxRemove an) }
+    ensures { (identity : _) → reason_named result
+        ≡ refusal_of this_edition identity (config_in contents.now) (TxRemove an) }
 {
     if contents.tx[an.get() as usize].is_none() {
         Some(Refusal::SlotEmpty)
@@ -172,7 +182,8 @@ fn tx_remove_refusal(contents: &Contents, an: An) -> Option<Refusal>
 }
 
 fn rx_add_refusal(contents: &Contents, identity: &Identity, sci: Sci) -> Option<Refusal>
-    ensures { reason_named result ≡ refusal_of this_edition identity.now (config_in contents.now) (RxAdd sci) }
+    ensures { reason_named result
+        ≡ refusal_of this_edition identity.now (config_in contents.now) (RxAdd sci) }
 {
     if sci == identity.sci() {
         Some(Refusal::OwnSci)
@@ -186,7 +197,8 @@ fn rx_add_refusal(contents: &Contents, identity: &Identity, sci: Sci) -> Option<
 }
 
 fn rx_drop_refusal(contents: &Contents, sci: Sci) -> Option<Refusal>
-    ensures { (identity : _) → reason_named result ≡ refusal_of this_edition identity (config_in contents.now) (RxDrop sci) }
+    ensures { (identity : _) → reason_named result
+        ≡ refusal_of this_edition identity (config_in contents.now) (RxDrop sci) }
 {
     if contents.has_channel(sci) {
         None
@@ -203,7 +215,8 @@ fn check_rx_install(
     start: u32,
     offset: u8,
 ) -> Result<Checked, Refusal>
-    ensures { (identity : _) → with_reason result ≡ answer_or_refusal (refusal_of this_edition identity (config_in contents.now)
+    ensures { (identity : _) → with_reason result
+        ≡ answer_or_refusal (refusal_of this_edition identity (config_in contents.now)
         (RxInstall sci an key.now start offset)) (RxInstall sci an key.now start offset) }
 {
     let Some(start) = Pn::new(start) else {
@@ -225,7 +238,8 @@ pub(crate) fn check_rx(
     sa: RxSa,
     start: Pn,
 ) -> Result<Checked, Refusal>
-    ensures { (identity : _) → with_reason result ≡ answer_or_refusal (refusal_of this_edition identity (config_in contents.now)
+    ensures { (identity : _) → with_reason result
+        ≡ answer_or_refusal (refusal_of this_edition identity (config_in contents.now)
         (rx_install sci an sa start)) (rx_install sci an sa start) }
 {
     let _number = start.get(); // It is above 0.
@@ -250,7 +264,8 @@ pub(crate) fn check_rx(
 }
 
 fn rx_remove_refusal(contents: &Contents, sci: Sci, an: An) -> Option<Refusal>
-    ensures { (identity : _) → reason_named result ≡ refusal_of this_edition identity (config_in contents.now) (RxRemove sci an) }
+    ensures { (identity : _) → reason_named result
+        ≡ refusal_of this_edition identity (config_in contents.now) (RxRemove sci an) }
 {
     if !contents.has_channel(sci) {
         Some(Refusal::NoChannel)

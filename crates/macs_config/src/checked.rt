@@ -11,8 +11,8 @@ use macs_aes::{Key, KeyOctets};
 use macs_fields::{An, Pn, Sci};
 use std::marker::Model;
 
-/// A command as its check judged it, in the types of what it changes. An install has what its association
-/// is, its first packet number, and the fingerprint of its key.
+/// A command as its check judged it, in the types of what it changes. An install has what its
+/// association is, its first packet number, and the fingerprint of its key.
 #[derive(Clone, Copy)]
 pub enum Judged {
     SetValidate(Validate),
@@ -52,8 +52,8 @@ pub enum Judged {
     },
 }
 
-/// A command that a configuration does not refuse, as its check judged it. It fits that configuration, or one
-/// with the same contents; in clauses it is the command.
+/// A command that a configuration does not refuse, as its check judged it. It fits that
+/// configuration, or one with the same contents; in clauses it is the command.
 #[derive(Clone, Copy)]
 pub struct Checked {
     judged: Judged,

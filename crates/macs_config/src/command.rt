@@ -40,8 +40,8 @@ pub enum Role {
 }
 
 /// A command of the operator. `start` is the first packet number of a new association, `offset` its
-/// confidentiality offset in octets, and the length of its key chooses its cipher suite: any number and
-/// any key is read here, and one that may not be is refused when the command is applied.
+/// confidentiality offset in octets, and the length of its key chooses its cipher suite: any number
+/// and any key is read here, and one that may not be is refused when the command is applied.
 #[derive(Clone, Copy, PartialEq, Eq)]
 pub enum Command {
     /// Sets what is done with frames that do not verify. Never refused.

@@ -1,10 +1,12 @@
 //! The configuration.
 
-ghost use Rattle.std.specs.Prelude.{◌≡◌, ◌≤◌, ◌↔◌, ℕ, List, false, if◌then◌else◌, length, slice_get, IfSome, None, Some, Ok, Err, IfOk, OnOk, OnErr};
+ghost use Rattle.std.specs.Prelude.{◌≡◌, ◌≤◌, ◌↔◌, ℕ, List, false, if◌then◌else◌, length};
+ghost use Rattle.std.specs.Prelude.{slice_get, IfSome, None, Some, Ok, Err, IfOk, OnOk, OnErr};
 ghost use Rattle.std.specs.Option.{option_map};
 ghost use Rattle.macs_aes.specs.Keys.{octets_of_key};
 ghost use Rattle.macs_config.specs.Apply.{Named, answer_or_refusal, apply, refusal_of, with_reason};
-ghost use Rattle.macs_config.specs.Config.{IsConfig, default, has_channel, is_spent, rx_fingerprint, spent_of, this_edition, tx_fingerprint};
+ghost use Rattle.macs_config.specs.Config.{IsConfig, default, has_channel, is_spent};
+ghost use Rattle.macs_config.specs.Config.{rx_fingerprint, spent_of, this_edition, tx_fingerprint};
 ghost use Rattle.macs_config.specs.Judged.{rx_install, tx_install};
 ghost use Rattle.macs_config.specs.Snapshot.{config_of_listed, config_of_parts};
 ghost use Rattle.macs_config.specs.Value.{config_of};
@@ -60,12 +62,13 @@ impl Config {
 
     /// The configuration that the parts of a snapshot make up. `None` where they are not in a
     /// snapshot's order, with settings once; an association, a channel or, on one side, a
-    /// fingerprint comes twice; a channel is the endpoint's own SCI, or one more than 32; more than 512
-    /// keys are spent on a side; a receive association has no channel; an installed key
-    /// is not spent; the encoding association does not exist; or the mode is that of an end
-    /// station, and the port of the endpoint's SCI is not 00-01.
+    /// fingerprint comes twice; a channel is the endpoint's own SCI, or one more than 32; more than
+    /// 512 keys are spent on a side; a receive association has no channel; an installed key is not
+    /// spent; the encoding association does not exist; or the mode is that of an end station, and
+    /// the port of the endpoint's SCI is not 00-01.
     pub fn restore(identity: &Identity, parts: &[Part]) -> Option<Config>
-        ensures restored { option_map config_of result ≡ config_of_parts this_edition identity.now parts.now }
+        ensures restored { option_map config_of result
+            ≡ config_of_parts this_edition identity.now parts.now }
         ensures identity { IfSome result (λ config. config.identity ≡ identity.now) }
     {
         let mut config = Config::new(identity);
@@ -76,9 +79,9 @@ impl Config {
         }
     }
 
-    /// Makes it, in its place, the configuration that the parts of a snapshot make up under its identity, and
-    /// answers whether there is one. Where a place has no part, or `restore` refuses the parts, it is then what
-    /// an endpoint is formatted with.
+    /// Makes it, in its place, the configuration that the parts of a snapshot make up under its
+    /// identity, and answers whether there is one. Where a place has no part, or `restore` refuses
+    /// the parts, it is then what an endpoint is formatted with.
     pub fn restore_from<P: PartSource>(&mut self, parts: &P) -> bool
         ensures restored { config_of_listed this_edition self.old.identity (P.listed parts.now)
             ≡ (if result then Some (config_of self.new) else None) }
@@ -92,12 +95,14 @@ impl Config {
         is_restored
     }
 
-    /// What is judged of a command that may be applied, or the first refusal in the order of `Refusal`. An install
-    /// hashes its key here, and nowhere after it.
+    /// What is judged of a command that may be applied, or the first refusal in the order of
+    /// `Refusal`. An install hashes its key here, and nowhere after it.
     pub fn check(&self, command: &Command) -> Result<Checked, Refusal>
         ensures refused { (refusal : Refusal) → (result ≡ Err refusal)
-            ↔ (refusal_of this_edition self.now.identity (config_of self.now) command.now ≡ Some (Named refusal)) }
-        ensures fits { OnOk result (refusal_of this_edition self.now.identity (config_of self.now) command.now ≡ None) }
+            ↔ (refusal_of this_edition self.now.identity (config_of self.now) command.now
+            ≡ Some (Named refusal)) }
+        ensures fits { OnOk result
+            (refusal_of this_edition self.now.identity (config_of self.now) command.now ≡ None) }
         ensures checked { IfOk result (λ checked. checked ≡ command.now) }
     {
         check(&self.contents, &self.identity, command)
@@ -105,7 +110,8 @@ impl Config {
 
     /// What `check` judges of the command that installs this transmit association.
     pub fn check_tx(&self, an: An, sa: TxSa, start: Pn) -> Result<Checked, Refusal>
-        ensures { with_reason result ≡ answer_or_refusal (refusal_of this_edition self.now.identity (config_of self.now)
+        ensures { with_reason result
+            ≡ answer_or_refusal (refusal_of this_edition self.now.identity (config_of self.now)
             (tx_install an sa start)) (tx_install an sa start) }
     {
         check_tx(&self.contents, an, sa, start)
@@ -113,7 +119,8 @@ impl Config {
 
     /// What `check` judges of the command that installs this receive association.
     pub fn check_rx(&self, sci: Sci, an: An, sa: RxSa, start: Pn) -> Result<Checked, Refusal>
-        ensures { with_reason result ≡ answer_or_refusal (refusal_of this_edition self.now.identity (config_of self.now)
+        ensures { with_reason result
+            ≡ answer_or_refusal (refusal_of this_edition self.now.identity (config_of self.now)
             (rx_install sci an sa start)) (rx_install sci an sa start) }
     {
         check_rx(&self.contents, sci, an, sa, start)
@@ -121,8 +128,10 @@ impl Config {
 
     /// Applies a command that this configuration does not refuse, as its check judged it.
     pub fn apply_checked(&mut self, checked: &Checked)
-        requires { refusal_of this_edition self.old.identity (config_of self.old) checked.now ≡ None }
-        ensures applied { apply this_edition self.old.identity (config_of self.old) checked.now ≡ Ok (config_of self.new) }
+        requires { refusal_of this_edition self.old.identity (config_of self.old)
+            checked.now ≡ None }
+        ensures applied { apply this_edition self.old.identity (config_of self.old) checked.now
+            ≡ Ok (config_of self.new) }
         ensures identity { self.new.identity ≡ self.old.identity }
     {
         change(&mut self.contents, checked.judged());
@@ -131,9 +140,11 @@ impl Config {
     /// Applies a command. A refusal, the first in the order of `Refusal`, changes nothing.
     pub fn apply(&mut self, command: &Command) -> Result<(), Refusal>
         ensures applied { OnOk result
-            (apply this_edition self.old.identity (config_of self.old) command.now ≡ Ok (config_of self.new)) }
+            (apply this_edition self.old.identity (config_of self.old) command.now
+            ≡ Ok (config_of self.new)) }
         ensures refused { (refusal : Refusal) → (result ≡ Err refusal)
-            ↔ (apply this_edition self.old.identity (config_of self.old) command.now ≡ Err (Named refusal)) }
+            ↔ (apply this_edition self.old.identity (config_of self.old) command.now
+            ≡ Err (Named refusal)) }
         ensures identity { self.new.identity ≡ self.old.identity }
         ensures same { OnErr result (self.new ≡ self.old) }
     {
@@ -146,7 +157,8 @@ impl Config {
     pub fn facts(&self)
         ensures config { IsConfig this_edition self.now.identity (config_of self.now) }
         ensures tx_numbers { (an : ℕ) → 4 ≤ an → (config_of self.now).tx an ≡ None }
-        ensures rx_numbers { (sci : List ℕ) (an : ℕ) → 4 ≤ an → (config_of self.now).rx sci an ≡ None }
+        ensures rx_numbers { (sci : List ℕ) (an : ℕ) → 4 ≤ an
+            → (config_of self.now).rx sci an ≡ None }
     {
         self.contents.facts();
     }
@@ -234,7 +246,8 @@ impl Config {
 
     /// Whether a key is spent on the transmit side.
     pub fn is_spent_tx(&self, key: &Key) -> bool
-        ensures { result ≡ is_spent (config_of self.now).spent_tx (tx_fingerprint (octets_of_key key.now)) }
+        ensures { result
+            ≡ is_spent (config_of self.now).spent_tx (tx_fingerprint (octets_of_key key.now)) }
     {
         let fingerprint = tx_fingerprint(key.as_slice());
         self.contents.spent_tx.contains(&fingerprint)
@@ -242,7 +255,8 @@ impl Config {
 
     /// Whether a key is spent for an SCI on the receive side.
     pub fn is_spent_rx(&self, sci: Sci, key: &Key) -> bool
-        ensures { result ≡ is_spent (config_of self.now).spent_rx (rx_fingerprint sci (octets_of_key key.now)) }
+        ensures { result
+            ≡ is_spent (config_of self.now).spent_rx (rx_fingerprint sci (octets_of_key key.now)) }
     {
         let fingerprint = rx_fingerprint(sci, key.as_slice());
         self.contents.spent_rx.contains(&fingerprint)

@@ -46,8 +46,8 @@ impl Channel {
     }
 }
 
-/// What a configuration holds: transmit associations by their numbers, receive channels by ascending
-/// SCI, and the fingerprints of spent keys in the order of installing.
+/// What a configuration holds: transmit associations by their numbers, receive channels by
+/// ascending SCI, and the fingerprints of spent keys in the order of installing.
 #[derive(Drop)]
 pub(crate) struct Contents {
     pub validate: Validate,
@@ -61,10 +61,12 @@ pub(crate) struct Contents {
 }
 
 impl Contents {
-    ghost use Rattle.std.specs.Prelude.{◌≡◌, ◌<◌, ◌≤◌, ◌++◌, [], ◌∷◌, ℕ, List, length, true, false, not, None, IfNone, IfSome, take, drop};
+    ghost use Rattle.std.specs.Prelude.{◌≡◌, ◌<◌, ◌≤◌, ◌++◌, [], ◌∷◌, ℕ, List, length, true, false};
+    ghost use Rattle.std.specs.Prelude.{not, None, IfNone, IfSome, take, drop};
     ghost use Rattle.std.specs.List.{filter};
     ghost use Rattle.std.specs.Str.{bytes_eq};
-    ghost use Rattle.macs_config.specs.Config.{default, has_channel, max_spent, put_among, this_edition};
+    ghost use Rattle.macs_config.specs.Config.{default, has_channel, max_spent, put_among};
+    ghost use Rattle.macs_config.specs.Config.{this_edition};
     ghost use Rattle.macs_config.specs.Places.{IsPlace};
     ghost use Rattle.macs_config.specs.Value.{config_in};
     ghost use Rattle.macs_config.specs.Tables.{put, put_at};
@@ -148,7 +150,8 @@ impl Contents {
 
     /// Puts a transmit association at a number, or takes it away.
     pub(crate) fn put_tx(&mut self, an: An, sa: Option<TxSa>)
-        ensures { config_in self.new ≡ record (config_in self.old) { tx = put (config_in self.old).tx an sa } }
+        ensures { config_in self.new
+            ≡ record (config_in self.old) { tx = put (config_in self.old).tx an sa } }
     {
         self.tx[an.get() as usize] = sa;
     }
@@ -168,7 +171,10 @@ impl Contents {
     pub(crate) fn add_channel(&mut self, sci: Sci)
         requires free { has_channel (config_in self.old) sci ≡ false }
         requires room { length (config_in self.old).channels < this_edition.channels }
-        ensures { config_in self.new ≡ record (config_in self.old) { channels = put_among sci (config_in self.old).channels } }
+        ensures { config_in self.new ≡ record (config_in self.old) {
+          channels =
+              put_among sci (config_in self.old).channels;
+        } }
     {
         let place = self.place_after(sci);
         let associations = [None; ASSOCIATIONS];
@@ -179,7 +185,8 @@ impl Contents {
     fn place_after(&self, sci: Sci) -> usize
         ensures within { result ≤ length (config_in self.now).channels }
         ensures between { put_among sci (config_in self.now).channels ≡
-            take result (config_in self.now).channels ++ sci ∷ drop result (config_in self.now).channels }
+            take result (config_in self.now).channels
+            ++ sci ∷ drop result (config_in self.now).channels }
     {
         for (place, channel) in self.channels.iter().enumerate() {
             if sci.get() < channel.sci.get() {
@@ -202,7 +209,10 @@ impl Contents {
     /// Adds a fingerprint to those that are spent on the transmit side.
     pub(crate) fn spend_tx(&mut self, fingerprint: Fingerprint)
         requires { length (config_in self.old).spent_tx < max_spent }
-        ensures { config_in self.new ≡ record (config_in self.old) { spent_tx = (config_in self.old).spent_tx ++ fingerprint ∷ [] } }
+        ensures { config_in self.new ≡ record (config_in self.old) {
+          spent_tx =
+              (config_in self.old).spent_tx ++ fingerprint ∷ [];
+        } }
     {
         self.spent_tx.push(fingerprint);
     }
@@ -210,7 +220,10 @@ impl Contents {
     /// Adds a fingerprint to those that are spent on the receive side.
     pub(crate) fn spend_rx(&mut self, fingerprint: Fingerprint)
         requires { length (config_in self.old).spent_rx < max_spent }
-        ensures { config_in self.new ≡ record (config_in self.old) { spent_rx = (config_in self.old).spent_rx ++ fingerprint ∷ [] } }
+        ensures { config_in self.new ≡ record (config_in self.old) {
+          spent_rx =
+              (config_in self.old).spent_rx ++ fingerprint ∷ [];
+        } }
     {
         self.spent_rx.push(fingerprint);
     }

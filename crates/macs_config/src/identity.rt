@@ -9,8 +9,8 @@ use std::marker::Model;
 /// The largest block of packet numbers.
 const MAX_BLOCK: u32 = 65_536;
 
-/// The SCI of an endpoint's transmit channel, and how many packet numbers it reserves at a time, 1 to
-/// 65,536 on either side.
+/// The SCI of an endpoint's transmit channel, and how many packet numbers it reserves at a time, 1
+/// to 65,536 on either side.
 #[derive(Clone, Copy, Debug, PartialEq, Eq)]
 pub struct Identity {
     sci: Sci,

@@ -1,5 +1,5 @@
-//! Laws of the definitions, for the layers above. Where a law speaks of a value behind a reference, its
-//! body reads the fields: that is how a proof learns their ranges.
+//! Laws of the definitions, for the layers above. Where a law speaks of a value behind a reference,
+//! its body reads the fields: that is how a proof learns their ranges.
 
 ghost use Rattle.std.specs.Prelude.{◌≡◌, ◌<◌, ◌^◌, ◌++◌, ℕ, List, true, Some, Ok};
 ghost use Rattle.macs_aes.specs.Keys.{octets_of_key};
@@ -100,9 +100,11 @@ pub fn restored_is_config()
         → config_of_parts edition identity parts ≡ Some c → IsConfig edition identity c }
 {}
 
-/// Spent keys stay, in their order; an install adds its key on its side, and no other command adds any.
+/// Spent keys stay, in their order; an install adds its key on its side, and no other command adds
+/// any.
 pub fn spent_for_good()
-    ensures { (edition : Edition) (identity : Identity) (old new : Config) (command : Command) (role : Role)
+    ensures { (edition : Edition) (identity : Identity) (old new : Config) (command : Command)
+        (role : Role)
         → apply edition identity old command ≡ Ok new
         → spent_of role new ≡ spent_of role old ++ spent_by role command }
 {}
@@ -118,18 +120,22 @@ pub fn larger_applies()
 pub fn larger_restores()
     ensures { (small large : Edition) → IsUpTo small large
         → (identity : Identity) (parts : List Part) (c : Config)
-        → config_of_parts small identity parts ≡ Some c → config_of_parts large identity parts ≡ Some c }
+        → config_of_parts small identity parts ≡ Some c
+        → config_of_parts large identity parts ≡ Some c }
 {}
 
 /// A configuration of an edition is one of an edition that takes as much or more.
 pub fn larger_has()
     ensures { (small large : Edition) → IsUpTo small large
-        → (identity : Identity) (c : Config) → IsConfig small identity c → IsConfig large identity c }
+        → (identity : Identity) (c : Config) → IsConfig small identity c
+        → IsConfig large identity c }
 {}
 
-/// An edition that takes long keys refuses no command for its key's length, which is 16 octets or 32.
+/// An edition that takes long keys refuses no command for its key's length, which is 16 octets or
+/// 32.
 pub fn long_keys_taken()
-    ensures { (edition : Edition) (identity : Identity) (c : Config) (command : Command) → IsCommand command
+    ensures { (edition : Edition) (identity : Identity) (c : Config) (command : Command)
+        → IsCommand command
         → edition.long_keys ≡ true → ¬ (refusal_of edition identity c command ≡ Some LongKey) }
 {}
 

@@ -1,6 +1,7 @@
 //! The parts of a snapshot of a configuration.
 
-ghost use Rattle.std.specs.Prelude.{◌≡◌, ◌≤◌, ◌<◌, ◌++◌, ◌↔◌, [], ◌∷◌, length, List, ℕ, IsTrue, IsSome, IfSome, true, false};
+ghost use Rattle.std.specs.Prelude.{◌≡◌, ◌≤◌, ◌<◌, ◌++◌, ◌↔◌, [], ◌∷◌, length, List, ℕ, IsTrue};
+ghost use Rattle.std.specs.Prelude.{IsSome, IfSome, true, false};
 
 use crate::association::{RxSa, TxSa};
 use crate::command::{Replay, Role, SciMode, Validate};
@@ -38,7 +39,8 @@ impl Fingerprints {
 
     /// These fingerprints. `None` for none, and for more than 15.
     pub fn from_slice(fingerprints: &[Fingerprint]) -> Option<Fingerprints>
-        ensures within { IsSome result ↔ ((1 ≤ length fingerprints.now) × (length fingerprints.now ≤ 15)) }
+        ensures within { IsSome result
+            ↔ ((1 ≤ length fingerprints.now) × (length fingerprints.now ≤ 15)) }
         ensures same { IfSome result (λ f. f ≡ fingerprints.now) }
     {
         if fingerprints.is_empty() {
@@ -75,9 +77,9 @@ impl Fingerprints {
     }
 }
 
-/// A part of a snapshot. In order a snapshot has its settings, the transmit associations, the receive
-/// channels, the receive associations, the spent keys of the transmit side and those of the receive
-/// side.
+/// A part of a snapshot. In order a snapshot has its settings, the transmit associations, the
+/// receive channels, the receive associations, the spent keys of the transmit side and those of the
+/// receive side.
 #[derive(Drop)]
 pub enum Part {
     Settings {

@@ -1,7 +1,7 @@
 //! Why a command is refused.
 
-/// Why a command is refused, in the order in which refusals are looked for. A refused command changes
-/// nothing.
+/// Why a command is refused, in the order in which refusals are looked for. A refused command
+/// changes nothing.
 #[derive(Clone, Copy, Debug, PartialEq, Eq)]
 pub enum Refusal {
     /// The start of a new association is 0, which is no packet number.

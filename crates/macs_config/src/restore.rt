@@ -1,12 +1,18 @@
 //! A configuration made of the parts of a snapshot, in its place.
 
-ghost use Rattle.std.specs.Prelude.{◌≡◌, ◌+◌, ◌&&◌, ◌<◌, [], ◌∷◌, Bool, true, false, not, if◌then◌else◌, drop, length, nat_le, nat_lt, is_none, is_some, IfSome, Some, None};
+ghost use Rattle.std.specs.Prelude.{◌≡◌, ◌+◌, ◌&&◌, ◌<◌, [], ◌∷◌, Bool, true, false, not};
+ghost use Rattle.std.specs.Prelude.{if◌then◌else◌, drop, length, nat_le, nat_lt, is_none, is_some};
+ghost use Rattle.std.specs.Prelude.{IfSome, Some, None};
 ghost use Rattle.std.specs.Option.{option_map_or};
 ghost use Rattle.std.specs.List.{list_all};
 ghost use Rattle.std.specs.Str.{bytes_eq};
-ghost use Rattle.macs_config.specs.Config.{are_distinct, has_channel, is_spent, max_spent, put_among, spent_of, takes_key, this_edition, tx_fingerprint};
+ghost use Rattle.macs_config.specs.Config.{are_distinct, has_channel, is_spent, max_spent};
+ghost use Rattle.macs_config.specs.Config.{put_among, spent_of, takes_key, this_edition};
+ghost use Rattle.macs_config.specs.Config.{tx_fingerprint};
 ghost use Rattle.macs_config.specs.Identity.{is_port_one};
-ghost use Rattle.macs_config.specs.Snapshot.{are_new, is_rx_spent, is_tx_spent, is_whole, may_follow, every_an, place_of, config_of_listed, config_with_listed, config_with_part};
+ghost use Rattle.macs_config.specs.Snapshot.{are_new, is_rx_spent, is_tx_spent, is_whole};
+ghost use Rattle.macs_config.specs.Snapshot.{may_follow, every_an, place_of, config_of_listed};
+ghost use Rattle.macs_config.specs.Snapshot.{config_with_listed, config_with_part};
 ghost use Rattle.macs_config.specs.Value.{config_in};
 ghost use Rattle.macs_config.specs.Tables.{put, put_at};
 ghost use Rattle.macs_config.specs.declared.part.Part.TheVariants.{Spent};
@@ -26,8 +32,8 @@ use macs_fields::{An, Sci};
 /// The place of the first parts after the settings, in the order of a snapshot.
 const BEHIND_SETTINGS: u8 = 2;
 
-/// Makes it what the parts of a snapshot make up, and answers whether they make up something; where the
-/// snapshot is refused, nothing is said of what is left.
+/// Makes it what the parts of a snapshot make up, and answers whether they make up something; where
+/// the snapshot is refused, nothing is said of what is left.
 pub(crate) fn restore<P: PartSource>(
     identity: &Identity,
     contents: &mut Contents,
@@ -46,7 +52,8 @@ pub(crate) fn restore<P: PartSource>(
 /// Takes the settings of a first part, and answers whether it has settings.
 fn take_settings(contents: &mut Contents, first: Option<Part>) -> bool
     ensures test { result ≡ option_map_or (λ part. nat_le (place_of part) 1) first false }
-    ensures settled { result ≡ true → IfSome first (λ part. config_in contents.new ≡ config_with_part (config_in contents.old) part) }
+    ensures settled { result ≡ true → IfSome first
+        (λ part. config_in contents.new ≡ config_with_part (config_in contents.old) part) }
 {
     let Some(
         Part::Settings {
@@ -66,10 +73,11 @@ fn take_settings(contents: &mut Contents, first: Option<Part>) -> bool
     true
 }
 
-/// Adds the parts after the settings in turn, and answers whether there is one at each place, none is out
-/// of order, and each may follow those in front of it.
+/// Adds the parts after the settings in turn, and answers whether there is one at each place, none
+/// is out of order, and each may follow those in front of it.
 fn add_all<P: PartSource>(identity: &Identity, contents: &mut Contents, parts: &P) -> bool
-    ensures { config_with_listed this_edition identity.now 2 (config_in contents.old) (drop 1 (P.listed parts.now))
+    ensures { config_with_listed this_edition identity.now 2 (config_in contents.old)
+        (drop 1 (P.listed parts.now))
         ≡ (if result then Some (config_in contents.new) else None) }
 {
     let mut place = BEHIND_SETTINGS;
@@ -109,7 +117,8 @@ fn place_of(part: &Part) -> u8
 /// Adds a part, and answers whether it may follow what is there.
 fn add(identity: &Identity, contents: &mut Contents, part: &Part) -> bool
     ensures test { result ≡ may_follow this_edition identity.now (config_in contents.old) part.now }
-    ensures added { result ≡ true → config_in contents.new ≡ config_with_part (config_in contents.old) part.now }
+    ensures added { result ≡ true
+        → config_in contents.new ≡ config_with_part (config_in contents.old) part.now }
 {
     match part {
         Part::Settings { .. } => false,
@@ -120,11 +129,13 @@ fn add(identity: &Identity, contents: &mut Contents, part: &Part) -> bool
     }
 }
 
-/// Adds a transmit association, and answers whether there was none at its number and its key is one that
-/// this edition takes.
+/// Adds a transmit association, and answers whether there was none at its number and its key is one
+/// that this edition takes.
 fn add_tx(contents: &mut Contents, an: An, sa: TxSa) -> bool
-    ensures test { result ≡ (is_none ((config_in contents.old).tx an) && takes_key this_edition sa.key) }
-    ensures added { result ≡ true → config_in contents.new ≡ record (config_in contents.old) { tx = put (config_in contents.old).tx an (Some sa) } }
+    ensures test { result
+        ≡ (is_none ((config_in contents.old).tx an) && takes_key this_edition sa.key) }
+    ensures added { result ≡ true → config_in contents.new
+        ≡ record (config_in contents.old) { tx = put (config_in contents.old).tx an (Some sa) } }
 {
     let may_follow = contents.tx[an.get() as usize].is_none() && takes_key(sa.key.as_slice());
     if may_follow {
@@ -135,9 +146,11 @@ fn add_tx(contents: &mut Contents, an: An, sa: TxSa) -> bool
 
 /// Adds a receive channel, and answers whether it is not the own one, did not exist, and fits.
 fn add_channel(identity: &Identity, contents: &mut Contents, sci: Sci) -> bool
-    ensures test { result ≡ (not (bytes_eq sci identity.now.sci) && not (has_channel (config_in contents.old) sci)
+    ensures test { result
+        ≡ (not (bytes_eq sci identity.now.sci) && not (has_channel (config_in contents.old) sci)
         && nat_lt (length (config_in contents.old).channels) this_edition.channels) }
-    ensures added { result ≡ true → config_in contents.new ≡ record (config_in contents.old) { channels = put_among sci (config_in contents.old).channels } }
+    ensures added { result ≡ true → config_in contents.new ≡ record (config_in contents.old)
+        { channels = put_among sci (config_in contents.old).channels } }
 {
     let is_new = sci != identity.sci() && !contents.has_channel(sci);
     let may_follow = is_new && contents.channels.len() < MAX_CHANNELS;
@@ -147,13 +160,16 @@ fn add_channel(identity: &Identity, contents: &mut Contents, sci: Sci) -> bool
     may_follow
 }
 
-/// Adds a receive association, and answers whether its channel exists, there is no association at its number,
-/// and its key is one that this edition takes.
+/// Adds a receive association, and answers whether its channel exists, there is no association at
+/// its number, and its key is one that this edition takes.
 fn add_rx(contents: &mut Contents, sci: Sci, an: An, sa: RxSa) -> bool
-    ensures test { result ≡ (has_channel (config_in contents.old) sci && is_none ((config_in contents.old).rx sci an)
+    ensures test { result
+        ≡ (has_channel (config_in contents.old) sci && is_none ((config_in contents.old).rx sci an)
         && takes_key this_edition sa.key) }
-    ensures added { result ≡ true → config_in contents.new ≡ record (config_in contents.old)
-        { rx = put_at (config_in contents.old).rx sci (put ((config_in contents.old).rx sci) an (Some sa)) } }
+    ensures added { result ≡ true → config_in contents.new ≡ record (config_in contents.old) {
+      rx = put_at (config_in contents.old).rx sci
+          (put ((config_in contents.old).rx sci) an (Some sa));
+    } }
 {
     let is_free = contents.has_channel(sci) && contents.rx(sci, an).is_none();
     let may_follow = is_free && takes_key(sa.key.as_slice());
@@ -166,8 +182,10 @@ fn add_rx(contents: &mut Contents, sci: Sci, an: An, sa: RxSa) -> bool
 /// Adds spent keys of a side, and answers whether they are new and fit.
 fn add_spent(contents: &mut Contents, role: Role, fingerprints: &[Fingerprint]) -> bool
     ensures test { result ≡ (are_new (spent_of role (config_in contents.old)) fingerprints.now
-        && nat_le (length (spent_of role (config_in contents.old)) + length fingerprints.now) max_spent) }
-    ensures added { result ≡ true → config_in contents.new ≡ config_with_part (config_in contents.old) (Spent role fingerprints.now) }
+        && nat_le (length (spent_of role (config_in contents.old)) + length fingerprints.now)
+        max_spent) }
+    ensures added { result ≡ true → config_in contents.new
+        ≡ config_with_part (config_in contents.old) (Spent role fingerprints.now) }
 {
     let may_follow = may_be_spent(spent_of(contents, role), fingerprints);
     if may_follow {
@@ -191,7 +209,8 @@ fn spent_of(contents: &Contents, role: Role) -> &SpentKeys
 /// Adds a spent key of a side.
 fn spend(contents: &mut Contents, role: Role, fingerprint: Fingerprint)
     requires { length (spent_of role (config_in contents.old)) < max_spent }
-    ensures { config_in contents.new ≡ config_with_part (config_in contents.old) (Spent role (fingerprint ∷ [])) }
+    ensures { config_in contents.new
+        ≡ config_with_part (config_in contents.old) (Spent role (fingerprint ∷ [])) }
 {
     match role {
         Role::Transmit => contents.spend_tx(fingerprint),
@@ -201,7 +220,8 @@ fn spend(contents: &mut Contents, role: Role, fingerprint: Fingerprint)
 
 /// Whether these fingerprints may be added to those that are spent: they are new, and they fit.
 fn may_be_spent(spent: &SpentKeys, fingerprints: &[Fingerprint]) -> bool
-    ensures { result ≡ (are_new spent.now fingerprints.now && nat_le (length spent.now + length fingerprints.now) max_spent) }
+    ensures { result ≡ (are_new spent.now fingerprints.now
+        && nat_le (length spent.now + length fingerprints.now) max_spent) }
 {
     are_new(spent, fingerprints) && spent.len() + fingerprints.len() <= MAX_SPENT
 }
@@ -251,7 +271,8 @@ fn are_tx_spent(contents: &Contents) -> bool
 
 /// Whether the key of a transmit association is spent; true where there is none.
 fn is_tx_spent(spent: &SpentKeys, sa: &Option<TxSa>) -> bool
-    ensures { result ≡ option_map_or (λ sa. is_spent spent.now (tx_fingerprint sa.key)) sa.now true }
+    ensures { result
+        ≡ option_map_or (λ sa. is_spent spent.now (tx_fingerprint sa.key)) sa.now true }
 {
     match sa {
         Some(sa) => spent.contains(&tx_fingerprint(sa.key.as_slice())),
@@ -261,7 +282,8 @@ fn is_tx_spent(spent: &SpentKeys, sa: &Option<TxSa>) -> bool
 
 /// Whether the keys of all receive associations are spent.
 fn are_rx_spent(contents: &Contents) -> bool
-    ensures { result ≡ list_all (λ sci. list_all (is_rx_spent (config_in contents.now) sci) every_an) (config_in contents.now).channels }
+    ensures { result ≡ list_all (λ sci. list_all (is_rx_spent (config_in contents.now) sci)
+        every_an) (config_in contents.now).channels }
 {
     contents
         .channels
@@ -290,7 +312,8 @@ fn is_rx_spent(contents: &Contents, sci: Sci, an: An) -> bool
 
 /// Whether the association that frames go out under exists; true where there is none.
 fn encoding_stands(contents: &Contents) -> bool
-    ensures { result ≡ option_map_or (λ an. is_some ((config_in contents.now).tx an)) (config_in contents.now).encoding true }
+    ensures { result ≡ option_map_or (λ an. is_some ((config_in contents.now).tx an))
+        (config_in contents.now).encoding true }
 {
     match contents.encoding {
         Some(an) => contents.tx[an.get() as usize].is_some(),

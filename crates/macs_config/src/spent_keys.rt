@@ -16,8 +16,8 @@ const ROWS: usize = 256;
 /// A filter: rows of 16 flags, one flag for each value of a fingerprint's first 12 bits.
 type Filter = [u16; ROWS];
 
-/// The fingerprints of spent keys, in the order of installing. The filter has the flag of each of them
-/// set, so that most others are told apart without a look through the list.
+/// The fingerprints of spent keys, in the order of installing. The filter has the flag of each of
+/// them set, so that most others are told apart without a look through the list.
 #[derive(Drop)]
 pub(crate) struct SpentKeys {
     fingerprints: ArrayVec<Fingerprint, MAX_SPENT>,
@@ -100,7 +100,8 @@ fn has_flag(filter: &Filter, fingerprint: &Fingerprint) -> bool
 /// Sets a fingerprint's flag.
 fn set_flag(filter: &mut Filter, fingerprint: &Fingerprint)
     ensures set { has_flag filter.new fingerprint.now ≡ true }
-    ensures kept { (other : List ℕ) → has_flag filter.old other ≡ true → has_flag filter.new other ≡ true }
+    ensures kept { (other : List ℕ) → has_flag filter.old other ≡ true
+        → has_flag filter.new other ≡ true }
 {
     filter[usize::from(fingerprint[0])] |= 1 << (fingerprint[1] / 16);
 }

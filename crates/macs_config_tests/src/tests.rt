@@ -1,5 +1,5 @@
-//! Commands on a configuration: what each one changes, when it is refused, and which keys it spends.
-//! Fingerprints are by Python's hashlib.
+//! Commands on a configuration: what each one changes, when it is refused, and which keys it
+//! spends. Fingerprints are by Python's hashlib.
 
 mod applying;
 mod refusing;
@@ -79,8 +79,8 @@ fn refuse(rt: &impl Abort, config: &mut Config, command: Command, refusal: Refus
     assert_eq!(rt; config.apply(&command), Err(refusal));
 }
 
-/// Two transmit associations, frames going out under the second, and two channels, one of them with an
-/// association.
+/// Two transmit associations, frames going out under the second, and two channels, one of them with
+/// an association.
 fn configured(rt: &impl Abort) -> Config {
     let mut config = Config::new(&identity_of(rt, OWN_SCI));
     take(rt, &mut config, tx_install(rt, 0, key_from(0)));

@@ -29,8 +29,12 @@ pub line-behind : (start mid new : Option (List ℕ)) (text line : List ℕ) →
 line-behind None mid new text line begins next = tt
 line-behind (Some all) None new text line begins next = let e = begins.1 in cc
 line-behind (Some all) (Some rest) new text line (before, was, begins) (left, is, cut, whole) =
-    let e : rest ≡ before = ap (λ (o : Option (List ℕ)). elim o [ None ↦ [] | Some t ↦ t ]) was in
-    (left, is, begins ∙ ap (λ (l : List ℕ). text ++ l) (sym e ∙ cut ∙ sym (append_assoc line (10 ∷ []) left)) ∙ sym (append_assoc text (line ++ 10 ∷ []) left))
+    let e : rest ≡ before = ap (λ (o : Option (List ℕ)). elim o [ None ↦ [] | Some t ↦ t ]) was in (
+      left,
+      is,
+      begins ∙ ap (λ (l : List ℕ). text ++ l) (sym e ∙ cut ∙ sym (append_assoc line (10 ∷ []) left))
+          ∙ sym (append_assoc text (line ++ 10 ∷ []) left),
+    )
 
 -- the line that ends an answer after its text
 pub end-behind : (start mid new : Option (List ℕ)) (text line : List ℕ) (status : ℕ) → BeginsWith start text mid

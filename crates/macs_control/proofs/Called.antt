@@ -12,7 +12,8 @@ pub calls-more : (a b d : Option (List SocketCall)) (calls more : List SocketCal
     → d ≡ with_calls a (calls ++ more)
 calls-more None b d calls more one two = two ∙ ap (λ (x : Option (List SocketCall)). with_calls x more) one
 calls-more (Some before) b d calls more one two =
-    two ∙ ap (λ (x : Option (List SocketCall)). with_calls x more) one ∙ ap (λ (l : List SocketCall). Some l) (append_assoc before calls more)
+    two ∙ ap (λ (x : Option (List SocketCall)). with_calls x more) one
+    ∙ ap (λ (l : List SocketCall). Some l) (append_assoc before calls more)
 
 -- ---- the calls of a control socket
 
@@ -20,14 +21,17 @@ calls-more (Some before) b d calls more one two =
 pub stale-cleared : (path : List ℕ) (a b d : Option (List SocketCall)) (done : Bool)
     → b ≡ with_calls a (Reaches path found.Stale ∷ [])
     → d ≡ with_calls b (Removes path done ∷ []) → Clears path a d done
-stale-cleared path a b d true one two = (Reaches path found.Stale ∷ Removes path true ∷ [], inr refl, calls-more a b d _ _ one two)
-stale-cleared path a b d false one two = (Reaches path found.Stale ∷ Removes path false ∷ [], inr refl, calls-more a b d _ _ one two)
+stale-cleared path a b d true one two =
+    (Reaches path found.Stale ∷ Removes path true ∷ [], inr refl, calls-more a b d _ _ one two)
+stale-cleared path a b d false one two =
+    (Reaches path found.Stale ∷ Removes path false ∷ [], inr refl, calls-more a b d _ _ one two)
 
 -- a socket whose mode is not set
 pub mode-refused : (path : List ℕ) (a b d : Option (List SocketCall)) (done : Bool) → b ≡ with_calls a (Makes true ∷ [])
     → d ≡ with_calls b (SetsMode 384 done ∷ []) → done ≡ false → IsNotNamed path a d
 mode-refused path a b d true one two is = cc
-mode-refused path a b d false one two is = (Makes true ∷ SetsMode 384 false ∷ [], inr (inl refl), calls-more a b d _ _ one two)
+mode-refused path a b d false one two is =
+    (Makes true ∷ SetsMode 384 false ∷ [], inr (inl refl), calls-more a b d _ _ one two)
 
 -- one that does not get its name
 pub name-refused : (path : List ℕ) (a b d e : Option (List SocketCall)) (set done : Bool)
@@ -36,8 +40,11 @@ pub name-refused : (path : List ℕ) (a b d e : Option (List SocketCall)) (set d
     → done ≡ false → IsNotNamed path a e
 name-refused path a b d e false done one two is three not = cc
 name-refused path a b d e true true one two is three not = cc
-name-refused path a b d e true false one two is three not =
-    (Makes true ∷ SetsMode 384 true ∷ Binds path false ∷ [], inr (inr refl), calls-more a d e _ _ (calls-more a b d _ _ one two) three)
+name-refused path a b d e true false one two is three not = (
+  Makes true ∷ SetsMode 384 true ∷ Binds path false ∷ [],
+  inr (inr refl),
+  calls-more a d e _ _ (calls-more a b d _ _ one two) three,
+)
 
 -- a name that is taken
 pub taken : (path : List ℕ) (a b : Option (List SocketCall)) (free : Bool) → Clears path a b free → free ≡ false
@@ -50,10 +57,12 @@ pub not-named : (path : List ℕ) (a b d : Option (List SocketCall)) (free : Boo
     → free ≡ true → IsNotNamed path b d
     → IsNotBound path a d
 not-named path a b d false clears is not = cc
-not-named path a b d true (calls, clear, one) is (cut, cuts, two) = inr (inl (calls, cut, clear, cuts, calls-more a b d _ _ one two))
+not-named path a b d true (calls, clear, one) is (cut, cuts, two) =
+    inr (inl (calls, cut, clear, cuts, calls-more a b d _ _ one two))
 
 -- one that is free, a socket that gets it, and whether it takes connections
-listens : (a b d e : Option (List SocketCall)) (calls named : List SocketCall) (done : Bool) → b ≡ with_calls a calls → d ≡ with_calls b named
+listens : (a b d e : Option (List SocketCall)) (calls named : List SocketCall) (done : Bool) → b ≡ with_calls a calls
+    → d ≡ with_calls b named
     → e ≡ with_calls d (Listens done ∷ []) → e ≡ with_calls a (calls ++ named ++ Listens done ∷ [])
 listens a b d e calls named done one two three = calls-more a d e _ _ (calls-more a b d _ _ one two) three
 

@@ -29,7 +29,8 @@ pub record SocketWords : Type 0 where
       → (calls : List SocketCall) × IsTaken path calls × (after ≡ with_calls before calls)
   pub bound : (path : List ℕ) (before : List SocketCall) (after : Option (List SocketCall))
       → IsBound path (Some before) after → (calls : List SocketCall) × IsClear path calls
-      × (after ≡ Some (before ++ (calls ++ (Makes true ∷ SetsMode 384 true ∷ Binds path true ∷ []) ++ Listens true ∷ [])))
+      × (after
+      ≡ Some (before ++ (calls ++ (Makes true ∷ SetsMode 384 true ∷ Binds path true ∷ []) ++ Listens true ∷ [])))
   pub not_bound : (path : List ℕ) (before : List SocketCall) (after : Option (List SocketCall))
       → IsNotBound path (Some before) after
       → ((calls : List SocketCall) × IsTaken path calls × (after ≡ Some (before ++ calls)))

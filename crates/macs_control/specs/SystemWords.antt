@@ -1,5 +1,6 @@
 -- What is to be drawn of the words on what the system is asked and says.
-use Rattle.std.specs.Prelude.{◌≡◌, ◌≢◌, ◌⊎◌, ◌+◌, ◌/◌, ◌%◌, ◌^◌, ◌==◌, ◌++◌, ℕ, ℤ, pos, Bool, true, false, List, [], ◌∷◌}
+use Rattle.std.specs.Prelude.{◌≡◌, ◌≢◌, ◌⊎◌, ◌+◌, ◌/◌, ◌%◌, ◌^◌, ◌==◌, ◌++◌, ℕ, ℤ, pos, Bool, true, false, List, []}
+use Rattle.std.specs.Prelude.{◌∷◌}
 use Rattle.std.specs.Prelude.{length, nat_le, replicate, take, codes, Option, Some, None}
 use Rattle.std.specs.Duration.{as_nanos}
 use Rattle.std.specs.Int.{to_le_bytes, w32}
@@ -13,9 +14,10 @@ use Rattle.macs_control.specs.Signals.{IsTermPending, is_term_set}
 use Rattle.macs_control.specs.Watching.{asks, watched}
 use Rattle.macs_control.specs.declared.watch.Watch.{Watch}
 
--- SIGTERM, 15, is the bit of weight 2^14 of the signals that wait for the process as a whole. A name that begins with `@`
--- is abstract: its address has a 0 there. A second has 10^9 ns, and one is over at first. A number of 32 bits is the value
--- of an option with its low octet first. Seven sockets are watched, and asked whether they can be read (POLLIN is 1).
+-- SIGTERM, 15, is the bit of weight 2^14 of the signals that wait for the process as a whole. A name that begins with
+-- `@` is abstract: its address has a 0 there. A second has 10^9 ns, and one is over at first. A number of 32 bits is
+-- the value of an option with its low octet first. Seven sockets are watched, and asked whether they can be read
+-- (POLLIN is 1).
 pub record SystemWords : Type 0 where
   pub term : (digits : List ℕ) → is_term_set digits
       ≡ (digits_value 16 (without_leading_plus digits) / 2 ^ 14 % 2 == 1)

@@ -63,7 +63,8 @@ pub(crate) fn address_of(name: &[u8]) -> Option<LocalAddress>
     })
 }
 
-/// Where it is reported how far the program is: the socket that `NOTIFY_SOCKET` names, if there is one.
+/// Where it is reported how far the program is: the socket that `NOTIFY_SOCKET` names, if there is
+/// one.
 #[derive(Clone, Copy)]
 pub struct Notifier {
     address: Option<LocalAddress>,

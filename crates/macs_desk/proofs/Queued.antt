@@ -32,7 +32,8 @@ abbrev pub Queues : List ℕ → List DeskEvent → List ℕ → Type 0
 Queues waiting [] left = left ≡ waiting
 Queues waiting (Wanted quiet Go ∷ events) left = Queues waiting events left
 Queues waiting (Wanted quiet End ∷ events) left = Queues waiting events left
-Queues waiting (Wanted quiet (Submit command) ∷ Took answer ∷ events) left = Queues (with_taken waiting answer) events left
+Queues waiting (Wanted quiet (Submit command) ∷ Took answer ∷ events) left =
+    Queues (with_taken waiting answer) events left
 Queues waiting (Answered ticket end ∷ events) left =
     (more : List ℕ) × (waiting ≡ ticket ∷ more) × Queues more events left
 Queues waiting (Wanted quiet (Submit command) ∷ events) left = ⊥
@@ -50,8 +51,10 @@ queues-append waiting between left (Wanted quiet (Submit command) ∷ Took answe
 queues-append waiting between left (Answered ticket end ∷ events) more (rest, first, one) two =
     (rest, first, queues-append rest between left events more one two)
 queues-append waiting between left (Wanted quiet (Submit command) ∷ []) more one two = absurd one
-queues-append waiting between left (Wanted quiet (Submit command) ∷ Wanted again order ∷ events) more one two = absurd one
-queues-append waiting between left (Wanted quiet (Submit command) ∷ Answered ticket end ∷ events) more one two = absurd one
+queues-append waiting between left (Wanted quiet (Submit command) ∷ Wanted again order ∷ events) more one
+    two = absurd one
+queues-append waiting between left (Wanted quiet (Submit command) ∷ Answered ticket end ∷ events) more one
+    two = absurd one
 queues-append waiting between left (Took answer ∷ events) more one two = absurd one
 
 -- the commands that wait at the end are answered as failed
@@ -106,7 +109,8 @@ module _ {D : Type 0} (disk_of : D → Disk) where
   turn-queues old between new endpoint earlier before quiet progress so_far obeyed turn =
       let on = obeys disk_of old between endpoint earlier before so_far
       (obeys-with disk_of quiet true between.endpoint endpoint before obeyed) in
-      queues-append (tickets_of between.endpoint.waiting) (tickets_of endpoint.waiting) (tickets_of new.endpoint.waiting)
+      queues-append (tickets_of between.endpoint.waiting) (tickets_of endpoint.waiting)
+      (tickets_of new.endpoint.waiting)
       before (answers_of progress) (obeyed-queue quiet true between.endpoint endpoint before obeyed)
       (step-queue progress (tickets_of endpoint.waiting) (tickets_of new.endpoint.waiting)
       (turn-queue disk_of old (record between { endpoint = endpoint }) new (earlier ++ before) (Ok progress) on turn))

@@ -1,5 +1,6 @@
 -- What is reported to clients of their commands, event by event.
-use Rattle.std.proofs.Common.{◌≡◌, ◌++◌, inl, inr, ℕ, Bool, true, false, List, [], ◌∷◌, map, Option, Some, Result, Ok, Err}
+use Rattle.std.proofs.Common.{◌≡◌, ◌++◌, inl, inr, ℕ, Bool, true, false, List, [], ◌∷◌, map, Option, Some, Result, Ok}
+use Rattle.std.proofs.Common.{Err}
 use Rattle.std.proofs.Common.{refl, sym, ap, ◌∙◌, append-nil, append_assoc}
 use Rattle.std.specs.Prelude.{flat_map}
 use Rattle.std.proofs.lemmas.Bool.{eq-eqb}
@@ -135,7 +136,8 @@ one-more entries entry room = rw room refl
 
 -- ---- event by event
 
--- from these events on, with what is said at them: what is reported of the commands that they answer, and what is under way then
+-- from these events on, with what is said at them: what is reported of the commands that they answer, and what is under
+-- way then
 record Served (old : DeskState) (events : List DeskEvent) (talks : List (List Talk)) (new : DeskState) (left : List ℕ)
     : Type 0 where
   told : List Told
@@ -255,7 +257,8 @@ serves (Wanted quiet End ∷ events) (talk ∷ talks) old new waiting left held 
     after-wanted events talks new left quiet End talk old between same
     (if-asks time quiet (is_full old.under_way) reports old.asking between.asking talk End looks)
     (serves events talks between new waiting left (ap tickets same ∙ held) queues more)
-serves (Wanted quiet (Submit command) ∷ Took answer ∷ events) (talk ∷ then_said ∷ talks) old new waiting left held queues
+serves (Wanted quiet (Submit command) ∷ Took answer ∷ events) (talk ∷ then_said ∷ talks) old new waiting
+    left held queues
     (between, (time, reports, looks, same), (taken, took, more)) =
     let full = is_full old.under_way in
     let room : is_full between.under_way ≡ false =
@@ -279,7 +282,8 @@ serves (Wanted quiet (Submit command) ∷ events) [] old new waiting left held q
 serves (Wanted quiet (Submit command) ∷ Took answer ∷ events) (talk ∷ []) old new waiting left held queues speaks =
     absurd speaks.2
 serves (Wanted quiet (Submit command) ∷ []) (talk ∷ talks) old new waiting left held queues speaks = absurd queues
-serves (Wanted quiet (Submit command) ∷ Wanted again order ∷ events) (talk ∷ talks) old new waiting left held queues speaks =
+serves (Wanted quiet (Submit command) ∷ Wanted again order ∷ events) (talk ∷ talks) old new waiting left held
+    queues speaks =
     absurd queues
 serves (Wanted quiet (Submit command) ∷ Answered ticket end ∷ events) (talk ∷ talks) old new waiting left held queues
     speaks = absurd queues
@@ -288,7 +292,8 @@ serves (Answered ticket end ∷ events) [] old new waiting left held queues spea
 
 -- ---- over a whole relay
 
-same-tickets : (told : List Told) → map (λ (e : Ended). e.ticket) (map ended_in told) ≡ map (λ (t : Told). t.ticket) told
+same-tickets : (told : List Told)
+    → map (λ (e : Ended). e.ticket) (map ended_in told) ≡ map (λ (t : Told). t.ticket) told
 same-tickets [] = refl
 same-tickets (one ∷ told) = ap (λ (l : List ℕ). one.ticket ∷ l) (same-tickets told)
 

@@ -1,4 +1,5 @@
--- What is reported to clients over a whole relay: what became of each command that one of them gave, once, in the order of tickets.
+-- What is reported to clients over a whole relay: what became of each command that one of them gave, once, in the order
+-- of tickets.
 use Rattle.std.specs.Prelude.{◌≡◌, ◌++◌, ℕ, Bool, List, [], ◌∷◌, flat_map, map, Some, Ok}
 use Rattle.macs_edge.specs.Commanding.{Ended, ended_by, tickets_taken}
 use Rattle.macs_edge.specs.declared.attending.CommandEnd.{CommandEnd}

@@ -11,7 +11,8 @@ use Rattle.macs_desk.specs.Serving.{DeskState, Speaks, SpeaksAt}
 use Rattle.macs_desk.specs.UnderWay.{is_full, without}
 
 -- Where nothing happens nothing is said. What is said at an event comes before what is said at those after it. Before a
--- turn, when a command was handed in, and when it is known what became of one, that is what each call of a desk ensures.
+-- turn, when a command was handed in, and when it is known what became of one, that is what each call of a desk
+-- ensures.
 pub record SpeakWords : Type 0 where
   pub none : (state : DeskState) → Speaks state [] [] state
   pub next : (old between new : DeskState) (event : DeskEvent) (events : List DeskEvent) (talk : List Talk)

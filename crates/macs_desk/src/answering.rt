@@ -15,8 +15,8 @@ use macs_requests::{Client, Clients, Heard, Request, request_of_line};
 use macs_texts::{counter_lines, show_lines};
 use std::alloc::{AllocError, Global};
 
-/// The request of a line, `None` where it is no text, or the line of no request. It fails only where memory is
-/// refused.
+/// The request of a line, `None` where it is no text, or the line of no request. It fails only
+/// where memory is refused.
 fn request_of(alloc: Global, line: &[u8]) -> Result<Option<Request>, AllocError>
     ensures { IfOk result (λ found. IsRead line.now found) }
 {

@@ -83,7 +83,8 @@ impl<D: SectorDisk, P: Wire + Counted, W: Wire + Counted, C: Clients, M: Metrics
             × (C.talk self.new.clients ≡ with_talk (C.talk self.old.clients) talk) }
         ensures notes { (notes : List Note)
             × MeasuresIf (is_time was_quiet self.old.turns_left)
-            (reports_of endpoint.now (P.wire_counts controlled.now) (W.wire_counts common.now)).measured
+            (reports_of endpoint.now (P.wire_counts controlled.now)
+            (W.wire_counts common.now)).measured
             notes
             × (M.notes self.new.metrics ≡ with_notes (M.notes self.old.metrics) notes) }
         ensures under_way { entries_of self.new.under_way ≡ entries_of self.old.under_way }

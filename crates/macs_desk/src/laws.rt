@@ -13,20 +13,22 @@ ghost use Rattle.macs_desk.specs.SpeakWords.{SpeakWords};
 
 use macs_disk::SectorDisk;
 
-/// Over a whole relay that a desk attends, from an endpoint in which no command waits: each command that was taken is
-/// answered once, in the order of tickets, to the client that gave it, with what the relay said became of it; and when
-/// the relay has ended none is left. What a relay says became of commands is what steps were done with
-/// (`macs_edge::laws::attended`), so `ok` is said after a step answered that the command is kept, and of no other.
+/// Over a whole relay that a desk attends, from an endpoint in which no command waits: each command
+/// that was taken is answered once, in the order of tickets, to the client that gave it, with what
+/// the relay said became of it; and when the relay has ended none is left. What a relay says became
+/// of commands is what steps were done with (`macs_edge::laws::attended`), so `ok` is said after a
+/// step answered that the command is kept, and of no other.
 pub fn clients_are_told<D: SectorDisk>()
     ensures { (turns : ℕ) (old new : Relay D) (events : List DeskEvent) (talks : List (List Talk))
         (before after : DeskState) (result : Result RelaySummary RefillFault)
         → old.to_common ≡ empty_lane → old.to_controlled ≡ empty_lane → old.endpoint.waiting ≡ []
-        → before.under_way ≡ [] → Attends D.disk turns old events result new → Speaks before events talks after
+        → before.under_way ≡ [] → Attends D.disk turns old events result new
+        → Speaks before events talks after
         → ClientsAreTold before.asking events talks × (after.under_way ≡ []) }
 {}
 
-/// The words of a desk say this: what its clients are answered, which of them is, when the desk listens and
-/// the relay ends, and what is reported.
+/// The words of a desk say this: what its clients are answered, which of them is, when the desk
+/// listens and the relay ends, and what is reported.
 pub fn words<D: SectorDisk>()
     // What is said of a command, and when.
     ensures answers { AnswerWords }

@@ -22,8 +22,8 @@ pub fn is_time(was_quiet: bool, left: u8) -> bool
     was_quiet || left == 0
 }
 
-/// How many turns may pass without it, once the desk wanted this: none after a command, since more may
-/// come with it.
+/// How many turns may pass without it, once the desk wanted this: none after a command, since more
+/// may come with it.
 pub fn turns_between(order: &Order) -> u8
     ensures { result ≡ turns_between order.now }
 {

@@ -31,7 +31,8 @@ fn opened<D: SectorDisk + Drop>(rt: &impl Abort, disk: D) -> Endpoint<D> {
     }
 }
 
-/// A relay of a new endpoint of so many turns, between two wires on which nothing waits, with this desk.
+/// A relay of a new endpoint of so many turns, between two wires on which nothing waits, with this
+/// desk.
 fn attended<K: Desk<MemDisk, MemWire<Global>, MemWire<Global>>>(
     rt: &impl Abort,
     alloc: Global,

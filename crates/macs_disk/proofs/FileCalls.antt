@@ -1,5 +1,7 @@
 -- A call of a disk in a file is a call of a disk.
-use Rattle.std.proofs.Common.{◌≡◌, ◌≤◌, ◌<◌, ◌+◌, ◌-◌, ◌^◌, ◌&&◌, ◌==◌, ◌⊎◌, inl, inr, ℕ, zero, suc, Bool, true, false, List, [], ◌∷◌, ◌++◌, length, get_or, nat_le, refl, ap, ◌∙◌, arith, subst, sym, Result, Ok, Err, OnOk, OnErr, IsErr, ◌↔◌}
+use Rattle.std.proofs.Common.{◌≡◌, ◌≤◌, ◌<◌, ◌+◌, ◌-◌, ◌^◌, ◌&&◌, ◌==◌, ◌⊎◌, inl, inr, ℕ, zero, suc, Bool, true, false}
+use Rattle.std.proofs.Common.{List, [], ◌∷◌, ◌++◌, length, get_or, nat_le, refl, ap, ◌∙◌, arith, subst, sym, Result, Ok}
+use Rattle.std.proofs.Common.{Err, OnOk, OnErr, IsErr, ◌↔◌}
 use Rattle.std.proofs.lemmas.Bool.{cases_lt, and_parts}
 use Rattle.std.proofs.lemmas.List.{get_or_past}
 use Rattle.std.specs.declared.snapshot.Snapshot.{Snapshot}
@@ -24,17 +26,20 @@ get_or-any (x ∷ xs) zero d e lt = refl
 get_or-any (x ∷ xs) (suc i) d e lt = get_or-any xs i d e (omega (arith, lt))
 
 -- what the disk answers is what the file answered
-pub on-ok : {T E U D : Type 0} (answer : Result T E) (result : Result U D) (P : Type 0) → (IsErr result ↔ IsErr answer) → OnOk answer P → OnOk result P
+pub on-ok : {T E U D : Type 0} (answer : Result T E) (result : Result U D) (P : Type 0) → (IsErr result ↔ IsErr answer)
+    → OnOk answer P → OnOk result P
 on-ok (Ok x) (Ok y) P alike holds = holds
 on-ok (Err e) (Ok y) P alike holds = absurd (let no : false ≡ true = alike.1 refl in cc)
 on-ok answer (Err d) P alike holds = tt
 
-pub on-err : {T E U D : Type 0} (answer : Result T E) (result : Result U D) (P : Type 0) → (IsErr result ↔ IsErr answer) → OnErr answer P → OnErr result P
+pub on-err : {T E U D : Type 0} (answer : Result T E) (result : Result U D) (P : Type 0) → (IsErr result ↔ IsErr answer)
+    → OnErr answer P → OnErr result P
 on-err (Err e) (Err d) P alike holds = holds
 on-err (Ok x) (Err d) P alike holds = absurd (let no : false ≡ true = alike.0 refl in cc)
 on-err answer (Ok y) P alike holds = tt
 
-pub answered-write : {T E U D : Type 0} (old new : FileState) (at : ℕ) (octets : List ℕ) (answer : Result T E) (result : Result U D) → (IsErr result ↔ IsErr answer)
+pub answered-write : {T E U D : Type 0} (old new : FileState) (at : ℕ) (octets : List ℕ) (answer : Result T E)
+    (result : Result U D) → (IsErr result ↔ IsErr answer)
     → WritesAll old new at octets answer → WritesAll old new at octets result
 answered-write old new at octets answer result alike writes = record {
   ok = λ sure. on-ok answer result _ alike (writes.ok sure);
@@ -43,7 +48,8 @@ answered-write old new at octets answer result alike writes = record {
 }
 
 -- a call that a worn disk refuses
-pub worn-call : {T E : Type 0} (disk : Disk) (result : Result T E) → IsErr result → disk.worn ≡ true → IsDeviceCall disk disk result
+pub worn-call : {T E : Type 0} (disk : Disk) (result : Result T E) → IsErr result → disk.worn ≡ true
+    → IsDeviceCall disk disk result
 worn-call disk (Ok x) is worn = absurd cc
 worn-call disk (Err e) is worn = record {
   work = record {
@@ -82,26 +88,33 @@ module _ {F : Type 0} (file : F → FileState) where
   -- its state now is the file's
   pub now-is : (layout : Layout) (past : List (Snapshot F)) (shown : Snapshot F) (clock : ℕ) → length past ≡ clock
       → state_in_file layout (file (get_or past clock shown).value) ≡ state_in_file layout (file shown.value)
-  now-is layout past shown clock kept = ap (λ (s : Snapshot F). state_in_file layout (file s.value)) (get_or_past past clock shown (omega (arith, kept)))
+  now-is layout past shown clock kept =
+      ap (λ (s : Snapshot F). state_in_file layout (file s.value)) (get_or_past past clock shown (omega (arith, kept)))
 
   -- and that of its file as it is left, which is the one that it shows, or that one in doubt
-  pub left-as : (layout : Layout) (past : List (Snapshot F)) (shown : Snapshot F) (left : F) (clock : ℕ) → length past ≡ clock
+  pub left-as : (layout : Layout) (past : List (Snapshot F)) (shown : Snapshot F) (left : F) (clock : ℕ)
+      → length past ≡ clock
       → (file left ≡ file shown.value) ⊎ (file left ≡ file_in_doubt (file shown.value))
       → state_in_file layout (file left) ≡ state_in_file layout (file (get_or past clock shown).value)
   unfolding state_in_file
-  left-as layout past shown left clock kept (inl same) = ap (state_in_file layout) same ∙ sym (now-is layout past shown clock kept)
-  left-as layout past shown left clock kept (inr doubt) = ap (state_in_file layout) doubt ∙ sym (now-is layout past shown clock kept)
+  left-as layout past shown left clock kept (inl same) = ap (state_in_file layout) same
+      ∙ sym (now-is layout past shown clock kept)
+  left-as layout past shown left clock kept (inr doubt) = ap (state_in_file layout) doubt
+      ∙ sym (now-is layout past shown clock kept)
 
-  past-same : (past : List (Snapshot F)) (shown new : Snapshot F) (k : ℕ) → k ≤ length past → get_or (past ++ shown ∷ []) k new ≡ get_or past k shown
+  past-same : (past : List (Snapshot F)) (shown new : Snapshot F) (k : ℕ) → k ≤ length past
+      → get_or (past ++ shown ∷ []) k new ≡ get_or past k shown
   past-same past shown new k le = elim (cases_lt k (length past)) [
     | inl before ↦ get_or-front past (shown ∷ []) k new before ∙ get_or-any past k new shown before
     | inr from ↦
         let place : k ≡ length past + 0 = omega (arith, le, from) in
-        ap (λ (i : ℕ). get_or (past ++ shown ∷ []) i new) place ∙ get_or-behind past (shown ∷ []) 0 new ∙ sym (get_or_past past k shown from)
+        ap (λ (i : ℕ). get_or (past ++ shown ∷ []) i new) place ∙ get_or-behind past (shown ∷ []) 0 new
+        ∙ sym (get_or_past past k shown from)
   ]
 
   -- the file before the first call stays the same one
-  pub first-same : (past : List (Snapshot F)) (shown new : Snapshot F) → get_or (past ++ shown ∷ []) 0 new ≡ get_or past 0 shown
+  pub first-same : (past : List (Snapshot F)) (shown new : Snapshot F)
+      → get_or (past ++ shown ∷ []) 0 new ≡ get_or past 0 shown
   first-same past shown new = past-same past shown new 0 (omega arith)
 
   -- the disk is as honest after a call that left the file as fit for it
@@ -109,20 +122,26 @@ module _ {F : Type 0} (file : F → FileState) where
       → keeps_disk layout (file new.value) ≡ keeps_disk layout (file shown.value)
       → (keeps_disk layout (file new.value) && is_ready layout sectors (file (get_or (past ++ shown ∷ []) 0 new).value))
       ≡ (keeps_disk layout (file shown.value) && is_ready layout sectors (file (get_or past 0 shown).value))
-  honest-goes-on layout sectors past shown new same = λ i. same i && is_ready layout sectors (file (first-same past shown new i).value)
+  honest-goes-on layout sectors past shown new same = λ i. same i
+      && is_ready layout sectors (file (first-same past shown new i).value)
 
   -- a call that reached the file, or was refused since an earlier one failed
-  pub file-call : {T E : Type 0} (layout kept_layout : Layout) (past more : List (Snapshot F)) (shown new : Snapshot F) (sectors count clock later failures fails : ℕ) (result : Result T E)
-      → length past ≡ clock → kept_layout ≡ layout → more ≡ past ++ shown ∷ [] → clock < most → later ≡ clock + 1 → count ≡ sectors
+  pub file-call : {T E : Type 0} (layout kept_layout : Layout) (past more : List (Snapshot F)) (shown new : Snapshot F)
+      (sectors count clock later failures fails : ℕ) (result : Result T E)
+      → length past ≡ clock → kept_layout ≡ layout → more ≡ past ++ shown ∷ [] → clock < most → later ≡ clock + 1
+      → count ≡ sectors
       → OnOk result (fails ≡ failures) → OnErr result (fails ≡ failures + 1)
       → keeps_disk layout (file new.value) ≡ keeps_disk layout (file shown.value)
-      → IsDeviceCall (disk_by layout past shown sectors clock failures) (disk_by kept_layout more new count later fails) result
-  file-call layout kept_layout past more shown new sectors count clock later failures fails (Ok x) kept lay goes_on lt next same ok err fit =
+      → IsDeviceCall (disk_by layout past shown sectors clock failures)
+      (disk_by kept_layout more new count later fails) result
+  file-call layout kept_layout past more shown new sectors count clock later failures fails (Ok x) kept lay goes_on lt
+      next same ok err fit =
       rw (lay, goes_on, next, same, ok) (record {
         work = record {
           works = record {
             later = omega arith;
-            past = λ k le. ap (λ (s : Snapshot F). state_in_file layout (file s.value)) (past-same past shown new k (omega (arith, le, kept)));
+            past = λ k le. ap (λ (s : Snapshot F). state_in_file layout (file s.value))
+                (past-same past shown new k (omega (arith, le, kept)));
             failures = omega arith;
             worn = λ was. let is = test_full clock was in absurd (omega (arith, is, lt));
             sectors = refl;
@@ -138,12 +157,14 @@ module _ {F : Type 0} (file : F → FileState) where
         stands = λ was. let is = test_full clock was in absurd (omega (arith, is, lt));
         alike = λ was. let is = test_full clock was in absurd (omega (arith, is, lt));
       })
-  file-call layout kept_layout past more shown new sectors count clock later failures fails (Err e) kept lay goes_on lt next same ok err fit =
+  file-call layout kept_layout past more shown new sectors count clock later failures fails (Err e) kept lay goes_on lt
+      next same ok err fit =
       rw (lay, goes_on, next, same, err) (record {
         work = record {
           works = record {
             later = omega arith;
-            past = λ k le. ap (λ (s : Snapshot F). state_in_file layout (file s.value)) (past-same past shown new k (omega (arith, le, kept)));
+            past = λ k le. ap (λ (s : Snapshot F). state_in_file layout (file s.value))
+                (past-same past shown new k (omega (arith, le, kept)));
             failures = omega arith;
             worn = λ was. let is = test_full clock was in absurd (omega (arith, is, lt));
             sectors = refl;
@@ -161,10 +182,12 @@ module _ {F : Type 0} (file : F → FileState) where
       })
 
   -- what a call did to the file it did to the disk
-  pub effect : (P : DiskState → DiskState → Type 0) (layout kept_layout : Layout) (past more : List (Snapshot F)) (shown new : Snapshot F) (clock later : ℕ)
+  pub effect : (P : DiskState → DiskState → Type 0) (layout kept_layout : Layout) (past more : List (Snapshot F))
+      (shown new : Snapshot F) (clock later : ℕ)
       → length past ≡ clock → length more ≡ later → kept_layout ≡ layout
       → P (state_in_file layout (file shown.value)) (state_in_file layout (file new.value))
-      → P (state_in_file layout (file (get_or past clock shown).value)) (state_in_file kept_layout (file (get_or more later new).value))
+      → P (state_in_file layout (file (get_or past clock shown).value))
+      (state_in_file kept_layout (file (get_or more later new).value))
   effect P layout kept_layout past more shown new clock later kept goes_on lay holds =
       rw (lay, now-is layout past shown clock kept, now-is layout more new later goes_on) holds
 
@@ -175,22 +198,28 @@ module _ {F : Type 0} (file : F → FileState) where
       record { call = λ answer is. worn-call (disk_in_file file it) answer is worn; still = refl; stopped = inr worn }
 
   -- a call that is refused since an earlier one failed
-  pub refused-failed : (old new : FileDisk F) → old.clock < most → new.past.items ≡ old.past.items ++ old.shown ∷ [] → new.clock ≡ old.clock + 1 → new.failures ≡ old.failures + 1
-      → new.shown ≡ old.shown → new.layout ≡ old.layout → new.sectors ≡ old.sectors → new.is_failed ≡ true → IsRefused file old new
+  pub refused-failed : (old new : FileDisk F) → old.clock < most → new.past.items ≡ old.past.items ++ old.shown ∷ []
+      → new.clock ≡ old.clock + 1 → new.failures ≡ old.failures + 1
+      → new.shown ≡ old.shown → new.layout ≡ old.layout → new.sectors ≡ old.sectors → new.is_failed ≡ true
+      → IsRefused file old new
   refused-failed old new lt goes_on next one same lay count stopped = record {
     call = by_answer;
-    still = effect (λ s t. t ≡ s) old.layout new.layout old.past.items new.past.items old.shown new.shown old.clock new.clock old.kept new.kept lay
+    still = effect (λ s t. t ≡ s) old.layout new.layout old.past.items new.past.items old.shown new.shown old.clock
+        new.clock old.kept new.kept lay
         (ap (λ (s : Snapshot F). state_in_file old.layout (file s.value)) same);
     stopped = inl stopped;
   } where
-    by_answer : (answer : Result (Unit {0}) DeviceFault) → IsErr answer → IsDeviceCall (disk_in_file file old) (disk_in_file file new) answer
+    by_answer : (answer : Result (Unit {0}) DeviceFault) → IsErr answer
+        → IsDeviceCall (disk_in_file file old) (disk_in_file file new) answer
     by_answer (Ok x) is = absurd cc
     by_answer (Err e) is =
-        file-call old.layout new.layout old.past.items new.past.items old.shown new.shown old.sectors new.sectors old.clock new.clock old.failures new.failures (Err e)
+        file-call old.layout new.layout old.past.items new.past.items old.shown new.shown old.sectors new.sectors
+        old.clock new.clock old.failures new.failures (Err e)
         old.kept lay goes_on lt next count tt one (ap (λ (s : Snapshot F). keeps_disk old.layout (file s.value)) same)
 
   -- what was done to the file that went out and came back
-  pub through : (P : DiskState → DiskState → Type 0) (layout : Layout) (lent back : F) (shown new : Snapshot F) → lent ≡ shown.value → new.value ≡ back
+  pub through : (P : DiskState → DiskState → Type 0) (layout : Layout) (lent back : F) (shown new : Snapshot F)
+      → lent ≡ shown.value → new.value ≡ back
       → P (state_in_file layout (file lent)) (state_in_file layout (file back))
       → P (state_in_file layout (file shown.value)) (state_in_file layout (file new.value))
   through P layout lent back shown new went came holds =
@@ -198,33 +227,43 @@ module _ {F : Type 0} (file : F → FileState) where
       (subst (λ (f : F). P (state_in_file layout (file lent)) (state_in_file layout (file f))) (sym came) holds)
 
   pub fit-through : (layout : Layout) (lent back : F) (shown new : Snapshot F) → lent ≡ shown.value → new.value ≡ back
-      → keeps_disk layout (file back) ≡ keeps_disk layout (file lent) → keeps_disk layout (file new.value) ≡ keeps_disk layout (file shown.value)
+      → keeps_disk layout (file back) ≡ keeps_disk layout (file lent)
+      → keeps_disk layout (file new.value) ≡ keeps_disk layout (file shown.value)
   fit-through layout lent back shown new went came fit =
       ap (λ (f : F). keeps_disk layout (file f)) came ∙ fit ∙ ap (λ (f : F). keeps_disk layout (file f)) went
 
   -- an honest disk's file was fit for it when it went out
-  pub fit-before : (layout kept_layout : Layout) (lent back : F) (new : Snapshot F) (rest : Bool) → kept_layout ≡ layout → new.value ≡ back
-      → keeps_disk layout (file back) ≡ keeps_disk layout (file lent) → (keeps_disk kept_layout (file new.value) && rest) ≡ true → KeepsDisk layout (file lent)
+  pub fit-before : (layout kept_layout : Layout) (lent back : F) (new : Snapshot F) (rest : Bool) → kept_layout ≡ layout
+      → new.value ≡ back
+      → keeps_disk layout (file back) ≡ keeps_disk layout (file lent)
+      → (keeps_disk kept_layout (file new.value) && rest) ≡ true → KeepsDisk layout (file lent)
   fit-before layout kept_layout lent back new rest lay came fit honest =
       keeps layout (file lent)
-      (sym fit ∙ sym (ap (λ (f : F). keeps_disk layout (file f)) came) ∙ sym (ap (λ (l : Layout). keeps_disk l (file new.value)) lay)
+      (sym fit ∙ sym (ap (λ (f : F). keeps_disk layout (file f)) came)
+      ∙ sym (ap (λ (l : Layout). keeps_disk l (file new.value)) lay)
       ∙ (and_parts (keeps_disk kept_layout (file new.value)) rest honest).0)
 
   -- before the first call of an honest disk its file was clean
-  pub clean-first : (layout : Layout) (sectors : ℕ) (keeps : Bool) (past : List (Snapshot F)) (shown new : Snapshot F) (clock : ℕ) → length past ≡ clock → clock ≡ 0
-      → (keeps && is_ready layout sectors (file (get_or (past ++ shown ∷ []) 0 new).value)) ≡ true → (file shown.value).is_clean ≡ true
+  pub clean-first : (layout : Layout) (sectors : ℕ) (keeps : Bool) (past : List (Snapshot F)) (shown new : Snapshot F)
+      (clock : ℕ) → length past ≡ clock → clock ≡ 0
+      → (keeps && is_ready layout sectors (file (get_or (past ++ shown ∷ []) 0 new).value)) ≡ true
+      → (file shown.value).is_clean ≡ true
   clean-first layout sectors keeps past shown new clock kept first honest =
-      let is : get_or (past ++ shown ∷ []) 0 new ≡ shown = first-same past shown new ∙ get_or_past past 0 shown (omega (arith, kept, first)) in
+      let is : get_or (past ++ shown ∷ []) 0 new ≡ shown = first-same past shown new
+      ∙ get_or_past past 0 shown (omega (arith, kept, first)) in
       let ready = subst (λ (s : Snapshot F). is_ready layout sectors (file s.value) ≡ true) is
       (and_parts keeps (is_ready layout sectors (file (get_or (past ++ shown ∷ []) 0 new).value)) honest).1 in
-      let most = and_parts ((file shown.value).is_clean && (file shown.value).is_size_durable) (nat_le (place layout sectors) (file shown.value).size) ready in
+      let most = and_parts ((file shown.value).is_clean && (file shown.value).is_size_durable)
+      (nat_le (place layout sectors) (file shown.value).size) ready in
       (and_parts (file shown.value).is_clean (file shown.value).is_size_durable most.0).0
 
 -- counts of two steps
-pub same-count : {T E : Type 0} (result : Result T E) (new mid old : ℕ) → OnOk result (new ≡ mid) → mid ≡ old → OnOk result (new ≡ old)
+pub same-count : {T E : Type 0} (result : Result T E) (new mid old : ℕ) → OnOk result (new ≡ mid) → mid ≡ old
+    → OnOk result (new ≡ old)
 same-count (Ok x) new mid old here before = here ∙ before
 same-count (Err e) new mid old here before = tt
 
-pub one-more : {T E : Type 0} (result : Result T E) (new mid old : ℕ) → OnErr result (new ≡ mid + 1) → mid ≡ old → OnErr result (new ≡ old + 1)
+pub one-more : {T E : Type 0} (result : Result T E) (new mid old : ℕ) → OnErr result (new ≡ mid + 1) → mid ≡ old
+    → OnErr result (new ≡ old + 1)
 one-more (Ok x) new mid old here before = tt
 one-more (Err e) new mid old here before = here ∙ ap (λ (n : ℕ). n + 1) before

@@ -1,10 +1,12 @@
 -- A file is settled, its layout found, and made ready for a disk.
-use Rattle.std.proofs.Common.{◌≡◌, ◌≤◌, ◌<◌, ◌+◌, ◌-◌, ◌/◌, ◌%◌, ◌&&◌, ◌⊎◌, inl, inr, ℕ, if◌then◌else◌, max, Bool, true, false, List, [], length, replicate, refl, ap, ◌∙◌, arith, subst, sym}
+use Rattle.std.proofs.Common.{◌≡◌, ◌≤◌, ◌<◌, ◌+◌, ◌-◌, ◌/◌, ◌%◌, ◌&&◌, ◌⊎◌, inl, inr, ℕ, if◌then◌else◌, max, Bool, true}
+use Rattle.std.proofs.Common.{false, List, [], length, replicate, refl, ap, ◌∙◌, arith, subst, sym}
 use Rattle.std.proofs.lemmas.Bool.{cases_lt, le-leb, lt-leb}
 use Rattle.std.proofs.lemmas.List.{get_or-replicate, length-replicate}
 use Rattle.std.specs.declared.snapshot.Snapshot.{Snapshot}
 use Rattle.macs_disk.specs.Files.{FileState, IsSure, Settles, file_after_sync, file_after_write, put_from, values_from}
-use Rattle.macs_disk.specs.FileDisks.{HasMark, IsBlank, IsCleared, IsExtent, IsMarkedAs, IsOpened, IsStill, file_lengthened, is_ready, keeps_disk, state_in_file}
+use Rattle.macs_disk.specs.FileDisks.{HasMark, IsBlank, IsCleared, IsExtent, IsMarkedAs, IsOpened, IsStill}
+use Rattle.macs_disk.specs.FileDisks.{file_lengthened, is_ready, keeps_disk, state_in_file}
 use Rattle.macs_disk.specs.FileEvidence.{values-same}
 use Rattle.macs_disk.specs.Layouts.{is_marked, layout_in, mark, place, sectors_in, suits}
 use Rattle.macs_disk.specs.States.{zero_sector}
@@ -12,7 +14,8 @@ use Rattle.macs_disk.specs.declared.layout.Layout.{Layout}
 use Rattle.macs_disk.specs.declared.layout.Layout.TheVariants.{Packed, Spaced}
 use Rattle.macs_disk.proofs.FileCalls.{disk_by}
 use Rattle.macs_disk.proofs.FileSectors.{values-written}
-use Rattle.macs_disk.proofs.FileWrites.{put-at, put-before, put-behind, write-behaves, write-block, write-seen, write-size, write-sure}
+use Rattle.macs_disk.proofs.FileWrites.{put-at, put-before, put-behind, write-behaves, write-block, write-seen}
+use Rattle.macs_disk.proofs.FileWrites.{write-size, write-sure}
 
 -- ---- the mark
 
@@ -22,7 +25,8 @@ unfolding layout_in
 too-short file short = let no = lt-leb (place Spaced 1028 + 512) file.size short in rw no refl
 
 -- one that is long enough is spaced where the mark is read
-pub by-mark : (file : FileState) (sector : List ℕ) (marked : Bool) (layout : Layout) → place Spaced 1028 + 512 ≤ file.size → sector ≡ values_from file.seen (place Spaced 1028) 512
+pub by-mark : (file : FileState) (sector : List ℕ) (marked : Bool) (layout : Layout)
+    → place Spaced 1028 + 512 ≤ file.size → sector ≡ values_from file.seen (place Spaced 1028) 512
     → is_marked sector ≡ marked → layout ≡ (if marked then Spaced else Packed) → layout ≡ layout_in file
 unfolding layout_in
 by-mark file sector marked layout long read is found =
@@ -39,31 +43,40 @@ unfolding zero_sector
 unmarked = refl
 
 -- what is read of a sector that was written, and of one elsewhere
-read-written : (old new : FileState) (at : ℕ) (xs : List ℕ) → new ≡ file_after_write old at xs → length xs ≡ 512 → values_from new.seen at 512 ≡ xs
+read-written : (old new : FileState) (at : ℕ) (xs : List ℕ) → new ≡ file_after_write old at xs → length xs ≡ 512
+    → values_from new.seen at 512 ≡ xs
 read-written old new at xs is size =
     ap (λ (f : FileState). values_from f.seen at 512) is
-    ∙ values-same (file_after_write old at xs).seen (put_from old.seen at xs) at 512 (λ k lt. write-seen old at xs (at + k)) ∙ values-written old.seen at xs size
+    ∙ values-same (file_after_write old at xs).seen (put_from old.seen at xs)
+    at 512 (λ k lt. write-seen old at xs (at + k)) ∙ values-written old.seen at xs size
 
-pub read-elsewhere : (old new : FileState) (at there : ℕ) (xs : List ℕ) → new ≡ file_after_write old there xs → (at + 512 ≤ there) ⊎ (there + length xs ≤ at)
+pub read-elsewhere : (old new : FileState) (at there : ℕ) (xs : List ℕ) → new ≡ file_after_write old there xs
+    → (at + 512 ≤ there) ⊎ (there + length xs ≤ at)
     → values_from new.seen at 512 ≡ values_from old.seen at 512
 read-elsewhere old new at there xs is (inl before) =
     ap (λ (f : FileState). values_from f.seen at 512) is
-    ∙ values-same (file_after_write old there xs).seen old.seen at 512 (λ k lt. write-seen old there xs (at + k) ∙ put-before old.seen there (at + k) xs (omega (arith, before, lt)))
+    ∙ values-same (file_after_write old there xs).seen old.seen at 512
+    (λ k lt. write-seen old there xs (at + k) ∙ put-before old.seen there (at + k) xs (omega (arith, before, lt)))
 read-elsewhere old new at there xs is (inr behind) =
     ap (λ (f : FileState). values_from f.seen at 512) is
-    ∙ values-same (file_after_write old there xs).seen old.seen at 512 (λ k lt. write-seen old there xs (at + k) ∙ put-behind old.seen there (at + k) xs (omega (arith, behind)))
+    ∙ values-same (file_after_write old there xs).seen old.seen at 512
+    (λ k lt. write-seen old there xs (at + k) ∙ put-behind old.seen there (at + k) xs (omega (arith, behind)))
 
 -- the size of a file that was written
-pub size-written : (old new : FileState) (at : ℕ) (xs : List ℕ) → new ≡ file_after_write old at xs → 0 < length xs → new.size ≡ max old.size (at + length xs)
+pub size-written : (old new : FileState) (at : ℕ) (xs : List ℕ) → new ≡ file_after_write old at xs → 0 < length xs
+    → new.size ≡ max old.size (at + length xs)
 size-written old new at xs is some = ap (λ (f : FileState). f.size) is ∙ write-size old at xs some
 
-pub block-written : (old new : FileState) (at : ℕ) (xs : List ℕ) → new ≡ file_after_write old at xs → new.block ≡ old.block
+pub block-written : (old new : FileState) (at : ℕ) (xs : List ℕ) → new ≡ file_after_write old at xs
+    → new.block ≡ old.block
 block-written old new at xs is = ap (λ (f : FileState). f.block) is ∙ write-block old at xs
 
-pub sure-written : (old new : FileState) (at : ℕ) (xs : List ℕ) → new ≡ file_after_write old at xs → IsSure old → IsSure new
+pub sure-written : (old new : FileState) (at : ℕ) (xs : List ℕ) → new ≡ file_after_write old at xs → IsSure old
+    → IsSure new
 sure-written old new at xs is sure = ap (λ (f : FileState). f.is_sure) is ∙ write-sure old at xs ∙ sure
 
-pub erased : (old new : FileState) → IsSure old → place Spaced 1028 < old.size → new ≡ file_after_write old (place Spaced 1028) (replicate 512 0) → IsMarkedAs old new Packed
+pub erased : (old new : FileState) → IsSure old → place Spaced 1028 < old.size
+    → new ≡ file_after_write old (place Spaced 1028) (replicate 512 0) → IsMarkedAs old new Packed
 erased old new sure reaches is =
     let some : length (replicate {A = ℕ} 512 0) ≡ 512 = length-replicate {A = ℕ} 512 0 in
     let size = size-written old new (place Spaced 1028) (replicate 512 0) is (omega (arith, some)) in
@@ -75,7 +88,8 @@ erased old new sure reaches is =
       has = inr (read-written old new (place Spaced 1028) (replicate 512 0) is some ∙ sym zeros-are);
     }
 
-pub not-reached : (old new : FileState) → IsSure old → new ≡ old → old.size ≤ place Spaced 1028 → IsMarkedAs old new Packed
+pub not-reached : (old new : FileState) → IsSure old → new ≡ old → old.size ≤ place Spaced 1028
+    → IsMarkedAs old new Packed
 not-reached old new sure same short =
     let size : new.size ≡ old.size = ap (λ (f : FileState). f.size) same in
     record {
@@ -94,13 +108,16 @@ marked old mid new sure first second =
     let size = size-written old mid (place Spaced 1028) mark first (omega (arith, long)) in
     let more = size-written mid new (place Spaced 1028 + 512) (replicate 3584 0) second (omega (arith, some)) in
     record {
-      block = block-written mid new (place Spaced 1028 + 512) (replicate 3584 0) second ∙ block-written old mid (place Spaced 1028) mark first;
+      block = block-written mid new (place Spaced 1028 + 512) (replicate 3584 0) second
+          ∙ block-written old mid (place Spaced 1028) mark first;
       longer = omega (arith, size, more);
       size = λ _. omega (arith, size, more, some, long);
-      is_sure = sure-written mid new (place Spaced 1028 + 512) (replicate 3584 0) second (sure-written old mid (place Spaced 1028) mark first sure);
+      is_sure = sure-written mid new (place Spaced 1028 + 512) (replicate 3584 0) second
+          (sure-written old mid (place Spaced 1028) mark first sure);
       has = (
         omega (arith, more, some),
-        read-elsewhere mid new (place Spaced 1028) (place Spaced 1028 + 512) (replicate 3584 0) second (inl (omega arith))
+        read-elsewhere mid new (place Spaced 1028) (place Spaced 1028 + 512) (replicate 3584 0) second
+            (inl (omega arith))
             ∙ read-written old mid (place Spaced 1028) mark first long,
       );
     }
@@ -108,7 +125,8 @@ marked old mid new sure first second =
 -- ---- a file with zeros in the place of the sectors
 
 zero-at : (f : ℕ → ℕ) (at count p : ℕ) → at ≤ p → p < at + count → put_from f at (replicate count 0) p ≡ 0
-zero-at f at count p le lt = put-at f at p (replicate count 0) le ∙ get_or-replicate count (p - at) 0 (f p) (omega (arith, le, lt))
+zero-at f at count p le lt = put-at f at p (replicate count 0) le
+    ∙ get_or-replicate count (p - at) 0 (f p) (omega (arith, le, lt))
 
 all-zeros : (at : ℕ) → values_from (λ _. 0) at 512 ≡ zero_sector
 unfolding values_from zero_sector
@@ -126,7 +144,8 @@ some-room Packed = omega arith
 some-room Spaced = omega arith
 
 -- the layout is found again after what was written over the sectors
-found-again : (layout : Layout) (before new : FileState) (xs : List ℕ) → HasMark layout before → new ≡ file_after_write before 0 xs → length xs ≡ place layout 1028
+found-again : (layout : Layout) (before new : FileState) (xs : List ℕ) → HasMark layout before
+    → new ≡ file_after_write before 0 xs → length xs ≡ place layout 1028
     → new.size ≡ max before.size (0 + length xs) → layout_in new ≡ layout
 found-again Packed before new xs (inl short) is long size = sym (too-short new (omega (arith, short, size, long)))
 found-again Packed before new xs (inr zeros) is long size = elim (cases_lt new.size (place Spaced 1028 + 512)) [
@@ -147,41 +166,50 @@ mark-synced : (layout : Layout) (file : FileState) → HasMark layout file → H
 mark-synced Packed file has = has
 mark-synced Spaced file has = has
 
-pub cleared : (old before synced over new : FileState) (layout : Layout) (count : ℕ) → IsMarkedAs old before layout → synced ≡ file_after_sync before
-    → over ≡ file_after_write synced 0 (replicate count 0) → count ≡ place layout 1028 → new ≡ file_after_sync over → IsCleared old new layout
+pub cleared : (old before synced over new : FileState) (layout : Layout) (count : ℕ) → IsMarkedAs old before layout
+    → synced ≡ file_after_sync before
+    → over ≡ file_after_write synced 0 (replicate count 0) → count ≡ place layout 1028 → new ≡ file_after_sync over
+    → IsCleared old new layout
 cleared old before synced over new layout count was first second many third =
     let long : length (replicate {A = ℕ} count 0) ≡ count = length-replicate {A = ℕ} count 0 in
     let room = some-room layout in
-    let size : over.size ≡ max synced.size (0 + length (replicate {A = ℕ} count 0)) = size-written synced over 0 (replicate count 0) second (omega (arith, long, many, room)) in
+    let size : over.size ≡ max synced.size (0 + length (replicate {A = ℕ} count 0)) =
+    size-written synced over 0 (replicate count 0) second (omega (arith, long, many, room)) in
     let old_size : synced.size ≡ before.size = ap (λ (f : FileState). f.size) first in
     let new_size : new.size ≡ over.size = ap (λ (f : FileState). f.size) third in
     let longer = was.longer in
     let exact = was.size in
     let has : HasMark layout synced = subst (HasMark layout) (sym first) (mark-synced layout before was.has) in
     record {
-      block = ap (λ (f : FileState). f.block) third ∙ block-written synced over 0 (replicate count 0) second ∙ ap (λ (f : FileState). f.block) first ∙ was.block;
+      block = ap (λ (f : FileState). f.block) third ∙ block-written synced over 0 (replicate count 0) second
+          ∙ ap (λ (f : FileState). f.block) first ∙ was.block;
       long = omega (arith, new_size, size, long, many);
       longer = omega (arith, new_size, size, old_size, longer);
       size = λ whole. (let is = exact whole in omega (arith, new_size, size, old_size, is, long, many));
       is_size_durable = ap (λ (f : FileState). f.is_size_durable) third;
       is_clean = ap (λ (f : FileState). f.is_clean) third;
       is_sure = ap (λ (f : FileState). f.is_sure) third
-          ∙ sure-written synced over 0 (replicate count 0) second (ap (λ (f : FileState). f.is_sure) first ∙ was.is_sure);
+          ∙ sure-written synced over 0 (replicate count 0) second
+          (ap (λ (f : FileState). f.is_sure) first ∙ was.is_sure);
       durable = ap (λ (f : FileState). f.durable) third ∙ sym (ap (λ (f : FileState). f.seen) third);
       clean = λ n. ap (λ (f : FileState). f.pending n) third;
       zeros = λ i lt.
           let within = inside layout i lt in
           ap (λ (f : FileState). values_from f.seen (place layout i) 512) third
           ∙ zeros-read over.seen (place layout i) (λ k small.
-          ap (λ (f : FileState). f.seen (place layout i + k)) second ∙ write-seen synced 0 (replicate count 0) (place layout i + k)
+          ap (λ (f : FileState). f.seen (place layout i + k)) second
+          ∙ write-seen synced 0 (replicate count 0) (place layout i + k)
           ∙ zero-at synced.seen 0 count (place layout i + k) (omega arith) (omega (arith, within, many, small)));
-      found = ap layout_in third ∙ layout-synced over ∙ found-again layout synced over (replicate count 0) has second (long ∙ many) size;
+      found = ap layout_in third ∙ layout-synced over
+          ∙ found-again layout synced over (replicate count 0) has second (long ∙ many) size;
     }
 
 -- ---- a disk over a file that was made ready
 
-honest-when : (layout : Layout) (sectors : ℕ) (shown first : FileState) → shown.behaves ≡ true → IsSure shown → suits layout shown.block ≡ true → first.is_clean ≡ true
-    → first.is_size_durable ≡ true → place layout sectors ≤ first.size → (keeps_disk layout shown && is_ready layout sectors first) ≡ true
+honest-when : (layout : Layout) (sectors : ℕ) (shown first : FileState) → shown.behaves ≡ true → IsSure shown
+    → suits layout shown.block ≡ true → first.is_clean ≡ true
+    → first.is_size_durable ≡ true → place layout sectors ≤ first.size
+    → (keeps_disk layout shown && is_ready layout sectors first) ≡ true
 honest-when layout sectors shown first behaves sure suited clean durable long =
     let enough = le-leb (place layout sectors) first.size long in
     rw (behaves, sure, suited, clean, durable, enough) refl
@@ -196,7 +224,8 @@ spaced-room file is = elim (cases_lt file.size (place Spaced 1028 + 512)) [
 pub size-lengthened : (file : FileState) (size : ℕ) → (file_lengthened file size).size ≡ max file.size size
 size-lengthened file size = elim (cases_lt file.size size) [
   | inl longer ↦
-      let long : length (replicate {A = ℕ} (size - file.size) 0) ≡ size - file.size = length-replicate {A = ℕ} (size - file.size) 0 in
+      let long : length (replicate {A = ℕ} (size - file.size) 0) ≡ size - file.size =
+      length-replicate {A = ℕ} (size - file.size) 0 in
       let is = write-size file file.size (replicate (size - file.size) 0) (omega (arith, long, longer)) in
       omega (arith, is, long, longer)
   | inr enough ↦
@@ -205,10 +234,12 @@ size-lengthened file size = elim (cases_lt file.size size) [
 ]
 
 -- one with so many sectors is as long as they are
-long-already : (layout : Layout) (least : ℕ) (file : FileState) (count : ℕ) → layout ≡ layout_in file → count ≡ sectors_in layout file.size → least ≤ count
+long-already : (layout : Layout) (least : ℕ) (file : FileState) (count : ℕ) → layout ≡ layout_in file
+    → count ≡ sectors_in layout file.size → least ≤ count
     → place layout least - file.size ≡ 0
 long-already Packed least file count found is le = omega (arith, is, le)
-long-already Spaced least file count found is le = let room = spaced-room file (sym found) in omega (arith, is, le, room)
+long-already Spaced least file count found is le = let room = spaced-room file (sym found) in
+    omega (arith, is, le, room)
 
 -- so a file that was made ready has all sectors
 long-enough : (layout : Layout) (settled : FileState) (least : ℕ) → layout ≡ layout_in settled
@@ -221,24 +252,29 @@ long-enough Spaced settled least found =
 
 -- Its layout is found again: what made a packed file longer are zeros, also in the place of a mark.
 pub same-layout : (old new : FileState) → place Spaced 1028 + 512 ≤ old.size → old.size ≤ new.size
-    → values_from new.seen (place Spaced 1028) 512 ≡ values_from old.seen (place Spaced 1028) 512 → layout_in new ≡ layout_in old
+    → values_from new.seen (place Spaced 1028) 512 ≡ values_from old.seen (place Spaced 1028) 512
+    → layout_in new ≡ layout_in old
 unfolding layout_in
 same-layout old new long longer same =
     let was = le-leb (place Spaced 1028 + 512) old.size long in
     let is = le-leb (place Spaced 1028 + 512) new.size (omega (arith, long, longer)) in
     rw (was, is, same) refl
 
-packed-still : (file : FileState) (size : ℕ) → file.size ≤ place Spaced 1028 → Packed ≡ layout_in (file_lengthened file size)
+packed-still : (file : FileState) (size : ℕ) → file.size ≤ place Spaced 1028
+    → Packed ≡ layout_in (file_lengthened file size)
 packed-still file size short =
     let is = size-lengthened file size in
     elim (cases_lt (file_lengthened file size).size (place Spaced 1028 + 512)) [
       | inl still ↦ too-short (file_lengthened file size) still
       | inr long ↦ by-mark (file_lengthened file size) zero_sector false Packed long
-          (sym (zeros-read (file_lengthened file size).seen (place Spaced 1028) (λ k lt. write-seen file file.size (replicate (size - file.size) 0) (place Spaced 1028 + k)
-          ∙ zero-at file.seen file.size (size - file.size) (place Spaced 1028 + k) (omega (arith, short)) (omega (arith, is, long, short, lt))))) unmarked refl
+          (sym (zeros-read (file_lengthened file size).seen (place Spaced 1028)
+          (λ k lt. write-seen file file.size (replicate (size - file.size) 0) (place Spaced 1028 + k)
+          ∙ zero-at file.seen file.size (size - file.size) (place Spaced 1028 + k) (omega (arith, short))
+          (omega (arith, is, long, short, lt))))) unmarked refl
     ]
 
-pub found-longer : (layout : Layout) (file : FileState) (size : ℕ) → file.size % 512 ≡ 0 → layout ≡ layout_in file → layout ≡ layout_in (file_lengthened file size)
+pub found-longer : (layout : Layout) (file : FileState) (size : ℕ) → file.size % 512 ≡ 0 → layout ≡ layout_in file
+    → layout ≡ layout_in (file_lengthened file size)
 found-longer layout file size whole found = elim (cases_lt file.size (place Spaced 1028 + 512)) [
   | inl short ↦ found ∙ sym (too-short file short) ∙ packed-still file size (omega (arith, short, whole))
   | inr long ↦
@@ -249,15 +285,18 @@ found-longer layout file size whole found = elim (cases_lt file.size (place Spac
       (read-elsewhere file (file_after_write file file.size zeros) (place Spaced 1028) file.size zeros refl (inl long)))
 ]
 
-all-there : (layout : Layout) (sectors old new : ℕ) → sectors ≡ max (sectors_in layout old) 1028 → place layout 1028 ≤ new → old ≤ new → place layout sectors ≤ new
+all-there : (layout : Layout) (sectors old new : ℕ) → sectors ≡ max (sectors_in layout old) 1028
+    → place layout 1028 ≤ new → old ≤ new → place layout sectors ≤ new
 all-there Packed sectors old new all long longer = omega (arith, all, long, longer)
 all-there Spaced sectors old new all long longer = omega (arith, all, long)
 
 -- a settled file is still, and one that is long enough stays as it is
 pub still : (old new : FileState) → Settles old new → IsStill new
-still old new (image, is_image, shown, is) = (ap (λ (f : FileState). f.is_sure) is, subst (λ (f : FileState). file_after_sync f ≡ f) (sym is) refl)
+still old new (image, is_image, shown, is) =
+    (ap (λ (f : FileState). f.is_sure) is, subst (λ (f : FileState). file_after_sync f ≡ f) (sym is) refl)
 
-pub enough : (file new : FileState) (least octets count : ℕ) (layout : Layout) → IsStill file → octets ≡ file.size → new ≡ file → layout ≡ layout_in file
+pub enough : (file new : FileState) (least octets count : ℕ) (layout : Layout) → IsStill file → octets ≡ file.size
+    → new ≡ file → layout ≡ layout_in file
     → count ≡ sectors_in layout octets → least ≤ count → IsExtent file new least layout count
 enough file new least octets count layout still size same found is le =
     let all : count ≡ sectors_in layout file.size = is ∙ ap (sectors_in layout) size in
@@ -265,24 +304,30 @@ enough file new least octets count layout still size same found is le =
     record {
       found = found;
       count = omega (arith, all, le);
-      file = same ∙ sym still.1 ∙ ap (λ (n : ℕ). file_after_sync (file_after_write file file.size (replicate n 0))) (sym none);
+      file = same ∙ sym still.1
+          ∙ ap (λ (n : ℕ). file_after_sync (file_after_write file file.size (replicate n 0))) (sym none);
     }
 
 module _ {F : Type 0} (file : F → FileState) where
   -- a disk over a file that was settled and made longer
-  pub opened : (given ready : F) (settled : FileState) (layout : Layout) (past : List (Snapshot F)) (shown : Snapshot F) (least count sectors clock failures : ℕ)
-      → IsExtent settled (file ready) least layout count → Settles (file given) settled → settled.size % 512 ≡ 0 → settled.behaves ≡ true
+  pub opened : (given ready : F) (settled : FileState) (layout : Layout) (past : List (Snapshot F)) (shown : Snapshot F)
+      (least count sectors clock failures : ℕ)
+      → IsExtent settled (file ready) least layout count → Settles (file given) settled → settled.size % 512 ≡ 0
+      → settled.behaves ≡ true
       → shown.value ≡ ready → past ≡ [] → sectors ≡ count
       → IsOpened (file given) least layout (disk_by file layout past shown sectors clock failures)
-  opened given ready settled layout past shown least count sectors clock failures extent settles whole behaves is none all =
+  opened given ready settled layout past shown least count sectors clock failures extent settles whole behaves
+      is none all =
       let made : file shown.value ≡ file_lengthened settled (place layout least) = ap file is ∙ extent.file in
       let how = settles.3 in
       let zeros : List ℕ = replicate (place layout least - settled.size) 0 in
       let block : (file shown.value).block ≡ (file given).block =
-      ap (λ (f : FileState). f.block) made ∙ write-block settled settled.size zeros ∙ ap (λ (f : FileState). f.block) how in
+      ap (λ (f : FileState). f.block) made ∙ write-block settled settled.size zeros
+      ∙ ap (λ (f : FileState). f.block) how in
       let long : place layout sectors ≤ (file shown.value).size =
       subst (λ (n : ℕ). place layout n ≤ (file shown.value).size) (sym (all ∙ extent.count))
-      (subst (λ (f : FileState). place layout (max (sectors_in layout settled.size) least) ≤ f.size) (sym made) (long-enough layout settled least extent.found)) in
+      (subst (λ (f : FileState). place layout (max (sectors_in layout settled.size) least) ≤ f.size) (sym made)
+      (long-enough layout settled least extent.found)) in
       record {
         whole = ap (λ (f : FileState). f.size % 512) (sym how) ∙ whole;
         settled = settled;
@@ -292,7 +337,8 @@ module _ {F : Type 0} (file : F → FileState) where
         sectors = all ∙ extent.count;
         honest = λ suited. rw none (honest-when layout sectors (file shown.value) (file shown.value)
             (ap (λ (f : FileState). f.behaves) made ∙ write-behaves settled settled.size zeros ∙ behaves)
-            (ap (λ (f : FileState). f.is_sure) made ∙ write-sure settled settled.size zeros ∙ ap (λ (f : FileState). f.is_sure) how)
+            (ap (λ (f : FileState). f.is_sure) made ∙ write-sure settled settled.size zeros
+            ∙ ap (λ (f : FileState). f.is_sure) how)
             (ap (suits layout) block ∙ suited)
             (ap (λ (f : FileState). f.is_clean) made)
             (ap (λ (f : FileState). f.is_size_durable) made)
@@ -301,9 +347,12 @@ module _ {F : Type 0} (file : F → FileState) where
       }
 
   -- a new disk over a file that was cleared
-  pub blank : (old : FileState) (settled ready : F) (layout : Layout) (past : List (Snapshot F)) (shown : Snapshot F) (sectors clock failures : ℕ)
-      → Settles old (file settled) → IsCleared (file settled) (file ready) layout → (file ready).behaves ≡ true → sectors ≡ max (sectors_in layout (file settled).size) 1028
-      → shown.value ≡ ready → past ≡ [] → IsBlank old (file ready) layout (disk_by file layout past shown sectors clock failures)
+  pub blank : (old : FileState) (settled ready : F) (layout : Layout) (past : List (Snapshot F)) (shown : Snapshot F)
+      (sectors clock failures : ℕ)
+      → Settles old (file settled) → IsCleared (file settled) (file ready) layout → (file ready).behaves ≡ true
+      → sectors ≡ max (sectors_in layout (file settled).size) 1028
+      → shown.value ≡ ready → past ≡ []
+      → IsBlank old (file ready) layout (disk_by file layout past shown sectors clock failures)
   unfolding state_in_file
   blank old settled ready layout past shown sectors clock failures settles was behaves all is none =
       let long = was.long in
@@ -313,8 +362,10 @@ module _ {F : Type 0} (file : F → FileState) where
       let shows : file shown.value ≡ file ready = ap file is in
       record {
         block = block;
-        honest = λ suited. rw (none, shows) (honest-when layout sectors (file ready) (file ready) behaves was.is_sure (ap (suits layout) block ∙ suited)
-            was.is_clean was.is_size_durable (all-there layout sectors (file settled).size (file ready).size all long longer));
+        honest = λ suited. rw (none, shows)
+            (honest-when layout sectors (file ready) (file ready) behaves was.is_sure (ap (suits layout) block ∙ suited)
+            was.is_clean was.is_size_durable
+            (all-there layout sectors (file settled).size (file ready).size all long longer));
         sectors = all ∙ ap (λ (f : FileState). max (sectors_in layout f.size) 1028) how;
         state = rw none (ap (state_in_file layout) shows);
         zeros = λ i lt. rw (none, shows) (was.zeros i lt);

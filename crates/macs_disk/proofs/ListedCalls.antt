@@ -1,5 +1,6 @@
 -- A call of a disk in memory is a call of a disk.
-use Rattle.std.proofs.Common.{Result, IsErr, ◌≡◌, ◌<◌, ◌≤◌, ◌+◌, ◌-◌, ◌^◌, ◌==◌, inl, inr, ℕ, refl, ◌∙◌, ap, arith, true, false, List, [], ◌∷◌, ◌++◌, Ok, Err}
+use Rattle.std.proofs.Common.{Result, IsErr, ◌≡◌, ◌<◌, ◌≤◌, ◌+◌, ◌-◌, ◌^◌, ◌==◌, inl, inr, ℕ, refl, ◌∙◌, ap, arith}
+use Rattle.std.proofs.Common.{true, false, List, [], ◌∷◌, ◌++◌, Ok, Err}
 use Rattle.std.proofs.lemmas.Bool.{cases_eq, eq-eqb}
 use Rattle.std.proofs.lemmas.Bool.Decides.{nat_tests}
 use Rattle.macs_disk.specs.States.{DiskState}
@@ -26,8 +27,10 @@ test_fresh clock fits is = elim (cases_eq clock most) [
 
 module _ (n : ℕ) (s : DiskState) (calls : List Entry) (clock failures : ℕ) where
   -- one that went well
-  pub good-call : {T E : Type 0} (x : T) (m : ℕ) (more : List Entry) → m ≡ n → clock < most → ((k : ℕ) → k ≤ clock → state_at s more k ≡ state_at s calls k)
-      → IsDeviceCall {E = E} (disk_of_calls n s calls clock failures) (disk_of_calls m s more (clock + 1) failures) (Ok x)
+  pub good-call : {T E : Type 0} (x : T) (m : ℕ) (more : List Entry) → m ≡ n → clock < most
+      → ((k : ℕ) → k ≤ clock → state_at s more k ≡ state_at s calls k)
+      → IsDeviceCall {E = E} (disk_of_calls n s calls clock failures)
+      (disk_of_calls m s more (clock + 1) failures) (Ok x)
   good-call x m more same lt past = record {
     work = record {
       works = record {
@@ -50,7 +53,8 @@ module _ (n : ℕ) (s : DiskState) (calls : List Entry) (clock failures : ℕ) w
   }
 
   -- one that failed
-  pub bad-call : {T E : Type 0} (e : E) (c f : ℕ) → clock ≤ most → (clock ≡ most → (c ≡ clock) × (f ≡ failures)) → (clock < most → (c ≡ clock + 1) × (f ≡ failures + 1))
+  pub bad-call : {T E : Type 0} (e : E) (c f : ℕ) → clock ≤ most → (clock ≡ most → (c ≡ clock) × (f ≡ failures))
+      → (clock < most → (c ≡ clock + 1) × (f ≡ failures + 1))
       → IsDeviceCall {T = T} (disk_of_calls n s calls clock failures) (disk_of_calls n s calls c f) (Err e)
   bad-call e c f fits worn fresh = record {
     work = record {
@@ -86,7 +90,8 @@ module _ (n : ℕ) (s : DiskState) (calls : List Entry) (clock failures : ℕ) w
   }
 
 -- one that failed, where nothing more was kept
-pub failed_call : {T E : Type 0} (n : ℕ) (s : DiskState) (calls more : List Entry) (clock failures c f : ℕ) (result : Result T E) → IsErr result → clock < 2 ^ 64 → more ≡ calls
+pub failed_call : {T E : Type 0} (n : ℕ) (s : DiskState) (calls more : List Entry) (clock failures c f : ℕ)
+    (result : Result T E) → IsErr result → clock < 2 ^ 64 → more ≡ calls
     → (clock ≡ most → (c ≡ clock) × (f ≡ failures)) → (clock < most → (c ≡ clock + 1) × (f ≡ failures + 1))
     → IsDeviceCall (disk_of_calls n s calls clock failures) (disk_of_calls n s more c f) result
 failed_call n s calls more clock failures c f (Ok x) is fits same worn fresh = absurd cc
@@ -94,8 +99,10 @@ failed_call {T} n s calls more clock failures c f (Err e) is fits same worn fres
     rw same (bad-call n s calls clock failures e c f (omega (arith, fits)) worn fresh)
 
 -- one that was kept
-pub kept-call : {T E : Type 0} (x : T) (n m : ℕ) (s : DiskState) (calls more : List Entry) (clock failures c f : ℕ) (e : Entry) → m ≡ n → e.clock ≡ clock + 1 → more ≡ calls ++ e ∷ []
+pub kept-call : {T E : Type 0} (x : T) (n m : ℕ) (s : DiskState) (calls more : List Entry) (clock failures c f : ℕ)
+    (e : Entry) → m ≡ n → e.clock ≡ clock + 1 → more ≡ calls ++ e ∷ []
     → clock < most → c ≡ clock + 1 → f ≡ failures
     → IsDeviceCall {E = E} (disk_of_calls n s calls clock failures) (disk_of_calls m s more c f) (Ok x)
 kept-call x n m s calls more clock failures c f e same is all lt next steady =
-    rw (next, steady) (good-call n s calls clock failures x m more same lt (λ k le. ap (λ (es : List Entry). state_at s es k) all ∙ replayed-before s calls e k (omega (arith, is, le))))
+    rw (next, steady) (good-call n s calls clock failures x m more same lt
+    (λ k le. ap (λ (es : List Entry). state_at s es k) all ∙ replayed-before s calls e k (omega (arith, is, le))))

@@ -28,7 +28,8 @@ Works-on old mid new first second = record {
 }
 
 -- one fault stays one, where none came before, and where none comes after
-pub FailsOnce-on : (old mid new : Disk) → FailsOnce old mid → Works mid new → new.failures ≡ mid.failures → FailsOnce old new
+pub FailsOnce-on : (old mid new : Disk) → FailsOnce old mid → Works mid new → new.failures ≡ mid.failures
+    → FailsOnce old new
 FailsOnce-on old mid new once works steady = elim once [
   | inl counted ↦ inl (steady ∙ counted)
   | inr is_worn ↦ inr (works.worn is_worn)
@@ -41,21 +42,32 @@ FailsOnce-before old mid new steady once = elim once [
 ]
 
 -- work without a fault, and then more
-pub Work-on : {T E : Type 0} (old mid new : Disk) (result : Result T E) → Works old mid → mid.failures ≡ old.failures → IsWork mid new result → IsWork old new result
-Work-on old mid new (Ok x) before steady work = record { works = Works-on old mid new before work.works; ok = work.ok ∙ steady; err = tt }
-Work-on old mid new (Err e) before steady work = record { works = Works-on old mid new before work.works; ok = tt; err = FailsOnce-before old mid new steady work.err }
+pub Work-on : {T E : Type 0} (old mid new : Disk) (result : Result T E) → Works old mid → mid.failures ≡ old.failures
+    → IsWork mid new result → IsWork old new result
+Work-on old mid new (Ok x) before steady work =
+    record { works = Works-on old mid new before work.works; ok = work.ok ∙ steady; err = tt }
+Work-on old mid new (Err e) before steady work = record {
+  works = Works-on old mid new before work.works;
+  ok = tt;
+  err =
+      FailsOnce-before old mid new steady work.err;
+}
 
 -- an image that is left since a moment is left since each earlier one
-pub Left-earlier : (d : Disk) (since until : ℕ) (image : Image) → since ≤ until → LeftSince d until image → LeftSince d since image
+pub Left-earlier : (d : Disk) (since until : ℕ) (image : Image) → since ≤ until → LeftSince d until image
+    → LeftSince d since image
 Left-earlier d since until image le left = (left.0, omega (arith, le, left.1), left.2, left.3)
 
 -- an image that is left now is left since each moment up to now
-pub Left-now : (d : Disk) (since : ℕ) (image : Image) → since ≤ d.clock → IsImage (now d) image → LeftSince d since image
+pub Left-now : (d : Disk) (since : ℕ) (image : Image) → since ≤ d.clock → IsImage (now d) image
+    → LeftSince d since image
 Left-now d since image le left = (d.clock, le, omega arith, left)
 
 -- what was left up to a moment is left of the disk as it was then
-pub Left-before : (old new : Disk) (since : ℕ) (image : Image) → Works old new → (left : LeftSince new since image) → left.0 ≤ old.clock → LeftSince old since image
-Left-before old new since image works left le = (left.0, left.1, le, subst (λ (s : DiskState). IsImage s image) (works.past left.0 le) left.3)
+pub Left-before : (old new : Disk) (since : ℕ) (image : Image) → Works old new → (left : LeftSince new since image)
+    → left.0 ≤ old.clock → LeftSince old since image
+Left-before old new since image works left le =
+    (left.0, left.1, le, subst (λ (s : DiskState). IsImage s image) (works.past left.0 le) left.3)
 
 -- before the first call
 pub Leaves-start : (d : Disk) (P : Image → Type 0) → ((image : Image) → IsImage (now d) image → P image) → Leaves d d P
@@ -73,7 +85,8 @@ Leaves-join old mid new P Q R first second from_p from_q = record {
   works = Works-on old mid new first.works second.works;
   each = λ image left. elim (cases_lt mid.clock left.0) [
     | inl after ↦ from_q image (second.each image (left.0, omega (arith, after), left.2, left.3))
-    | inr before ↦ from_p image (first.each image (left.0, left.1, before, subst (λ (s : DiskState). IsImage s image) (second.works.past left.0 before) left.3))
+    | inr before ↦ from_p image (first.each image
+        (left.0, left.1, before, subst (λ (s : DiskState). IsImage s image) (second.works.past left.0 before) left.3))
   ];
 }
 
@@ -81,7 +94,8 @@ pub Leaves-more : (old mid new : Disk) (P : Image → Type 0) → Leaves old mid
 Leaves-more old mid new P first second = Leaves-join old mid new P P P first second (λ image p. p) (λ image p. p)
 
 -- one call more
-pub Leaves-call : {T E : Type 0} (old mid new : Disk) (result : Result T E) (P : Image → Type 0) → Leaves old mid P → IsDeviceCall mid new result
+pub Leaves-call : {T E : Type 0} (old mid new : Disk) (result : Result T E) (P : Image → Type 0) → Leaves old mid P
+    → IsDeviceCall mid new result
     → ((image : Image) → IsImage (now new) image → P image) → Leaves old new P
 Leaves-call old mid new result P so_far call here = record {
   works = Works-on old mid new so_far.works call.work.works;
@@ -89,25 +103,31 @@ Leaves-call old mid new result P so_far call here = record {
     | inl after ↦
         let at_new : left.0 ≡ new.clock = omega (arith, left.2, after, call.at_most_one) in
         here image (subst (λ (k : ℕ). IsImage (new.past k) image) at_new left.3)
-    | inr before ↦ so_far.each image (left.0, left.1, before, subst (λ (s : DiskState). IsImage s image) (call.work.works.past left.0 before) left.3)
+    | inr before ↦ so_far.each image
+        (left.0, left.1, before, subst (λ (s : DiskState). IsImage s image) (call.work.works.past left.0 before) left.3)
   ];
 }
 
-pub Leaves-weaker : (old new : Disk) (P Q : Image → Type 0) → ((image : Image) → P image → Q image) → Leaves old new P → Leaves old new Q
-Leaves-weaker old new P Q from leaves = record { works = leaves.works; each = λ image left. from image (leaves.each image left) }
+pub Leaves-weaker : (old new : Disk) (P Q : Image → Type 0) → ((image : Image) → P image → Q image) → Leaves old new P
+    → Leaves old new Q
+Leaves-weaker old new P Q from leaves =
+    record { works = leaves.works; each = λ image left. from image (leaves.each image left) }
 
 -- each image that a power loss may leave at the end is among them
-pub Leaves-now : (old new : Disk) (P : Image → Type 0) → Leaves old new P → (image : Image) → IsImage (now new) image → P image
+pub Leaves-now : (old new : Disk) (P : Image → Type 0) → Leaves old new P → (image : Image)
+    → IsImage (now new) image → P image
 Leaves-now old new P leaves image left = leaves.each image (Left-now new old.clock image leaves.works.later left)
 
 -- a run that leaves nothing new
 pub Nothing-start : (d : Disk) → LeavesNothingNew d d
 Nothing-start d = Leaves-start d (IsImage (now d)) (λ image left. left)
 
-pub Nothing-call : {T E : Type 0} (old mid new : Disk) (result : Result T E) → LeavesNothingNew old mid → IsDeviceCall mid new result
+pub Nothing-call : {T E : Type 0} (old mid new : Disk) (result : Result T E) → LeavesNothingNew old mid
+    → IsDeviceCall mid new result
     → ((image : Image) → IsImage (now new) image → IsImage (now old) image) → LeavesNothingNew old new
 Nothing-call old mid new result so_far call here = Leaves-call old mid new result (IsImage (now old)) so_far call here
 
 pub Nothing-join : (old mid new : Disk) → LeavesNothingNew old mid → LeavesNothingNew mid new → LeavesNothingNew old new
 Nothing-join old mid new first second =
-    Leaves-join old mid new (IsImage (now old)) (IsImage (now mid)) (IsImage (now old)) first second (λ image left. left) (Leaves-now old mid (IsImage (now old)) first)
+    Leaves-join old mid new (IsImage (now old)) (IsImage (now mid)) (IsImage (now old)) first second
+    (λ image left. left) (Leaves-now old mid (IsImage (now old)) first)

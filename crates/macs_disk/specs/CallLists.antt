@@ -1,6 +1,8 @@
 -- What a disk in memory keeps: its list of writes and syncs, and what these made of its sectors.
-use Rattle.std.specs.Prelude.{◌≡◌, ◌≤◌, ◌-◌, ◌^◌, ◌==◌, ℕ, if◌then◌else◌, Bool, true, false, List, [], ◌∷◌, length, get_or, nat_le, Option, Some, None}
-use Rattle.macs_disk.specs.States.{IsSector, Image, DiskState, settled_state, state_after_write, state_after_sync, zero_sector}
+use Rattle.std.specs.Prelude.{◌≡◌, ◌≤◌, ◌-◌, ◌^◌, ◌==◌, ℕ, if◌then◌else◌, Bool, true, false, List, [], ◌∷◌, length}
+use Rattle.std.specs.Prelude.{get_or, nat_le, Option, Some, None}
+use Rattle.macs_disk.specs.States.{IsSector, Image, DiskState, settled_state, state_after_write, state_after_sync}
+use Rattle.macs_disk.specs.States.{zero_sector}
 use Rattle.macs_disk.specs.Disk.{Disk}
 use Rattle.macs_disk.specs.declared.call_list.Entry.{Entry}
 use Rattle.macs_disk.specs.declared.call_list.Call.{Call}

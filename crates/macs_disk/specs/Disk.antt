@@ -1,6 +1,7 @@
 -- A disk through time, and what one call of it does.
 use Rattle.std.specs.Prelude.{◌≡◌, ◌≤◌, ◌+◌, ◌⊎◌, ℕ, Bool, true, false, List, Result, IsErr, OnOk, OnErr}
-use Rattle.macs_disk.specs.States.{IsSector, Image, DiskState, IsImage, settled_state, state_after_write, state_after_sync}
+use Rattle.macs_disk.specs.States.{IsSector, Image, DiskState, IsImage, settled_state, state_after_write}
+use Rattle.macs_disk.specs.States.{state_after_sync}
 
 -- a disk through time. `past k` is its state at moment k, for each k up to the clock. A worn disk
 -- fails each call. Whether it is honest says whether its calls do what is said of an honest disk.

@@ -1,6 +1,7 @@
--- What the disks of this crate hand to the trait: that they are sound, and worn no sooner than their clock is full. It is here
--- and not among the proofs, since what a ghost item cites of its own crate is in its specs.
-use Rattle.std.proofs.Common.{◌≡◌, ◌≤◌, ◌+◌, ◌-◌, ◌^◌, ◌==◌, inl, inr, ℕ, min, max, Bool, true, false, List, refl, ap, arith, subst, sym}
+-- What the disks of this crate hand to the trait: that they are sound, and worn no sooner than their clock is full. It
+-- is here and not among the proofs, since what a ghost item cites of its own crate is in its specs.
+use Rattle.std.proofs.Common.{◌≡◌, ◌≤◌, ◌+◌, ◌-◌, ◌^◌, ◌==◌, inl, inr, ℕ, min, max, Bool, true, false, List, refl, ap}
+use Rattle.std.proofs.Common.{arith, subst, sym}
 use Rattle.std.proofs.lemmas.Bool.{cases_eq}
 use Rattle.std.proofs.lemmas.Bool.Decides.{nat_tests}
 use Rattle.macs_disk.specs.States.{IsSound, settled_state}
@@ -18,11 +19,13 @@ fused-now disk at missed added le =
     ap disk.past same
 
 -- which is as sound
-pub fused-sound : (disk : Disk) (at missed added : ℕ) → at ≤ disk.clock → IsSound (now disk) → IsSound (now (fused_disk disk at missed added))
+pub fused-sound : (disk : Disk) (at missed added : ℕ) → at ≤ disk.clock → IsSound (now disk)
+    → IsSound (now (fused_disk disk at missed added))
 fused-sound disk at missed added le sound = subst IsSound (sym (fused-now disk at missed added le)) sound
 
 -- a disk behind a fuse is worn no sooner than one of the two counts is full
-pub fused-wear : (disk : Disk) (at missed added : ℕ) → (disk.worn ≡ true → 2 ^ 64 - 1 ≤ disk.clock) → (fused_disk disk at missed added).worn ≡ true
+pub fused-wear : (disk : Disk) (at missed added : ℕ) → (disk.worn ≡ true → 2 ^ 64 - 1 ≤ disk.clock)
+    → (fused_disk disk at missed added).worn ≡ true
     → 2 ^ 64 - 1 ≤ (fused_disk disk at missed added).clock
 fused-wear disk at missed added inner is = elim (cases_eq missed (2 ^ 64 - 1)) [
   | inl full ↦ omega (arith, full)
@@ -36,12 +39,16 @@ fused-wear disk at missed added inner is = elim (cases_eq missed (2 ^ 64 - 1)) [
       cc)
 
 -- what a fuse is
-pub fuse-sound : {D : Type 0} (disk : D → Disk) (fuse : FuseValue D) → IsSound (now (disk fuse.inner)) → IsSound (now (disk_of_fuse disk fuse))
-fuse-sound disk fuse = fused-sound (disk fuse.inner) (min (disk fuse.when).clock (disk fuse.inner).clock) fuse.missed fuse.added (omega arith)
+pub fuse-sound : {D : Type 0} (disk : D → Disk) (fuse : FuseValue D) → IsSound (now (disk fuse.inner))
+    → IsSound (now (disk_of_fuse disk fuse))
+fuse-sound disk fuse = fused-sound (disk fuse.inner) (min (disk fuse.when).clock (disk fuse.inner).clock) fuse.missed
+    fuse.added (omega arith)
 
-pub fuse-wear : {D : Type 0} (disk : D → Disk) (fuse : FuseValue D) → ((disk fuse.inner).worn ≡ true → 2 ^ 64 - 1 ≤ (disk fuse.inner).clock)
+pub fuse-wear : {D : Type 0} (disk : D → Disk) (fuse : FuseValue D)
+    → ((disk fuse.inner).worn ≡ true → 2 ^ 64 - 1 ≤ (disk fuse.inner).clock)
     → (disk_of_fuse disk fuse).worn ≡ true → 2 ^ 64 - 1 ≤ (disk_of_fuse disk fuse).clock
-fuse-wear disk fuse = fused-wear (disk fuse.inner) (min (disk fuse.when).clock (disk fuse.inner).clock) fuse.missed fuse.added
+fuse-wear disk fuse =
+    fused-wear (disk fuse.inner) (min (disk fuse.when).clock (disk fuse.inner).clock) fuse.missed fuse.added
 
 -- ---- a disk in memory
 
@@ -54,7 +61,8 @@ full-clock clock is = elim (cases_eq clock (2 ^ 64 - 1)) [
 
 -- what is kept of a disk in memory gives a sound state
 pub kept-sound : (first seen durable : List (List ℕ)) (pending : List Bool) (calls : List Entry) (clock : ℕ)
-    → IsSoundMemory first seen durable pending calls clock → IsSound (state_at (settled_state (sectors_in first)) calls clock)
+    → IsSoundMemory first seen durable pending calls clock
+    → IsSound (state_at (settled_state (sectors_in first)) calls clock)
 kept-sound first seen durable pending calls clock kept =
     rw kept.is_now (record {
       fit = record { kept = kept.clean; whole = λ i _. kept.whole_seen i };

@@ -1,8 +1,10 @@
 -- What a `FileDisk` is.
-use Rattle.std.specs.Prelude.{◌≡◌, ◌≤◌, ◌<◌, ◌-◌, ◌/◌, ◌%◌, ◌^◌, ◌==◌, ◌&&◌, ◌⊎◌, ℕ, Bool, true, false, max, nat_le, get_or, replicate, Result, IsErr}
+use Rattle.std.specs.Prelude.{◌≡◌, ◌≤◌, ◌<◌, ◌-◌, ◌/◌, ◌%◌, ◌^◌, ◌==◌, ◌&&◌, ◌⊎◌, ℕ, Bool, true, false, max, nat_le}
+use Rattle.std.specs.Prelude.{get_or, replicate, Result, IsErr}
 use Rattle.macs_disk.specs.States.{DiskState, Image, zero_sector}
 use Rattle.macs_disk.specs.Disk.{Disk, IsDeviceCall, IsHonest, now}
-use Rattle.macs_disk.specs.Files.{Behaves, FileState, IsSure, Settles, file_after_sync, file_after_write, file_in_doubt, values_from}
+use Rattle.macs_disk.specs.Files.{Behaves, FileState, IsSure, Settles, file_after_sync, file_after_write, file_in_doubt}
+use Rattle.macs_disk.specs.Files.{values_from}
 use Rattle.macs_disk.specs.Layouts.{layout_in, mark, mark_place, place, sectors_in, suits}
 use Rattle.macs_disk.specs.declared.disk.DeviceFault.{DeviceFault}
 use Rattle.macs_disk.specs.declared.file.FileDisk.{FileDisk}
@@ -10,7 +12,8 @@ use Rattle.macs_disk.specs.declared.settled_file.SettledFile.{SettledFile}
 use Rattle.macs_disk.specs.declared.layout.Layout.{Layout}
 use Rattle.macs_disk.specs.declared.layout.Layout.TheVariants.{Packed, Spaced}
 
--- a file by its sectors: each is the 512 octets at its place, and pending where the block of the device that holds them is
+-- a file by its sectors: each is the 512 octets at its place, and pending where the block of the device that holds them
+-- is
 unfoldable pub state_in_file : Layout → FileState → DiskState
 state_in_file layout file =
     record {
@@ -23,17 +26,18 @@ state_in_file layout file =
 abbrev pub image_in_file : Layout → (ℕ → ℕ) → Image
 image_in_file layout octets i = values_from octets (place layout i) 512
 
--- a file is one that a disk may be kept in: it behaves, shows what the next sync makes durable, and has no block of the device
--- with two sectors
+-- a file is one that a disk may be kept in: it behaves, shows what the next sync makes durable, and has no block of the
+-- device with two sectors
 abbrev pub keeps_disk : Layout → FileState → Bool
 keeps_disk layout file = file.behaves && file.is_sure && suits layout file.block
 
--- a file is ready for the first call of a disk: nothing is pending, and a power loss leaves it no shorter than so many sectors
+-- a file is ready for the first call of a disk: nothing is pending, and a power loss leaves it no shorter than so many
+-- sectors
 abbrev pub is_ready : Layout → ℕ → FileState → Bool
 is_ready layout sectors file = file.is_clean && file.is_size_durable && nat_le (place layout sectors) file.size
 
--- a disk in a file, where this is what the file is. It is honest where the file keeps it, and was ready before its first
--- call. It is worn once its clock is full.
+-- a disk in a file, where this is what the file is. It is honest where the file keeps it, and was ready before its
+-- first call. It is worn once its clock is full.
 abbrev pub disk_in_file : {F : Type 0} → (F → FileState) → FileDisk F → Disk
 disk_in_file file it =
     record {
@@ -41,7 +45,8 @@ disk_in_file file it =
       past = λ k. state_in_file it.layout (file (get_or it.past.items k it.shown).value);
       clock = it.clock;
       failures = it.failures;
-      honest = keeps_disk it.layout (file it.shown.value) && is_ready it.layout it.sectors (file (get_or it.past.items 0 it.shown).value);
+      honest = keeps_disk it.layout (file it.shown.value)
+          && is_ready it.layout it.sectors (file (get_or it.past.items 0 it.shown).value);
       worn = it.clock == 2 ^ 64 - 1;
     }
 
@@ -66,10 +71,11 @@ IsLeftAsShown file it = Behaves (file (file_left it))
 abbrev pub is_stopped : {F : Type 0} → FileDisk F → Bool
 is_stopped it = it.is_failed
 
--- a call was refused before it reached the file, since the disk is worn or an earlier call of it failed. Whatever error it answers, it
--- is a call of the disk, and the disk's state is as it was.
+-- a call was refused before it reached the file, since the disk is worn or an earlier call of it failed. Whatever error
+-- it answers, it is a call of the disk, and the disk's state is as it was.
 pub record IsRefused {F : Type 0} (file : F → FileState) (old new : FileDisk F) : Type 0 where
-  pub call : (answer : Result (Unit {0}) DeviceFault) → IsErr answer → IsDeviceCall (disk_in_file file old) (disk_in_file file new) answer
+  pub call : (answer : Result (Unit {0}) DeviceFault) → IsErr answer
+      → IsDeviceCall (disk_in_file file old) (disk_in_file file new) answer
   pub still : now (disk_in_file file new) ≡ now (disk_in_file file old)
   pub stopped : (is_stopped new ≡ true) ⊎ ((disk_in_file file new).worn ≡ true)
 
@@ -81,8 +87,9 @@ layout_of it = it.layout
 abbrev pub sectors_of : {F : Type 0} → FileDisk F → ℕ
 sectors_of it = it.sectors
 
--- the layout of a file is found, whatever a power loss leaves: what is at the place of the mark is durable, and its block is not
--- pending, where the device's blocks suit the layout. The size is durable, or the file ends before that place.
+-- the layout of a file is found, whatever a power loss leaves: what is at the place of the mark is durable, and its
+-- block is not pending, where the device's blocks suit the layout. The size is durable, or the file ends before that
+-- place.
 pub record KeepsLayout (layout : Layout) (file : FileState) : Type 0 where
   pub found : layout_in file ≡ layout
   pub durable : values_from file.durable mark_place 512 ≡ values_from file.seen mark_place 512
@@ -96,11 +103,12 @@ pub record IsFoundAs (layout : Layout) (sectors : ℕ) (file : FileState) : Type
   pub is_size_durable : file.is_size_durable ≡ true
   pub keeps : KeepsLayout layout file
 
--- the file of a disk, as it is left, is found again as a disk of its layout and of its sectors. Until a call fails it shows what
--- the next sync makes durable.
+-- the file of a disk, as it is left, is found again as a disk of its layout and of its sectors. Until a call fails it
+-- shows what the next sync makes durable.
 abbrev pub IsFoundAgain : {F : Type 0} → (F → FileState) → FileDisk F → Type 0
 IsFoundAgain file it = Behaves (file (file_left it))
-    → IsFoundAs (layout_of it) (sectors_of it) (file (file_left it)) × (is_stopped it ≡ false → IsSure (file (file_left it)))
+    → IsFoundAs (layout_of it) (sectors_of it) (file (file_left it))
+    × (is_stopped it ≡ false → IsSure (file (file_left it)))
 
 -- the file made so long with zeros, durably
 abbrev pub file_lengthened : FileState → ℕ → FileState
@@ -116,7 +124,8 @@ octets_of it = it.octets
 
 -- a file is claimed and settled, and was measured to be whole sectors
 abbrev pub IsSettled : {F : Type 0} → (F → FileState) → SettledFile F → Type 0
-IsSettled file it = Settles (file (file_before it)) (file it.file) × (octets_of it ≡ (file it.file).size) × (octets_of it % 512 ≡ 0)
+IsSettled file it = Settles (file (file_before it)) (file it.file) × (octets_of it ≡ (file it.file).size)
+    × (octets_of it % 512 ≡ 0)
 
 -- a disk that was opened over a file which behaves. The file was settled first, and then made longer where it had fewer
 -- sectors than were asked for: the disk's are those of the file then, all of them durable. It is honest where the
@@ -135,15 +144,15 @@ pub record IsOpened (file : FileState) (least : ℕ) (layout : Layout) (disk : D
 abbrev pub IsStill : FileState → Type 0
 IsStill file = IsSure file × (file_after_sync file ≡ file)
 
--- a settled file was made ready for a disk: its layout was found, and it was made longer where it had fewer sectors than
--- were asked for
+-- a settled file was made ready for a disk: its layout was found, and it was made longer where it had fewer sectors
+-- than were asked for
 pub record IsExtent (settled new : FileState) (least : ℕ) (layout : Layout) (sectors : ℕ) : Type 0 where
   pub found : layout ≡ layout_in settled
   pub count : sectors ≡ max (sectors_in layout settled.size) least
   pub file : new ≡ file_lengthened settled (place layout least)
 
--- by the mark a file is found to be of this layout: a spaced one has it in the block after its sectors, and a packed one ends
--- before that block or begins it with zeros
+-- by the mark a file is found to be of this layout: a spaced one has it in the block after its sectors, and a packed
+-- one ends before that block or begins it with zeros
 abbrev pub HasMark : Layout → FileState → Type 0
 HasMark Packed file = (file.size ≤ place Spaced 1028) ⊎ (values_from file.seen (place Spaced 1028) 512 ≡ zero_sector)
 HasMark Spaced file = (place Spaced 1029 ≤ file.size) × (values_from file.seen (place Spaced 1028) 512 ≡ mark)
@@ -175,9 +184,9 @@ pub record IsCleared (old new : FileState) (layout : Layout) : Type 0 where
   pub zeros : (i : ℕ) → i < 1028 → values_from new.seen (place layout i) 512 ≡ zero_sector
   pub found : layout_in new ≡ layout
 
--- a new disk of this layout in a file that was `old` and is `new`: its first 1,028 sectors are zeros, all of them are durable,
--- and nothing is pending. It has the sectors that the file had, where these were more. It is honest where the device's blocks
--- suit the layout, and the layout is found when the file is opened again.
+-- a new disk of this layout in a file that was `old` and is `new`: its first 1,028 sectors are zeros, all of them are
+-- durable, and nothing is pending. It has the sectors that the file had, where these were more. It is honest where the
+-- device's blocks suit the layout, and the layout is found when the file is opened again.
 pub record IsBlank (old new : FileState) (layout : Layout) (disk : Disk) : Type 0 where
   pub block : new.block ≡ old.block
   pub honest : suits layout old.block ≡ true → IsHonest disk

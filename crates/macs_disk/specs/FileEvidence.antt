@@ -1,6 +1,7 @@
 -- That a disk in a file that behaves is sound. It is here and not among the proofs, since what a ghost item cites of
 -- its own crate is in its specs.
-use Rattle.std.proofs.Common.{◌≡◌, ◌≤◌, ◌<◌, ◌+◌, ◌*◌, ◌/◌, ◌^◌, ◌==◌, ◌&&◌, ◌||◌, inl, inr, ℕ, zero, suc, Bool, true, false, List, ◌∷◌, length, get_or, refl, arith, subst, sym}
+use Rattle.std.proofs.Common.{◌≡◌, ◌≤◌, ◌<◌, ◌+◌, ◌*◌, ◌/◌, ◌^◌, ◌==◌, ◌&&◌, ◌||◌, inl, inr, ℕ, zero, suc, Bool, true}
+use Rattle.std.proofs.Common.{false, List, ◌∷◌, length, get_or, refl, arith, subst, sym}
 use Rattle.std.proofs.lemmas.Bool.{cases_eq, cases_lt, and_parts}
 use Rattle.std.proofs.lemmas.Bool.Decides.{nat_tests}
 use Rattle.std.proofs.lemmas.List.{get_or_past}
@@ -34,15 +35,20 @@ values-sector f at small = record {
 
 -- values that agree at each place
 same_first : (f g : ℕ → ℕ) (at n : ℕ) → ((i : ℕ) → i < suc n → f (at + i) ≡ g (at + i)) → f at ≡ g at
-same_first f g at n same = let zero_more : at + 0 ≡ at = omega arith in subst (λ (p : ℕ). f p ≡ g p) zero_more (same 0 (omega arith))
+same_first f g at n same = let zero_more : at + 0 ≡ at = omega arith in
+    subst (λ (p : ℕ). f p ≡ g p) zero_more (same 0 (omega arith))
 
-same_rest : (f g : ℕ → ℕ) (at n : ℕ) → ((i : ℕ) → i < suc n → f (at + i) ≡ g (at + i)) → (i : ℕ) → i < n → f ((at + 1) + i) ≡ g ((at + 1) + i)
-same_rest f g at n same i lt = let next : at + (1 + i) ≡ (at + 1) + i = omega arith in subst (λ (p : ℕ). f p ≡ g p) next (same (1 + i) (omega (arith, lt)))
+same_rest : (f g : ℕ → ℕ) (at n : ℕ) → ((i : ℕ) → i < suc n → f (at + i) ≡ g (at + i)) → (i : ℕ) → i < n
+    → f ((at + 1) + i) ≡ g ((at + 1) + i)
+same_rest f g at n same i lt = let next : at + (1 + i) ≡ (at + 1) + i = omega arith in
+    subst (λ (p : ℕ). f p ≡ g p) next (same (1 + i) (omega (arith, lt)))
 
-pub values-same : (f g : ℕ → ℕ) (at count : ℕ) → ((i : ℕ) → i < count → f (at + i) ≡ g (at + i)) → values_from f at count ≡ values_from g at count
+pub values-same : (f g : ℕ → ℕ) (at count : ℕ) → ((i : ℕ) → i < count → f (at + i) ≡ g (at + i))
+    → values_from f at count ≡ values_from g at count
 unfolding values_from
 values-same f g at zero same = refl
-values-same f g at (suc n) same = λ j. same_first f g at n same j ∷ values-same f g (at + 1) n (same_rest f g at n same) j
+values-same f g at (suc n) same =
+    λ j. same_first f g at n same j ∷ values-same f g (at + 1) n (same_rest f g at n same) j
 
 -- a sector is at the front of a block of the device, and is no longer than that
 pub record StandsAt (block number place : ℕ) : Type 0 where
@@ -68,13 +74,15 @@ on_either : (block i : ℕ) (is_small : Bool) → (block == 512) ≡ is_small �
 on_either block i true is suited = on_small block i is
 on_either block i false is suited = on_large block i suited
 
-pub stands-at : (layout : Layout) (block i : ℕ) → suits layout block ≡ true → StandsAt block (place layout i / block) (place layout i)
+pub stands-at : (layout : Layout) (block i : ℕ) → suits layout block ≡ true
+    → StandsAt block (place layout i / block) (place layout i)
 stands-at Packed block i suited = subst (λ (b : ℕ). StandsAt b (512 * i / b) (512 * i)) (sym (is_same block 512 suited))
     (record { front = omega arith; long = omega arith })
 stands-at Spaced block i suited = on_either block i (block == 512) refl suited
 
 -- the sectors of a sound file
-pub state-sound : (layout : Layout) (file : FileState) → suits layout file.block ≡ true → IsSure file → IsSoundFile file → IsSound (state_in_file layout file)
+pub state-sound : (layout : Layout) (file : FileState) → suits layout file.block ≡ true → IsSure file → IsSoundFile file
+    → IsSound (state_in_file layout file)
 unfolding state_in_file
 state-sound layout file suited sure sound = record {
   fit = record {
@@ -109,5 +117,6 @@ pub file-sound : {F : Type 0} (file : F → FileState) → ((it : F) → Behaves
     → IsSound (state_in_file layout (file (get_or past clock shown).value))
 file-sound file sound layout shown past clock sectors kept honest =
     let same : get_or past clock shown ≡ shown = get_or_past past clock shown (omega (arith, kept)) in
-    let k = keeps layout (file shown.value) (and_parts _ (is_ready layout sectors (file (get_or past 0 shown).value)) honest).0 in
+    let k = keeps layout (file shown.value)
+    (and_parts _ (is_ready layout sectors (file (get_or past 0 shown).value)) honest).0 in
     rw same (state-sound layout (file shown.value) k.suited k.sure (sound shown.value k.behaves))

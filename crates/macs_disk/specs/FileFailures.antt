@@ -21,10 +21,12 @@ pub record FailedCall : Type 0 where
   pub kind : ErrorKind
 
 -- one call more was answered: where it is known which calls failed, this one is added exactly if it failed
-abbrev pub NotesFailure : {T E : Type 0} → Option (List FailedCall) → Option (List FailedCall) → FileCall → (E → ErrorKind) → Result T E → Type 0
+abbrev pub NotesFailure : {T E : Type 0} → Option (List FailedCall) → Option (List FailedCall) → FileCall
+    → (E → ErrorKind) → Result T E → Type 0
 NotesFailure None after call kind answer = ⊤
 NotesFailure (Some before) after call kind (Ok value) = after ≡ Some before
-NotesFailure (Some before) after call kind (Err error) = after ≡ Some (before ++ record { call = call; kind = kind error } ∷ [])
+NotesFailure (Some before) after call kind (Err error) =
+    after ≡ Some (before ++ record { call = call; kind = kind error } ∷ [])
 
 -- no call failed since
 abbrev pub NoneFailed : Option (List FailedCall) → Option (List FailedCall) → Type 0
@@ -36,19 +38,23 @@ abbrev pub OneFailed : Option (List FailedCall) → Option (List FailedCall) →
 OneFailed None after call kind = ⊤
 OneFailed (Some before) after call kind = after ≡ Some (before ++ record { call = call; kind = kind } ∷ [])
 
--- an error of this kind makes this fault where the file cannot be opened without the call: out of memory or, of any other kind, not opened
+-- an error of this kind makes this fault where the file cannot be opened without the call: out of memory or, of any
+-- other kind, not opened
 abbrev pub IsFaultOfKind : ErrorKind → FileFault → Type 0
 IsFaultOfKind kind it = (it ≢ fault.Length) × (it ≢ fault.Device) × ((it ≡ fault.Memory) ↔ (kind ≡ OutOfMemory))
 
--- a file is not measured: it is not whole sectors, and no call failed; or the claim or the measuring failed, and this is its fault
+-- a file is not measured: it is not whole sectors, and no call failed; or the claim or the measuring failed, and this
+-- is its fault
 abbrev pub MeasureFails : Option (List FailedCall) → Option (List FailedCall) → FileFault → Type 0
 MeasureFails before after it =
     ((it ≡ fault.Length) × NoneFailed before after)
-    ⊎ ((call : FileCall) × (kind : ErrorKind) × ((call ≡ Claims) ⊎ (call ≡ Measures)) × OneFailed before after call kind × IsFaultOfKind kind it)
+    ⊎ ((call : FileCall) × (kind : ErrorKind) × ((call ≡ Claims) ⊎ (call ≡ Measures))
+    × OneFailed before after call kind × IsFaultOfKind kind it)
 
 -- a file is not settled: the sync or the rereading failed
 abbrev pub SettleFails : Option (List FailedCall) → Option (List FailedCall) → Type 0
-SettleFails before after = (call : FileCall) × (kind : ErrorKind) × ((call ≡ Syncs) ⊎ (call ≡ Rereads)) × OneFailed before after call kind
+SettleFails before after = (call : FileCall) × (kind : ErrorKind) × ((call ≡ Syncs) ⊎ (call ≡ Rereads))
+    × OneFailed before after call kind
 
 -- why a file is not made fit for a disk
 abbrev pub FitFails : Option (List FailedCall) → Option (List FailedCall) → FileFault → Type 0
@@ -63,25 +69,29 @@ IsInterrupted it = it.kind ≡ Interrupted
 -- no call failed since but some that were interrupted
 abbrev pub OnlyInterrupted : Option (List FailedCall) → Option (List FailedCall) → Type 0
 OnlyInterrupted None after = ⊤
-OnlyInterrupted (Some before) after = (more : List FailedCall) × All IsInterrupted more × (after ≡ Some (before ++ more))
+OnlyInterrupted (Some before) after = (more : List FailedCall) × All IsInterrupted more
+    × (after ≡ Some (before ++ more))
 
 -- this call failed last, and before it only some that were interrupted
 abbrev pub FailsLast : Option (List FailedCall) → Option (List FailedCall) → FileCall → ErrorKind → Type 0
-FailsLast before after call kind = (between : Option (List FailedCall)) × OnlyInterrupted before between × OneFailed between after call kind
+FailsLast before after call kind = (between : Option (List FailedCall)) × OnlyInterrupted before between
+    × OneFailed between after call kind
 
--- octets are not moved, which is an error of this kind, and not of an interruption: such a call failed so; or none did but interrupted ones,
--- and one moved nothing
+-- octets are not moved, which is an error of this kind, and not of an interruption: such a call failed so; or none did
+-- but interrupted ones, and one moved nothing
 abbrev pub MoveFails : Option (List FailedCall) → Option (List FailedCall) → FileCall → ErrorKind → Type 0
 MoveFails before after call kind =
     (kind ≢ Interrupted) × (FailsLast before after call kind ⊎ ((kind ≢ OutOfMemory) × OnlyInterrupted before after))
 
--- why a file is not written: a write or a sync failed, and this is its fault; or none did, and one wrote nothing, or the file may not be
--- made so long
+-- why a file is not written: a write or a sync failed, and this is its fault; or none did, and one wrote nothing, or
+-- the file may not be made so long
 abbrev pub WriteFails : Option (List FailedCall) → Option (List FailedCall) → FileFault → Type 0
 WriteFails before after it =
     ((it ≡ fault.Open) × OnlyInterrupted before after)
-    ⊎ ((call : FileCall) × (kind : ErrorKind) × ((call ≡ Writes) ⊎ (call ≡ Syncs)) × FailsLast before after call kind × IsFaultOfKind kind it)
+    ⊎ ((call : FileCall) × (kind : ErrorKind) × ((call ≡ Writes) ⊎ (call ≡ Syncs)) × FailsLast before after call kind
+    × IsFaultOfKind kind it)
 
 -- why a settled file becomes no disk: its mark is not read, or it is not made longer
 abbrev pub ExtendFails : Option (List FailedCall) → Option (List FailedCall) → FileFault → Type 0
-ExtendFails before after it = ((it ≡ fault.Device) × (kind : ErrorKind) × MoveFails before after Reads kind) ⊎ WriteFails before after it
+ExtendFails before after it = ((it ≡ fault.Device) × (kind : ErrorKind) × MoveFails before after Reads kind)
+    ⊎ WriteFails before after it

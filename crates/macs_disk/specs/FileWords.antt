@@ -1,14 +1,16 @@
 -- What is to be drawn of files that are written, of marks, and of disks in memory.
-use Rattle.std.specs.Prelude.{◌≡◌, ◌≢◌, ◌<◌, ◌≤◌, ◌+◌, ◌-◌, ◌*◌, ℕ, true, false, max, List, [], ◌∷◌, ◌++◌, length, get_or, replicate, codes, None}
+use Rattle.std.specs.Prelude.{◌≡◌, ◌≢◌, ◌<◌, ◌≤◌, ◌+◌, ◌-◌, ◌*◌, ℕ, true, false, max, List, [], ◌∷◌, ◌++◌, length}
+use Rattle.std.specs.Prelude.{get_or, replicate, codes, None}
 use Rattle.macs_disk.specs.Disk.{Disk, now}
 use Rattle.macs_disk.specs.FileDisks.{IsFresh}
 use Rattle.macs_disk.specs.Files.{FileState, file_after_write}
 use Rattle.macs_disk.specs.Layouts.{mark, mark_place}
 use Rattle.macs_disk.specs.Memory.{Memory, image_left, memory_after_loss, memory_with_choice}
 
--- A write of no octets changes nothing. One of some makes the file end behind them, if it ended before, and its size is in
--- doubt then. They are shown from its place on; what was shown elsewhere, and what is durable, stays. Each block of the
--- device that has some of them is pending, and no other comes to be. The file is not clean, and all else of it stays.
+-- A write of no octets changes nothing. One of some makes the file end behind them, if it ended before, and its size is
+-- in doubt then. They are shown from its place on; what was shown elsewhere, and what is durable, stays. Each block of
+-- the device that has some of them is pending, and no other comes to be. The file is not clean, and all else of it
+-- stays.
 pub record WriteWords : Type 0 where
   pub none : (file : FileState) (at : ℕ) → file_after_write file at [] ≡ file
   pub size : (file : FileState) (at x : ℕ) (xs : List ℕ)
@@ -35,13 +37,15 @@ pub record WriteWords : Type 0 where
       × ((file_after_write file at (x ∷ xs)).is_sure ≡ file.is_sure)
       × ((file_after_write file at (x ∷ xs)).is_claimed ≡ file.is_claimed)
 
--- A power loss leaves of a disk in memory what was chosen for a sector, and the last write where nothing was. That is what
--- the disk shows after it; the choices are gone then. A choice is for its sector alone, and makes no call.
+-- A power loss leaves of a disk in memory what was chosen for a sector, and the last write where nothing was. That is
+-- what the disk shows after it; the choices are gone then. A choice is for its sector alone, and makes no call.
 pub record MemoryWords : Type 0 where
-  pub chosen : (memory : Memory) (at : ℕ) (octets : List ℕ) → image_left (memory_with_choice memory at octets) at ≡ octets
+  pub chosen : (memory : Memory) (at : ℕ) (octets : List ℕ)
+      → image_left (memory_with_choice memory at octets) at ≡ octets
   pub alone : (memory : Memory) (at other : ℕ) (octets : List ℕ) → other ≢ at
       → image_left (memory_with_choice memory at octets) other ≡ image_left memory other
-  pub not_chosen : (memory : Memory) (at : ℕ) → memory.chosen at ≡ None → image_left memory at ≡ (now memory.disk).seen at
+  pub not_chosen : (memory : Memory) (at : ℕ) → memory.chosen at ≡ None
+      → image_left memory at ≡ (now memory.disk).seen at
   pub no_call : (memory : Memory) (at : ℕ) (octets : List ℕ) → (memory_with_choice memory at octets).disk ≡ memory.disk
   pub shown : (memory : Memory) (at : ℕ) → (now (memory_after_loss memory).disk).seen at ≡ image_left memory at
   pub gone : (memory : Memory) (at : ℕ) → (memory_after_loss memory).chosen at ≡ None

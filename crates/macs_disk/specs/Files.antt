@@ -1,7 +1,9 @@
--- A file at one moment, and what each call of a file that behaves does to it. A file behaves as one of a kernel's does that keeps
--- its promises: octets are written to a cache and read from there; a sync makes them durable on the device; where a sync
--- fails, the cache may show octets that the device does not have, until a sync succeeds and the file is read again.
-use Rattle.std.specs.Prelude.{◌≡◌, ◌≤◌, ◌<◌, ◌+◌, ◌-◌, ◌*◌, ◌^◌, ◌&&◌, ◌||◌, ℕ, if◌then◌else◌, max, nat_le, nat_lt, Bool, true, false, List, [], ◌∷◌, length, map, take, get_or, Result, IfOk, OnOk, OnErr}
+-- A file at one moment, and what each call of a file that behaves does to it. A file behaves as one of a kernel's does
+-- that keeps its promises: octets are written to a cache and read from there; a sync makes them durable on the device;
+-- where a sync fails, the cache may show octets that the device does not have, until a sync succeeds and the file is
+-- read again.
+use Rattle.std.specs.Prelude.{◌≡◌, ◌≤◌, ◌<◌, ◌+◌, ◌-◌, ◌*◌, ◌^◌, ◌&&◌, ◌||◌, ℕ, if◌then◌else◌, max, nat_le, nat_lt}
+use Rattle.std.specs.Prelude.{Bool, true, false, List, [], ◌∷◌, length, map, take, get_or, Result, IfOk, OnOk, OnErr}
 use Rattle.std.specs.List.{range_with_len}
 
 -- a file at one moment, by the places of its octets and by the numbers of the device's blocks
@@ -53,19 +55,21 @@ unknown_file =
       is_claimed = false;
     }
 
--- a block has octets, octets are below 256, nothing is pending in a clean file, and a file that is sure shows what is durable
--- where nothing is pending
+-- a block has octets, octets are below 256, nothing is pending in a clean file, and a file that is sure shows what is
+-- durable where nothing is pending
 pub record IsSoundFile (file : FileState) : Type 0 where
   pub wide : 0 < file.block
   pub seen : (p : ℕ) → file.seen p < 2 ^ 8
   pub durable : (p : ℕ) → file.durable p < 2 ^ 8
   pub clean : file.is_clean ≡ true → (n : ℕ) → file.pending n ≡ false
-  pub sure : IsSure file → (n k : ℕ) → file.pending n ≡ false → k < file.block → file.seen (file.block * n + k) ≡ file.durable (file.block * n + k)
+  pub sure : IsSure file → (n k : ℕ) → file.pending n ≡ false → k < file.block
+      → file.seen (file.block * n + k) ≡ file.durable (file.block * n + k)
 
 -- a power loss may leave these octets: the durable ones in a block that is not pending, and any others elsewhere. Where
 -- the size is not durable nothing is said of what it leaves.
 pub record IsFileImage (file : FileState) (image : ℕ → ℕ) : Type 0 where
-  pub kept : (n k : ℕ) → file.pending n ≡ false → k < file.block → image (file.block * n + k) ≡ file.durable (file.block * n + k)
+  pub kept : (n k : ℕ) → file.pending n ≡ false → k < file.block
+      → image (file.block * n + k) ≡ file.durable (file.block * n + k)
   pub octets : (p : ℕ) → image p < 2 ^ 8
 
 -- f, but these values from one place on
@@ -157,48 +161,53 @@ pub record ReadsFile {E : Type 0} (old new : FileState) (at : ℕ) (into : List 
 
 -- some octets were written from a place on, no more than so many
 abbrev pub WritesSome : FileState → FileState → ℕ → ℕ → Type 0
-WritesSome old new at most = (other : List ℕ) × (length other ≤ most) × AreOctets other × (new ≡ file_after_write old at other)
+WritesSome old new at most = (other : List ℕ) × (length other ≤ most) × AreOctets other
+    × (new ≡ file_after_write old at other)
 
--- what a write does: it writes the first of the octets at its place, as many as it answers. Where it fails it wrote some
--- octets there, maybe none. Of a file in doubt it is only known that it stays in doubt.
+-- what a write does: it writes the first of the octets at its place, as many as it answers. Where it fails it wrote
+-- some octets there, maybe none. Of a file in doubt it is only known that it stays in doubt.
 pub record WritesFile {E : Type 0} (old new : FileState) (at : ℕ) (octets : List ℕ) (result : Result ℕ E) : Type 0 where
   pub ok : IsSure old → IfOk result (λ count. new ≡ file_after_write old at (take count octets))
   pub err : IsSure old → OnErr result (WritesSome old new at (length octets))
   pub doubt : old.is_sure ≡ false → new.is_sure ≡ false
 
 -- what a write of all of these octets does: where it fails it wrote some octets there, no more than so many, maybe none
-pub record WritesAll {T E : Type 0} (old new : FileState) (at : ℕ) (octets : List ℕ) (result : Result T E) : Type 0 where
+pub record WritesAll {T E : Type 0} (old new : FileState) (at : ℕ) (octets : List ℕ)
+    (result : Result T E) : Type 0 where
   pub ok : IsSure old → OnOk result (new ≡ file_after_write old at octets)
   pub err : IsSure old → OnErr result (WritesSome old new at (length octets))
   pub doubt : old.is_sure ≡ false → new.is_sure ≡ false
 
--- what a sync does: what a file that is sure shows is durable then, and so is its size. Of one in doubt some image of it is
--- durable, and it stays in doubt. Where it fails nothing is durable that was not, and the file is in doubt.
+-- what a sync does: what a file that is sure shows is durable then, and so is its size. Of one in doubt some image of
+-- it is durable, and it stays in doubt. Where it fails nothing is durable that was not, and the file is in doubt.
 pub record SyncsFile {T E : Type 0} (old new : FileState) (result : Result T E) : Type 0 where
   pub ok : IsSure old → OnOk result (new ≡ file_after_sync old)
-  pub doubt : old.is_sure ≡ false → OnOk result ((image : ℕ → ℕ) × IsFileImage old image × (new ≡ file_synced old image))
+  pub doubt : old.is_sure ≡ false
+      → OnOk result ((image : ℕ → ℕ) × IsFileImage old image × (new ≡ file_synced old image))
   pub err : OnErr result (new ≡ file_in_doubt old)
 
--- what reading again does: a clean file that is claimed shows what is durable, and is sure. Of a file with octets that are
--- pending nothing is said, since their pages stay in the cache, nor of one that is not claimed, since others may write to it.
--- Where it fails the file may show something else, and nothing else is changed.
+-- what reading again does: a clean file that is claimed shows what is durable, and is sure. Of a file with octets that
+-- are pending nothing is said, since their pages stay in the cache, nor of one that is not claimed, since others may
+-- write to it. Where it fails the file may show something else, and nothing else is changed.
 pub record RereadsFile {T E : Type 0} (old new : FileState) (result : Result T E) : Type 0 where
   pub ok : old.is_clean ≡ true → IsClaimed old → OnOk result (new ≡ file_reread old)
   pub err : OnErr result ((octets : ℕ → ℕ) × (new ≡ file_showing old octets))
 
--- what is done to a file before it is used: it is claimed, shows one of its images, all of it is durable, and its size is.
--- Where the file was sure it is what was shown.
+-- what is done to a file before it is used: it is claimed, shows one of its images, all of it is durable, and its size
+-- is. Where the file was sure it is what was shown.
 abbrev pub Settles : FileState → FileState → Type 0
-Settles old new = (image : ℕ → ℕ) × IsFileImage old image × (IsSure old → image ≡ old.seen) × (new ≡ file_claimed (file_settled old image))
+Settles old new = (image : ℕ → ℕ) × IsFileImage old image × (IsSure old → image ≡ old.seen)
+    × (new ≡ file_claimed (file_settled old image))
 
--- a power loss leaves nothing new of the file: no image that it could not leave before, and the same size where that was durable
+-- a power loss leaves nothing new of the file: no image that it could not leave before, and the same size where that
+-- was durable
 pub record HasNothingNew (old new : FileState) : Type 0 where
   pub block : new.block ≡ old.block
   pub size : old.is_size_durable ≡ true → (new.size ≡ old.size) × (new.is_size_durable ≡ true)
   pub images : (image : ℕ → ℕ) → IsFileImage new image → IsFileImage old image
 
--- the octets in front of a place are kept: each image that a power loss may leave has there those of one that it could leave
--- before, and the file is no shorter
+-- the octets in front of a place are kept: each image that a power loss may leave has there those of one that it could
+-- leave before, and the file is no shorter
 pub record KeepsFront (front : ℕ) (old new : FileState) : Type 0 where
   pub block : new.block ≡ old.block
   pub longer : old.size ≤ new.size

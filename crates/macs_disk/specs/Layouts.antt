@@ -1,5 +1,6 @@
 -- How the sectors of a disk lie in its file, and how that is found.
-use Rattle.std.specs.Prelude.{◌+◌, ◌*◌, ◌/◌, ◌==◌, ◌&&◌, ◌||◌, ◌++◌, ◌∷◌, [], ℕ, if◌then◌else◌, Bool, List, nat_eq, nat_le, replicate}
+use Rattle.std.specs.Prelude.{◌+◌, ◌*◌, ◌/◌, ◌==◌, ◌&&◌, ◌||◌, ◌++◌, ◌∷◌, [], ℕ, if◌then◌else◌, Bool, List, nat_eq}
+use Rattle.std.specs.Prelude.{nat_le, replicate}
 use Rattle.std.specs.List.{starts_with}
 use Rattle.macs_disk.specs.Files.{FileState, values_from}
 use Rattle.macs_disk.specs.declared.layout.Layout.{Layout}
@@ -33,7 +34,8 @@ is_marked octets = starts_with nat_eq octets spaced_mark
 -- the layout of a file, by what it shows: it is spaced where the block after the sectors of one begins with the mark
 unfoldable pub layout_in : FileState → Layout
 layout_in file =
-    if nat_le (place Spaced spaced_sectors + 512) file.size && is_marked (values_from file.seen (place Spaced spaced_sectors) 512)
+    if nat_le (place Spaced spaced_sectors + 512) file.size
+    && is_marked (values_from file.seen (place Spaced spaced_sectors) 512)
     then Spaced else Packed
 
 -- how many sectors a file of so many octets has

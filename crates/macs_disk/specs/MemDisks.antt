@@ -8,7 +8,8 @@ use Rattle.macs_disk.specs.declared.memory.MemDisk.{MemDisk}
 
 -- a disk in memory through time, as its list of calls gives it
 abbrev pub disk_of : {A : Type 0} → MemDisk A → Disk
-disk_of m = disk_of_calls (length m.seen.items) (settled_state (sectors_in m.first.items)) m.calls.entries.items m.calls.clock m.calls.failures
+disk_of m = disk_of_calls (length m.seen.items) (settled_state (sectors_in m.first.items)) m.calls.entries.items
+    m.calls.clock m.calls.failures
 
 -- the same, with what was chosen that a power loss leaves in its sectors
 abbrev pub memory_of : {A : Type 0} → MemDisk A → Memory

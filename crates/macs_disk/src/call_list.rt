@@ -46,8 +46,10 @@ impl<A: Allocator> CallList<A> {
 
     /// Lets a moment pass, unless the disk is worn.
     pub(crate) fn pass(&mut self) -> Result<(), DeviceFault>
-        ensures ok { OnOk result ((self.old.clock < 2 ^ 64 - 1) × (self.new.clock ≡ self.old.clock + 1)) }
-        ensures err { OnErr result ((self.old.clock ≡ 2 ^ 64 - 1) × (self.new.clock ≡ self.old.clock)) }
+        ensures ok { OnOk result
+            ((self.old.clock < 2 ^ 64 - 1) × (self.new.clock ≡ self.old.clock + 1)) }
+        ensures err { OnErr result
+            ((self.old.clock ≡ 2 ^ 64 - 1) × (self.new.clock ≡ self.old.clock)) }
         ensures later { self.old.clock ≤ self.new.clock }
         ensures failures { self.new.failures ≡ self.old.failures }
         ensures entries { self.new.entries.items ≡ self.old.entries.items }
@@ -62,7 +64,8 @@ impl<A: Allocator> CallList<A> {
     /// Lets a moment pass and keeps the call that led to it. Where there is no memory for that, it
     /// counts a failure.
     pub(crate) fn keep(&mut self, call: Call) -> Result<(), DeviceFault>
-        ensures ok { OnOk result ((self.old.clock < 2 ^ 64 - 1) × (self.new.clock ≡ self.old.clock + 1)) }
+        ensures ok { OnOk result
+            ((self.old.clock < 2 ^ 64 - 1) × (self.new.clock ≡ self.old.clock + 1)) }
         ensures kept { OnOk result (self.new.entries.items ≡ self.old.entries.items
             ++ record { clock = self.old.clock + 1; call = call } ∷ []) }
         ensures steady { OnOk result (self.new.failures ≡ self.old.failures) }

@@ -11,10 +11,12 @@ use crate::file_calls::{write_all, write_zeros};
 use crate::file_fault::FileFault;
 use crate::layout::{BLOCK_OCTETS, Layout, MARK_PLACE, SECTOR_OCTETS, SPACED_SECTORS, spaced_mark};
 
-/// Writes zeros in the place of the mark of a spaced file, where a file of so many octets reaches there.
+/// Writes zeros in the place of the mark of a spaced file, where a file of so many octets reaches
+/// there.
 fn erase_mark<F: DiskFile>(file: &mut F, octets: u64) -> Result<(), FileFault>
     ensures steady { (F.file file.new).behaves ≡ (F.file file.old).behaves }
-    ensures marked { Behaves (F.file file.old) → IsSure (F.file file.old) → octets ≡ (F.file file.old).size
+    ensures marked { Behaves (F.file file.old) → IsSure (F.file file.old)
+        → octets ≡ (F.file file.old).size
         → OnOk result (IsMarkedAs (F.file file.old) (F.file file.new) Layout.Packed) }
     ensures front { Behaves (F.file file.old) → IsSure (F.file file.old)
         → suits Layout.Packed (F.file file.old).block ≡ true
@@ -50,7 +52,8 @@ fn put_mark<F: DiskFile>(file: &mut F) -> Result<(), FileFault>
 /// Sees to it that a file of so many octets is found to be of this layout.
 fn mark_as<F: DiskFile>(file: &mut F, octets: u64, layout: Layout) -> Result<(), FileFault>
     ensures steady { (F.file file.new).behaves ≡ (F.file file.old).behaves }
-    ensures marked { Behaves (F.file file.old) → IsSure (F.file file.old) → octets ≡ (F.file file.old).size
+    ensures marked { Behaves (F.file file.old) → IsSure (F.file file.old)
+        → octets ≡ (F.file file.old).size
         → OnOk result (IsMarkedAs (F.file file.old) (F.file file.new) layout) }
     ensures front { Behaves (F.file file.old) → IsSure (F.file file.old)
         → suits layout (F.file file.old).block ≡ true
@@ -65,15 +68,20 @@ fn mark_as<F: DiskFile>(file: &mut F, octets: u64, layout: Layout) -> Result<(),
     }
 }
 
-/// Writes the mark of a layout, and zeros in the place of the first 1,028 sectors, durably. The mark comes first.
+/// Writes the mark of a layout, and zeros in the place of the first 1,028 sectors, durably. The
+/// mark comes first.
 pub(crate) fn clear<F: DiskFile>(file: &mut F, octets: u64, layout: Layout) -> Result<(), FileFault>
     ensures steady { (F.file file.new).behaves ≡ (F.file file.old).behaves }
-    ensures cleared { Behaves (F.file file.old) → IsSure (F.file file.old) → octets ≡ (F.file file.old).size
+    ensures cleared { Behaves (F.file file.old) → IsSure (F.file file.old)
+        → octets ≡ (F.file file.old).size
         → OnOk result (IsCleared (F.file file.old) (F.file file.new) layout) }
-    // Where it fails no sector was written over, or the layout is found already, whatever a power loss leaves.
-    ensures order { Behaves (F.file file.old) → IsSure (F.file file.old) → octets ≡ (F.file file.old).size
+    // Where it fails no sector was written over, or the layout is found already, whatever a power
+    // loss leaves.
+    ensures order { Behaves (F.file file.old) → IsSure (F.file file.old)
+        → octets ≡ (F.file file.old).size
         → suits layout (F.file file.old).block ≡ true → OnErr result
-        (KeepsFront mark_place (F.file file.old) (F.file file.new) ⊎ KeepsLayout layout (F.file file.new)) }
+        (KeepsFront mark_place (F.file file.old) (F.file file.new)
+        ⊎ KeepsLayout layout (F.file file.new)) }
     ensures err { IfErr result (λ fault. fault ≢ FileFault.Length) }
     ensures cause { IfErr result (WriteFails (F.failures file.old) (F.failures file.new)) }
 {

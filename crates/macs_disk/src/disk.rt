@@ -15,9 +15,9 @@ pub struct DeviceFault;
 /// moment, between two calls or inside one: each call of `read`, `write` and `sync` makes the clock
 /// go on by one, and the disk's meaning keeps its state at each moment up to the clock.
 ///
-/// Each call of `read`, `write` and `sync` counts a failure exactly where it answers `DeviceFault`. A
-/// disk whose counts are full is worn: it fails each call, and nothing on it changes. What else is
-/// said here is said of an honest disk; whether a disk is honest never changes.
+/// Each call of `read`, `write` and `sync` counts a failure exactly where it answers `DeviceFault`.
+/// A disk whose counts are full is worn: it fails each call, and nothing on it changes. What else
+/// is said here is said of an honest disk; whether a disk is honest never changes.
 pub trait SectorDisk {
     /// What the disk is, through time.
     ghost disk: { Self → Disk };

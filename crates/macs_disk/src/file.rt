@@ -1,6 +1,7 @@
 //! A disk in a file.
 
-ghost use Rattle.std.specs.Prelude.{◌≡◌, ◌<◌, ◌≤◌, ◌+◌, ◌-◌, ◌^◌, ◌↔◌, true, false, [], ◌∷◌, ◌++◌, length, IsErr, OnErr, OnOk};
+ghost use Rattle.std.specs.Prelude.{◌≡◌, ◌<◌, ◌≤◌, ◌+◌, ◌-◌, ◌^◌, ◌↔◌, true, false, [], ◌∷◌, ◌++◌};
+ghost use Rattle.std.specs.Prelude.{length, IsErr, OnErr, OnOk};
 ghost use Rattle.macs_disk.specs.Layouts.{place};
 
 use crate::disk::{DeviceFault, SectorDisk};
@@ -14,24 +15,25 @@ use std::snapshot::Snapshot;
 
 /// A disk in a file of whole sectors, which lie in it as its layout says.
 ///
-/// It is an honest disk where its file behaves, has no other user, and lies on a device whose blocks suit the
-/// layout. That is not claimed of a file of the operating system: whether reads give what was written, and
-/// what a power loss leaves, is up to the system and the device. One disk at a time is to use a file, since
-/// what another program does to the file goes unseen.
+/// It is an honest disk where its file behaves, has no other user, and lies on a device whose
+/// blocks suit the layout. That is not claimed of a file of the operating system: whether reads
+/// give what was written, and what a power loss leaves, is up to the system and the device. One
+/// disk at a time is to use a file, since what another program does to the file goes unseen.
 ///
 /// A read or a write that moves fewer octets goes on to the sector's end, and an interrupted one is
-/// tried again. Every other error of the file is a `DeviceFault`; so is a read of a sector that the file
-/// no longer has. What a failed read leaves in `into` is no sector.
+/// tried again. Every other error of the file is a `DeviceFault`; so is a read of a sector that the
+/// file no longer has. What a failed read leaves in `into` is no sector.
 ///
-/// After a sync that failed a file may show octets that the device does not have, and later syncs may leave
-/// them out. So a disk one of whose calls failed fails each later call, and `reopen` makes a new disk of its
-/// file.
+/// After a sync that failed a file may show octets that the device does not have, and later syncs
+/// may leave them out. So a disk one of whose calls failed fails each later call, and `reopen`
+/// makes a new disk of its file.
 #[derive(Drop)]
 pub struct FileDisk<F = File> {
     file: F,
     /// The file as it was handed over. It takes no memory: proofs alone read it.
     given: Snapshot<F>,
-    /// The file as the disk shows it at this moment: as it is, until a sync has failed. Proofs alone read it.
+    /// The file as the disk shows it at this moment: as it is, until a sync has failed. Proofs
+    /// alone read it.
     shown: Snapshot<F>,
     /// The same at each moment before this one. Proofs alone read it.
     past: Log<Snapshot<F>>,
@@ -85,14 +87,16 @@ impl<F: DiskFile> FileDisk<F> {
         self.file
     }
 
-    // Lets a moment pass, and lets a call go on to the file. It does not where the disk is worn, and is a
-    // failure, and counted, where an earlier call failed.
+    // Lets a moment pass, and lets a call go on to the file. It does not where the disk is worn,
+    // and is a failure, and counted, where an earlier call failed.
     fn begin(&mut self) -> Result<(), DeviceFault>
-        ensures ok { OnOk result ((self.old.clock < 2 ^ 64 - 1) × (self.new.clock ≡ self.old.clock + 1)) }
+        ensures ok { OnOk result
+            ((self.old.clock < 2 ^ 64 - 1) × (self.new.clock ≡ self.old.clock + 1)) }
         ensures live { OnOk result ((self.old.is_failed ≡ false) × (self.new.is_failed ≡ false)) }
         ensures room { OnOk result (self.new.failures < self.new.clock) }
         ensures steady { OnOk result (self.new.failures ≡ self.old.failures) }
-        ensures past { OnOk result (self.new.past.items ≡ self.old.past.items ++ self.old.shown ∷ []) }
+        ensures past { OnOk result
+            (self.new.past.items ≡ self.old.past.items ++ self.old.shown ∷ []) }
         ensures refused { OnErr result (IsRefused F.file self.old self.new) }
         ensures same { self.new.is_failed ≡ self.old.is_failed }
         ensures shown { self.new.shown ≡ self.old.shown }
@@ -112,8 +116,8 @@ impl<F: DiskFile> FileDisk<F> {
         Ok(())
     }
 
-    // What the file answered, as the disk answers it: an error is a failure and counted, and the last that
-    // the file is asked for.
+    // What the file answered, as the disk answers it: an error is a failure and counted, and the
+    // last that the file is asked for.
     fn count(&mut self, answer: io::Result<()>) -> Result<(), DeviceFault>
         requires { self.old.failures < self.old.clock }
         ensures alike { IsErr result ↔ IsErr answer }
@@ -137,12 +141,13 @@ impl<F: DiskFile> FileDisk<F> {
         }
     }
 
-    // Syncs the file, and shows it as it is then. An error is a failure and counted, and the last that the
-    // file is asked for.
+    // Syncs the file, and shows it as it is then. An error is a failure and counted, and the last
+    // that the file is asked for.
     fn sync_file(&mut self) -> Result<(), DeviceFault>
         requires { self.old.failures < self.old.clock }
         ensures steady { (F.file self.new.file).behaves ≡ (F.file self.old.file).behaves }
-        ensures effect { Behaves (F.file self.old.file) → SyncsFile (F.file self.old.file) (F.file self.new.file) result }
+        ensures effect { Behaves (F.file self.old.file)
+            → SyncsFile (F.file self.old.file) (F.file self.new.file) result }
         ensures shown { OnOk result (self.new.shown.value ≡ self.new.file) }
         ensures still { OnErr result (self.new.shown ≡ self.old.shown) }
         ensures ok { OnOk result (self.new.failures ≡ self.old.failures) }
@@ -168,7 +173,8 @@ impl<F: DiskFile> SectorDisk for FileDisk<F> {
     ghost use Rattle.std.specs.Prelude.{◌≡◌, ◌≢◌, ◌<◌, ◌⊎◌, IsErr, OnErr, true};
     ghost use Rattle.macs_disk.specs.Disk.{IsDeviceCall, IsHonest, Reads, Syncs, Writes, now};
     ghost use Rattle.macs_disk.specs.Evidence.{full-clock};
-    ghost use Rattle.macs_disk.specs.FileDisks.{IsFoundAgain, IsLeftAsShown, disk_in_file, file_left, is_stopped};
+    ghost use Rattle.macs_disk.specs.FileDisks.{IsFoundAgain, IsLeftAsShown, disk_in_file};
+    ghost use Rattle.macs_disk.specs.FileDisks.{file_left, is_stopped};
     ghost use Rattle.macs_disk.specs.FileDisks.{layout_of};
     ghost use Rattle.macs_disk.specs.FileEvidence.{file-sound};
     ghost use Rattle.macs_disk.specs.Files.{Behaves, WritesAll, file_in_doubt};
@@ -176,7 +182,8 @@ impl<F: DiskFile> SectorDisk for FileDisk<F> {
 
     ghost disk = { disk_in_file F.file };
 
-    ghost sound = { λ it honest. file-sound F.file F.sound it.layout it.shown it.past.items it.clock it.sectors it.kept honest };
+    ghost sound = { λ it honest. file-sound F.file F.sound it.layout it.shown it.past.items it.clock
+        it.sectors it.kept honest };
 
     ghost wear = { λ it. full-clock it.clock };
 
@@ -186,13 +193,16 @@ impl<F: DiskFile> SectorDisk for FileDisk<F> {
 
     fn read(&mut self, at: u64, into: &mut [u8; 512]) -> Result<(), DeviceFault>
         requires { at < (disk_in_file F.file self.old).sectors }
-        ensures call { IsDeviceCall (disk_in_file F.file self.old) (disk_in_file F.file self.new) result }
+        ensures call { IsDeviceCall (disk_in_file F.file self.old)
+            (disk_in_file F.file self.new) result }
         ensures effect { IsHonest (disk_in_file F.file self.new)
-            → Reads (now (disk_in_file F.file self.old)) (now (disk_in_file F.file self.new)) at into.new result }
+            → Reads (now (disk_in_file F.file self.old)) (now (disk_in_file F.file self.new))
+            at into.new result }
         ensures file { Behaves (F.file (file_left self.old))
             → F.file (file_left self.new) ≡ F.file (file_left self.old) }
         ensures stops { is_stopped self.old ≡ true → IsErr result }
-        ensures stopped { OnErr result ((is_stopped self.new ≡ true) ⊎ ((disk_in_file F.file self.new).worn ≡ true)) }
+        ensures stopped { OnErr result
+            ((is_stopped self.new ≡ true) ⊎ ((disk_in_file F.file self.new).worn ≡ true)) }
         ensures left { IsLeftAsShown F.file self.old → IsLeftAsShown F.file self.new }
         ensures again { IsFoundAgain F.file self.old → IsFoundAgain F.file self.new }
     {
@@ -204,16 +214,20 @@ impl<F: DiskFile> SectorDisk for FileDisk<F> {
 
     fn write(&mut self, at: u64, from: &[u8; 512]) -> Result<(), DeviceFault>
         requires { at < (disk_in_file F.file self.old).sectors }
-        ensures call { IsDeviceCall (disk_in_file F.file self.old) (disk_in_file F.file self.new) result }
+        ensures call { IsDeviceCall (disk_in_file F.file self.old)
+            (disk_in_file F.file self.new) result }
         ensures effect { IsHonest (disk_in_file F.file self.new)
-            → Writes (now (disk_in_file F.file self.old)) (now (disk_in_file F.file self.new)) at from.now result }
-        ensures file { Behaves (F.file (file_left self.old)) → WritesAll (F.file (file_left self.old))
+            → Writes (now (disk_in_file F.file self.old)) (now (disk_in_file F.file self.new))
+            at from.now result }
+        ensures file { Behaves (F.file (file_left self.old))
+            → WritesAll (F.file (file_left self.old))
             (F.file (file_left self.new)) (place (layout_of self.old) at) from.now result }
         ensures stops { is_stopped self.old ≡ true → IsErr result }
-        ensures stopped { OnErr result ((is_stopped self.new ≡ true) ⊎ ((disk_in_file F.file self.new).worn ≡ true)) }
+        ensures stopped { OnErr result
+            ((is_stopped self.new ≡ true) ⊎ ((disk_in_file F.file self.new).worn ≡ true)) }
         ensures left { IsLeftAsShown F.file self.old → IsLeftAsShown F.file self.new }
-        // A write of sector 8,224 of a packed disk goes to the place of the mark, and may have the layout found as
-        // another one. A journal has no such sector, and no spaced disk has.
+        // A write of sector 8,224 of a packed disk goes to the place of the mark, and may have the
+        // layout found as another one. A journal has no such sector, and no spaced disk has.
         ensures again { place (layout_of self.old) at ≢ mark_place
             → IsFoundAgain F.file self.old → IsFoundAgain F.file self.new }
     {
@@ -223,17 +237,20 @@ impl<F: DiskFile> SectorDisk for FileDisk<F> {
         self.count(answer)
     }
 
-    /// The first call of a disk, where it is a sync, leaves the file alone: opening synced it. Where a sync
-    /// fails, the file is in doubt, and neither synced nor written any more.
+    /// The first call of a disk, where it is a sync, leaves the file alone: opening synced it.
+    /// Where a sync fails, the file is in doubt, and neither synced nor written any more.
     fn sync(&mut self) -> Result<(), DeviceFault>
-        ensures call { IsDeviceCall (disk_in_file F.file self.old) (disk_in_file F.file self.new) result }
+        ensures call { IsDeviceCall (disk_in_file F.file self.old)
+            (disk_in_file F.file self.new) result }
         ensures effect { IsHonest (disk_in_file F.file self.new)
-            → Syncs (now (disk_in_file F.file self.old)) (now (disk_in_file F.file self.new)) result }
+            → Syncs (now (disk_in_file F.file self.old))
+            (now (disk_in_file F.file self.new)) result }
         ensures file { Behaves (F.file (file_left self.old)) → OnErr result
             ((F.file (file_left self.new) ≡ F.file (file_left self.old))
             ⊎ (F.file (file_left self.new) ≡ file_in_doubt (F.file (file_left self.old)))) }
         ensures stops { is_stopped self.old ≡ true → IsErr result }
-        ensures stopped { OnErr result ((is_stopped self.new ≡ true) ⊎ ((disk_in_file F.file self.new).worn ≡ true)) }
+        ensures stopped { OnErr result
+            ((is_stopped self.new ≡ true) ⊎ ((disk_in_file F.file self.new).worn ≡ true)) }
         ensures left { IsLeftAsShown F.file self.old → IsLeftAsShown F.file self.new }
         ensures again { IsFoundAgain F.file self.old → IsFoundAgain F.file self.new }
     {

@@ -1,9 +1,12 @@
 //! Whole moves of octets to and from a file, and what makes it fit for a disk.
 
-ghost use Rattle.std.specs.Prelude.{◌≡◌, ◌<◌, ◌≤◌, ◌+◌, ◌-◌, ◌^◌, length, replicate, IfErr, OnErr, OnOk};
+ghost use Rattle.std.specs.Prelude.{◌≡◌, ◌<◌, ◌≤◌, ◌+◌, ◌-◌, ◌^◌, length, replicate, IfErr, OnErr};
+ghost use Rattle.std.specs.Prelude.{OnOk};
 ghost use Rattle.std.specs.IoError.{error_kind};
-ghost use Rattle.macs_disk.specs.FileFailures.{MoveFails, OnlyInterrupted, Reads, SettleFails, Writes};
-ghost use Rattle.macs_disk.specs.Files.{Behaves, HasNothingNew, IsClaimed, IsSure, Settles, WritesAll, values_from};
+ghost use Rattle.macs_disk.specs.FileFailures.{MoveFails, OnlyInterrupted, Reads, SettleFails};
+ghost use Rattle.macs_disk.specs.FileFailures.{Writes};
+ghost use Rattle.macs_disk.specs.Files.{Behaves, HasNothingNew, IsClaimed, IsSure, Settles};
+ghost use Rattle.macs_disk.specs.Files.{WritesAll, values_from};
 ghost use Rattle.macs_disk.specs.Layouts.{place};
 
 use crate::disk::DeviceFault;
@@ -22,7 +25,8 @@ fn read_whole<F: DiskFile>(file: &mut F, from: u64, into: &mut [u8; 512]) -> io:
     ensures octets { Behaves (F.file file.old) → IsSure (F.file file.old)
         → OnOk result (into.new ≡ values_from (F.file file.old).seen from 512) }
     ensures quiet { OnOk result (OnlyInterrupted (F.failures file.old) (F.failures file.new)) }
-    ensures cause { IfErr result (λ error. MoveFails (F.failures file.old) (F.failures file.new) Reads (error_kind error)) }
+    ensures cause { IfErr result
+        (λ error. MoveFails (F.failures file.old) (F.failures file.new) Reads (error_kind error)) }
 {
     let mut done = 0;
     for _ in 0..u64::MAX {
@@ -50,7 +54,8 @@ pub fn read_exact_at<F: DiskFile>(file: &mut F, from: u64, into: &mut [u8; 512])
     ensures octets { Behaves (F.file file.old) → IsSure (F.file file.old)
         → OnOk result (into.new ≡ values_from (F.file file.old).seen from 512) }
     ensures quiet { OnOk result (OnlyInterrupted (F.failures file.old) (F.failures file.new)) }
-    ensures cause { IfErr result (λ error. MoveFails (F.failures file.old) (F.failures file.new) Reads (error_kind error)) }
+    ensures cause { IfErr result
+        (λ error. MoveFails (F.failures file.old) (F.failures file.new) Reads (error_kind error)) }
 {
     if from >= u64::MAX - 512 {
         return Err(io::Error::from(io::ErrorKind::UnexpectedEof));
@@ -65,7 +70,8 @@ pub(crate) fn write_all<F: DiskFile>(file: &mut F, at: u64, from: &[u8]) -> io::
     ensures effect { Behaves (F.file file.old)
         → WritesAll (F.file file.old) (F.file file.new) at from.now result }
     ensures quiet { OnOk result (OnlyInterrupted (F.failures file.old) (F.failures file.new)) }
-    ensures cause { IfErr result (λ error. MoveFails (F.failures file.old) (F.failures file.new) Writes (error_kind error)) }
+    ensures cause { IfErr result
+        (λ error. MoveFails (F.failures file.old) (F.failures file.new) Writes (error_kind error)) }
 {
     let mut done = 0;
     for _ in 0..u64::MAX {
@@ -98,19 +104,22 @@ pub(crate) fn read_sector<F: DiskFile>(
     ensures octets { Behaves (F.file file.old) → IsSure (F.file file.old)
         → OnOk result (into.new ≡ values_from (F.file file.old).seen (place layout at) 512) }
     ensures quiet { OnOk result (OnlyInterrupted (F.failures file.old) (F.failures file.new)) }
-    ensures cause { IfErr result (λ error. MoveFails (F.failures file.old) (F.failures file.new) Reads (error_kind error)) }
+    ensures cause { IfErr result
+        (λ error. MoveFails (F.failures file.old) (F.failures file.new) Reads (error_kind error)) }
 {
     read_whole(file, layout.place(at), into)
 }
 
-/// Writes zeros from octet `from` up to before octet `to`, so that the file system makes room for them.
+/// Writes zeros from octet `from` up to before octet `to`, so that the file system makes room for
+/// them.
 pub(crate) fn write_zeros<F: DiskFile>(file: &mut F, from: u64, to: u64) -> io::Result<()>
     requires { to < 2 ^ 64 }
     ensures steady { (F.file file.new).behaves ≡ (F.file file.old).behaves }
     ensures effect { Behaves (F.file file.old)
         → WritesAll (F.file file.old) (F.file file.new) from (replicate (to - from) 0) result }
     ensures quiet { OnOk result (OnlyInterrupted (F.failures file.old) (F.failures file.new)) }
-    ensures cause { IfErr result (λ error. MoveFails (F.failures file.old) (F.failures file.new) Writes (error_kind error)) }
+    ensures cause { IfErr result
+        (λ error. MoveFails (F.failures file.old) (F.failures file.new) Writes (error_kind error)) }
 {
     let zeros = [0; ZEROS];
     let mut at = from;
@@ -125,8 +134,8 @@ pub(crate) fn write_zeros<F: DiskFile>(file: &mut F, from: u64, to: u64) -> io::
     Err(io::Error::from(io::ErrorKind::TimedOut))
 }
 
-/// Has a claimed file show what the device has, and nothing pending: it is synced, and then read again. In this
-/// order, since what is not synced stays in the cache.
+/// Has a claimed file show what the device has, and nothing pending: it is synced, and then read
+/// again. In this order, since what is not synced stays in the cache.
 pub(crate) fn settle<F: DiskFile>(file: &mut F) -> Result<(), DeviceFault>
     ensures steady { (F.file file.new).behaves ≡ (F.file file.old).behaves }
     ensures effect { Behaves (F.file file.old) → IsClaimed (F.file file.old)

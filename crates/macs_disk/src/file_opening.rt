@@ -35,8 +35,8 @@ fn how_to_open(is_made: bool) -> OpenOptions
     options
 }
 
-/// Opens the file at `path` to read and write it. Where there is none it is made, for its owner alone. What
-/// it holds stays.
+/// Opens the file at `path` to read and write it. Where there is none it is made, for its owner
+/// alone. What it holds stays.
 pub fn make_file<R: Files, P: AsPath>(rt: &R, path: P) -> io::Result<R::File> {
     how_to_open(true).open(rt, path)
 }
@@ -49,22 +49,23 @@ fn folder_of(path: &str) -> &str {
     }
 }
 
-/// Makes the name of a file durable, by a sync of the folder that its path names. Where the path leads to
-/// the file by a symbolic link, that is not the folder that holds it.
+/// Makes the name of a file durable, by a sync of the folder that its path names. Where the path
+/// leads to the file by a symbolic link, that is not the folder that holds it.
 pub fn sync_folder<R: Files, P: AsPath>(rt: &R, path: P) -> io::Result<()> {
     let folder = fs::open(rt, folder_of(path.path_text()))?;
     folder.sync_all()
 }
 
 impl<F: DiskFile> FileDisk<F> {
-    ghost use Rattle.macs_disk.specs.FileDisks.{IsBlank, IsFoundAgain, IsFresh, IsLeftAsShown, IsOpened};
+    ghost use Rattle.macs_disk.specs.FileDisks.{IsBlank, IsFoundAgain, IsFresh, IsLeftAsShown};
+    ghost use Rattle.macs_disk.specs.FileDisks.{IsOpened};
     ghost use Rattle.macs_disk.specs.FileDisks.{disk_in_file, file_given, file_left, layout_of};
 
-    /// A disk of at least so many sectors in the file at `path`. Where there is no file it is made, for its
-    /// owner alone, and its name is made durable as by `sync_folder`. The file is synced and read again, so that
-    /// what it shows is what the device has. A file of fewer sectors is lengthened with zeros, which are
-    /// synced. A longer one stays as it is, and no octet of a file is lost. A file that was made
-    /// stays where a later step is a fault.
+    /// A disk of at least so many sectors in the file at `path`. Where there is no file it is made,
+    /// for its owner alone, and its name is made durable as by `sync_folder`. The file is synced
+    /// and read again, so that what it shows is what the device has. A file of fewer sectors is
+    /// lengthened with zeros, which are synced. A longer one stays as it is, and no octet of a file
+    /// is lost. A file that was made stays where a later step is a fault.
     pub fn create<R: Files<File = F>, P: AsPath>(
         rt: &R,
         path: P,
@@ -73,9 +74,11 @@ impl<F: DiskFile> FileDisk<F> {
         ensures least { IfOk result (λ it. sectors ≤ (disk_in_file F.file it).sectors) }
         ensures known { IfOk result (λ it. Behaves (F.file (file_given it))
             → IsOpened (F.file (file_given it)) sectors (layout_of it) (disk_in_file F.file it)) }
-        ensures spaced { IfOk result (λ it. layout_of it ≡ Layout.Spaced → (disk_in_file F.file it).sectors ≡ 1028) }
+        ensures spaced { IfOk result (λ it. layout_of it ≡ Layout.Spaced
+            → (disk_in_file F.file it).sectors ≡ 1028) }
         ensures left { IfOk result (IsLeftAsShown F.file) }
-        ensures again { IfOk result (λ it. Behaves (F.file (file_given it)) → IsFoundAgain F.file it) }
+        ensures again { IfOk result (λ it. Behaves (F.file (file_given it))
+            → IsFoundAgain F.file it) }
         ensures fresh { IfOk result (λ it. IsFresh (disk_in_file F.file it)) }
     {
         let file = how_to_open(true).open(rt, path.path_text())?;
@@ -84,14 +87,16 @@ impl<F: DiskFile> FileDisk<F> {
         Ok(disk)
     }
 
-    /// A disk of all sectors of the file at `path`, which is synced and read again. Where there is no file none
-    /// is made, and that is `Open`.
+    /// A disk of all sectors of the file at `path`, which is synced and read again. Where there is
+    /// no file none is made, and that is `Open`.
     pub fn open<R: Files<File = F>, P: AsPath>(rt: &R, path: P) -> Result<Self, FileFault>
         ensures known { IfOk result (λ it. Behaves (F.file (file_given it))
             → IsOpened (F.file (file_given it)) 0 (layout_of it) (disk_in_file F.file it)) }
-        ensures spaced { IfOk result (λ it. layout_of it ≡ Layout.Spaced → (disk_in_file F.file it).sectors ≡ 1028) }
+        ensures spaced { IfOk result (λ it. layout_of it ≡ Layout.Spaced
+            → (disk_in_file F.file it).sectors ≡ 1028) }
         ensures left { IfOk result (IsLeftAsShown F.file) }
-        ensures again { IfOk result (λ it. Behaves (F.file (file_given it)) → IsFoundAgain F.file it) }
+        ensures again { IfOk result (λ it. Behaves (F.file (file_given it))
+            → IsFoundAgain F.file it) }
         ensures fresh { IfOk result (λ it. IsFresh (disk_in_file F.file it)) }
     {
         let file = how_to_open(false).open(rt, path)?;
@@ -104,8 +109,10 @@ impl<F: DiskFile> FileDisk<F> {
         ensures given { IfOk result (λ it. file_given it ≡ file) }
         ensures known { Behaves (F.file file) → IfOk result (λ it.
             IsOpened (F.file file) sectors (layout_of it) (disk_in_file F.file it)) }
-        ensures length { IsErrOf result FileFault.Length → Behaves (F.file file) → (F.file file).size % 512 ≢ 0 }
-        ensures spaced { IfOk result (λ it. layout_of it ≡ Layout.Spaced → (disk_in_file F.file it).sectors ≡ 1028) }
+        ensures length { IsErrOf result FileFault.Length → Behaves (F.file file)
+            → (F.file file).size % 512 ≢ 0 }
+        ensures spaced { IfOk result (λ it. layout_of it ≡ Layout.Spaced
+            → (disk_in_file F.file it).sectors ≡ 1028) }
         ensures left { IfOk result (IsLeftAsShown F.file) }
         ensures again { Behaves (F.file file) → IfOk result (IsFoundAgain F.file) }
         ensures fresh { IfOk result (λ it. IsFresh (disk_in_file F.file it)) }
@@ -120,7 +127,8 @@ impl<F: DiskFile> FileDisk<F> {
         ensures layout { IfOk result (λ it. layout_of it ≡ layout) }
         ensures known { Behaves (F.file file) → IfOk result (λ it.
             IsBlank (F.file file) (F.file (file_left it)) layout (disk_in_file F.file it)) }
-        ensures length { IsErrOf result FileFault.Length → Behaves (F.file file) → (F.file file).size % 512 ≢ 0 }
+        ensures length { IsErrOf result FileFault.Length → Behaves (F.file file)
+            → (F.file file).size % 512 ≢ 0 }
         ensures left { IfOk result (IsLeftAsShown F.file) }
         ensures again { Behaves (F.file file) → IfOk result (IsFoundAgain F.file) }
         ensures fresh { IfOk result (λ it. IsFresh (disk_in_file F.file it)) }
@@ -128,12 +136,13 @@ impl<F: DiskFile> FileDisk<F> {
         SettledFile::of(file)?.into_blank_disk(layout)
     }
 
-    /// A new disk of the same file, which stays claimed. Where a call of this one failed, each of its later
-    /// calls fails; the new one shows what the device has.
+    /// A new disk of the same file, which stays claimed. Where a call of this one failed, each of
+    /// its later calls fails; the new one shows what the device has.
     pub fn reopen(self) -> Result<Self, FileFault>
         ensures known { Behaves (F.file (file_left self)) → IfOk result (λ it.
             IsOpened (F.file (file_left self)) 0 (layout_of it) (disk_in_file F.file it)) }
-        ensures spaced { IfOk result (λ it. layout_of it ≡ Layout.Spaced → (disk_in_file F.file it).sectors ≡ 1028) }
+        ensures spaced { IfOk result (λ it. layout_of it ≡ Layout.Spaced
+            → (disk_in_file F.file it).sectors ≡ 1028) }
         ensures left { IfOk result (IsLeftAsShown F.file) }
         ensures again { Behaves (F.file (file_left self)) → IfOk result (IsFoundAgain F.file) }
         ensures fresh { IfOk result (λ it. IsFresh (disk_in_file F.file it)) }

@@ -1,10 +1,13 @@
 //! A disk that stops after some calls, or fails one of them.
 
-ghost use Rattle.std.specs.Prelude.{◌≡◌, ◌≢◌, ◌≤◌, ◌<◌, ◌+◌, ◌^◌, ℕ, List, Option, Some, IsErr, OnOk, OnErr, IfSome};
+ghost use Rattle.std.specs.Prelude.{◌≡◌, ◌≢◌, ◌≤◌, ◌<◌, ◌+◌, ◌^◌, ℕ, List, Option, Some, IsErr};
+ghost use Rattle.std.specs.Prelude.{OnOk, OnErr, IfSome};
 ghost use Rattle.macs_disk.specs.States.{IsSector};
 ghost use Rattle.macs_disk.specs.Disk.{IsDeviceCall, IsHonest, Reads, Syncs, Writes, now};
-ghost use Rattle.macs_disk.specs.Fuses.{AreCounted, BlowsWrite, FuseValue, IsCounted, IsPassing, disk_of_fuse};
-ghost use Rattle.macs_disk.specs.Fuses.{fuse_after_blown_call, fuse_after_passed_call, fuse_after_stopped_call};
+ghost use Rattle.macs_disk.specs.Fuses.{AreCounted, BlowsWrite, FuseValue, IsCounted, IsPassing};
+ghost use Rattle.macs_disk.specs.Fuses.{disk_of_fuse};
+ghost use Rattle.macs_disk.specs.Fuses.{fuse_after_blown_call, fuse_after_passed_call};
+ghost use Rattle.macs_disk.specs.Fuses.{fuse_after_stopped_call};
 ghost use Rattle.macs_disk.specs.declared.fuse.Blow.TheVariants.{EachCall, OneCall, NoCall};
 
 use crate::disk::{DeviceFault, SectorDisk};
@@ -23,8 +26,9 @@ pub(crate) enum Blow {
 }
 
 /// A disk in front of another: it passes some calls on, and then fails each, or one. A call that it
-/// fails does not reach the disk behind it, but for a write that `once` fails. A failed call that did not
-/// reach the disk behind is counted as missed and as added; a failed write that this disk took is added alone.
+/// fails does not reach the disk behind it, but for a write that `once` fails. A failed call that
+/// did not reach the disk behind is counted as missed and as added; a failed write that this disk
+/// took is added alone.
 #[derive(Drop)]
 pub struct Fuse<D: SectorDisk> {
     disk: D,
@@ -47,30 +51,53 @@ impl<D: SectorDisk> Model for Fuse<D> {
       added = fuse.added;
     } };
 
-    ghost invariant = { λ fuse. AreCounted fuse.blow (D.disk fuse.when.value).clock (D.disk fuse.disk).clock
+    ghost invariant = { λ fuse.
+        AreCounted fuse.blow (D.disk fuse.when.value).clock (D.disk fuse.disk).clock
         fuse.left fuse.missed fuse.added };
 }
 
 impl<D: SectorDisk> Fuse<D> {
-    /// A fuse that passes `left` calls of `read`, `write` and `sync` on to the disk, and then fails each.
+    /// A fuse that passes `left` calls of `read`, `write` and `sync` on to the disk, and then fails
+    /// each.
     pub fn new(disk: D, left: u64) -> Self
-        ensures { result ≡ record { inner = disk; when = disk; left = left; blow = EachCall; missed = 0; added = 0 } }
+        ensures { result ≡ record {
+          inner = disk;
+          when = disk;
+          left = left;
+          blow = EachCall;
+          missed = 0;
+          added = 0;
+        } }
     {
         Fuse::with(disk, left, Blow::EachCall)
     }
 
-    /// A fuse that passes `left` calls of `read`, `write` and `sync` on to the disk, fails the next one,
-    /// and passes all later ones on. Where the one that it fails is a write, it writes `fill` into that
-    /// sector of the disk; a read or a sync that it fails changes nothing there.
+    /// A fuse that passes `left` calls of `read`, `write` and `sync` on to the disk, fails the next
+    /// one, and passes all later ones on. Where the one that it fails is a write, it writes `fill`
+    /// into that sector of the disk; a read or a sync that it fails changes nothing there.
     pub fn once(disk: D, left: u64, fill: [u8; 512]) -> Self
-        ensures { result ≡ record { inner = disk; when = disk; left = left; blow = OneCall fill; missed = 0; added = 0 } }
+        ensures { result ≡ record {
+          inner = disk;
+          when = disk;
+          left = left;
+          blow = OneCall fill;
+          missed = 0;
+          added = 0;
+        } }
     {
         Fuse::with(disk, left, Blow::OneCall(fill))
     }
 
     // A fuse that has failed no call yet.
     fn with(disk: D, left: u64, blow: Blow) -> Self
-        ensures { result ≡ record { inner = disk; when = disk; left = left; blow = blow; missed = 0; added = 0 } }
+        ensures { result ≡ record {
+          inner = disk;
+          when = disk;
+          left = left;
+          blow = blow;
+          missed = 0;
+          added = 0;
+        } }
     {
         let when = Snapshot::of(&disk);
         Fuse {
@@ -94,7 +121,8 @@ impl<D: SectorDisk> Fuse<D> {
     // Takes a call that is to be passed on, or counts one that the disk behind misses.
     fn pass(&mut self) -> Result<(), DeviceFault>
         ensures counted { IsCounted D.disk self.old }
-        ensures ok { OnOk result (IsPassing self.old × (self.new ≡ fuse_after_passed_call self.old self.old.inner)) }
+        ensures ok { OnOk result
+            (IsPassing self.old × (self.new ≡ fuse_after_passed_call self.old self.old.inner)) }
         ensures few { OnOk result (self.old.missed ≤ 1) }
         ensures err { OnErr result ((self.old.left ≡ 0) × (self.old.blow ≢ NoCall)) }
         ensures stopped { self.old.left ≡ 0 → self.old.blow ≡ EachCall
@@ -119,8 +147,10 @@ impl<D: SectorDisk> Fuse<D> {
 
     // The octets that the next call is to write if it is a write, where it is the one that fails.
     fn fill(&self) -> Option<[u8; 512]>
-        ensures some { IfSome result (λ fill. (self.now.left ≡ 0) × (self.now.blow ≡ OneCall fill)) }
-        ensures found { (fill : List ℕ) → self.now.left ≡ 0 → self.now.blow ≡ OneCall fill → result ≡ Some fill }
+        ensures some { IfSome result
+            (λ fill. (self.now.left ≡ 0) × (self.now.blow ≡ OneCall fill)) }
+        ensures found { (fill : List ℕ) → self.now.left ≡ 0 → self.now.blow ≡ OneCall fill
+            → result ≡ Some fill }
     {
         match self.blow {
             Blow::OneCall(fill) if self.left == 0 => Some(fill),
@@ -161,10 +191,13 @@ impl<D: SectorDisk> SectorDisk for Fuse<D> {
 
     fn read(&mut self, at: u64, into: &mut [u8; 512]) -> Result<(), DeviceFault>
         requires { at < (disk_of_fuse D.disk self.old).sectors }
-        ensures call { IsDeviceCall (disk_of_fuse D.disk self.old) (disk_of_fuse D.disk self.new) result }
+        ensures call { IsDeviceCall (disk_of_fuse D.disk self.old)
+            (disk_of_fuse D.disk self.new) result }
         ensures effect { IsHonest (disk_of_fuse D.disk self.new)
-            → Reads (now (disk_of_fuse D.disk self.old)) (now (disk_of_fuse D.disk self.new)) at into.new result }
-        ensures passed { IsPassing self.old → (self.new ≡ fuse_after_passed_call self.old self.new.inner)
+            → Reads (now (disk_of_fuse D.disk self.old)) (now (disk_of_fuse D.disk self.new))
+            at into.new result }
+        ensures passed { IsPassing self.old
+            → (self.new ≡ fuse_after_passed_call self.old self.new.inner)
             × IsDeviceCall (D.disk self.old.inner) (D.disk self.new.inner) result }
         ensures stopped { self.old.left ≡ 0 → self.old.blow ≡ EachCall
             → IsErr result × (self.new ≡ fuse_after_stopped_call self.old) }
@@ -179,10 +212,13 @@ impl<D: SectorDisk> SectorDisk for Fuse<D> {
 
     fn write(&mut self, at: u64, from: &[u8; 512]) -> Result<(), DeviceFault>
         requires { at < (disk_of_fuse D.disk self.old).sectors }
-        ensures call { IsDeviceCall (disk_of_fuse D.disk self.old) (disk_of_fuse D.disk self.new) result }
+        ensures call { IsDeviceCall (disk_of_fuse D.disk self.old)
+            (disk_of_fuse D.disk self.new) result }
         ensures effect { IsHonest (disk_of_fuse D.disk self.new)
-            → Writes (now (disk_of_fuse D.disk self.old)) (now (disk_of_fuse D.disk self.new)) at from.now result }
-        ensures passed { IsPassing self.old → (self.new ≡ fuse_after_passed_call self.old self.new.inner)
+            → Writes (now (disk_of_fuse D.disk self.old)) (now (disk_of_fuse D.disk self.new))
+            at from.now result }
+        ensures passed { IsPassing self.old
+            → (self.new ≡ fuse_after_passed_call self.old self.new.inner)
             × IsDeviceCall (D.disk self.old.inner) (D.disk self.new.inner) result }
         ensures stopped { self.old.left ≡ 0 → self.old.blow ≡ EachCall
             → IsErr result × (self.new ≡ fuse_after_stopped_call self.old) }
@@ -197,10 +233,13 @@ impl<D: SectorDisk> SectorDisk for Fuse<D> {
     }
 
     fn sync(&mut self) -> Result<(), DeviceFault>
-        ensures call { IsDeviceCall (disk_of_fuse D.disk self.old) (disk_of_fuse D.disk self.new) result }
+        ensures call { IsDeviceCall (disk_of_fuse D.disk self.old)
+            (disk_of_fuse D.disk self.new) result }
         ensures effect { IsHonest (disk_of_fuse D.disk self.new)
-            → Syncs (now (disk_of_fuse D.disk self.old)) (now (disk_of_fuse D.disk self.new)) result }
-        ensures passed { IsPassing self.old → (self.new ≡ fuse_after_passed_call self.old self.new.inner)
+            → Syncs (now (disk_of_fuse D.disk self.old))
+            (now (disk_of_fuse D.disk self.new)) result }
+        ensures passed { IsPassing self.old
+            → (self.new ≡ fuse_after_passed_call self.old self.new.inner)
             × IsDeviceCall (D.disk self.old.inner) (D.disk self.new.inner) result }
         ensures stopped { self.old.left ≡ 0 → self.old.blow ≡ EachCall
             → IsErr result × (self.new ≡ fuse_after_stopped_call self.old) }

@@ -1,16 +1,21 @@
-//! Laws of the definitions, for the layers above: what a power loss may leave after one call and after
-//! several, and how the promises of calls that follow one another are put together.
+//! Laws of the definitions, for the layers above: what a power loss may leave after one call and
+//! after several, and how the promises of calls that follow one another are put together.
 
-ghost use Rattle.std.specs.Prelude.{◌≡◌, ◌≢◌, ◌≤◌, ◌+◌, ◌⊎◌, ℕ, false, true, List, Result, IsErr, IsOk};
-ghost use Rattle.macs_disk.specs.States.{Image, IsImage, IsSector, IsSound, DiskState, state_after_sync, state_after_write};
-ghost use Rattle.macs_disk.specs.Disk.{Disk, FailsOnce, IsDeviceCall, IsHonest, IsWork, LeftSince, MayLeave, Reads, Syncs};
+ghost use Rattle.std.specs.Prelude.{◌≡◌, ◌≢◌, ◌≤◌, ◌+◌, ◌⊎◌, ℕ, false, true, List, Result, IsErr};
+ghost use Rattle.std.specs.Prelude.{IsOk};
+ghost use Rattle.macs_disk.specs.States.{Image, IsImage, IsSector, IsSound, DiskState};
+ghost use Rattle.macs_disk.specs.States.{state_after_sync, state_after_write};
+ghost use Rattle.macs_disk.specs.Disk.{Disk, FailsOnce, IsDeviceCall, IsHonest, IsWork, LeftSince};
+ghost use Rattle.macs_disk.specs.Disk.{MayLeave, Reads, Syncs};
 ghost use Rattle.macs_disk.specs.Disk.{Works, Writes, now};
 ghost use Rattle.macs_disk.specs.Runs.{Leaves, LeavesNothingNew};
 ghost use Rattle.macs_disk.specs.Fuses.{FuseValue, disk_of_fuse};
 ghost use Rattle.macs_disk.specs.MemDisks.{disk_of};
 ghost use Rattle.macs_disk.specs.declared.memory.MemDisk.{MemDisk};
-ghost use Rattle.macs_disk.specs.Files.{Behaves, FileState, HasNothingNew, IsFileImage, Settles, WritesSome, file_in_doubt};
-ghost use Rattle.macs_disk.specs.FileDisks.{IsFoundAs, IsLeftAsShown, IsOpened, disk_in_file, file_left, image_in_file};
+ghost use Rattle.macs_disk.specs.Files.{Behaves, FileState, HasNothingNew, IsFileImage, Settles};
+ghost use Rattle.macs_disk.specs.Files.{WritesSome, file_in_doubt};
+ghost use Rattle.macs_disk.specs.FileDisks.{IsFoundAs, IsLeftAsShown, IsOpened, disk_in_file};
+ghost use Rattle.macs_disk.specs.FileDisks.{file_left, image_in_file};
 ghost use Rattle.macs_disk.specs.FileDisks.{layout_of, state_in_file};
 ghost use Rattle.macs_disk.specs.FileWords.{FreshWords, MarkWords, MemoryWords, WriteWords};
 ghost use Rattle.macs_disk.specs.Layouts.{place, suits};
@@ -31,7 +36,8 @@ pub trait Property {
 
 /// Where nothing is pending, a power loss leaves what reads give and nothing else.
 pub fn one_image_without_pending()
-    ensures { (state : DiskState) (image : Image) → IsSound state → ((i : ℕ) → state.pending i ≡ false)
+    ensures { (state : DiskState) (image : Image) → IsSound state
+        → ((i : ℕ) → state.pending i ≡ false)
         → IsImage state image → (i : ℕ) → image i ≡ state.seen i }
 {}
 
@@ -43,7 +49,8 @@ pub fn images_are_sectors()
 
 /// What a power loss may leave after a sync, it could leave before.
 pub fn a_sync_leaves_nothing_new()
-    ensures { (state : DiskState) (image : Image) → IsSound state → IsImage (state_after_sync state) image
+    ensures { (state : DiskState) (image : Image) → IsSound state
+        → IsImage (state_after_sync state) image
         → IsImage state image }
 {}
 
@@ -55,9 +62,9 @@ pub fn a_write_leaves_one_sector()
         → (before : Image) × IsImage state before × ((i : ℕ) → i ≢ at → image i ≡ before i) }
 {}
 
-/// What a call counts. Before the disk is worn the clock goes on by one, and a failure is counted exactly
-/// where it is answered. On a worn disk the call fails, the state stays, and so do both counts, or both
-/// rise by one.
+/// What a call counts. Before the disk is worn the clock goes on by one, and a failure is counted
+/// exactly where it is answered. On a worn disk the call fails, the state stays, and so do both
+/// counts, or both rise by one.
 pub fn calls_are_counted<T, E>()
     ensures clock { (old new : Disk) (result : Result T E) → IsDeviceCall old new result
         → old.worn ≡ false → new.clock ≡ old.clock + 1 }
@@ -67,20 +74,23 @@ pub fn calls_are_counted<T, E>()
         → IsOk result → new.failures ≡ old.failures }
     ensures worn { (old new : Disk) (result : Result T E) → IsDeviceCall old new result
         → old.worn ≡ true → IsErr result × (now new ≡ now old) }
-    ensures alike { (old new : Disk) (result : Result T E) → IsDeviceCall old new result → old.worn ≡ true
+    ensures alike { (old new : Disk) (result : Result T E) → IsDeviceCall old new result
+        → old.worn ≡ true
         → ((new.clock ≡ old.clock) × (new.failures ≡ old.failures))
         ⊎ ((new.clock ≡ old.clock + 1) × (new.failures ≡ old.failures + 1)) }
 {}
 
 /// A read, done or failed, leaves nothing new.
 pub fn a_read_call_leaves_nothing_new<T, E>()
-    ensures { (old new : Disk) (at : ℕ) (into : List ℕ) (result : Result T E) → IsDeviceCall old new result
+    ensures { (old new : Disk) (at : ℕ) (into : List ℕ) (result : Result T E)
+        → IsDeviceCall old new result
         → Reads (now old) (now new) at into result → LeavesNothingNew old new }
 {}
 
 /// A sync, done or failed, leaves nothing new, and a failed one changes nothing.
 pub fn a_sync_call_leaves_nothing_new<T, E>()
-    ensures nothing_new { (old new : Disk) (result : Result T E) → IsSound (now old) → IsDeviceCall old new result
+    ensures nothing_new { (old new : Disk) (result : Result T E) → IsSound (now old)
+        → IsDeviceCall old new result
         → Syncs (now old) (now new) result → LeavesNothingNew old new }
     ensures failed { (old new : DiskState) (result : Result T E) → Syncs old new result
         → IsErr result → new ≡ old }
@@ -105,20 +115,22 @@ pub fn works_on()
 
 /// Work without a fault, and then more.
 pub fn work_goes_on<T, E>()
-    ensures { (old mid new : Disk) (result : Result T E) → Works old mid → mid.failures ≡ old.failures
+    ensures { (old mid new : Disk) (result : Result T E) → Works old mid
+        → mid.failures ≡ old.failures
         → IsWork mid new result → IsWork old new result }
 {}
 
 /// One fault stays one, where no call fails after it and none failed before.
 pub fn one_fault_stays()
-    ensures after { (old mid new : Disk) → FailsOnce old mid → Works mid new → new.failures ≡ mid.failures
+    ensures after { (old mid new : Disk) → FailsOnce old mid → Works mid new
+        → new.failures ≡ mid.failures
         → FailsOnce old new }
     ensures before { (old mid new : Disk) → mid.failures ≡ old.failures → FailsOnce mid new
         → FailsOnce old new }
 {}
 
-/// What might be left since a moment, might be left since each earlier one; and what may be left now,
-/// might be left since each moment.
+/// What might be left since a moment, might be left since each earlier one; and what may be left
+/// now, might be left since each moment.
 pub fn left_since_earlier()
     ensures earlier { (disk : Disk) (since until : ℕ) (image : Image) → since ≤ until
         → LeftSince disk until image → LeftSince disk since image }
@@ -134,7 +146,8 @@ pub fn leaves_none<P: Property>()
 
 /// A call more: what it adds is what a power loss may leave after it.
 pub fn leaves_call<P: Property, T, E>()
-    ensures { (old mid new : Disk) (result : Result T E) → Leaves old mid P.holds → IsDeviceCall mid new result
+    ensures { (old mid new : Disk) (result : Result T E) → Leaves old mid P.holds
+        → IsDeviceCall mid new result
         → ((image : Image) → MayLeave new image → P.holds image) → Leaves old new P.holds }
 {}
 
@@ -177,58 +190,69 @@ pub fn memory_is_honest<A: Allocator>()
 
 /// A fuse in front of an honest disk is an honest disk.
 pub fn fuses_are_honest<D: SectorDisk>()
-    ensures { (fuse : FuseValue D) → IsHonest (D.disk fuse.inner) → IsHonest (disk_of_fuse D.disk fuse) }
+    ensures { (fuse : FuseValue D) → IsHonest (D.disk fuse.inner)
+        → IsHonest (disk_of_fuse D.disk fuse) }
 {}
 
-/// A disk that was opened in a file which behaves is an honest disk, where the blocks of the device suit the
-/// layout. At its first moment a power loss leaves nothing that it might not have left of the file, but
-/// for zeros that made the file longer.
+/// A disk that was opened in a file which behaves is an honest disk, where the blocks of the device
+/// suit the layout. At its first moment a power loss leaves nothing that it might not have left of
+/// the file, but for zeros that made the file longer.
 pub fn files_that_behave_are_honest()
-    ensures { (file : FileState) (least : ℕ) (layout : Layout) (disk : Disk) → IsOpened file least layout disk
+    ensures { (file : FileState) (least : ℕ) (layout : Layout) (disk : Disk)
+        → IsOpened file least layout disk
         → suits layout file.block ≡ true → IsHonest disk }
 {}
 
 /// What a power loss may leave of a file, it may leave of the disk in the file.
 pub fn a_file_leaves_what_its_disk_may()
     ensures { (layout : Layout) (file : FileState) (image : ℕ → ℕ) → suits layout file.block ≡ true
-        → IsFileImage file image → IsImage (state_in_file layout file) (image_in_file layout image) }
+        → IsFileImage file image
+        → IsImage (state_in_file layout file) (image_in_file layout image) }
 {}
 
-/// What a power loss may leave of a file when some octets of a sector are written, it may leave of the
-/// disk after the write.
+/// What a power loss may leave of a file when some octets of a sector are written, it may leave of
+/// the disk after the write.
 pub fn inside_a_write_a_file_leaves_what_its_disk_may()
     ensures { (layout : Layout) (old mid : FileState) (at : ℕ) (octets : List ℕ) (image : ℕ → ℕ)
-        → suits layout old.block ≡ true → WritesSome old mid (place layout at) 512 → IsFileImage mid image
-        → IsImage (state_after_write (state_in_file layout old) at octets) (image_in_file layout image) }
+        → suits layout old.block ≡ true → WritesSome old mid (place layout at) 512
+        → IsFileImage mid image
+        → IsImage (state_after_write (state_in_file layout old) at octets)
+        (image_in_file layout image) }
 {}
 
 /// What a power loss may leave of a file after a sync that failed, it could leave before.
 pub fn a_failed_sync_of_a_file_leaves_nothing_new()
-    ensures { (file : FileState) (image : ℕ → ℕ) → IsFileImage (file_in_doubt file) image → IsFileImage file image }
+    ensures { (file : FileState) (image : ℕ → ℕ) → IsFileImage (file_in_doubt file) image
+        → IsFileImage file image }
 {}
 
-/// What a power loss may leave of the file of a disk, one of whose calls may have failed, it may leave of
-/// the disk.
+/// What a power loss may leave of the file of a disk, one of whose calls may have failed, it may
+/// leave of the disk.
 pub fn a_file_is_left_as_its_disk<F: DiskFile>()
-    ensures { (it : FileDisk F) (image : Image) → IsLeftAsShown F.file it → Behaves (F.file (file_left it))
-        → IsImage (state_in_file (layout_of it) (F.file (file_left it))) image → MayLeave (disk_in_file F.file it) image }
+    ensures { (it : FileDisk F) (image : Image) → IsLeftAsShown F.file it
+        → Behaves (F.file (file_left it))
+        → IsImage (state_in_file (layout_of it) (F.file (file_left it))) image
+        → MayLeave (disk_in_file F.file it) image }
 {}
 
-/// A disk is found again as it was, of its layout and with its sectors: in its file as it was left, or as a
-/// power loss left that, or after openings that failed.
+/// A disk is found again as it was, of its layout and with its sectors: in its file as it was left,
+/// or as a power loss left that, or after openings that failed.
 pub fn files_are_found_again()
-    ensures settled { (layout : Layout) (sectors : ℕ) (old new settled : FileState) → IsFoundAs layout sectors old
-        → suits layout old.block ≡ true → HasNothingNew old new → Settles new settled → IsFoundAs layout sectors settled }
+    ensures settled { (layout : Layout) (sectors : ℕ) (old new settled : FileState)
+        → IsFoundAs layout sectors old
+        → suits layout old.block ≡ true → HasNothingNew old new → Settles new settled
+        → IsFoundAs layout sectors settled }
     ensures opened { (layout again : Layout) (sectors : ℕ) (old new : FileState) (disk : Disk)
         → IsFoundAs layout sectors old → suits layout old.block ≡ true → HasNothingNew old new
         → IsOpened new 0 again disk → (again ≡ layout) × (disk.sectors ≡ sectors) }
 {}
 
-/// What leaves nothing new of a file: no call, calls one after the other of which each leaves nothing new, a sync
-/// that failed, and a power loss.
+/// What leaves nothing new of a file: no call, calls one after the other of which each leaves
+/// nothing new, a sync that failed, and a power loss.
 pub fn nothing_new_of_a_file()
     ensures none { (file : FileState) → HasNothingNew file file }
-    ensures more { (old mid new : FileState) → HasNothingNew old mid → HasNothingNew mid new → HasNothingNew old new }
+    ensures more { (old mid new : FileState) → HasNothingNew old mid → HasNothingNew mid new
+        → HasNothingNew old new }
     ensures doubt { (file : FileState) → HasNothingNew file (file_in_doubt file) }
     ensures lost { (old new : FileState) → IsFileImage old new.durable → new.block ≡ old.block
         → (old.is_size_durable ≡ true → (new.size ≡ old.size) × (new.is_size_durable ≡ true))
@@ -237,13 +261,16 @@ pub fn nothing_new_of_a_file()
 
 /// No octet of a file, and no block of a device that suits its layout, is in two sectors.
 pub fn sectors_do_not_overlap()
-    ensures { (layout : Layout) (block first second : ℕ) → suits layout block ≡ true → first ≢ second
-        → (place layout first + block ≤ place layout second) ⊎ (place layout second + block ≤ place layout first) }
+    ensures { (layout : Layout) (block first second : ℕ) → suits layout block ≡ true
+        → first ≢ second
+        → (place layout first + block ≤ place layout second)
+        ⊎ (place layout second + block ≤ place layout first) }
 {}
 
 /// A disk in a file of the operating system claims no honesty.
 pub fn a_file_of_the_system_claims_nothing()
-    ensures { (it : FileDisk SystemFile) → (disk_in_file ⟦<File as DiskFile>⟧.file it).honest ≡ false }
+    ensures { (it : FileDisk SystemFile)
+        → (disk_in_file ⟦<File as DiskFile>⟧.file it).honest ≡ false }
 {}
 
 /// The words on files, and on disks in memory, say this.

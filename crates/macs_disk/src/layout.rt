@@ -21,12 +21,12 @@ const MARK: &[u8] = b"MSEC4096";
 /// How the sectors of a disk lie in its file.
 #[derive(Clone, Copy, Debug, PartialEq, Eq)]
 pub enum Layout {
-    /// One after the other: sector `at` is the 512 octets from octet `512 * at` on. A power loss must spoil no
-    /// octet outside the sector that is being written.
+    /// One after the other: sector `at` is the 512 octets from octet `512 * at` on. A power loss
+    /// must spoil no octet outside the sector that is being written.
     Packed,
-    /// Each at the front of a block of its own: sector `at` is the 512 octets from octet `4096 * at` on. A
-    /// power loss may spoil the whole block that is being written. A disk of this layout has 1,028
-    /// sectors, and the block after them has the mark by which the layout is found.
+    /// Each at the front of a block of its own: sector `at` is the 512 octets from octet `4096 *
+    /// at` on. A power loss may spoil the whole block that is being written. A disk of this layout
+    /// has 1,028 sectors, and the block after them has the mark by which the layout is found.
     Spaced,
 }
 

@@ -1,8 +1,10 @@
 //! A disk in memory, on which a power loss can be staged.
 
-ghost use Rattle.std.specs.Prelude.{◌≡◌, ◌<◌, ℕ, false, length, IfOk, replicate, slice_index_or, unwrap_or, None};
+ghost use Rattle.std.specs.Prelude.{◌≡◌, ◌<◌, ℕ, false, length, IfOk, replicate, slice_index_or};
+ghost use Rattle.std.specs.Prelude.{unwrap_or, None};
 ghost use Rattle.macs_disk.specs.States.{zero_sector};
-ghost use Rattle.macs_disk.specs.CallLists.{AreChosen, IsSoundMemory, choice_at, flag_at, sectors_in};
+ghost use Rattle.macs_disk.specs.CallLists.{AreChosen, IsSoundMemory, choice_at, flag_at};
+ghost use Rattle.macs_disk.specs.CallLists.{sectors_in};
 ghost use Rattle.macs_disk.specs.declared.memory.MemFault.TheVariants.{Memory as OutOfMemory};
 
 use crate::call_list::{Call, CallList};
@@ -30,8 +32,8 @@ impl From<AllocError> for MemFault {
 }
 
 /// A disk in memory. It keeps a list of its writes and syncs since it was made or since its last
-/// power loss, so that its state at each moment is known. A call of the device fails where the list cannot
-/// grow, which a read does not ask for, and where the disk is worn.
+/// power loss, so that its state at each moment is known. A call of the device fails where the list
+/// cannot grow, which a read does not ask for, and where the disk is worn.
 #[derive(Drop)]
 pub struct MemDisk<A: Allocator = Global> {
     calls: CallList<A>,
@@ -40,12 +42,13 @@ pub struct MemDisk<A: Allocator = Global> {
     durable: Vec<[u8; 512], A>,
     pending: Vec<bool, A>,
     choices: Vec<Option<[u8; 512]>, A>,
-    ghost kept: { IsSoundMemory first.items seen.items durable.items pending.items calls.entries.items calls.clock },
+    ghost kept: { IsSoundMemory first.items seen.items durable.items pending.items
+        calls.entries.items calls.clock },
     ghost chosen: { AreChosen seen.items pending.items choices.items },
 }
 
-/// Makes every sector durable as reads give it: nothing is pending, and no choice is left. The pending sectors
-/// alone are copied, since all others are durable as reads give them.
+/// Makes every sector durable as reads give it: nothing is pending, and no choice is left. The
+/// pending sectors alone are copied, since all others are durable as reads give them.
 fn make_durable<A: Allocator>(
     seen: &[[u8; 512]],
     durable: &mut Vec<[u8; 512], A>,
@@ -55,8 +58,10 @@ fn make_durable<A: Allocator>(
     requires durable { length durable.old.items ≡ length seen.now }
     requires flags { length pending.old.items ≡ length seen.now }
     requires choices { length choices.old.items ≡ length seen.now }
-    requires clean { (i : ℕ) → flag_at pending.old.items i ≡ false → sectors_in seen.now i ≡ sectors_in durable.old.items i }
-    requires unchosen { (i : ℕ) → flag_at pending.old.items i ≡ false → choice_at choices.old.items i ≡ None }
+    requires clean { (i : ℕ) → flag_at pending.old.items i ≡ false
+        → sectors_in seen.now i ≡ sectors_in durable.old.items i }
+    requires unchosen { (i : ℕ) → flag_at pending.old.items i ≡ false
+        → choice_at choices.old.items i ≡ None }
     ensures durable { durable.new.items ≡ seen.now }
     ensures flags { length pending.new.items ≡ length pending.old.items }
     ensures clear { (i : ℕ) → flag_at pending.new.items i ≡ false }
@@ -77,7 +82,8 @@ fn choose<A: Allocator>(sectors: &mut Vec<[u8; 512], A>, choices: &[Option<[u8; 
     requires { length choices.now ≡ length sectors.old.items }
     ensures length { length sectors.new.items ≡ length sectors.old.items }
     ensures chosen { (i : ℕ) → i < length sectors.old.items
-        → sectors_in sectors.new.items i ≡ unwrap_or (choice_at choices.now i) (sectors_in sectors.old.items i) }
+        → sectors_in sectors.new.items i
+        ≡ unwrap_or (choice_at choices.now i) (sectors_in sectors.old.items i) }
 {
     for (i, choice) in choices.iter().enumerate() {
         if let Some(sector) = choice {
@@ -220,12 +226,13 @@ impl<A: Allocator> MemDisk<A> {
     }
 
     /// Chooses what a power loss leaves in sector `at`. The answer is false, and nothing changes,
-    /// unless that sector is pending. The choice holds, over later writes to the sector too, until a
-    /// sync succeeds or a power loss comes.
+    /// unless that sector is pending. The choice holds, over later writes to the sector too, until
+    /// a sync succeeds or a power loss comes.
     pub fn tear(&mut self, at: u64, octets: &[u8; 512]) -> bool
         requires { at < (disk_of self.old).sectors }
         ensures result { result ≡ (now (disk_of self.old)).pending at }
-        ensures chosen { result ≡ true → memory_of self.new ≡ memory_with_choice (memory_of self.old) at octets.now }
+        ensures chosen { result ≡ true
+            → memory_of self.new ≡ memory_with_choice (memory_of self.old) at octets.now }
         ensures same { result ≡ false → memory_of self.new ≡ memory_of self.old }
     {
         if !self.pending[at as usize] {
@@ -235,10 +242,10 @@ impl<A: Allocator> MemDisk<A> {
         true
     }
 
-    /// A power loss: in each pending sector the octets that were chosen, or the last write where none
-    /// were, become durable, and they are what reads give from then on. Nothing is pending then. It
-    /// is no call of the device: clock and failures stay as they are. The list is emptied, so that at each
-    /// moment up to the clock the disk's state is now this one.
+    /// A power loss: in each pending sector the octets that were chosen, or the last write where
+    /// none were, become durable, and they are what reads give from then on. Nothing is pending
+    /// then. It is no call of the device: clock and failures stay as they are. The list is emptied,
+    /// so that at each moment up to the clock the disk's state is now this one.
     pub fn crash(&mut self)
         ensures crashed { memory_of self.new ≡ memory_after_loss (memory_of self.old) }
         ensures image { MayLeave (disk_of self.old) (now (disk_of self.new)).seen }

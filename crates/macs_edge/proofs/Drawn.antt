@@ -35,7 +35,8 @@ use Rattle.macs_edge.specs.Drawn.{CountWords, DeskWords, FaultWords, FlowsInTurn
 use Rattle.macs_edge.specs.Drawn.{TurnWords}
 use Rattle.macs_edge.specs.FaultWires.{CallsValue, failed_among}
 use Rattle.macs_edge.specs.CaptureRuns.{BecomesCapture, HasPassed, Passes, Run, RunsOver, RunsRecords, passed_record}
-use Rattle.macs_edge.specs.Relaying.{FillsWaiting, HandsWaiting, LaneValue, Relay, Relays, TakesTurn, TakesTurns, Way, empty_lane, summary_of}
+use Rattle.macs_edge.specs.Relaying.{FillsWaiting, HandsWaiting, LaneValue, Relay, Relays, TakesTurn, TakesTurns, Way}
+use Rattle.macs_edge.specs.Relaying.{empty_lane, summary_of}
 use Rattle.macs_edge.specs.Resting.{IsQuiet, TakesTurnsResting, one_if}
 use Rattle.macs_edge.specs.Settling.{Settles, call_on}
 use Rattle.macs_edge.specs.WireDatagrams.{IsGiven, ReceivesDatagram}

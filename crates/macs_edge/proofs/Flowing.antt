@@ -1,5 +1,7 @@
 -- What goes each way of a relay, turn by turn.
-use Rattle.std.proofs.Common.{◌≡◌, ◌⊎◌, inl, inr, ◌+◌, ◌++◌, ℕ, zero, suc, List, [], ◌∷◌, length, Option, None, Some, Result, Ok, Err, refl, sym, ap, ◌∙◌, subst, arith, append_assoc, append-nil, length-append}
+use Rattle.std.proofs.Common.{◌≡◌, ◌⊎◌, inl, inr, ◌+◌, ◌++◌, ℕ, zero, suc, List, [], ◌∷◌, length, Option, None, Some}
+use Rattle.std.proofs.Common.{Result, Ok, Err, refl, sym, ap, ◌∙◌, subst, arith, append_assoc, append-nil}
+use Rattle.std.proofs.Common.{length-append}
 use Rattle.std.specs.Option.{option_map}
 use Rattle.macs_disk.specs.Disk.{Disk}
 use Rattle.macs_txsc.specs.declared.fault.TxFault.TheVariants.{Runt, ForeignSource, NoEncodingSa, Exhausted, NoNumber}
@@ -16,7 +18,8 @@ use Rattle.macs_endpoint.specs.declared.fault.RefillFault.{RefillFault}
 use Rattle.macs_endpoint.specs.declared.fault.StepFault.{StepFault}
 use Rattle.macs_endpoint.specs.declared.progress.Step.{Step as Progress}
 use Rattle.macs_edge.specs.Flows.{AllBut, Became, Flow, IsFlow, Sent, TakenOff, given, given_at, given_by}
-use Rattle.macs_edge.specs.Relaying.{Becomes, Carries, FillsWaiting, Forwards, HandsWaiting, LaneValue, Relay, Relays, TakesTurn, TakesTurns, Way, empty_lane, one_dropped, one_left, summary_of, way_of}
+use Rattle.macs_edge.specs.Relaying.{Becomes, Carries, FillsWaiting, Forwards, HandsWaiting, LaneValue, Relay, Relays}
+use Rattle.macs_edge.specs.Relaying.{TakesTurn, TakesTurns, Way, empty_lane, one_dropped, one_left, summary_of, way_of}
 use Rattle.macs_edge.specs.Settling.{Settles, Waits, call_on}
 use Rattle.macs_edge.specs.Wires.{Gives, WireState, saturated}
 use Rattle.macs_edge.specs.declared.relaying.Tally.{Tally}
@@ -30,7 +33,8 @@ use Rattle.macs_edge.proofs.Living.{lives-append}
 one-more : (a n : ℕ) → a ≡ saturated n → saturated (a + 1) ≡ saturated (n + 1)
 one-more a n is = omega (arith, is)
 
-fails-more : (old a b n : ℕ) → saturated a ≡ saturated (old + n) → b ≡ saturated (a + 1) → saturated b ≡ saturated (old + (n + 1))
+fails-more : (old a b n : ℕ) → saturated a ≡ saturated (old + n) → b ≡ saturated (a + 1)
+    → saturated b ≡ saturated (old + (n + 1))
 fails-more old a b n is more = omega (arith, is, more)
 
 fails-same : (old a b n : ℕ) → saturated a ≡ saturated (old + n) → b ≡ a → saturated b ≡ saturated (old + n)
@@ -38,17 +42,22 @@ fails-same old a b n is same = omega (arith, is, same)
 
 -- ---- lists
 
-all-but-sent : (lost : ℕ) (all frames : List (List ℕ)) (x : List ℕ) → AllBut lost all frames → AllBut lost (all ++ x ∷ []) (frames ++ x ∷ [])
+all-but-sent : (lost : ℕ) (all frames : List (List ℕ)) (x : List ℕ) → AllBut lost all frames
+    → AllBut lost (all ++ x ∷ []) (frames ++ x ∷ [])
 all-but-sent lost [] frames x but = inl ([], ap (λ (l : List (List ℕ)). l ++ x ∷ []) but.0, (refl, but.1))
-all-but-sent lost (y ∷ ys) frames x (inl (rest, is, but)) = inl (rest ++ x ∷ [], ap (λ (l : List (List ℕ)). l ++ x ∷ []) is, all-but-sent lost ys rest x but)
+all-but-sent lost (y ∷ ys) frames x (inl (rest, is, but)) =
+    inl (rest ++ x ∷ [], ap (λ (l : List (List ℕ)). l ++ x ∷ []) is, all-but-sent lost ys rest x but)
 all-but-sent lost (y ∷ ys) frames x (inr (fewer, is, but)) = inr (fewer, is, all-but-sent fewer ys frames x but)
 
-all-but-lost : (lost : ℕ) (all frames : List (List ℕ)) (x : List ℕ) → AllBut lost all frames → AllBut (lost + 1) (all ++ x ∷ []) frames
+all-but-lost : (lost : ℕ) (all frames : List (List ℕ)) (x : List ℕ) → AllBut lost all frames
+    → AllBut (lost + 1) (all ++ x ∷ []) frames
 all-but-lost lost [] frames x but = inr (lost, refl, but)
 all-but-lost lost (y ∷ ys) frames x (inl (rest, is, but)) = inl (rest, is, all-but-lost lost ys rest x but)
-all-but-lost lost (y ∷ ys) frames x (inr (fewer, is, but)) = inr (fewer + 1, ap (λ (k : ℕ). k + 1) is, all-but-lost fewer ys frames x but)
+all-but-lost lost (y ∷ ys) frames x (inr (fewer, is, but)) =
+    inr (fewer + 1, ap (λ (k : ℕ). k + 1) is, all-but-lost fewer ys frames x but)
 
-taken-one : (before xs ys : List (List ℕ)) (x : List ℕ) (taken : ℕ) → TakenOff (Some before) (Some xs) taken → xs ≡ x ∷ ys
+taken-one : (before xs ys : List (List ℕ)) (x : List ℕ) (taken : ℕ) → TakenOff (Some before) (Some xs) taken
+    → xs ≡ x ∷ ys
     → TakenOff (Some before) (Some ys) (taken + 1)
 taken-one before xs ys x taken (frames, is, size) first = (
   frames ++ x ∷ [],
@@ -56,7 +65,8 @@ taken-one before xs ys x taken (frames, is, size) first = (
   length-append frames (x ∷ []) ∙ ap (λ (k : ℕ). k + 1) size,
 )
 
-taken-frame : (old waiting left : Option (List (List ℕ))) (x : List ℕ) (taken : ℕ) → TakenOff old waiting taken → Gives waiting left Frame x
+taken-frame : (old waiting left : Option (List (List ℕ))) (x : List ℕ) (taken : ℕ) → TakenOff old waiting taken
+    → Gives waiting left Frame x
     → TakenOff old left (taken + 1)
 taken-frame (Some before) (Some xs) (Some ys) x taken off gives = taken-one before xs ys x taken off gives
 taken-frame None None None x taken off gives = tt
@@ -65,18 +75,22 @@ taken-frame (Some before) None left x taken off gives = absurd off
 taken-frame None (Some xs) left x taken off gives = absurd off
 taken-frame None None (Some ys) x taken off gives = absurd gives
 
-taken-long : (old waiting left : Option (List (List ℕ))) (x : List ℕ) (taken : ℕ) → TakenOff old waiting taken → Gives waiting left TooLong x
+taken-long : (old waiting left : Option (List (List ℕ))) (x : List ℕ) (taken : ℕ) → TakenOff old waiting taken
+    → Gives waiting left TooLong x
     → TakenOff old left (taken + 1)
-taken-long (Some before) (Some xs) (Some ys) x taken off (long, first, size) = taken-one before xs ys long taken off first
+taken-long (Some before) (Some xs) (Some ys) x taken off (long, first, size) =
+    taken-one before xs ys long taken off first
 taken-long None None None x taken off gives = tt
 taken-long (Some before) (Some xs) None x taken off gives = absurd gives
 taken-long (Some before) None left x taken off gives = absurd off
 taken-long None (Some xs) left x taken off gives = absurd off
 taken-long None None (Some ys) x taken off gives = absurd gives
 
-taken-none : (old waiting left : Option (List (List ℕ))) (x : List ℕ) (taken : ℕ) → TakenOff old waiting taken → Gives waiting left Nothing x
+taken-none : (old waiting left : Option (List (List ℕ))) (x : List ℕ) (taken : ℕ) → TakenOff old waiting taken
+    → Gives waiting left Nothing x
     → TakenOff old left taken
-taken-none (Some before) (Some xs) (Some ys) x taken (frames, is, size) gives = (frames, is ∙ ap (λ (l : List (List ℕ)). frames ++ l) (gives.0 ∙ sym gives.1), size)
+taken-none (Some before) (Some xs) (Some ys) x taken (frames, is, size) gives =
+    (frames, is ∙ ap (λ (l : List (List ℕ)). frames ++ l) (gives.0 ∙ sym gives.1), size)
 taken-none None None None x taken off gives = tt
 taken-none (Some before) (Some xs) None x taken off gives = absurd gives
 taken-none (Some before) None left x taken off gives = absurd off
@@ -91,7 +105,8 @@ pub gained-more : {X : Type 0} (a b c : Option (List X)) (xs ys : List X) → b 
     → c ≡ option_map (λ before. before ++ ys) b
     → c ≡ option_map (λ before. before ++ (xs ++ ys)) a
 gained-more None b c xs ys one two = two ∙ ap (option_map (λ before. before ++ ys)) one
-gained-more (Some zs) b c xs ys one two = two ∙ ap (option_map (λ before. before ++ ys)) one ∙ ap Some (append_assoc zs xs ys)
+gained-more (Some zs) b c xs ys one two = two ∙ ap (option_map (λ before. before ++ ys)) one
+    ∙ ap Some (append_assoc zs xs ys)
 
 -- ---- answers
 
@@ -104,7 +119,8 @@ given-passed (Protected (Err (protect.Tx ForeignSource)) o) out settles = absurd
 given-passed (Protected (Err (protect.Tx NoEncodingSa)) o) out settles = absurd cc
 given-passed (Protected (Err (protect.Tx Exhausted)) o) out settles = absurd cc
 given-passed (Protected (Err (protect.Tx NoNumber)) o) out settles = absurd settles
-given-passed (Received (Ok (Delivered kind)) o) out settles = let same : o ≡ out = cc in ap (λ (x : List ℕ). x ∷ []) same
+given-passed (Received (Ok (Delivered kind)) o) out settles = let same : o ≡ out = cc in
+    ap (λ (x : List ℕ). x ∷ []) same
 given-passed (Received (Ok (Discarded reason)) o) out settles = absurd cc
 given-passed (Received (Ok HeldBack) o) out settles = absurd settles
 given-passed (Received (Err stopped) o) out settles = absurd settles
@@ -143,7 +159,8 @@ given-waits (Advanced result) waits = refl
 given-waits RefusedLong waits = refl
 given-waits (AdvancedLong ticket) waits = refl
 
-given-stopped : (side : Side) (frame : List ℕ) (reply : Reply) → IsStopped (call_on side frame) reply → given_by reply ≡ []
+given-stopped : (side : Side) (frame : List ℕ) (reply : Reply) → IsStopped (call_on side frame) reply
+    → given_by reply ≡ []
 given-stopped Controlled frame (Protected (Ok pn) o) stopped = absurd stopped
 given-stopped Controlled frame (Protected (Err fault) o) stopped = refl
 given-stopped Controlled frame (Received result o) stopped = absurd stopped
@@ -176,7 +193,8 @@ module _ {D : Type 0} where
       ∙ sym (append_assoc (given_at side turn) (given side turns) (given side more))
 
   -- one call that hands in a frame on a side gives there what its answer gives, and nothing on the other side
-  given-here : (side : Side) (frame : List ℕ) (reply : Reply) (after : EndpointValue D) (all : List (List ℕ)) → given_by reply ≡ all
+  given-here : (side : Side) (frame : List ℕ) (reply : Reply) (after : EndpointValue D) (all : List (List ℕ))
+      → given_by reply ≡ all
       → given side (record { call = call_on side frame; reply = reply; after = after } ∷ []) ≡ all
   given-here Controlled frame reply after all is = append-nil (given_by reply) ∙ is
   given-here Common frame reply after all is = append-nil (given_by reply) ∙ is
@@ -186,15 +204,18 @@ module _ {D : Type 0} where
   given-there Controlled frame reply after = refl
   given-there Common frame reply after = refl
 
-  given-steps : (side : Side) (reply : Reply) (after : EndpointValue D) → given side (record { call = Advances; reply = reply; after = after } ∷ []) ≡ []
+  given-steps : (side : Side) (reply : Reply) (after : EndpointValue D)
+      → given side (record { call = Advances; reply = reply; after = after } ∷ []) ≡ []
   given-steps Controlled reply after = refl
   given-steps Common reply after = refl
 
 -- ---- one way
 
 -- nothing that counts changed
-flow-aside : (from from1 from2 to to1 to2 : WireState) (all all2 : List (List ℕ)) (lane lane2 : LaneValue) → Flow from from1 to to1 all lane
-    → from2.waiting ≡ from1.waiting → from2.failed_receives ≡ from1.failed_receives → to2.sent ≡ to1.sent → to2.failed_sends ≡ to1.failed_sends
+flow-aside : (from from1 from2 to to1 to2 : WireState) (all all2 : List (List ℕ)) (lane lane2 : LaneValue)
+    → Flow from from1 to to1 all lane
+    → from2.waiting ≡ from1.waiting → from2.failed_receives ≡ from1.failed_receives → to2.sent ≡ to1.sent
+    → to2.failed_sends ≡ to1.failed_sends
     → all2 ≡ all → lane2 ≡ lane → Flow from from2 to to2 all2 lane2
 flow-aside from from1 from2 to to1 to2 all all2 lane lane2 flow waiting receives sent sends same_all same = record {
   taken = flow.taken;
@@ -204,25 +225,29 @@ flow-aside from from1 from2 to to1 to2 all all2 lane lane2 flow waiting receives
   left_out = flow.left_out;
   took = record {
     frames = subst (λ (w : Option (List (List ℕ))). TakenOff from.waiting w flow.taken) (sym waiting) flow.took.frames;
-    failed = fails-same from.failed_receives from1.failed_receives from2.failed_receives flow.missed flow.took.failed receives;
+    failed = fails-same from.failed_receives from1.failed_receives from2.failed_receives flow.missed
+        flow.took.failed receives;
   };
   sent = record {
     gained = sent ∙ flow.sent.gained;
     all_but = subst (λ (l : List (List ℕ)). AllBut flow.lost l flow.frames) (sym same_all) flow.sent.all_but;
     failed = fails-same to.failed_sends to1.failed_sends to2.failed_sends flow.lost flow.sent.failed sends;
   };
-  became = subst (λ (l : LaneValue). Became flow.taken flow.missed (length flow.frames) flow.lost flow.left_out l) (sym same) flow.became;
+  became = subst (λ (l : LaneValue). Became flow.taken flow.missed (length flow.frames) flow.lost flow.left_out l)
+      (sym same) flow.became;
 }
 
 -- an empty lane is filled
-flow-fills : (from from1 from2 to to1 : WireState) (all : List (List ℕ)) (lane lane2 : LaneValue) (waiting : Option (List ℕ)) → lane.waiting ≡ waiting
+flow-fills : (from from1 from2 to to1 : WireState) (all : List (List ℕ)) (lane lane2 : LaneValue)
+    (waiting : Option (List ℕ)) → lane.waiting ≡ waiting
     → Flow from from1 to to1 all lane → FillsWaiting waiting from1 lane from2 lane2 → Flow from from2 to to1 all lane2
 flow-fills from from1 from2 to to1 all lane lane2 (Some frame) is flow (same_from, same) =
     flow-aside from from1 from2 to to1 to1 all all lane lane2 flow (ap (λ (w : WireState). w.waiting) same_from)
     (ap (λ (w : WireState). w.failed_receives) same_from) refl refl refl same
 flow-fills from from1 from2 to to1 all lane lane2 None is flow (Ok Frame, frame, gives, same) =
     let became : Became flow.taken flow.missed (length flow.frames) flow.lost flow.left_out lane = flow.became in
-    let balance : flow.taken ≡ length flow.frames + flow.lost + flow.left_out + 0 = became.all ∙ ap (λ (s : Option (List ℕ)). length flow.frames + flow.lost + flow.left_out + one_left s) is in
+    let balance : flow.taken ≡ length flow.frames + flow.lost + flow.left_out + 0 = became.all
+    ∙ ap (λ (s : Option (List ℕ)). length flow.frames + flow.lost + flow.left_out + one_left s) is in
     subst (λ (l : LaneValue). Flow from from2 to to1 all l) (sym same) (record {
       taken = flow.taken + 1;
       missed = flow.missed;
@@ -231,7 +256,8 @@ flow-fills from from1 from2 to to1 all lane lane2 None is flow (Ok Frame, frame,
       left_out = flow.left_out;
       took = record {
         frames = taken-frame from.waiting from1.waiting from2.waiting frame flow.taken flow.took.frames gives.0;
-        failed = fails-same from.failed_receives from1.failed_receives from2.failed_receives flow.missed flow.took.failed gives.3;
+        failed = fails-same from.failed_receives from1.failed_receives from2.failed_receives flow.missed
+            flow.took.failed gives.3;
       };
       sent = flow.sent;
       became = record {
@@ -250,10 +276,12 @@ flow-fills from from1 from2 to to1 all lane lane2 None is flow (Ok Nothing, fram
       left_out = flow.left_out;
       took = record {
         frames = taken-none from.waiting from1.waiting from2.waiting frame flow.taken flow.took.frames gives.0;
-        failed = fails-same from.failed_receives from1.failed_receives from2.failed_receives flow.missed flow.took.failed gives.3;
+        failed = fails-same from.failed_receives from1.failed_receives from2.failed_receives flow.missed
+            flow.took.failed gives.3;
       };
       sent = flow.sent;
-      became = subst (λ (l : LaneValue). Became flow.taken flow.missed (length flow.frames) flow.lost flow.left_out l) (sym same) flow.became;
+      became = subst (λ (l : LaneValue). Became flow.taken flow.missed (length flow.frames) flow.lost flow.left_out l)
+          (sym same) flow.became;
     }
 flow-fills from from1 from2 to to1 all lane lane2 None is flow (Ok TooLong, frame, gives, same) =
     let became : Became flow.taken flow.missed (length flow.frames) flow.lost flow.left_out lane = flow.became in
@@ -266,7 +294,8 @@ flow-fills from from1 from2 to to1 all lane lane2 None is flow (Ok TooLong, fram
       left_out = flow.left_out + 1;
       took = record {
         frames = taken-long from.waiting from1.waiting from2.waiting frame flow.taken flow.took.frames gives.0;
-        failed = fails-same from.failed_receives from1.failed_receives from2.failed_receives flow.missed flow.took.failed gives.3;
+        failed = fails-same from.failed_receives from1.failed_receives from2.failed_receives flow.missed
+            flow.took.failed gives.3;
       };
       sent = flow.sent;
       became = record {
@@ -278,7 +307,8 @@ flow-fills from from1 from2 to to1 all lane lane2 None is flow (Ok TooLong, fram
     })
 flow-fills from from1 from2 to to1 all lane lane2 None is flow (Err fault, frame, gives, same) =
     let became : Became flow.taken flow.missed (length flow.frames) flow.lost flow.left_out lane = flow.became in
-    let faults : saturated (lane.tally.faults + 1) ≡ saturated (flow.missed + 1 + flow.lost) = omega (arith, became.faults) in
+    let faults : saturated (lane.tally.faults + 1) ≡ saturated (flow.missed + 1 + flow.lost) =
+    omega (arith, became.faults) in
     subst (λ (l : LaneValue). Flow from from2 to to1 all l) (sym same) (record {
       taken = flow.taken;
       missed = flow.missed + 1;
@@ -286,8 +316,10 @@ flow-fills from from1 from2 to to1 all lane lane2 None is flow (Err fault, frame
       lost = flow.lost;
       left_out = flow.left_out;
       took = record {
-        frames = subst (λ (w : Option (List (List ℕ))). TakenOff from.waiting w flow.taken) (sym gives.2) flow.took.frames;
-        failed = fails-more from.failed_receives from1.failed_receives from2.failed_receives flow.missed flow.took.failed gives.4;
+        frames =
+            subst (λ (w : Option (List (List ℕ))). TakenOff from.waiting w flow.taken) (sym gives.2) flow.took.frames;
+        failed = fails-more from.failed_receives from1.failed_receives from2.failed_receives flow.missed
+            flow.took.failed gives.4;
       };
       sent = flow.sent;
       became = record {
@@ -299,18 +331,24 @@ flow-fills from from1 from2 to to1 all lane lane2 None is flow (Err fault, frame
     })
 
 -- a wire is asked for frames: what it sent stays
-fills-sent : (waiting : Option (List ℕ)) (from : WireState) (lane : LaneValue) (from2 : WireState) (lane2 : LaneValue) → FillsWaiting waiting from lane from2 lane2
+fills-sent : (waiting : Option (List ℕ)) (from : WireState) (lane : LaneValue) (from2 : WireState) (lane2 : LaneValue)
+    → FillsWaiting waiting from lane from2 lane2
     → (from2.sent ≡ from.sent) × (from2.failed_sends ≡ from.failed_sends)
-fills-sent (Some frame) from lane from2 lane2 fills = (ap (λ (w : WireState). w.sent) fills.0, ap (λ (w : WireState). w.failed_sends) fills.0)
+fills-sent (Some frame) from lane from2 lane2 fills =
+    (ap (λ (w : WireState). w.sent) fills.0, ap (λ (w : WireState). w.failed_sends) fills.0)
 fills-sent None from lane from2 lane2 (Ok got, frame, gives, same) = (gives.2, gives.4)
 fills-sent None from lane from2 lane2 (Err fault, frame, gives, same) = (gives.3, gives.5)
 
 -- a frame passes: it is sent, or lost
-flow-forwards : (from from1 to to1 to2 : WireState) (all : List (List ℕ)) (lane lane2 : LaneValue) (frame passed : List ℕ) → lane.waiting ≡ Some frame
-    → Flow from from1 to to1 all lane → lane2.waiting ≡ None → Forwards to1 passed lane.tally to2 lane2.tally → Flow from from1 to to2 (all ++ passed ∷ []) lane2
+flow-forwards : (from from1 to to1 to2 : WireState) (all : List (List ℕ)) (lane lane2 : LaneValue)
+    (frame passed : List ℕ) → lane.waiting ≡ Some frame
+    → Flow from from1 to to1 all lane → lane2.waiting ≡ None → Forwards to1 passed lane.tally to2 lane2.tally
+    → Flow from from1 to to2 (all ++ passed ∷ []) lane2
 flow-forwards from from1 to to1 to2 all lane lane2 frame passed is flow none (Ok done, sends, same) =
-    let balance : flow.taken ≡ length flow.frames + flow.lost + flow.left_out + 1 = flow.became.all ∙ ap (λ (s : Option (List ℕ)). length flow.frames + flow.lost + flow.left_out + one_left s) is in
-    let longer : length (flow.frames ++ passed ∷ []) ≡ length flow.frames + 1 = length-append flow.frames (passed ∷ []) in
+    let balance : flow.taken ≡ length flow.frames + flow.lost + flow.left_out + 1 = flow.became.all
+    ∙ ap (λ (s : Option (List ℕ)). length flow.frames + flow.lost + flow.left_out + one_left s) is in
+    let longer : length (flow.frames ++ passed ∷ []) ≡ length flow.frames + 1 =
+    length-append flow.frames (passed ∷ []) in
     let left : one_left lane2.waiting ≡ 0 = ap one_left none in
     let was : lane.tally.passed ≡ saturated (length flow.frames) = flow.became.passed in
     let now : lane2.tally.passed ≡ saturated (lane.tally.passed + 1) = ap (λ (t : Tally). t.passed) same in
@@ -334,7 +372,8 @@ flow-forwards from from1 to to1 to2 all lane lane2 frame passed is flow none (Ok
       };
     }
 flow-forwards from from1 to to1 to2 all lane lane2 frame passed is flow none (Err fault, sends, same) =
-    let balance : flow.taken ≡ length flow.frames + flow.lost + flow.left_out + 1 = flow.became.all ∙ ap (λ (s : Option (List ℕ)). length flow.frames + flow.lost + flow.left_out + one_left s) is in
+    let balance : flow.taken ≡ length flow.frames + flow.lost + flow.left_out + 1 = flow.became.all
+    ∙ ap (λ (s : Option (List ℕ)). length flow.frames + flow.lost + flow.left_out + one_left s) is in
     let left : one_left lane2.waiting ≡ 0 = ap one_left none in
     let was : lane.tally.faults ≡ saturated (flow.missed + flow.lost) = flow.became.faults in
     let now : lane2.tally.faults ≡ saturated (lane.tally.faults + 1) = ap (λ (t : Tally). t.faults) same in
@@ -359,10 +398,13 @@ flow-forwards from from1 to to1 to2 all lane lane2 frame passed is flow none (Er
     }
 
 -- a frame is left out
-flow-drops : (from from1 to to1 to2 : WireState) (all : List (List ℕ)) (lane lane2 : LaneValue) (frame : List ℕ) → lane.waiting ≡ Some frame
-    → Flow from from1 to to1 all lane → lane2.waiting ≡ None → lane2.tally ≡ one_dropped lane.tally → to2 ≡ to1 → Flow from from1 to to2 all lane2
+flow-drops : (from from1 to to1 to2 : WireState) (all : List (List ℕ)) (lane lane2 : LaneValue) (frame : List ℕ)
+    → lane.waiting ≡ Some frame
+    → Flow from from1 to to1 all lane → lane2.waiting ≡ None → lane2.tally ≡ one_dropped lane.tally → to2 ≡ to1
+    → Flow from from1 to to2 all lane2
 flow-drops from from1 to to1 to2 all lane lane2 frame is flow none same same_to =
-    let balance : flow.taken ≡ length flow.frames + flow.lost + flow.left_out + 1 = flow.became.all ∙ ap (λ (s : Option (List ℕ)). length flow.frames + flow.lost + flow.left_out + one_left s) is in
+    let balance : flow.taken ≡ length flow.frames + flow.lost + flow.left_out + 1 = flow.became.all
+    ∙ ap (λ (s : Option (List ℕ)). length flow.frames + flow.lost + flow.left_out + one_left s) is in
     let left : one_left lane2.waiting ≡ 0 = ap one_left none in
     record {
       taken = flow.taken;
@@ -407,7 +449,8 @@ record Moves {D : Type 0} (disk_of : D → Disk) (side : Side) (old new : Way D)
   calls : List (Transition D)
   frames : AreFrames calls
   lives : Lives disk_of old.endpoint calls new.endpoint
-  here : (from to : WireState) (all : List (List ℕ)) → Flow from old.from to old.to all old.lane → Flow from new.from to new.to (all ++ given side calls) new.lane
+  here : (from to : WireState) (all : List (List ℕ)) → Flow from old.from to old.to all old.lane
+      → Flow from new.from to new.to (all ++ given side calls) new.lane
   there : given (other side) calls ≡ []
   from_sent : new.from.sent ≡ old.from.sent
   from_sends : new.from.failed_sends ≡ old.from.failed_sends
@@ -419,26 +462,36 @@ forwards-waiting : (to to2 : WireState) (frame : List ℕ) (tally tally2 : Tally
 forwards-waiting to to2 frame tally tally2 (Ok done, sends, same) = (sends.0, sends.2)
 forwards-waiting to to2 frame tally tally2 (Err fault, sends, same) = (sends.1, sends.3)
 
-becomes-waiting : {D : Type 0} (side : Side) (frame : List ℕ) (reply : Reply) (old new : Way D) → Becomes side frame reply old new
+becomes-waiting : {D : Type 0} (side : Side) (frame : List ℕ) (reply : Reply) (old new : Way D)
+    → Becomes side frame reply old new
     → (new.to.waiting ≡ old.to.waiting) × (new.to.failed_receives ≡ old.to.failed_receives)
-becomes-waiting side frame reply old new (inl (passed, settles, none, sends)) = forwards-waiting old.to new.to passed old.lane.tally new.lane.tally sends
-becomes-waiting side frame reply old new (inr (inl (settles, none, same, to))) = (ap (λ (w : WireState). w.waiting) to, ap (λ (w : WireState). w.failed_receives) to)
-becomes-waiting side frame reply old new (inr (inr (stays, same, to))) = (ap (λ (w : WireState). w.waiting) to, ap (λ (w : WireState). w.failed_receives) to)
+becomes-waiting side frame reply old new (inl (passed, settles, none, sends)) =
+    forwards-waiting old.to new.to passed old.lane.tally new.lane.tally sends
+becomes-waiting side frame reply old new (inr (inl (settles, none, same, to))) =
+    (ap (λ (w : WireState). w.waiting) to, ap (λ (w : WireState). w.failed_receives) to)
+becomes-waiting side frame reply old new (inr (inr (stays, same, to))) =
+    (ap (λ (w : WireState). w.waiting) to, ap (λ (w : WireState). w.failed_receives) to)
 
-given-stays : (side : Side) (frame : List ℕ) (reply : Reply) → Waits reply ⊎ IsStopped (call_on side frame) reply → given_by reply ≡ []
+given-stays : (side : Side) (frame : List ℕ) (reply : Reply) → Waits reply ⊎ IsStopped (call_on side frame) reply
+    → given_by reply ≡ []
 given-stays side frame reply (inl waits) = given-waits reply waits
 given-stays side frame reply (inr stopped) = given-stopped side frame reply stopped
 
 -- the frame of a full lane is handed in
-flow-becomes : {D : Type 0} (side : Side) (frame : List ℕ) (reply : Reply) (old new : Way D) → old.lane.waiting ≡ Some frame → Becomes side frame reply old new
-    → new.from ≡ old.from → (from to : WireState) (all more : List (List ℕ)) → more ≡ given_by reply → Flow from old.from to old.to all old.lane
+flow-becomes : {D : Type 0} (side : Side) (frame : List ℕ) (reply : Reply) (old new : Way D)
+    → old.lane.waiting ≡ Some frame → Becomes side frame reply old new
+    → new.from ≡ old.from → (from to : WireState) (all more : List (List ℕ)) → more ≡ given_by reply
+    → Flow from old.from to old.to all old.lane
     → Flow from new.from to new.to (all ++ more) new.lane
 flow-becomes side frame reply old new is (inl (passed, settles, none, sends)) same_from from to all more gives flow =
-    subst (λ (l : List (List ℕ)). Flow from new.from to new.to (all ++ l) new.lane) (sym (gives ∙ given-passed reply passed settles))
+    subst (λ (l : List (List ℕ)). Flow from new.from to new.to (all ++ l) new.lane)
+    (sym (gives ∙ given-passed reply passed settles))
     (subst (λ (w : WireState). Flow from w to new.to (all ++ passed ∷ []) new.lane) (sym same_from)
     (flow-forwards from old.from to old.to new.to all old.lane new.lane frame passed is flow none sends))
-flow-becomes side frame reply old new is (inr (inl (settles, none, same, same_to))) same_from from to all more gives flow =
-    subst (λ (l : List (List ℕ)). Flow from new.from to new.to l new.lane) (sym (ap (λ (l : List (List ℕ)). all ++ l) (gives ∙ given-dropped reply settles) ∙ append-nil all))
+flow-becomes side frame reply old new is (inr (inl (settles, none, same, same_to))) same_from from to all more
+    gives flow =
+    subst (λ (l : List (List ℕ)). Flow from new.from to new.to l new.lane)
+    (sym (ap (λ (l : List (List ℕ)). all ++ l) (gives ∙ given-dropped reply settles) ∙ append-nil all))
     (subst (λ (w : WireState). Flow from w to new.to all new.lane) (sym same_from)
     (flow-drops from old.from to old.to new.to all old.lane new.lane frame is flow none same same_to))
 flow-becomes side frame reply old new is (inr (inr (stays, same, same_to))) same_from from to all more gives flow =
@@ -448,7 +501,8 @@ flow-becomes side frame reply old new is (inr (inr (stays, same, same_to))) same
     (ap (λ (l : List (List ℕ)). all ++ l) (gives ∙ given-stays side frame reply stays) ∙ append-nil all) same
 
 module _ {D : Type 0} (disk_of : D → Disk) (side : Side) where
-  hands-moves : (waiting : Option (List ℕ)) (old new : Way D) → old.lane.waiting ≡ waiting → HandsWaiting disk_of side waiting old new → Moves disk_of side old new
+  hands-moves : (waiting : Option (List ℕ)) (old new : Way D) → old.lane.waiting ≡ waiting
+      → HandsWaiting disk_of side waiting old new → Moves disk_of side old new
   hands-moves None old new is same = record {
     calls = [];
     frames = tt;
@@ -465,7 +519,8 @@ module _ {D : Type 0} (disk_of : D → Disk) (side : Side) where
     calls = record { call = call_on side frame; reply = reply; after = new.endpoint } ∷ [];
     frames = (is-frame side frame, tt);
     lives = (sound, call, refl);
-    here = λ from to all flow. flow-becomes side frame reply old new is becomes same_from from to all _ (given-here side frame reply new.endpoint (given_by reply) refl) flow;
+    here = λ from to all flow. flow-becomes side frame reply old new is becomes same_from from to all _
+        (given-here side frame reply new.endpoint (given_by reply) refl) flow;
     there = given-there side frame reply new.endpoint;
     from_sent = ap (λ (w : WireState). w.sent) same_from;
     from_sends = ap (λ (w : WireState). w.failed_sends) same_from;
@@ -481,7 +536,8 @@ module _ {D : Type 0} (disk_of : D → Disk) (side : Side) where
         calls = moves.calls;
         frames = moves.frames;
         lives = moves.lives;
-        here = λ from0 to0 all flow. moves.here from0 to0 all (flow-fills from0 old.from from to0 old.to all old.lane lane old.lane.waiting refl flow fills);
+        here = λ from0 to0 all flow. moves.here from0 to0 all
+            (flow-fills from0 old.from from to0 old.to all old.lane lane old.lane.waiting refl flow fills);
         there = moves.there;
         from_sent = moves.from_sent ∙ sent.0;
         from_sends = moves.from_sends ∙ sent.1;
@@ -518,8 +574,17 @@ flow-begins from to lane is = subst (λ (l : LaneValue). Flow from from to to []
   frames = [];
   lost = 0;
   left_out = 0;
-  took = record { frames = off from.waiting; failed = fails-same from.failed_receives from.failed_receives from.failed_receives 0 (omega arith) refl };
-  sent = record { gained = gained-none to.sent; all_but = (refl, refl); failed = fails-same to.failed_sends to.failed_sends to.failed_sends 0 (omega arith) refl };
+  took = record {
+    frames = off from.waiting;
+    failed =
+        fails-same from.failed_receives from.failed_receives from.failed_receives 0 (omega arith) refl;
+  };
+  sent = record {
+    gained = gained-none to.sent;
+    all_but = (refl, refl);
+    failed =
+        fails-same to.failed_sends to.failed_sends to.failed_sends 0 (omega arith) refl;
+  };
   became = record { all = refl; passed = refl; dropped = refl; faults = refl };
 }) where
   off : (waiting : Option (List (List ℕ))) → TakenOff waiting waiting 0
@@ -527,30 +592,39 @@ flow-begins from to lane is = subst (λ (l : LaneValue). Flow from from to to []
   off (Some frames) = ([], refl, refl)
 
 module _ {D : Type 0} (disk_of : D → Disk) where
-  given-behind : (side : Side) (a b c d : List (Transition D)) → ((given side a ++ given side b) ++ given side c) ++ given side d ≡ given side (((a ++ b) ++ c) ++ d)
+  given-behind : (side : Side) (a b c d : List (Transition D))
+      → ((given side a ++ given side b) ++ given side c) ++ given side d ≡ given side (((a ++ b) ++ c) ++ d)
   given-behind side a b c d =
       ap (λ (l : List (List ℕ)). (l ++ given side c) ++ given side d) (sym (given-append side a b))
-      ∙ ap (λ (l : List (List ℕ)). l ++ given side d) (sym (given-append side (a ++ b) c)) ∙ sym (given-append side ((a ++ b) ++ c) d)
+      ∙ ap (λ (l : List (List ℕ)). l ++ given side d) (sym (given-append side (a ++ b) c))
+      ∙ sym (given-append side ((a ++ b) ++ c) d)
 
-  none-behind : (side : Side) (all : List (List ℕ)) (calls : List (Transition D)) → given side calls ≡ [] → all ++ given side calls ≡ all
+  none-behind : (side : Side) (all : List (List ℕ)) (calls : List (Transition D)) → given side calls ≡ []
+      → all ++ given side calls ≡ all
   none-behind side all calls none = ap (λ (l : List (List ℕ)). all ++ l) none ∙ append-nil all
 
   pub turn-goes : (answer : Result Progress StepFault) (old between new : Relay D) (goes : Goes disk_of old between)
       → TakesTurn disk_of answer between new
       → GoesOn disk_of old between goes.calls answer new
   turn-goes answer old between new goes (late, (endpoint, controlled, common, carries_out, carries_back), sound, call) =
-      let one = carries-moves disk_of Controlled (way_of between.endpoint between.controlled between.common between.to_common)
+      let one =
+      carries-moves disk_of Controlled (way_of between.endpoint between.controlled between.common between.to_common)
       (way_of endpoint controlled common new.to_common) carries_out in
-      let two = carries-moves disk_of Common (way_of endpoint common controlled between.to_controlled) (way_of late new.common new.controlled new.to_controlled) carries_back in
+      let two = carries-moves disk_of Common (way_of endpoint common controlled between.to_controlled)
+      (way_of late new.common new.controlled new.to_controlled) carries_back in
       let three : Transition D = record { call = Advances; reply = Advanced answer; after = new.endpoint } in
-      let lives_one = lives-append disk_of old.endpoint between.endpoint endpoint goes.calls one.calls goes.lives one.lives in
-      let lives_two = lives-append disk_of old.endpoint endpoint late (goes.calls ++ one.calls) two.calls lives_one two.lives in
+      let lives_one =
+      lives-append disk_of old.endpoint between.endpoint endpoint goes.calls one.calls goes.lives one.lives in
+      let lives_two =
+      lives-append disk_of old.endpoint endpoint late (goes.calls ++ one.calls) two.calls lives_one two.lives in
       let out_one = one.here old.controlled old.common (given Controlled goes.calls) goes.out in
       let out_all = flow-aside old.controlled controlled new.controlled old.common common new.common
       (given Controlled goes.calls ++ given Controlled one.calls)
-      (((given Controlled goes.calls ++ given Controlled one.calls) ++ given Controlled two.calls) ++ given Controlled (three ∷ []))
+      (((given Controlled goes.calls ++ given Controlled one.calls) ++ given Controlled two.calls)
+      ++ given Controlled (three ∷ []))
       new.to_common new.to_common out_one two.to_waiting two.to_receives two.from_sent two.from_sends
-      (none-behind Controlled ((given Controlled goes.calls ++ given Controlled one.calls) ++ given Controlled two.calls) (three ∷ []) refl
+      (none-behind Controlled
+      ((given Controlled goes.calls ++ given Controlled one.calls) ++ given Controlled two.calls) (three ∷ []) refl
       ∙ none-behind Controlled (given Controlled goes.calls ++ given Controlled one.calls) two.calls two.there) refl in
       let back_one = flow-aside old.common between.common common old.controlled between.controlled controlled
       (given Common goes.calls) (given Common goes.calls ++ given Common one.calls)
@@ -561,7 +635,8 @@ module _ {D : Type 0} (disk_of : D → Disk) where
       ((given Common goes.calls ++ given Common one.calls) ++ given Common two.calls)
       (((given Common goes.calls ++ given Common one.calls) ++ given Common two.calls) ++ given Common (three ∷ []))
       new.to_controlled new.to_controlled back_two refl refl refl refl
-      (none-behind Common ((given Common goes.calls ++ given Common one.calls) ++ given Common two.calls) (three ∷ []) refl) refl in
+      (none-behind Common ((given Common goes.calls ++ given Common one.calls) ++ given Common two.calls) (three ∷ [])
+      refl) refl in
       record {
         goes = record {
           calls = ((goes.calls ++ one.calls) ++ two.calls) ++ three ∷ [];
@@ -581,7 +656,8 @@ module _ {D : Type 0} (disk_of : D → Disk) where
         calls = ap (λ (l : List (Transition D)). l ++ three ∷ []) (append_assoc goes.calls one.calls two.calls);
       }
 
-  turns-go : (turns : ℕ) (old new : Relay D) → old.to_common ≡ empty_lane → old.to_controlled ≡ empty_lane → TakesTurns disk_of turns old new → Goes disk_of old new
+  turns-go : (turns : ℕ) (old new : Relay D) → old.to_common ≡ empty_lane → old.to_controlled ≡ empty_lane
+      → TakesTurns disk_of turns old new → Goes disk_of old new
   turns-go zero old new out back is = subst (λ (r : Relay D). Goes disk_of old r) (sym is) (record {
     calls = [];
     lives = refl;
@@ -591,7 +667,8 @@ module _ {D : Type 0} (disk_of : D → Disk) where
   turns-go (suc turns) old new out back (between, progress, before, last) =
       (turn-goes (Ok progress) old between new (turns-go turns old between out back before) last).goes
 
-  relay-goes : {T : Type 0} (turns : ℕ) (old new : Relay D) (result : Result T RefillFault) → old.to_common ≡ empty_lane → old.to_controlled ≡ empty_lane
+  relay-goes : {T : Type 0} (turns : ℕ) (old new : Relay D) (result : Result T RefillFault) → old.to_common ≡ empty_lane
+      → old.to_controlled ≡ empty_lane
       → Relays disk_of turns old result new → Goes disk_of old new
   relay-goes turns old new (Ok summary) out back took = turns-go turns old new out back took
   relay-goes turns old new (Err fault) out back (done, between, at, named, few, before, last) =
@@ -603,8 +680,10 @@ module _ {D : Type 0} (disk_of : D → Disk) where
   goes-flows old new goes =
       let one = goes.out in
       let two = goes.back in
-      let all_one : one.taken ≡ length one.frames + one.lost + one.left_out + one_left new.to_common.waiting = one.became.all in
-      let all_two : two.taken ≡ length two.frames + two.lost + two.left_out + one_left new.to_controlled.waiting = two.became.all in
+      let all_one : one.taken ≡ length one.frames + one.lost + one.left_out + one_left new.to_common.waiting =
+      one.became.all in
+      let all_two : two.taken ≡ length two.frames + two.lost + two.left_out + one_left new.to_controlled.waiting =
+      two.became.all in
       let faults_one : new.to_common.tally.faults ≡ saturated (one.missed + one.lost) = one.became.faults in
       let faults_two : new.to_controlled.tally.faults ≡ saturated (two.missed + two.lost) = two.became.faults in
       let dropped_one : new.to_common.tally.dropped ≡ saturated one.left_out = one.became.dropped in

@@ -12,9 +12,11 @@ use Rattle.macs_edge.specs.Settling.{Halts, HandsInAgain, Means, Waits, ending_o
 use Rattle.macs_edge.specs.declared.settling.Outcome.{Outcome}
 use Rattle.macs_edge.specs.declared.settling.Outcome.TheVariants as outcome
 
-module _ {D : Type 0} (disk_of : D → Disk) (old : EndpointValue D) (call : Call) (reply : Reply) (sound : IsSoundEndpoint old) where
+module _ {D : Type 0} (disk_of : D → Disk) (old : EndpointValue D) (call : Call) (reply : Reply)
+    (sound : IsSoundEndpoint old) where
   -- the endpoint is stopped
-  pub halts-stopped : (new : EndpointValue D) → IsCall disk_of old call reply new → IsStopped call reply → Halts disk_of old call refill.Stopped new
+  pub halts-stopped : (new : EndpointValue D) → IsCall disk_of old call reply new → IsStopped call reply
+      → Halts disk_of old call refill.Stopped new
   halts-stopped new is stopped = record {
     turns = record { call = call; reply = reply; after = new } ∷ [];
     lives = (sound, is, refl);
@@ -22,17 +24,20 @@ module _ {D : Type 0} (disk_of : D → Disk) (old : EndpointValue D) (call : Cal
   }
 
   -- the refill that the frame waits for is refused
-  pub halts-refused : (waiting new : EndpointValue D) (fault : RefillFault) → IsSoundEndpoint waiting → IsCall disk_of old call reply waiting → Waits reply
+  pub halts-refused : (waiting new : EndpointValue D) (fault : RefillFault) → IsSoundEndpoint waiting
+      → IsCall disk_of old call reply waiting → Waits reply
       → IsCall disk_of waiting Refills (Refilled (Err fault)) new → Halts disk_of old call fault new
   halts-refused waiting new fault sound_waiting one waits two = record {
-    turns = record { call = call; reply = reply; after = waiting } ∷ record { call = Refills; reply = Refilled (Err fault); after = new } ∷ [];
+    turns = record { call = call; reply = reply; after = waiting }
+        ∷ record { call = Refills; reply = Refilled (Err fault); after = new } ∷ [];
     lives = (sound, one, (sound_waiting, two, refl));
     handed = (refl, waits, refl, refl);
   }
 
 module _ {D : Type 0} (disk_of : D → Disk) (old : EndpointValue D) (call : Call) (sound : IsSoundEndpoint old) where
   -- of the answers that do not wait this one alone ends the run
-  pub halts-at_once : (new : EndpointValue D) (out : List ℕ) (what : Outcome) → (reply : Reply) × IsCall disk_of old call reply new × Means call reply out what
+  pub halts-at_once : (new : EndpointValue D) (out : List ℕ) (what : Outcome)
+      → (reply : Reply) × IsCall disk_of old call reply new × Means call reply out what
       → IfErr (ending_of what) (λ fault. Halts disk_of old call fault new)
   halts-at_once new out outcome.Passed answered = tt
   halts-at_once new out outcome.Dropped answered = tt
@@ -42,7 +47,8 @@ module _ {D : Type 0} (disk_of : D → Disk) (old : EndpointValue D) (call : Cal
   -- and of those that wait the refill that is refused
   pub halts-behind : (waiting new : EndpointValue D) (out : List ℕ) (verdict : Option Verdict) (first : Reply)
       (result : Result Bool RefillFault) → IsCall disk_of old call first waiting → Waits first
-      → HandsInAgain disk_of waiting call result out verdict new → IfErr result (λ fault. Halts disk_of old call fault new)
+      → HandsInAgain disk_of waiting call result out verdict new
+      → IfErr result (λ fault. Halts disk_of old call fault new)
   halts-behind waiting new out verdict first (Ok passes) one waits again = tt
   halts-behind waiting new out verdict first (Err fault) one waits (sound_waiting, refused) =
       halts-refused disk_of old call first sound waiting new fault sound_waiting one waits refused

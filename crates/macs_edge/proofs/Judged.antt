@@ -1,5 +1,6 @@
 -- All that is to be drawn of the words on verdicts that are reported.
-use Rattle.std.proofs.Common.{◌≡◌, ◌≢◌, ◌≤◌, ◌⊎◌, ◌∙◌, ◌+◌, ◌++◌, inl, inr, ℕ, Bool, List, [], ◌∷◌, length, Option, Result}
+use Rattle.std.proofs.Common.{◌≡◌, ◌≢◌, ◌≤◌, ◌⊎◌, ◌∙◌, ◌+◌, ◌++◌, inl, inr, ℕ, Bool, List, [], ◌∷◌, length, Option}
+use Rattle.std.proofs.Common.{Result}
 use Rattle.std.proofs.Common.{Ok, Err, ap, arith, refl, subst, sym}
 use Rattle.macs_disk.specs.Disk.{Disk}
 use Rattle.macs_rxsc.specs.declared.verdict.Verdict.{Verdict}
@@ -156,18 +157,22 @@ module _ {D : Type 0} (disk_of : D → Disk) (old new : Run D) (verdicts : List 
       → HasJudged disk_of Common big between records passed verdicts until → length verdicts ≤ max_records
   few-among big between until records passed has =
       let judged = has.judged no_logs in
-      let many = each (state_of between.endpoint no_logs) (state_of until.endpoint judged.0) records verdicts judged.1 in
+      let many =
+      each (state_of between.endpoint no_logs) (state_of until.endpoint judged.0) records verdicts judged.1 in
       let most = has.has.few in
       omega (arith, many, most)
 
   few-records : (big : Bool) (between : Run D) (answer : Result Summary RunFault)
       → JudgesRecords disk_of Common big between answer verdicts new → length verdicts ≤ max_records
   few-records big between (Ok s) (records, passed, has, ended, counts) = few-among big between new records passed has
-  few-records big between (Err fault) (records, passed, until, has, stops) = few-among big between until records passed has
+  few-records big between (Err fault) (records, passed, until, has, stops) =
+      few-among big between until records passed has
 
   pub verdicts-few : (answer : Result Summary RunFault) → JudgesRun disk_of Common old answer verdicts new
       → length verdicts ≤ max_records
-  verdicts-few answer (inl (at, ends, read, same, sink, none)) = let size : length verdicts ≡ 0 = ap length none in omega (arith, size)
+  verdicts-few answer (inl (at, ends, read, same, sink, none)) = let size : length verdicts ≡ 0 = ap length none in
+      omega (arith, size)
   verdicts-few answer (inr (inl (header, read, ends, writes, same, none))) =
       let size : length verdicts ≡ 0 = ap length none in omega (arith, size)
-  verdicts-few answer (inr (inr (header, between, reads, writes, same, runs))) = few-records header.big between answer runs
+  verdicts-few answer (inr (inr (header, between, reads, writes, same, runs))) =
+      few-records header.big between answer runs

@@ -27,60 +27,79 @@ use Rattle.macs_edge.proofs.Living.{lives-append}
 
 module _ {D : Type 0} (disk_of : D → Disk) where
   -- calls after calls
-  behind : (old between new : EndpointValue D) → LivesOn disk_of old between → LivesOn disk_of between new → LivesOn disk_of old new
-  behind old between new first second = (first.0 ++ second.0, lives-append disk_of old between new first.0 second.0 first.1 second.1)
+  behind : (old between new : EndpointValue D) → LivesOn disk_of old between → LivesOn disk_of between new
+      → LivesOn disk_of old new
+  behind old between new first second =
+      (first.0 ++ second.0, lives-append disk_of old between new first.0 second.0 first.1 second.1)
 
   -- ---- captures
 
-  lives-stops : (side : Side) (big : Bool) (count : ℕ) (old new : Run D) (fault : RunFault) → Stops disk_of side big count old fault new
+  lives-stops : (side : Side) (big : Bool) (count : ℕ) (old new : Run D) (fault : RunFault)
+      → Stops disk_of side big count old fault new
       → LivesOn disk_of old.endpoint new.endpoint
   lives-stops side big count old new (Device fault) (taken, room, reads, halts, sink) = (halts.turns, halts.lives)
   lives-stops side big count old new (Pcap fault) (inl (room, reads, endpoint, sink)) = ([], endpoint)
-  lives-stops side big count old new (Pcap fault) (inr (taken, frame, takes, writes)) = (takes.settled.turns, takes.settled.lives)
+  lives-stops side big count old new (Pcap fault) (inr (taken, frame, takes, writes)) =
+      (takes.settled.turns, takes.settled.lives)
 
-  lives-records : (side : Side) (big : Bool) (old new : Run D) (answer : Result Summary RunFault) → RunsRecords disk_of side big old answer new
+  lives-records : (side : Side) (big : Bool) (old new : Run D) (answer : Result Summary RunFault)
+      → RunsRecords disk_of side big old answer new
       → LivesOn disk_of old.endpoint new.endpoint
   lives-records side big old new (Ok s) (records, passed, has, ends, counts) = (has.turns, has.lives)
   lives-records side big old new (Err fault) (records, passed, between, has, stops) =
-      behind old.endpoint between.endpoint new.endpoint (has.turns, has.lives) (lives-stops side big _ between new fault stops)
+      behind old.endpoint between.endpoint new.endpoint (has.turns, has.lives)
+      (lives-stops side big _ between new fault stops)
 
-  pub lives-run : (side : Side) (old new : Run D) (answer : Result Summary RunFault) → RunsOver disk_of side old answer new
+  pub lives-run : (side : Side) (old new : Run D) (answer : Result Summary RunFault)
+      → RunsOver disk_of side old answer new
       → LivesOn disk_of old.endpoint new.endpoint
   lives-run side old new answer (inl (fault, is, reads, endpoint, sink)) = ([], endpoint)
   lives-run side old new answer (inr (inl (header, reads, is, writes, endpoint))) = ([], endpoint)
   lives-run side old new answer (inr (inr (header, between, reads, writes, endpoint, runs))) =
-      subst (λ (e : EndpointValue D). LivesOn disk_of e new.endpoint) endpoint (lives-records side header.big between new answer runs)
+      subst (λ (e : EndpointValue D). LivesOn disk_of e new.endpoint) endpoint
+      (lives-records side header.big between new answer runs)
 
   -- ---- relays
 
-  lives-hands : (side : Side) (waiting : Option (List ℕ)) (old new : Way D) → HandsWaiting disk_of side waiting old new → LivesOn disk_of old.endpoint new.endpoint
+  lives-hands : (side : Side) (waiting : Option (List ℕ)) (old new : Way D) → HandsWaiting disk_of side waiting old new
+      → LivesOn disk_of old.endpoint new.endpoint
   lives-hands side None old new is = ([], ap (λ (w : Way D). w.endpoint) is)
   lives-hands side (Some frame) old new (reply, sound, call, from, becomes) =
       (record { call = call_on side frame; reply = reply; after = new.endpoint } ∷ [], (sound, call, refl))
 
-  lives-carries : (side : Side) (old new : Way D) → Carries disk_of side old new → LivesOn disk_of old.endpoint new.endpoint
-  lives-carries side old new (from, lane, fills, hands) = lives-hands side lane.waiting (way_of old.endpoint from old.to lane) new hands
+  lives-carries : (side : Side) (old new : Way D) → Carries disk_of side old new
+      → LivesOn disk_of old.endpoint new.endpoint
+  lives-carries side old new (from, lane, fills, hands) =
+      lives-hands side lane.waiting (way_of old.endpoint from old.to lane) new hands
 
-  lives-turn : (answer : Result Progress StepFault) (old new : Relay D) → TakesTurn disk_of answer old new → LivesOn disk_of old.endpoint new.endpoint
+  lives-turn : (answer : Result Progress StepFault) (old new : Relay D) → TakesTurn disk_of answer old new
+      → LivesOn disk_of old.endpoint new.endpoint
   lives-turn answer old new (endpoint, (mid, controlled, common, one, two), sound, call) =
       behind old.endpoint endpoint new.endpoint
       (behind old.endpoint mid endpoint
-      (lives-carries Controlled (way_of old.endpoint old.controlled old.common old.to_common) (way_of mid controlled common new.to_common) one)
-      (lives-carries Common (way_of mid common controlled old.to_controlled) (way_of endpoint new.common new.controlled new.to_controlled) two))
+      (lives-carries Controlled (way_of old.endpoint old.controlled old.common old.to_common)
+      (way_of mid controlled common new.to_common) one)
+      (lives-carries Common (way_of mid common controlled old.to_controlled)
+      (way_of endpoint new.common new.controlled new.to_controlled) two))
       (record { call = Advances; reply = Advanced answer; after = new.endpoint } ∷ [], (sound, call, refl))
 
-  lives-turns : (turns : ℕ) (old new : Relay D) → TakesTurns disk_of turns old new → LivesOn disk_of old.endpoint new.endpoint
+  lives-turns : (turns : ℕ) (old new : Relay D) → TakesTurns disk_of turns old new
+      → LivesOn disk_of old.endpoint new.endpoint
   lives-turns zero old new is = ([], ap (λ (r : Relay D). r.endpoint) is)
   lives-turns (suc turns) old new (between, progress, before, last) =
-      behind old.endpoint between.endpoint new.endpoint (lives-turns turns old between before) (lives-turn (Ok progress) between new last)
+      behind old.endpoint between.endpoint new.endpoint (lives-turns turns old between before)
+      (lives-turn (Ok progress) between new last)
 
-  lives-relays : {T : Type 0} (turns : ℕ) (old new : Relay D) (result : Result T RefillFault) → Relays disk_of turns old result new
+  lives-relays : {T : Type 0} (turns : ℕ) (old new : Relay D) (result : Result T RefillFault)
+      → Relays disk_of turns old result new
       → LivesOn disk_of old.endpoint new.endpoint
   lives-relays turns old new (Ok summary) taken = lives-turns turns old new taken
   lives-relays turns old new (Err fault) (done, between, at, named, fewer, before, last) =
-      behind old.endpoint between.endpoint new.endpoint (lives-turns done old between before) (lives-turn (Err at) between new last)
+      behind old.endpoint between.endpoint new.endpoint (lives-turns done old between before)
+      (lives-turn (Err at) between new last)
 
-  pub lives-relayed : (turns : ℕ) (old : Relay D) (result : Result RelaySummary RefillFault) (endpoint : EndpointValue D) (controlled common : WireState)
+  pub lives-relayed : (turns : ℕ) (old : Relay D) (result : Result RelaySummary RefillFault)
+      (endpoint : EndpointValue D) (controlled common : WireState)
       → IsRelayed disk_of turns old result endpoint controlled common → LivesOn disk_of old.endpoint endpoint
   lives-relayed turns old result endpoint controlled common (to_common, to_controlled, relays, told) =
       lives-relays turns old (record {

@@ -189,7 +189,8 @@ module _ {D : Type 0} (disk_of : D → Disk) where
         ∙ submit-waits disk_of a b command answer is;
   }
 
-  -- the calls that are made before a turn, none or one: they match what is reported to the desk, and no frame goes at them
+  -- the calls that are made before a turn, none or one: they match what is reported to the desk, and no frame goes at
+  -- them
   pub record ObeysWith (old : EndpointValue D) (events : List DeskEvent) (new : EndpointValue D) : Type 0 where
     pub calls : List (Transition D)
     pub lives : Lives disk_of old calls new

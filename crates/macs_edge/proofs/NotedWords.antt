@@ -23,14 +23,16 @@ noted-words = record {
 contrary : true ≡ false → ⊥
 contrary is = cc
 
-may-none : (kind : ℕ → ErrorKind) (error most left : ℕ) → MayLeaveOut kind (Err error) most left → kind error ≡ WouldBlock
+may-none : (kind : ℕ → ErrorKind) (error most left : ℕ) → MayLeaveOut kind (Err error) most left
+    → kind error ≡ WouldBlock
     → left ≡ most
 may-none kind error most left may is = elim may [
   | inl blocked ↦ blocked.1
   | inr other ↦ absurd (other.0 is)
 ]
 
-may-failed : (kind : ℕ → ErrorKind) (error most left : ℕ) → MayLeaveOut kind (Err error) most left → kind error ≢ WouldBlock
+may-failed : (kind : ℕ → ErrorKind) (error most left : ℕ) → MayLeaveOut kind (Err error) most left
+    → kind error ≢ WouldBlock
     → left ≡ 0
 may-failed kind error most left may differ = elim may [
   | inl blocked ↦ absurd (differ blocked.0)
@@ -42,7 +44,8 @@ spared-words = record {
   new = λ socket most spared. contrary (sym spared.0);
   over = λ socket most. (refl, refl, refl);
   sent = λ old new after more. let left = after.left in (after.has_sent, omega (arith, left, more));
-  sent_none = λ old new after gone spared. let left = after.left in let some = spared.1 in omega (arith, left, some, gone);
+  sent_none = λ old new after gone spared. let left = after.left in let some = spared.1 in
+      omega (arith, left, some, gone);
   not_sent = λ old is spared. contrary (sym spared.0 ∙ is);
   spared = λ old. (refl, refl, refl, λ spared. contrary (sym spared.0));
   nothing = λ kind error is. is;

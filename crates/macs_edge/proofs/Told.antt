@@ -17,6 +17,7 @@ module _ {D : Type 0} (disk_of : D → Disk) (side : Side) (old new : Run D) (ve
   pub judged-run : (answer : Result Summary RunFault) → JudgesRun disk_of side old answer verdicts new
       → RunsOver disk_of side old answer new
   judged-run answer (inl (fault, is, reads, endpoint, sink, none)) = inl (fault, is, reads, endpoint, sink)
-  judged-run answer (inr (inl (header, reads, is, writes, endpoint, none))) = inr (inl (header, reads, is, writes, endpoint))
+  judged-run answer (inr (inl (header, reads, is, writes, endpoint, none))) =
+      inr (inl (header, reads, is, writes, endpoint))
   judged-run answer (inr (inr (header, between, reads, writes, endpoint, runs))) =
       inr (inr (header, between, reads, writes, endpoint, records-run header.big between answer runs))

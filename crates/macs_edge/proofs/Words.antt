@@ -1,5 +1,6 @@
 -- What is to be drawn from words in what runs and relays promise, and what builds those that their laws ask for.
-use Rattle.std.proofs.Common.{◌≡◌, ◌<◌, ◌⊎◌, inl, inr, ◌+◌, ◌++◌, ℕ, zero, suc, List, [], ◌∷◌, length, Option, Some, None, Result, Ok, Err, refl, sym, ◌∙◌, ap, subst, arith, ◌≢◌, Bool, true, false, cond}
+use Rattle.std.proofs.Common.{◌≡◌, ◌<◌, ◌⊎◌, inl, inr, ◌+◌, ◌++◌, ℕ, zero, suc, List, [], ◌∷◌, length, Option, Some}
+use Rattle.std.proofs.Common.{None, Result, Ok, Err, refl, sym, ◌∙◌, ap, subst, arith, ◌≢◌, Bool, true, false, cond}
 use Rattle.macs_disk.specs.Disk.{Disk}
 use Rattle.macs_txsc.specs.declared.fault.TxFault.TheVariants.{NoNumber}
 use Rattle.macs_rxsc.specs.declared.verdict.Kind.{Kind}
@@ -91,13 +92,15 @@ flow-words disk_of = record {
 
 -- ---- what a wire gives
 
-gives_nothing : (before after : Option (List (List ℕ))) (frame : List ℕ) (waiting : List (List ℕ)) → Gives before after Nothing frame → before ≡ Some waiting
+gives_nothing : (before after : Option (List (List ℕ))) (frame : List ℕ) (waiting : List (List ℕ))
+    → Gives before after Nothing frame → before ≡ Some waiting
     → waiting ≡ []
 gives_nothing (Some before) (Some after) frame waiting gives is = let same : before ≡ waiting = cc in sym same ∙ gives.0
 gives_nothing (Some before) None frame waiting gives is = absurd gives
 gives_nothing None after frame waiting gives is = absurd (cc)
 
-gives_too_long : (before after : Option (List (List ℕ))) (frame : List ℕ) (waiting : List (List ℕ)) → Gives before after TooLong frame → before ≡ Some waiting
+gives_too_long : (before after : Option (List (List ℕ))) (frame : List ℕ) (waiting : List (List ℕ))
+    → Gives before after TooLong frame → before ≡ Some waiting
     → (long : List ℕ) × (rest : List (List ℕ)) × (waiting ≡ long ∷ rest) × (9216 < length long)
 gives_too_long (Some before) (Some after) frame waiting (long, first, more) is =
     let same : before ≡ waiting = cc in (long, after, sym same ∙ first, more)
@@ -126,15 +129,18 @@ wire-words = record {
   first = λ before after frame waiting is waits. gives_first before.waiting after.waiting frame waiting is.0 waits;
   left_too_long = λ before after frame waiting is waits.
       left_too_long before.waiting after.waiting frame waiting is.0 waits;
-  nothing = λ before after frame waiting is waits. (gives_nothing before.waiting after.waiting frame waiting is.0 waits, is.1);
-  too_long = λ before after frame waiting is waits. (gives_too_long before.waiting after.waiting frame waiting is.0 waits, is.1);
+  nothing = λ before after frame waiting is waits.
+      (gives_nothing before.waiting after.waiting frame waiting is.0 waits, is.1);
+  too_long = λ before after frame waiting is waits.
+      (gives_too_long before.waiting after.waiting frame waiting is.0 waits, is.1);
   not_received = λ before after frame cause is. (is.0, is.1);
   not_sent = λ before after frame cause is. is.0;
 }
 
 -- ---- how a frame is settled
 
-never_settled : (side : Side) (frame : List ℕ) (reply : Reply) (passed : Option (List ℕ)) → IsStopped (call_on side frame) reply → ¬ Settles reply passed
+never_settled : (side : Side) (frame : List ℕ) (reply : Reply) (passed : Option (List ℕ))
+    → IsStopped (call_on side frame) reply → ¬ Settles reply passed
 never_settled Controlled frame (Protected (Err protect.Stopped) out) passed is settles = absurd settles
 never_settled Common frame (Received (Err stopped) out) passed is settles = absurd settles
 never_settled Controlled frame reply passed is settles = absurd is
@@ -149,16 +155,20 @@ waits_for reply waits = absurd waits
 module _ {D : Type 0} where
   handed : (call : Call) (turns : List (Transition D)) (reply : Reply) → HandsIn call turns reply
       → ((only : Transition D) × (turns ≡ only ∷ []) × (only.call ≡ call) × (only.reply ≡ reply))
-      ⊎ ((early : Transition D) × (between : Transition D) × (late : Transition D) × (turns ≡ early ∷ between ∷ late ∷ [])
+      ⊎ ((early : Transition D) × (between : Transition D) × (late : Transition D)
+      × (turns ≡ early ∷ between ∷ late ∷ [])
       × (early.call ≡ call) × Waits early.reply × (between.call ≡ Refills) × (between.reply ≡ Refilled (Ok tt))
       × (late.call ≡ call) × (late.reply ≡ reply))
   handed call (only ∷ []) reply is = inl (only, refl, is.0, is.1)
-  handed call (early ∷ between ∷ late ∷ []) reply is = inr (early, between, late, refl, is.0, is.1, is.2, is.3, is.4, is.5)
+  handed call (early ∷ between ∷ late ∷ []) reply is =
+      inr (early, between, late, refl, is.0, is.1, is.2, is.3, is.4, is.5)
   handed call turns reply is = absurd is
 
   halted : (call : Call) (turns : List (Transition D)) (at : RefillFault) → HaltsIn call turns at
-      → ((only : Transition D) × (turns ≡ only ∷ []) × (only.call ≡ call) × IsStopped call only.reply × (at ≡ refill.Stopped))
-      ⊎ ((early : Transition D) × (last : Transition D) × (turns ≡ early ∷ last ∷ []) × (early.call ≡ call) × Waits early.reply
+      → ((only : Transition D) × (turns ≡ only ∷ []) × (only.call ≡ call) × IsStopped call only.reply
+      × (at ≡ refill.Stopped))
+      ⊎ ((early : Transition D) × (last : Transition D) × (turns ≡ early ∷ last ∷ []) × (early.call ≡ call)
+      × Waits early.reply
       × (last.call ≡ Refills) × (last.reply ≡ Refilled (Err at)))
   halted call (only ∷ []) at is = inl (only, refl, is.0, is.1, is.2)
   halted call (early ∷ last ∷ []) at is = inr (early, last, refl, is.0, is.1, is.2, is.3)

@@ -1,5 +1,6 @@
 -- What passes of a capture, and what a run over a capture does.
-use Rattle.std.specs.Prelude.{◌≡◌, ◌≤◌, ◌⊎◌, ◌+◌, ◌++◌, ℕ, Bool, if◌then◌else◌, List, [], ◌∷◌, length, Option, Some, None, IfSome, Result, Ok, Err, OnErr, OnOk}
+use Rattle.std.specs.Prelude.{◌≡◌, ◌≤◌, ◌⊎◌, ◌+◌, ◌++◌, ℕ, Bool, if◌then◌else◌, List, [], ◌∷◌, length, Option, Some}
+use Rattle.std.specs.Prelude.{None, IfSome, Result, Ok, Err, OnErr, OnOk}
 use Rattle.std.specs.Io.KnownBytes.{Appends}
 use Rattle.macs_disk.specs.Disk.{Disk}
 use Rattle.macs_endpoint.specs.Lives.{Lives, Transition}
@@ -31,8 +32,8 @@ abbrev pub passed_record : Stamp → Option (List ℕ) → List CaptureRecord
 passed_record stamp None = []
 passed_record stamp (Some frame) = record { stamp = stamp; frame = frame } ∷ []
 
--- The frames of these records, each of them one step of the machine, lead from old to new, and this passes: as though no frame had ever
--- waited for a packet number or been held back
+-- The frames of these records, each of them one step of the machine, lead from old to new, and this passes: as though
+-- no frame had ever waited for a packet number or been held back
 abbrev pub Passes : Side → State → List CaptureRecord → List CaptureRecord → State → Type 0
 Passes side old [] passed new = (passed ≡ []) × (new ≡ old)
 Passes side old (taken ∷ more) passed new =
@@ -79,29 +80,33 @@ HandsAllIn {D} side (taken ∷ more) turns =
     × (turns ≡ first ++ rest) × HandsIn (call_on side taken.frame) first reply × HandsAllIn side more rest
 
 -- these records were taken, and these went out
-pub record HasPassed {D : Type 0} (disk_of : D → Disk) (side : Side) (big : Bool) (old : Run D) (records passed : List CaptureRecord) (new : Run D) : Type 0 where
+pub record HasPassed {D : Type 0} (disk_of : D → Disk) (side : Side) (big : Bool) (old : Run D)
+    (records passed : List CaptureRecord) (new : Run D) : Type 0 where
   pub few : length records ≤ max_records
   pub turns : List (Transition D)
   pub lives : Lives disk_of old.endpoint turns new.endpoint
   pub handed : HandsAllIn side records turns
-  pub steps : (logs : Logs) → (after : Logs) × Passes side (state_of old.endpoint logs) records passed (state_of new.endpoint after)
+  pub steps : (logs : Logs)
+      → (after : Logs) × Passes side (state_of old.endpoint logs) records passed (state_of new.endpoint after)
   pub taken : HoldsOfLeft old.source.left new.source.left (λ left rest. BeginsWithRecords big left records rest)
   pub reads : new.source.failed ≡ old.source.failed
   pub sent : Appends old.sink.held new.sink.held (records_text big passed)
   pub writes : new.sink.failed ≡ old.sink.failed
 
 -- a record is read, after so many others, and its frame is settled
-pub record TakesRecord {D : Type 0} (disk_of : D → Disk) (side : Side) (big : Bool) (count : ℕ) (old : Run D) (taken : CaptureRecord) (passed : Option (List ℕ)) (new : Run D) : Type 0 where
+pub record TakesRecord {D : Type 0} (disk_of : D → Disk) (side : Side) (big : Bool) (count : ℕ) (old : Run D)
+    (taken : CaptureRecord) (passed : Option (List ℕ)) (new : Run D) : Type 0 where
   pub room : ℕ
   pub reads : ReadsRecord big count room old.source new.source taken.frame (Ok (Some taken.stamp))
   pub settled : IsSettled disk_of old.endpoint (call_on side taken.frame) passed new.endpoint
 
--- The run ends after so many records with a fault. A fault of the device: the next frame finds the endpoint stopped, or waits for a
--- refill that is answered with it. A fault of the captures: the next record is not read, with this fault; or its frame passes and is
--- not written whole
+-- The run ends after so many records with a fault. A fault of the device: the next frame finds the endpoint stopped, or
+-- waits for a refill that is answered with it. A fault of the captures: the next record is not read, with this fault;
+-- or its frame passes and is not written whole
 abbrev pub Stops : {D : Type 0} → (D → Disk) → Side → Bool → ℕ → Run D → RunFault → Run D → Type 0
 Stops disk_of side big count old (Device fault) new =
-    (taken : CaptureRecord) × (room : ℕ) × ReadsRecord big count room old.source new.source taken.frame (Ok (Some taken.stamp))
+    (taken : CaptureRecord) × (room : ℕ)
+    × ReadsRecord big count room old.source new.source taken.frame (Ok (Some taken.stamp))
     × Halts disk_of old.endpoint (call_on side taken.frame) fault new.endpoint
     × (new.sink ≡ old.sink)
 Stops disk_of side big count old (Pcap fault) new =
@@ -110,16 +115,18 @@ Stops disk_of side big count old (Pcap fault) new =
     ⊎ ((taken : CaptureRecord) × (frame : List ℕ) × TakesRecord disk_of side big count old taken (Some frame) new
     × WritesText {T = Unit {0}} old.sink new.sink (record_text big taken.stamp frame) (Err fault))
 
--- What becomes of the next record, after so many others: there is none, at the end; it passes, or is left out, with this verdict, if there is
--- one; or the run ends
-abbrev pub TakesNext : {D : Type 0} → (D → Disk) → Side → Bool → ℕ → Run D → Result (Option Bool) RunFault → Option Verdict → Run D → Type 0
+-- What becomes of the next record, after so many others: there is none, at the end; it passes, or is left out, with
+-- this verdict, if there is one; or the run ends
+abbrev pub TakesNext : {D : Type 0} → (D → Disk) → Side → Bool → ℕ → Run D → Result (Option Bool) RunFault
+    → Option Verdict → Run D → Type 0
 TakesNext disk_of side big count old (Ok None) verdict new =
     (room : ℕ) × ReadsRecord big count room old.source new.source [] (Ok None)
     × (new.endpoint ≡ old.endpoint) × (new.sink ≡ old.sink)
 TakesNext disk_of side big count old (Ok (Some passes)) verdict new =
     (taken : CaptureRecord) × (frame : List ℕ)
     × (takes : TakesRecord disk_of side big count old taken (if passes then Some frame else None) new)
-    × Appends old.sink.held new.sink.held (records_text big (passed_record taken.stamp (if passes then Some frame else None)))
+    × Appends old.sink.held new.sink.held
+    (records_text big (passed_record taken.stamp (if passes then Some frame else None)))
     × (new.sink.failed ≡ old.sink.failed) × (verdict ≡ verdict_of takes.settled.reply)
 TakesNext disk_of side big count old (Err fault) verdict new = Stops disk_of side big count old fault new
 
@@ -137,10 +144,12 @@ RunsRecords disk_of side big old (Ok s) new =
     (records : List CaptureRecord) × (passed : List CaptureRecord) × HasPassed disk_of side big old records passed new
     × HoldsOfLeft old.source.left new.source.left (λ left rest. rest ≡ []) × Counts records passed s
 RunsRecords {D} disk_of side big old (Err fault) new =
-    (records : List CaptureRecord) × (passed : List CaptureRecord) × (between : Run D) × HasPassed disk_of side big old records passed between
+    (records : List CaptureRecord) × (passed : List CaptureRecord) × (between : Run D)
+    × HasPassed disk_of side big old records passed between
     × Stops disk_of side big (length records) between fault new
 
--- A run over a whole capture: its header is not read; or it is not written; or both are done, and the run goes over its records
+-- A run over a whole capture: its header is not read; or it is not written; or both are done, and the run goes over its
+-- records
 abbrev pub RunsOver : {D : Type 0} → (D → Disk) → Side → Run D → Result Summary RunFault → Run D → Type 0
 RunsOver {D} disk_of side old answer new =
     ((fault : PcapFault) × (answer ≡ Err (Pcap fault)) × ReadsHeader old.source new.source (Err fault)
@@ -155,7 +164,8 @@ RunsOver {D} disk_of side old answer new =
 -- ---- what a run writes
 
 -- The capture that the input becomes is written, or a front of it where the run ends with a fault
-pub record WritesCapture {D : Type 0} (side : Side) (old : Run D) (answer : Result Summary RunFault) (new : Run D) : Type 0 where
+pub record WritesCapture {D : Type 0} (side : Side) (old : Run D) (answer : Result Summary RunFault)
+    (new : Run D) : Type 0 where
   pub whole : OnOk answer ((logs : Logs) (text : List ℕ) → IfSome old.source.left (λ input.
       BecomesCapture side (state_of old.endpoint logs) input text → Appends old.sink.held new.sink.held text))
   pub front : OnErr answer ((logs : Logs) (text : List ℕ) → IfSome old.source.left (λ input.

@@ -1,5 +1,6 @@
 -- Datagrams, and what each call of a socket does of which they are known.
-use Rattle.std.specs.Prelude.{◌≡◌, ◌≢◌, ◌⊎◌, ◌+◌, ◌++◌, ⊤, ℕ, List, [], ◌∷◌, length, take, Option, Some, None, Result, Ok, Err}
+use Rattle.std.specs.Prelude.{◌≡◌, ◌≢◌, ◌⊎◌, ◌+◌, ◌++◌, ⊤, ℕ, List, [], ◌∷◌, length, take, Option, Some, None, Result}
+use Rattle.std.specs.Prelude.{Ok, Err}
 use Rattle.std.specs.declared.io.ErrorKind.{ErrorKind}
 use Rattle.std.specs.declared.io.ErrorKind.TheVariants.{WouldBlock}
 use Rattle.std.specs.declared.net.SocketAddr.{SocketAddr}
@@ -10,8 +11,8 @@ pub record Datagram : Type 0 where
   pub address : SocketAddr
   pub octets : List ℕ
 
--- what is known of a socket: the datagrams that it will give, in their order, and those that were sent; how often a receive and
--- a send failed
+-- what is known of a socket: the datagrams that it will give, in their order, and those that were sent; how often a
+-- receive and a send failed
 pub record SocketState : Type 0 where
   pub waiting : List Datagram
   pub sent : List Datagram
@@ -37,10 +38,13 @@ send_failed socket = record socket { failed_sends = socket.failed_sends + 1 }
 
 -- one datagram more was sent
 abbrev pub one_sent : SocketState → SocketAddr → List ℕ → SocketState
-one_sent socket address octets = record socket { sent = socket.sent ++ record { address = address; octets = octets } ∷ [] }
+one_sent socket address octets =
+    record socket { sent = socket.sent ++ record { address = address; octets = octets } ∷ [] }
 
--- a socket is asked for a datagram: the first one is taken; or none waits, and the error is of that kind; or the receive fails
-abbrev pub TakesDatagram : {E : Type 0} → Option SocketState → Option SocketState → (E → ErrorKind) → List ℕ → Result Arrived E → Type 0
+-- a socket is asked for a datagram: the first one is taken; or none waits, and the error is of that kind; or the
+-- receive fails
+abbrev pub TakesDatagram : {E : Type 0} → Option SocketState → Option SocketState → (E → ErrorKind) → List ℕ
+    → Result Arrived E → Type 0
 TakesDatagram None new kind into answer = ⊤
 TakesDatagram (Some old) new kind into (Ok arrived) = TakesFirst old new into arrived
 TakesDatagram (Some old) new kind into (Err error) =
@@ -48,7 +52,8 @@ TakesDatagram (Some old) new kind into (Err error) =
     ⊎ ((kind error ≢ WouldBlock) × (new ≡ Some (receive_failed old)))
 
 -- a socket is given a datagram: it is sent whole, or the send fails
-abbrev pub GivesDatagram : {E : Type 0} → Option SocketState → Option SocketState → List ℕ → SocketAddr → Result ℕ E → Type 0
+abbrev pub GivesDatagram : {E : Type 0} → Option SocketState → Option SocketState → List ℕ → SocketAddr
+    → Result ℕ E → Type 0
 GivesDatagram None new octets to answer = ⊤
 GivesDatagram (Some old) new octets to (Ok count) = (count ≡ length octets) × (new ≡ Some (one_sent old to octets))
 GivesDatagram (Some old) new octets to (Err error) = new ≡ Some (send_failed old)

@@ -47,7 +47,8 @@ use Rattle.macs_edge.specs.Datagrams.{Datagram, GivesDatagram, SocketState, Take
 use Rattle.macs_edge.specs.FaultWires.{CallsValue, FailsNext, FaultWireValue, asked_once_more, failed_among}
 use Rattle.macs_edge.specs.FaultWires.{fault_wire_state}
 use Rattle.macs_edge.specs.Flows.{IsFlow}
-use Rattle.macs_edge.specs.CaptureRuns.{BecomesCapture, HandsAllIn, HasPassed, Passes, Run, RunsOver, RunsRecords, Stops}
+use Rattle.macs_edge.specs.CaptureRuns.{BecomesCapture, HandsAllIn, HasPassed, Passes, Run, RunsOver, RunsRecords}
+use Rattle.macs_edge.specs.CaptureRuns.{Stops}
 use Rattle.macs_edge.specs.CaptureRuns.{TakesRecord, WritesCapture}
 use Rattle.macs_edge.specs.Relaying.{Carries, Fills, Forwards, HandsOver, LaneValue, Relay, Relays, TakesTurn, Way}
 use Rattle.macs_edge.specs.Relaying.{filled, one_dropped, one_fault, relay_of, summary_of, way_of}
@@ -247,8 +248,8 @@ pub record SocketWords : Type 0 where
       → new ≡ Some (record old { failed_sends = old.failed_sends + 1 })
 
 -- What a wire over UDP counts of an answer: a frame that is taken, too long or not; a stranger's datagram, where
--- nothing is answered though one waits; a frame that is sent; and a send that failed. Nothing else. How much is kept for
--- it stays, but where that is noted.
+-- nothing is answered though one waits; a frame that is sent; and a send that failed. Nothing else. How much is kept
+-- for it stays, but where that is noted.
 pub record CountWords : Type 0 where
   pub frame : (socket : Option SocketState) (old new : WireCounts) → CountsReceive socket (Ok Frame) old new
       → (new.taken ≡ saturated (old.taken + 1)) × (new.strangers ≡ old.strangers) × (new.sent ≡ old.sent)

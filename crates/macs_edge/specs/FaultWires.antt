@@ -3,7 +3,8 @@ use Rattle.std.specs.Prelude.{◌≡◌, ◌+◌, ◌&&◌, ℕ, if◌then◌els
 use Rattle.macs_edge.specs.Wires.{WireState, saturated}
 use Rattle.macs_edge.specs.declared.counts.WireCounts.{WireCounts}
 
--- calls of one kind: the number of the one that is to fail, counted from 1, where 0 is none; and how many were asked for, up to 2^64 - 1
+-- calls of one kind: the number of the one that is to fail, counted from 1, where 0 is none; and how many were asked
+-- for, up to 2^64 - 1
 pub record CallsValue : Type 0 where
   pub fails_at : ℕ
   pub asked : ℕ
@@ -26,8 +27,8 @@ pub record FaultWireValue (W : Type 0) : Type 0 where
   pub receives : CallsValue
   pub sends : CallsValue
 
--- what it reports, where this is what the wire behind it reports: the frames are those of the wire behind it, and its own failed calls
--- are counted with those of that wire
+-- what it reports, where this is what the wire behind it reports: the frames are those of the wire behind it, and its
+-- own failed calls are counted with those of that wire
 abbrev pub fault_wire_state : {W : Type 0} → (W → WireState) → FaultWireValue W → WireState
 fault_wire_state state wire = record {
   waiting = (state wire.inner).waiting;
@@ -36,7 +37,8 @@ fault_wire_state state wire = record {
   failed_sends = saturated ((state wire.inner).failed_sends + failed_among wire.sends);
 }
 
--- what it counted, where this is what the wire behind it counts: its own failed calls are counted with those of that wire
+-- what it counted, where this is what the wire behind it counts: its own failed calls are counted with those of that
+-- wire
 abbrev pub fault_wire_counts : {W : Type 0} → (W → WireCounts) → FaultWireValue W → WireCounts
 fault_wire_counts counts wire = record (counts wire.inner) {
   failed_receives = saturated ((counts wire.inner).failed_receives + failed_among wire.receives);

@@ -1,5 +1,6 @@
 -- What a relay sends is what the endpoint gave, but for failed sends; and what becomes of every frame that it takes.
-use Rattle.std.specs.Prelude.{◌≡◌, ◌⊎◌, ◌+◌, ◌++◌, ⊤, ℕ, Bool, true, false, if◌then◌else◌, List, [], ◌∷◌, length, Option, Some, None, Ok}
+use Rattle.std.specs.Prelude.{◌≡◌, ◌⊎◌, ◌+◌, ◌++◌, ⊤, ℕ, Bool, true, false, if◌then◌else◌, List, [], ◌∷◌, length}
+use Rattle.std.specs.Prelude.{Option, Some, None, Ok}
 use Rattle.std.specs.Option.{option_map}
 use Rattle.macs_disk.specs.Disk.{Disk}
 use Rattle.macs_rxsc.specs.declared.verdict.Verdict.TheVariants.{Delivered}
@@ -41,7 +42,8 @@ AllBut lost (frame ∷ all) frames =
 
 -- so many frames were taken off those that wait, the first ones, where these are known
 abbrev pub TakenOff : Option (List (List ℕ)) → Option (List (List ℕ)) → ℕ → Type 0
-TakenOff (Some before) (Some after) taken = (frames : List (List ℕ)) × (before ≡ frames ++ after) × (length frames ≡ taken)
+TakenOff (Some before) (Some after) taken = (frames : List (List ℕ)) × (before ≡ frames ++ after)
+    × (length frames ≡ taken)
 TakenOff None None taken = ⊤
 TakenOff before after taken = ⊥
 
@@ -56,8 +58,8 @@ pub record Sent (old new : WireState) (all frames : List (List ℕ)) (lost : ℕ
   pub all_but : AllBut lost all frames
   pub failed : saturated new.failed_sends ≡ saturated (old.failed_sends + lost)
 
--- What became of the frames that were taken one way: they were sent, lost or left out, or the last one is still in the lane. What is
--- counted is that, up to the greatest number
+-- What became of the frames that were taken one way: they were sent, lost or left out, or the last one is still in the
+-- lane. What is counted is that, up to the greatest number
 pub record Became (taken missed sent lost left_out : ℕ) (lane : LaneValue) : Type 0 where
   pub all : taken ≡ sent + lost + left_out + one_left lane.waiting
   pub passed : lane.tally.passed ≡ saturated sent
@@ -75,8 +77,9 @@ pub record Flow (from from' to to' : WireState) (all : List (List ℕ)) (lane : 
   pub sent : Sent to to' all frames lost
   pub became : Became taken missed (length frames) lost left_out lane
 
--- Both ways: the calls of the endpoint, one after another, and what goes each way. The summary has what each wire gained, as far as its
--- numbers go; its faults are the failed calls of both wires, and what it has as dropped are the other frames that were taken
+-- Both ways: the calls of the endpoint, one after another, and what goes each way. The summary has what each wire
+-- gained, as far as its numbers go; its faults are the failed calls of both wires, and what it has as dropped are the
+-- other frames that were taken
 pub record IsFlow {D : Type 0} (disk_of : D → Disk) (old new : Relay D) (summary : RelaySummary) : Type 0 where
   pub calls : List (Transition D)
   pub lives : Lives disk_of old.endpoint calls new.endpoint

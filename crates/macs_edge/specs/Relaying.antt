@@ -1,5 +1,6 @@
 -- Frames between two wires through an endpoint, both ways, turn by turn.
-use Rattle.std.specs.Prelude.{◌≡◌, ◌⊎◌, ◌<◌, ◌+◌, ℕ, zero, suc, if◌then◌else◌, List, Option, Some, None, IfOk, Result, Ok, Err}
+use Rattle.std.specs.Prelude.{◌≡◌, ◌⊎◌, ◌<◌, ◌+◌, ℕ, zero, suc, if◌then◌else◌, List, Option, Some, None, IfOk, Result}
+use Rattle.std.specs.Prelude.{Ok, Err}
 use Rattle.macs_disk.specs.Disk.{Disk}
 use Rattle.macs_endpoint.specs.Calls.{IsCall}
 use Rattle.macs_endpoint.specs.Faults.{refill_fault_named}
@@ -60,7 +61,8 @@ filled (Err fault) frame lane = record lane { tally = one_fault lane.tally }
 abbrev pub FillsWaiting : Option (List ℕ) → WireState → LaneValue → WireState → LaneValue → Type 0
 FillsWaiting (Some frame) from lane from' lane' = (from' ≡ from) × (lane' ≡ lane)
 FillsWaiting None from lane from' lane' =
-    (answer : Result Got WireFault) × (frame : List ℕ) × Receives from answer frame from' × (lane' ≡ filled answer frame lane)
+    (answer : Result Got WireFault) × (frame : List ℕ) × Receives from answer frame from'
+    × (lane' ≡ filled answer frame lane)
 
 -- the same of the lane of a way
 abbrev pub Fills : WireState → LaneValue → WireState → LaneValue → Type 0
@@ -87,11 +89,12 @@ pub record Way (D : Type 0) : Type 0 where
 abbrev pub way_of : {D : Type 0} → EndpointValue D → WireState → WireState → LaneValue → Way D
 way_of endpoint from to lane = record { endpoint = endpoint; from = from; to = to; lane = lane }
 
--- What becomes of a frame that was handed in: it passes and is sent; it is left out; or it stays in the lane, since it waits for packet
--- numbers or the endpoint is stopped
+-- What becomes of a frame that was handed in: it passes and is sent; it is left out; or it stays in the lane, since it
+-- waits for packet numbers or the endpoint is stopped
 abbrev pub Becomes : {D : Type 0} → Side → List ℕ → Reply → Way D → Way D → Type 0
 Becomes side frame reply old new =
-    ((passed : List ℕ) × Settles reply (Some passed) × (new.lane.waiting ≡ None) × Forwards old.to passed old.lane.tally new.to new.lane.tally)
+    ((passed : List ℕ) × Settles reply (Some passed) × (new.lane.waiting ≡ None)
+    × Forwards old.to passed old.lane.tally new.to new.lane.tally)
     ⊎ (Settles reply None × (new.lane.waiting ≡ None) × (new.lane.tally ≡ one_dropped old.lane.tally)
     × (new.to ≡ old.to))
     ⊎ ((Waits reply ⊎ IsStopped (call_on side frame) reply) × (new.lane ≡ old.lane) × (new.to ≡ old.to))
@@ -125,13 +128,22 @@ pub record Relay (D : Type 0) : Type 0 where
 -- the two ways from their parts
 abbrev pub relay_of : {D : Type 0} → EndpointValue D → WireState → WireState → LaneValue → LaneValue → Relay D
 relay_of endpoint controlled common to_common to_controlled =
-    record { endpoint = endpoint; controlled = controlled; common = common; to_common = to_common; to_controlled = to_controlled }
+    record {
+      endpoint = endpoint;
+      controlled = controlled;
+      common = common;
+      to_common = to_common;
+      to_controlled =
+          to_controlled;
+    }
 
 -- plain frames one way, and then frames from the common side the other way
 abbrev pub CarriesBoth : {D : Type 0} → (D → Disk) → Relay D → Relay D → Type 0
 CarriesBoth {D} disk_of old new = (endpoint : EndpointValue D) × (controlled : WireState) × (common : WireState)
-    × Carries disk_of Controlled (way_of old.endpoint old.controlled old.common old.to_common) (way_of endpoint controlled common new.to_common)
-    × Carries disk_of Common (way_of endpoint common controlled old.to_controlled) (way_of new.endpoint new.common new.controlled new.to_controlled)
+    × Carries disk_of Controlled (way_of old.endpoint old.controlled old.common old.to_common)
+    (way_of endpoint controlled common new.to_common)
+    × Carries disk_of Common (way_of endpoint common controlled old.to_controlled)
+    (way_of new.endpoint new.common new.controlled new.to_controlled)
 
 -- a turn, with the answer of its step
 abbrev pub TakesTurn : {D : Type 0} → (D → Disk) → Result Progress StepFault → Relay D → Relay D → Type 0
@@ -157,7 +169,8 @@ abbrev pub summary_of : LaneValue → LaneValue → RelaySummary
 summary_of to_common to_controlled = record {
   sent = to_common.tally.passed;
   delivered = to_controlled.tally.passed;
-  dropped = saturated (to_common.tally.dropped + to_controlled.tally.dropped + one_left to_common.waiting + one_left to_controlled.waiting);
+  dropped = saturated (to_common.tally.dropped + to_controlled.tally.dropped + one_left to_common.waiting
+      + one_left to_controlled.waiting);
   faults = saturated (to_common.tally.faults + to_controlled.tally.faults);
 }
 
@@ -169,7 +182,9 @@ Relays {D} disk_of turns old (Err fault) new =
     × (done < turns) × TakesTurns disk_of done old between × TakesTurn disk_of (Err at) between new
 
 -- a relay, and what it answers
-abbrev pub IsRelayed : {D : Type 0} → (D → Disk) → ℕ → Relay D → Result RelaySummary RefillFault → EndpointValue D → WireState → WireState → Type 0
-IsRelayed {D} disk_of turns old result endpoint controlled common = (to_common : LaneValue) × (to_controlled : LaneValue)
+abbrev pub IsRelayed : {D : Type 0} → (D → Disk) → ℕ → Relay D → Result RelaySummary RefillFault → EndpointValue D
+    → WireState → WireState → Type 0
+IsRelayed {D} disk_of turns old result endpoint controlled common = (to_common : LaneValue)
+    × (to_controlled : LaneValue)
     × Relays disk_of turns old result (relay_of endpoint controlled common to_common to_controlled)
     × IfOk result (λ summary. summary ≡ summary_of to_common to_controlled)

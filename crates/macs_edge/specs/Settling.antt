@@ -22,8 +22,8 @@ abbrev pub call_on : Side → List ℕ → Call
 call_on Controlled frame = Protects frame
 call_on Common frame = Receives frame
 
--- What passes by an answer, nothing where the frame is left out. An answer that there is no number, that the frame is held back, or that
--- the endpoint is stopped settles nothing
+-- What passes by an answer, nothing where the frame is left out. An answer that there is no number, that the frame is
+-- held back, or that the endpoint is stopped settles nothing
 abbrev pub Settles : Reply → Option (List ℕ) → Type 0
 Settles (Protected (Ok pn) out) passed = passed ≡ Some out
 Settles (Protected (Err (protect.Tx NoNumber)) out) passed = ⊥
@@ -50,8 +50,8 @@ Means call reply out outcome.Dropped = Settles reply None
 Means call reply out outcome.Waiting = Waits reply
 Means call reply out outcome.Stopped = IsStopped call reply
 
--- A frame is handed in by these calls and answered with this at last: once; or, where it waits, once more after a refill that is
--- answered Ok
+-- A frame is handed in by these calls and answered with this at last: once; or, where it waits, once more after a
+-- refill that is answered Ok
 abbrev pub HandsIn : {D : Type 0} → Call → List (Transition D) → Reply → Type 0
 HandsIn call (only ∷ []) reply = (only.call ≡ call) × (only.reply ≡ reply)
 HandsIn call (early ∷ between ∷ late ∷ []) reply =
@@ -60,8 +60,10 @@ HandsIn call (early ∷ between ∷ late ∷ []) reply =
     × (late.call ≡ call) × (late.reply ≡ reply)
 HandsIn call turns reply = ⊥
 
--- The frame is handed in and settled, and all that was done with it is one step of the machine, as though it had never waited
-pub record IsSettled {D : Type 0} (disk_of : D → Disk) (old : EndpointValue D) (call : Call) (passed : Option (List ℕ)) (new : EndpointValue D) : Type 0 where
+-- The frame is handed in and settled, and all that was done with it is one step of the machine, as though it had never
+-- waited
+pub record IsSettled {D : Type 0} (disk_of : D → Disk) (old : EndpointValue D) (call : Call) (passed : Option (List ℕ))
+    (new : EndpointValue D) : Type 0 where
   pub turns : List (Transition D)
   pub lives : Lives disk_of old turns new
   pub reply : Reply
@@ -70,12 +72,13 @@ pub record IsSettled {D : Type 0} (disk_of : D → Disk) (old : EndpointValue D)
   pub step : (logs : Logs) → (after : Logs) × Step (state_of old logs) call reply (state_of new after)
 
 -- it is settled so, and this is the verdict of the answer that settles it, if it has one
-abbrev pub IsJudged : {D : Type 0} → (D → Disk) → EndpointValue D → Call → Option (List ℕ) → Option Verdict → EndpointValue D → Type 0
+abbrev pub IsJudged : {D : Type 0} → (D → Disk) → EndpointValue D → Call → Option (List ℕ) → Option Verdict
+    → EndpointValue D → Type 0
 IsJudged disk_of old call passed verdict new =
     (settled : IsSettled disk_of old call passed new) × (verdict ≡ verdict_of settled.reply)
 
--- A frame is handed in by these calls and not settled: the one call finds the endpoint stopped; or the frame waits, and the refill after it
--- is answered with this fault
+-- A frame is handed in by these calls and not settled: the one call finds the endpoint stopped; or the frame waits, and
+-- the refill after it is answered with this fault
 abbrev pub HaltsIn : {D : Type 0} → Call → List (Transition D) → RefillFault → Type 0
 HaltsIn call (only ∷ []) fault = (only.call ≡ call) × IsStopped call only.reply × (fault ≡ refill.Stopped)
 HaltsIn call (early ∷ last ∷ []) fault =
@@ -83,7 +86,8 @@ HaltsIn call (early ∷ last ∷ []) fault =
 HaltsIn call turns fault = ⊥
 
 -- The frame is handed in, and the run ends there with this fault
-pub record Halts {D : Type 0} (disk_of : D → Disk) (old : EndpointValue D) (call : Call) (fault : RefillFault) (new : EndpointValue D) : Type 0 where
+pub record Halts {D : Type 0} (disk_of : D → Disk) (old : EndpointValue D) (call : Call) (fault : RefillFault)
+    (new : EndpointValue D) : Type 0 where
   pub turns : List (Transition D)
   pub lives : Lives disk_of old turns new
   pub handed : HaltsIn call turns fault
@@ -104,12 +108,15 @@ ending_of outcome.Dropped = Ok false
 ending_of outcome.Waiting = Ok false
 ending_of outcome.Stopped = Err refill.Stopped
 
--- A refill is made, and after it the frame is handed in again, and whether it passes is answered, with the verdict, if there is one; or the
--- refill is refused
-abbrev pub HandsInAgain : {D : Type 0} → (D → Disk) → EndpointValue D → Call → Result Bool RefillFault → List ℕ → Option Verdict
+-- A refill is made, and after it the frame is handed in again, and whether it passes is answered, with the verdict, if
+-- there is one; or the refill is refused
+abbrev pub HandsInAgain : {D : Type 0} → (D → Disk) → EndpointValue D → Call → Result Bool RefillFault → List ℕ
+    → Option Verdict
     → EndpointValue D → Type 0
 HandsInAgain {D} disk_of old call (Ok passes) out verdict new =
     (what : Outcome) × (filled : EndpointValue D) × (reply : Reply) × (passes ≡ is_passed what)
     × IsSoundEndpoint old × IsCall disk_of old Refills (Refilled (Ok tt)) filled
-    × IsSoundEndpoint filled × IsCall disk_of filled call reply new × Means call reply out what × (verdict ≡ verdict_of reply)
-HandsInAgain disk_of old call (Err fault) out verdict new = IsSoundEndpoint old × IsCall disk_of old Refills (Refilled (Err fault)) new
+    × IsSoundEndpoint filled × IsCall disk_of filled call reply new × Means call reply out what
+    × (verdict ≡ verdict_of reply)
+HandsInAgain disk_of old call (Err fault) out verdict new = IsSoundEndpoint old
+    × IsCall disk_of old Refills (Refilled (Err fault)) new

@@ -33,7 +33,8 @@ abbrev pub after_sparing : {S : Type 0} → SparedSocket S → SparedSocket S
 after_sparing old = record old { left = old.left - 1; has_sent = false }
 
 -- after a receive that the socket behind is asked for, with this answer, besides what becomes of that socket
-pub record AfterAsking {S E : Type 0} (kind : E → ErrorKind) (answer : Result Arrived E) (old new : SparedSocket S) : Type 0 where
+pub record AfterAsking {S E : Type 0} (kind : E → ErrorKind) (answer : Result Arrived E)
+    (old new : SparedSocket S) : Type 0 where
   pub most : new.most ≡ old.most
   pub left : MayLeaveOut kind answer old.most new.left
   pub has_sent : new.has_sent ≡ false

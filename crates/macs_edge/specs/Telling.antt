@@ -36,15 +36,16 @@ telling_of teller to = record { teller = teller; to = to }
 abbrev pub TellsAll : {V T : Type 0} → Tells V T → Telling V T → List Verdict → Telling V T → Type 0
 TellsAll tells old [] new = new ≡ old
 TellsAll {V} {T} tells old (verdict ∷ more) new =
-    (between : Telling V T) × tells old.teller old.to verdict between.teller between.to × TellsAll tells between more new
+    (between : Telling V T) × tells old.teller old.to verdict between.teller between.to
+    × TellsAll tells between more new
 
 -- a verdict that may be absent, as a list
 abbrev pub listed : Option Verdict → List Verdict
 listed None = []
 listed (Some verdict) = verdict ∷ []
 
--- The frames of these records, each of them one step of the machine, lead from old to new, and these are the verdicts, of each that has one: as
--- though no frame had ever been held back
+-- The frames of these records, each of them one step of the machine, lead from old to new, and these are the verdicts,
+-- of each that has one: as though no frame had ever been held back
 abbrev pub Judges : Side → State → List CaptureRecord → List Verdict → State → Type 0
 Judges side old [] verdicts new = (verdicts ≡ []) × (new ≡ old)
 Judges side old (taken ∷ more) verdicts new =
@@ -53,23 +54,30 @@ Judges side old (taken ∷ more) verdicts new =
     × (verdicts ≡ listed (verdict_of reply) ++ rest) × Judges side between more rest new
 
 -- these records were taken, these went out, and these are the verdicts on their frames
-pub record HasJudged {D : Type 0} (disk_of : D → Disk) (side : Side) (big : Bool) (old : Run D) (records passed : List CaptureRecord)
+pub record HasJudged {D : Type 0} (disk_of : D → Disk) (side : Side) (big : Bool) (old : Run D)
+    (records passed : List CaptureRecord)
     (verdicts : List Verdict) (new : Run D) : Type 0 where
   pub has : HasPassed disk_of side big old records passed new
-  pub judged : (logs : Logs) → (after : Logs) × Judges side (state_of old.endpoint logs) records verdicts (state_of new.endpoint after)
+  pub judged : (logs : Logs)
+      → (after : Logs) × Judges side (state_of old.endpoint logs) records verdicts (state_of new.endpoint after)
 
--- the records are taken up to the end, or up to a fault, and these are the verdicts on the frames of those that were taken
-abbrev pub JudgesRecords : {D : Type 0} → (D → Disk) → Side → Bool → Run D → Result Summary RunFault → List Verdict → Run D → Type 0
+-- the records are taken up to the end, or up to a fault, and these are the verdicts on the frames of those that were
+-- taken
+abbrev pub JudgesRecords : {D : Type 0} → (D → Disk) → Side → Bool → Run D → Result Summary RunFault → List Verdict
+    → Run D → Type 0
 JudgesRecords disk_of side big old (Ok s) verdicts new =
-    (records : List CaptureRecord) × (passed : List CaptureRecord) × HasJudged disk_of side big old records passed verdicts new
+    (records : List CaptureRecord) × (passed : List CaptureRecord)
+    × HasJudged disk_of side big old records passed verdicts new
     × HoldsOfLeft old.source.left new.source.left (λ left rest. rest ≡ []) × Counts records passed s
 JudgesRecords {D} disk_of side big old (Err fault) verdicts new =
     (records : List CaptureRecord) × (passed : List CaptureRecord) × (between : Run D)
-    × HasJudged disk_of side big old records passed verdicts between × Stops disk_of side big (length records) between fault new
+    × HasJudged disk_of side big old records passed verdicts between
+    × Stops disk_of side big (length records) between fault new
 
--- A run over a whole capture, and the verdicts on its frames: its header is not read, or it is not written, and there is none; or both are done,
--- and the run goes over its records
-abbrev pub JudgesRun : {D : Type 0} → (D → Disk) → Side → Run D → Result Summary RunFault → List Verdict → Run D → Type 0
+-- A run over a whole capture, and the verdicts on its frames: its header is not read, or it is not written, and there
+-- is none; or both are done, and the run goes over its records
+abbrev pub JudgesRun : {D : Type 0} → (D → Disk) → Side → Run D → Result Summary RunFault → List Verdict
+    → Run D → Type 0
 JudgesRun {D} disk_of side old answer verdicts new =
     ((fault : PcapFault) × (answer ≡ Err (Pcap fault)) × ReadsHeader old.source new.source (Err fault)
     × (new.endpoint ≡ old.endpoint) × (new.sink ≡ old.sink) × (verdicts ≡ []))
@@ -81,13 +89,16 @@ JudgesRun {D} disk_of side old answer verdicts new =
     × (between.endpoint ≡ old.endpoint) × JudgesRecords disk_of side header.big between answer verdicts new)
 
 -- such a run over records, and each of the verdicts is reported
-abbrev pub TellsRecords : {D V T : Type 0} → (D → Disk) → Tells V T → Side → Bool → Run D → Telling V T → Result Summary RunFault
+abbrev pub TellsRecords : {D V T : Type 0} → (D → Disk) → Tells V T → Side → Bool → Run D → Telling V T
+    → Result Summary RunFault
     → Run D → Telling V T → Type 0
 TellsRecords disk_of tells side big old before answer new after =
-    (verdicts : List Verdict) × JudgesRecords disk_of side big old answer verdicts new × TellsAll tells before verdicts after
+    (verdicts : List Verdict) × JudgesRecords disk_of side big old answer verdicts new
+    × TellsAll tells before verdicts after
 
 -- such a run over a whole capture
-abbrev pub TellsRun : {D V T : Type 0} → (D → Disk) → Tells V T → Side → Run D → Telling V T → Result Summary RunFault → Run D
+abbrev pub TellsRun : {D V T : Type 0} → (D → Disk) → Tells V T → Side → Run D → Telling V T
+    → Result Summary RunFault → Run D
     → Telling V T → Type 0
 TellsRun disk_of tells side old before answer new after =
     (verdicts : List Verdict) × JudgesRun disk_of side old answer verdicts new × TellsAll tells before verdicts after

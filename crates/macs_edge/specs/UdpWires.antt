@@ -15,7 +15,8 @@ socket_of wire = wire.socket
 
 -- what is known of it as a wire: its failed calls, and no frames
 abbrev pub udp_wire_state : {A S : Type 0} → UdpWire A S → WireState
-udp_wire_state wire = record { waiting = None; sent = None; failed_receives = wire.failed_receives; failed_sends = wire.failed_sends }
+udp_wire_state wire =
+    record { waiting = None; sent = None; failed_receives = wire.failed_receives; failed_sends = wire.failed_sends }
 
 -- what a wire counted
 abbrev pub counts_of : {A S : Type 0} → UdpWire A S → WireCounts

@@ -22,9 +22,9 @@ use Rattle.macs_edge.specs.declared.settling.Side.TheVariants.{Common}
 
 -- Where no record is taken there is no verdict. Else the first is that with which `receive` answers the frame of the
 -- first record, never that it is held back, and the others are those of the others: as many as there are records. Each
--- is reported once, in their order. A run that is answered Ok took all records up to the end, and has a verdict on each, as
--- many as it counts. One that ends in a fault has those on the records before it; where its header is not read, or not
--- written, there is none. Those that are reported are those of the run, and no others.
+-- is reported once, in their order. A run that is answered Ok took all records up to the end, and has a verdict on
+-- each, as many as it counts. One that ends in a fault has those on the records before it; where its header is not
+-- read, or not written, there is none. Those that are reported are those of the run, and no others.
 pub record VerdictWords {D V T : Type 0} (disk_of : D → Disk) (tells : Tells V T) : Type 0 where
   pub none : (old new : State) (verdicts : List Verdict) → Judges Common old [] verdicts new
       → (verdicts ≡ []) × (new ≡ old)

@@ -1,5 +1,6 @@
 -- Wires: where frames come from and go to.
-use Rattle.std.specs.Prelude.{◌≡◌, ◌≢◌, ◌<◌, ◌≤◌, ◌+◌, ◌-◌, ◌^◌, ◌++◌, ⊤, ℕ, min, List, [], ◌∷◌, length, Option, Some, None, Result, Ok, Err}
+use Rattle.std.specs.Prelude.{◌≡◌, ◌≢◌, ◌<◌, ◌≤◌, ◌+◌, ◌-◌, ◌^◌, ◌++◌, ⊤, ℕ, min, List, [], ◌∷◌, length, Option, Some}
+use Rattle.std.specs.Prelude.{None, Result, Ok, Err}
 use Rattle.std.specs.Option.{option_map}
 use Rattle.macs_edge.specs.declared.wire.Got.{Got}
 use Rattle.macs_edge.specs.declared.wire.Got.TheVariants.{Nothing, Frame, TooLong}
@@ -14,19 +15,21 @@ longest_frame = 9216
 abbrev pub saturated : ℕ → ℕ
 saturated n = min n (2 ^ 64 - 1)
 
--- What a wire reports of itself: the frames that it will give and those that it sent, where they are known; and how often a receive
--- and a send of it failed
+-- What a wire reports of itself: the frames that it will give and those that it sent, where they are known; and how
+-- often a receive and a send of it failed
 pub record WireState : Type 0 where
   pub waiting : Option (List (List ℕ))
   pub sent : Option (List (List ℕ))
   pub failed_receives : ℕ
   pub failed_sends : ℕ
 
--- what is received is the first of the frames that wait, where these are known; one that is too long is taken and not given
+-- what is received is the first of the frames that wait, where these are known; one that is too long is taken and not
+-- given
 abbrev pub Gives : Option (List (List ℕ)) → Option (List (List ℕ)) → Got → List ℕ → Type 0
 Gives (Some before) (Some after) Nothing frame = (before ≡ []) × (after ≡ [])
 Gives (Some before) (Some after) Frame frame = before ≡ frame ∷ after
-Gives (Some before) (Some after) TooLong frame = (long : List ℕ) × (before ≡ long ∷ after) × (longest_frame < length long)
+Gives (Some before) (Some after) TooLong frame = (long : List ℕ) × (before ≡ long ∷ after)
+    × (longest_frame < length long)
 Gives None None got frame = ⊤
 Gives before after got frame = ⊥
 
@@ -39,7 +42,8 @@ FillsBuffer answer frame = frame ≡ []
 abbrev pub Receives : WireState → Result Got WireFault → List ℕ → WireState → Type 0
 Receives before (Ok got) frame after =
     Gives before.waiting after.waiting got frame × FillsBuffer (Ok got) frame
-    × (after.sent ≡ before.sent) × (after.failed_receives ≡ before.failed_receives) × (after.failed_sends ≡ before.failed_sends)
+    × (after.sent ≡ before.sent) × (after.failed_receives ≡ before.failed_receives)
+    × (after.failed_sends ≡ before.failed_sends)
 Receives before (Err cause) frame after =
     (cause ≢ fault.Send) × FillsBuffer (Err cause) frame × (after.waiting ≡ before.waiting) × (after.sent ≡ before.sent)
     × (after.failed_receives ≡ saturated (before.failed_receives + 1)) × (after.failed_sends ≡ before.failed_sends)

@@ -1,5 +1,6 @@
 -- What is to be drawn from words in what runs and relays promise, and what builds those that their laws ask for.
-use Rattle.std.specs.Prelude.{◌≡◌, ◌≢◌, ◌<◌, ◌≤◌, ◌⊎◌, ◌+◌, ◌-◌, ◌^◌, ◌++◌, ℕ, List, [], ◌∷◌, drop, length, min, Option, Some, None, Result, Ok, Err}
+use Rattle.std.specs.Prelude.{◌≡◌, ◌≢◌, ◌<◌, ◌≤◌, ◌⊎◌, ◌+◌, ◌-◌, ◌^◌, ◌++◌, ℕ, List, [], ◌∷◌, drop, length, min, Option}
+use Rattle.std.specs.Prelude.{Some, None, Result, Ok, Err}
 use Rattle.std.specs.Option.{option_map}
 use Rattle.macs_disk.specs.Disk.{Disk}
 use Rattle.macs_txsc.specs.declared.fault.TxFault.TheVariants.{NoNumber}
@@ -13,7 +14,8 @@ use Rattle.macs_pcap.specs.declared.fault.PcapFault.{PcapFault}
 use Rattle.macs_pcap.specs.declared.header.Header.{Header}
 use Rattle.macs_endpoint.specs.Faults.{refill_fault_named}
 use Rattle.macs_endpoint.specs.Lives.{Lives, Transition}
-use Rattle.macs_endpoint.specs.State.{Call, Protected, Protects, Received, Receives as ReceivesFrame, Refilled, Refills, Reply, State}
+use Rattle.macs_endpoint.specs.State.{Call, Protected, Protects, Received, Receives as ReceivesFrame, Refilled, Refills}
+use Rattle.macs_endpoint.specs.State.{Reply, State}
 use Rattle.macs_endpoint.specs.Step.{IsStopped}
 use Rattle.macs_endpoint.specs.Value.{EndpointValue}
 use Rattle.macs_endpoint.specs.declared.fault.ProtectFault.TheVariants as protect
@@ -36,33 +38,43 @@ use Rattle.macs_edge.specs.declared.wire.WireFault.TheVariants as fault
 
 -- ---- what flows
 
--- Frames that are all but so many are those, in their order, without so many of them; where none is lost they are all. The frames that are taken off a wire are
--- the first ones, and a wire gains what was sent; its failed receives and sends rise by what is missed and lost, as far as the numbers go. A summary counts what
--- was sent each way and what was missed and lost; and what it has as dropped are the other frames that were taken. A relay takes all its turns, and answers what
--- its two lanes make; or fewer, and then one whose step is answered with the fault, which has the name of that step's.
--- A run counts what passes, and the other records that were taken. Of a flow: its calls link the earlier endpoint to
--- the later one; each way, what was taken came off the one wire, and what was sent on the other is what the calls gave.
--- They give each frame that `protect` answered with its number, and each that `receive` delivered, in order, and
--- nothing else.
+-- Frames that are all but so many are those, in their order, without so many of them; where none is lost they are all.
+-- The frames that are taken off a wire are the first ones, and a wire gains what was sent; its failed receives and
+-- sends rise by what is missed and lost, as far as the numbers go. A summary counts what was sent each way and what was
+-- missed and lost; and what it has as dropped are the other frames that were taken. A relay takes all its turns, and
+-- answers what its two lanes make; or fewer, and then one whose step is answered with the fault, which has the name of
+-- that step's. A run counts what passes, and the other records that were taken. Of a flow: its calls link the earlier
+-- endpoint to the later one; each way, what was taken came off the one wire, and what was sent on the other is what the
+-- calls gave. They give each frame that `protect` answered with its number, and each that `receive` delivered, in
+-- order, and nothing else.
 pub record FlowWords {D : Type 0} (disk_of : D → Disk) : Type 0 where
   pub none_of : (frames : List (List ℕ)) (lost : ℕ) → AllBut lost [] frames → (frames ≡ []) × (lost ≡ 0)
   pub one_of : (lost : ℕ) (frame : List ℕ) (all frames : List (List ℕ)) → AllBut lost (frame ∷ all) frames
-      → ((rest : List (List ℕ)) × (frames ≡ frame ∷ rest) × AllBut lost all rest) ⊎ ((fewer : ℕ) × (lost ≡ fewer + 1) × AllBut fewer all frames)
+      → ((rest : List (List ℕ)) × (frames ≡ frame ∷ rest) × AllBut lost all rest)
+      ⊎ ((fewer : ℕ) × (lost ≡ fewer + 1) × AllBut fewer all frames)
   pub all_of : (all frames : List (List ℕ)) → AllBut 0 all frames → frames ≡ all
   pub taken_off : (before after : List (List ℕ)) (taken : ℕ) → TakenOff (Some before) (Some after) taken
       → (frames : List (List ℕ)) × (before ≡ frames ++ after) × (length frames ≡ taken)
-  pub took : (old new : WireState) (taken missed : ℕ) → Took old new taken missed → TakenOff old.waiting new.waiting taken
+  pub took : (old new : WireState) (taken missed : ℕ) → Took old new taken missed
+      → TakenOff old.waiting new.waiting taken
       × (min new.failed_receives (2 ^ 64 - 1) ≡ min (old.failed_receives + missed) (2 ^ 64 - 1))
-  pub sent : (old new : WireState) (all frames : List (List ℕ)) (lost : ℕ) → Sent old new all frames lost → AllBut lost all frames
+  pub sent : (old new : WireState) (all frames : List (List ℕ)) (lost : ℕ) → Sent old new all frames lost
+      → AllBut lost all frames
       × (new.sent ≡ option_map (λ before. before ++ frames) old.sent)
       × (min new.failed_sends (2 ^ 64 - 1) ≡ min (old.failed_sends + lost) (2 ^ 64 - 1))
-  pub all_turns : (turns : ℕ) (old : Relay D) (summary : RelaySummary) (endpoint : EndpointValue D) (controlled common : WireState)
-      → IsRelayed disk_of turns old (Ok summary) endpoint controlled common → (to_common : LaneValue) × (to_controlled : LaneValue)
-      × TakesTurns disk_of turns old (relay_of endpoint controlled common to_common to_controlled) × (summary ≡ summary_of to_common to_controlled)
-  pub at_fault : (turns : ℕ) (old new : Relay D) (at : RefillFault) → Relays {T = RelaySummary} disk_of turns old (Err at) new
-      → (done : ℕ) × (between : Relay D) × (step : StepFault) × (at ≡ refill_fault_named step) × (done < turns) × TakesTurns disk_of done old between
+  pub all_turns : (turns : ℕ) (old : Relay D) (summary : RelaySummary) (endpoint : EndpointValue D)
+      (controlled common : WireState)
+      → IsRelayed disk_of turns old (Ok summary) endpoint controlled common
+      → (to_common : LaneValue) × (to_controlled : LaneValue)
+      × TakesTurns disk_of turns old (relay_of endpoint controlled common to_common to_controlled)
+      × (summary ≡ summary_of to_common to_controlled)
+  pub at_fault : (turns : ℕ) (old new : Relay D) (at : RefillFault)
+      → Relays {T = RelaySummary} disk_of turns old (Err at) new
+      → (done : ℕ) × (between : Relay D) × (step : StepFault) × (at ≡ refill_fault_named step) × (done < turns)
+      × TakesTurns disk_of done old between
       × TakesTurn disk_of (Err step) between new
-  pub passes : (records passed : List CaptureRecord) (s : Summary) → Counts records passed s → (s.passed ≡ length passed)
+  pub passes : (records passed : List CaptureRecord) (s : Summary) → Counts records passed s
+      → (s.passed ≡ length passed)
       × (s.passed + s.dropped ≡ length records)
   pub named : (refill_fault_named step.Stopped ≡ refill.Stopped)
       × (refill_fault_named step.GenerationsSpent ≡ refill.GenerationsSpent)
@@ -88,7 +100,8 @@ pub record FlowWords {D : Type 0} (disk_of : D → Disk) : Type 0 where
       → ((kind : Kind) (out : List ℕ) → turn.reply ≢ Received (Ok (Delivered kind)) out)
       → given side (turn ∷ turns) ≡ given side turns
   pub counted : (old new : Relay D) (summary : RelaySummary) (f : IsFlow disk_of old new summary)
-      → (summary.sent ≡ min (length f.out.frames) (2 ^ 64 - 1)) × (summary.delivered ≡ min (length f.back.frames) (2 ^ 64 - 1))
+      → (summary.sent ≡ min (length f.out.frames) (2 ^ 64 - 1))
+      × (summary.delivered ≡ min (length f.back.frames) (2 ^ 64 - 1))
       × (summary.faults ≡ min (f.out.missed + f.out.lost + f.back.missed + f.back.lost) (2 ^ 64 - 1))
       × (others : ℕ) × (summary.dropped ≡ min others (2 ^ 64 - 1))
       × (f.out.taken + f.back.taken ≡ length f.out.frames + length f.back.frames + f.out.lost + f.back.lost + others)
@@ -107,44 +120,57 @@ pub record WireWords : Type 0 where
       → Receives before (Ok TooLong) frame after
       → before.waiting ≡ Some waiting → (long : List ℕ) × (left : List (List ℕ)) × (after.waiting ≡ Some left)
       × (waiting ≡ long ∷ left)
-  pub nothing : (before after : WireState) (frame : List ℕ) (waiting : List (List ℕ)) → Receives before (Ok Nothing) frame after
+  pub nothing : (before after : WireState) (frame : List ℕ) (waiting : List (List ℕ))
+      → Receives before (Ok Nothing) frame after
       → before.waiting ≡ Some waiting → (waiting ≡ []) × (frame ≡ [])
-  pub too_long : (before after : WireState) (frame : List ℕ) (waiting : List (List ℕ)) → Receives before (Ok TooLong) frame after
+  pub too_long : (before after : WireState) (frame : List ℕ) (waiting : List (List ℕ))
+      → Receives before (Ok TooLong) frame after
       → before.waiting ≡ Some waiting
       → ((long : List ℕ) × (rest : List (List ℕ)) × (waiting ≡ long ∷ rest) × (9216 < length long)) × (frame ≡ [])
-  pub not_received : (before after : WireState) (frame : List ℕ) (cause : WireFault) → Receives before (Err cause) frame after
+  pub not_received : (before after : WireState) (frame : List ℕ) (cause : WireFault)
+      → Receives before (Err cause) frame after
       → (cause ≢ fault.Send) × (frame ≡ [])
-  pub not_sent : (before after : WireState) (frame : List ℕ) (cause : WireFault) → Sends before frame (Err cause) after → cause ≢ fault.Receive
+  pub not_sent : (before after : WireState) (frame : List ℕ) (cause : WireFault) → Sends before frame (Err cause) after
+      → cause ≢ fault.Receive
 
 -- ---- how a frame is settled
 
--- An answer that the endpoint is stopped settles no frame. A frame waits where there is no number for it, or it is held back. It is handed in by one call; or by
--- two, where it waits after the first, with a refill between that is answered Ok. A run ends at a frame by one call, which finds the endpoint stopped; or where
--- the frame waits, by a refill that is answered with the fault.
+-- An answer that the endpoint is stopped settles no frame. A frame waits where there is no number for it, or it is held
+-- back. It is handed in by one call; or by two, where it waits after the first, with a refill between that is answered
+-- Ok. A run ends at a frame by one call, which finds the endpoint stopped; or where the frame waits, by a refill that
+-- is answered with the fault.
 pub record SettlingWords {D : Type 0} (disk_of : D → Disk) : Type 0 where
-  pub stopped : (side : Side) (frame : List ℕ) (reply : Reply) (passed : Option (List ℕ)) → IsStopped (call_on side frame) reply → ¬ Settles reply passed
+  pub stopped : (side : Side) (frame : List ℕ) (reply : Reply) (passed : Option (List ℕ))
+      → IsStopped (call_on side frame) reply → ¬ Settles reply passed
   pub waits : (reply : Reply) → Waits reply → ((out : List ℕ) × (reply ≡ Protected (Err (protect.Tx NoNumber)) out))
       ⊎ ((out : List ℕ) × (reply ≡ Received (Ok HeldBack) out))
   pub handed : (call : Call) (turns : List (Transition D)) (reply : Reply) → HandsIn call turns reply
       → ((only : Transition D) × (turns ≡ only ∷ []) × (only.call ≡ call) × (only.reply ≡ reply))
-      ⊎ ((early : Transition D) × (between : Transition D) × (late : Transition D) × (turns ≡ early ∷ between ∷ late ∷ [])
+      ⊎ ((early : Transition D) × (between : Transition D) × (late : Transition D)
+      × (turns ≡ early ∷ between ∷ late ∷ [])
       × (early.call ≡ call) × Waits early.reply × (between.call ≡ Refills) × (between.reply ≡ Refilled (Ok tt))
       × (late.call ≡ call) × (late.reply ≡ reply))
   pub halted : (call : Call) (turns : List (Transition D)) (at : RefillFault) → HaltsIn call turns at
-      → ((only : Transition D) × (turns ≡ only ∷ []) × (only.call ≡ call) × IsStopped call only.reply × (at ≡ refill.Stopped))
-      ⊎ ((early : Transition D) × (last : Transition D) × (turns ≡ early ∷ last ∷ []) × (early.call ≡ call) × Waits early.reply
+      → ((only : Transition D) × (turns ≡ only ∷ []) × (only.call ≡ call) × IsStopped call only.reply
+      × (at ≡ refill.Stopped))
+      ⊎ ((early : Transition D) × (last : Transition D) × (turns ≡ early ∷ last ∷ []) × (early.call ≡ call)
+      × Waits early.reply
       × (last.call ≡ Refills) × (last.reply ≡ Refilled (Err at)))
-  pub settled : (old new : EndpointValue D) (call : Call) (passed : Option (List ℕ)) (s : IsSettled disk_of old call passed new)
+  pub settled : (old new : EndpointValue D) (call : Call) (passed : Option (List ℕ))
+      (s : IsSettled disk_of old call passed new)
       → Lives disk_of old s.turns new × HandsIn call s.turns s.reply × Settles s.reply passed
   pub halts : (old new : EndpointValue D) (call : Call) (at : RefillFault) (h : Halts disk_of old call at new)
       → Lives disk_of old h.turns new × HaltsIn call h.turns at
 
 -- ---- what an input becomes
 
--- An input becomes a capture where it begins with a header, records come after it, as many as may be, with the end or a fault after the last one, and these pass:
--- the header, and then what passes.
+-- An input becomes a capture where it begins with a header, records come after it, as many as may be, with the end or a
+-- fault after the last one, and these pass: the header, and then what passes.
 abbrev pub TheseBecomeCaptures : Type 0
-TheseBecomeCaptures = (side : Side) (old after : State) (input behind rest : List ℕ) (header : Header) (records passed : List CaptureRecord)
-    → BeginsWithHeader input header behind → length records ≤ max_records → BeginsWithRecords header.big behind records rest
-    → (rest ≡ []) ⊎ ((at : PcapFault) × (record_fault header.big (length records) rest ≡ Some at)) → Passes side old records passed after
+TheseBecomeCaptures = (side : Side) (old after : State) (input behind rest : List ℕ) (header : Header)
+    (records passed : List CaptureRecord)
+    → BeginsWithHeader input header behind → length records ≤ max_records
+    → BeginsWithRecords header.big behind records rest
+    → (rest ≡ []) ⊎ ((at : PcapFault) × (record_fault header.big (length records) rest ≡ Some at))
+    → Passes side old records passed after
     → BecomesCapture side old input (header_text header ++ records_text header.big passed)

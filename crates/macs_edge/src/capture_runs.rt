@@ -26,7 +26,8 @@ pub struct Summary {
 /// Why a run ends before the end of its capture.
 #[derive(Clone, Copy, Debug, PartialEq, Eq)]
 pub enum RunFault {
-    /// A fault of the capture that is read or of the one that is written, or want of memory for a frame.
+    /// A fault of the capture that is read or of the one that is written, or want of memory for a
+    /// frame.
     Pcap(PcapFault),
     /// No packet numbers can be reserved for the next frame, or the endpoint is stopped.
     Device(RefillFault),
@@ -54,9 +55,9 @@ impl From<RefillFault> for RunFault {
     }
 }
 
-/// Takes the next record, after so many others, and says whether a frame passed; at the end there is
-/// none. The frame of the record is in `frame` then, the one that passes in `out`, and the verdict in
-/// `verdict`, if there is one.
+/// Takes the next record, after so many others, and says whether a frame passed; at the end there
+/// is none. The frame of the record is in `frame` then, the one that passes in `out`, and the
+/// verdict in `verdict`, if there is one.
 fn take_next<D: SectorDisk, R: Source, W: Sink, A: Allocator>(
     endpoint: &mut Endpoint<D>,
     side: Side,
@@ -112,7 +113,8 @@ fn run_records<D: SectorDisk, R: Source, W: Sink, A: Allocator, T, V: Verdicts<T
     to: &mut T,
 ) -> Result<Summary, RunFault>
     ensures { TellsRecords D.disk V.tells side big
-        (run_of endpoint.old (R.state source.old) (W.state sink.old)) (telling_of told.old to.old) result
+        (run_of endpoint.old (R.state source.old) (W.state sink.old))
+        (telling_of told.old to.old) result
         (run_of endpoint.new (R.state source.new) (W.state sink.new)) (telling_of told.new to.new) }
 {
     let mut out = FrameBuf::new();
@@ -151,7 +153,8 @@ fn run_telling<D: SectorDisk, R: Source, W: Sink, A: Allocator, T, V: Verdicts<T
     to: &mut T,
 ) -> Result<Summary, RunFault>
     ensures { TellsRun D.disk V.tells side
-        (run_of endpoint.old (R.state source.old) (W.state sink.old)) (telling_of told.old to.old) result
+        (run_of endpoint.old (R.state source.old) (W.state sink.old))
+        (telling_of told.old to.old) result
         (run_of endpoint.new (R.state source.new) (W.state sink.new)) (telling_of told.new to.new) }
 {
     let header = read_header(source)?;
@@ -176,23 +179,24 @@ fn run<D: SectorDisk, R: Source, W: Sink, A: Allocator, T, V: Verdicts<T>>(
         (run_of endpoint.old (R.state source.old) (W.state sink.old)) result
         (run_of endpoint.new (R.state source.new) (W.state sink.new)) }
     ensures tells { TellsRun D.disk V.tells side
-        (run_of endpoint.old (R.state source.old) (W.state sink.old)) (telling_of told.old to.old) result
+        (run_of endpoint.old (R.state source.old) (W.state sink.old))
+        (telling_of told.old to.old) result
         (run_of endpoint.new (R.state source.new) (W.state sink.new)) (telling_of told.new to.new) }
 {
     run_telling(alloc, endpoint, side, source, sink, told, to)
 }
 
-/// Protects the frame of each record of a capture, one after another, and writes the capture of the frames
-/// that go out, each with its record's stamp. Its header is written once the header of the input was
-/// read. Where there is no packet number, numbers are reserved by `refill` and the frame is handed in
-/// again; a frame with a fault of its own (one below 14 octets, say) is left out and counted. The device is
-/// called for refills alone.
+/// Protects the frame of each record of a capture, one after another, and writes the capture of the
+/// frames that go out, each with its record's stamp. Its header is written once the header of the
+/// input was read. Where there is no packet number, numbers are reserved by `refill` and the frame
+/// is handed in again; a frame with a fault of its own (one below 14 octets, say) is left out and
+/// counted. The device is called for refills alone.
 ///
-/// Ends before the end of the input as `Pcap` with the first fault of the input or with `Write`, where a
-/// write failed; or as `Device` where a refill is answered so, with `Stopped` where the endpoint is. What
-/// was written is then a front of the capture that would have been. Whether anything is flushed is not
-/// said: a caller whose sink keeps octets back flushes it, after a fault too. A buffer for one frame grows
-/// with the longest so far, 262,144 octets at most.
+/// Ends before the end of the input as `Pcap` with the first fault of the input or with `Write`,
+/// where a write failed; or as `Device` where a refill is answered so, with `Stopped` where the
+/// endpoint is. What was written is then a front of the capture that would have been. Whether
+/// anything is flushed is not said: a caller whose sink keeps octets back flushes it, after a fault
+/// too. A buffer for one frame grows with the longest so far, 262,144 octets at most.
 pub fn run_protect<D: SectorDisk, R: Source, W: Sink, A: Allocator>(
     alloc: A,
     endpoint: &mut Endpoint<D>,
@@ -218,10 +222,11 @@ pub fn run_protect<D: SectorDisk, R: Source, W: Sink, A: Allocator>(
     )
 }
 
-/// Receives the frame of each record of a capture, one after another, and writes the capture of the frames
-/// that are delivered, each with its record's stamp. Its header is written once the header of the input was
-/// read. Where a frame is held back, numbers are reserved by `refill` and the frame is handed in again; a
-/// frame that is discarded is left out and counted. The device is called for refills alone.
+/// Receives the frame of each record of a capture, one after another, and writes the capture of the
+/// frames that are delivered, each with its record's stamp. Its header is written once the header
+/// of the input was read. Where a frame is held back, numbers are reserved by `refill` and the
+/// frame is handed in again; a frame that is discarded is left out and counted. The device is
+/// called for refills alone.
 ///
 /// Ends before the end of the input as `run_protect` does, and flushes and takes memory as it does.
 pub fn run_validate<D: SectorDisk, R: Source, W: Sink, A: Allocator>(
@@ -249,8 +254,8 @@ pub fn run_validate<D: SectorDisk, R: Source, W: Sink, A: Allocator>(
     )
 }
 
-/// Does what `run_validate` does, and reports the verdict on each frame, in order, once what passes of it is
-/// written. A frame at which the run ends has none. No verdict is kept.
+/// Does what `run_validate` does, and reports the verdict on each frame, in order, once what passes
+/// of it is written. A frame at which the run ends has none. No verdict is kept.
 pub fn run_validate_each<D: SectorDisk, R: Source, W: Sink, A: Allocator, T, V: Verdicts<T>>(
     alloc: A,
     endpoint: &mut Endpoint<D>,
@@ -263,7 +268,8 @@ pub fn run_validate_each<D: SectorDisk, R: Source, W: Sink, A: Allocator, T, V: 
         (run_of endpoint.old (R.state source.old) (W.state sink.old)) result
         (run_of endpoint.new (R.state source.new) (W.state sink.new)) }
     ensures tells { TellsRun D.disk V.tells Side.Common
-        (run_of endpoint.old (R.state source.old) (W.state sink.old)) (telling_of told.old to.old) result
+        (run_of endpoint.old (R.state source.old) (W.state sink.old))
+        (telling_of told.old to.old) result
         (run_of endpoint.new (R.state source.new) (W.state sink.new)) (telling_of told.new to.new) }
     ensures writes { WritesCapture Side.Common
         (run_of endpoint.old (R.state source.old) (W.state sink.old)) result

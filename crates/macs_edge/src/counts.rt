@@ -16,7 +16,8 @@ pub struct WireCounts {
     pub sent: u64,
     pub failed_receives: u64,
     pub failed_sends: u64,
-    /// How many octets of datagrams that wait the system keeps for it (`SO_RCVBUF`, socket(7)), where it was asked.
+    /// How many octets of datagrams that wait the system keeps for it (`SO_RCVBUF`, socket(7)),
+    /// where it was asked.
     pub buffer: Option<u64>,
 }
 

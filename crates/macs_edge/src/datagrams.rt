@@ -18,17 +18,18 @@ pub struct Arrived {
 
 /// A socket that does not wait, as a wire uses it. Tests put sockets in its place whose calls fail.
 ///
-/// Where it is known which datagrams it gives and sends, each of its calls does what is said here. Of a socket
-/// of the operating system nothing is known.
+/// Where it is known which datagrams it gives and sends, each of its calls does what is said here.
+/// Of a socket of the operating system nothing is known.
 pub trait Datagrams: Drop {
     /// Its datagrams and its failed calls, where they are known.
     ghost socket: { Self → Option SocketState } = { λ _. None };
 
-    /// Takes the next datagram: as many of its octets as there is room for, and the rest is lost. It fails with
-    /// `WouldBlock` where none waits.
+    /// Takes the next datagram: as many of its octets as there is room for, and the rest is lost.
+    /// It fails with `WouldBlock` where none waits.
     fn take_from(&mut self, into: &mut [u8]) -> io::Result<Arrived>
         ensures bound { IfOk result (λ arrived. arrived.count ≤ length into.new) }
-        ensures taken { TakesDatagram (socket self.old) (socket self.new) error_kind into.new result };
+        ensures taken { TakesDatagram (socket self.old) (socket self.new) error_kind
+            into.new result };
 
     /// Sends octets to an address as one datagram, and answers how many octets were sent.
     fn give_to(&mut self, octets: &[u8], to: SocketAddr) -> io::Result<usize>

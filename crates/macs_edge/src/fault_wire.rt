@@ -1,7 +1,8 @@
 //! A wire that fails some calls.
 
 ghost use Rattle.std.specs.Prelude.{◌≡◌, ◌↔◌, ◌+◌, [], if◌then◌else◌, IsTrue, Err};
-ghost use Rattle.macs_edge.specs.FaultWires.{CallsValue, FailsNext, FaultWireValue, asked_once_more, failed_among, fault_wire_state};
+ghost use Rattle.macs_edge.specs.FaultWires.{CallsValue, FailsNext, FaultWireValue};
+ghost use Rattle.macs_edge.specs.FaultWires.{asked_once_more, failed_among, fault_wire_state};
 ghost use Rattle.macs_edge.specs.Wires.{Receives, Sends};
 
 use crate::counts::{Counted, WireCounts};
@@ -31,8 +32,8 @@ impl Calls {
         Calls { fails_at, asked: 0 }
     }
 
-    /// Counts a call, and says whether it is the one that fails. A count that is at its end has no next
-    /// number, so the call of the greatest number fails once.
+    /// Counts a call, and says whether it is the one that fails. A count that is at its end has no
+    /// next number, so the call of the greatest number fails once.
     fn next_fails(&mut self) -> bool
         ensures asked { self.new ≡ asked_once_more self.old }
         ensures fails { IsTrue result ↔ FailsNext self.old }
@@ -55,9 +56,9 @@ impl Calls {
     }
 }
 
-/// A wire in front of another. It fails the receive and the send of the numbers that `new` is given, and hands
-/// each other call to the wire behind it. A call that it fails does not reach that wire, and is counted with
-/// that wire's failed calls.
+/// A wire in front of another. It fails the receive and the send of the numbers that `new` is
+/// given, and hands each other call to the wire behind it. A call that it fails does not reach that
+/// wire, and is counted with that wire's failed calls.
 #[derive(Drop)]
 pub struct FaultWire<W> {
     wire: W,
@@ -68,11 +69,13 @@ pub struct FaultWire<W> {
 impl<W> Model for FaultWire<W> {
     ghost Value = { FaultWireValue W };
 
-    ghost view = { λ front. record { inner = front.wire; receives = front.receives; sends = front.sends } };
+    ghost view = { λ front.
+        record { inner = front.wire; receives = front.receives; sends = front.sends } };
 }
 
 impl<W: Wire> FaultWire<W> {
-    /// A wire whose receive and whose send of these numbers fail. Each is counted from 1, and at 0 none fails.
+    /// A wire whose receive and whose send of these numbers fail. Each is counted from 1, and at 0
+    /// none fails.
     pub fn new(wire: W, receive_at: u64, send_at: u64) -> Self
         ensures { result ≡ record {
           inner = wire;
@@ -132,7 +135,8 @@ impl<W: Wire> Wire for FaultWire<W> {
         ensures asked { (self.new.receives ≡ asked_once_more self.old.receives)
             × (self.new.sends ≡ self.old.sends) }
         ensures failed { FailsNext self.old.receives
-            → (result ≡ Err WireFault.Receive) × (into.new.items ≡ []) × (self.new.inner ≡ self.old.inner) }
+            → (result ≡ Err WireFault.Receive) × (into.new.items ≡ [])
+            × (self.new.inner ≡ self.old.inner) }
         ensures passed { ¬ FailsNext self.old.receives
             → Receives (W.state self.old.inner) result into.new.items (W.state self.new.inner) }
     {

@@ -6,7 +6,8 @@ ghost use Rattle.macs_endpoint.specs.State.{State};
 ghost use Rattle.macs_endpoint.specs.declared.fault.RefillFault.{RefillFault};
 ghost use Rattle.macs_edge.specs.Attending.{Attends};
 ghost use Rattle.macs_edge.specs.Commanding.{IsAttendedFlow};
-ghost use Rattle.macs_edge.specs.Drawn.{CountWords, DeskWords, FaultWords, FlowsInTurns, PassWords, RestWords};
+ghost use Rattle.macs_edge.specs.Drawn.{CountWords, DeskWords, FaultWords, FlowsInTurns, PassWords};
+ghost use Rattle.macs_edge.specs.Drawn.{RestWords};
 ghost use Rattle.macs_edge.specs.Drawn.{SocketWords, TurnWords};
 ghost use Rattle.macs_edge.specs.Flows.{IsFlow};
 ghost use Rattle.macs_edge.specs.NotedWords.{NotedWords, SparedWords};
@@ -21,8 +22,8 @@ ghost use Rattle.macs_edge.specs.declared.settling.Side.{Side};
 use crate::telling::Verdicts;
 use macs_disk::SectorDisk;
 
-/// Records pass in one way only: what passes, and the state after, is settled by the records and the state
-/// before.
+/// Records pass in one way only: what passes, and the state after, is settled by the records and
+/// the state before.
 pub fn passes_once()
     ensures { (side : Side) (old : State) (records p q : List CaptureRecord) (m n : State)
         → Passes side old records p m → Passes side old records q n → (p ≡ q) × (m ≡ n) }
@@ -34,12 +35,13 @@ pub fn becomes_once()
         → BecomesCapture side old input p → BecomesCapture side old input q → p ≡ q }
 {}
 
-/// What a relay sends on each wire is all that the endpoint gave for it, in order, but for as many frames as
-/// the wire's failed sends rose. Every frame that was taken was sent, lost with a failed send, or dropped; and
-/// the summary counts them so.
+/// What a relay sends on each wire is all that the endpoint gave for it, in order, but for as many
+/// frames as the wire's failed sends rose. Every frame that was taken was sent, lost with a failed
+/// send, or dropped; and the summary counts them so.
 pub fn relayed<D: SectorDisk>()
     ensures { (turns : ℕ) (old new : Relay D) (result : Result RelaySummary RefillFault)
-        → old.to_common ≡ empty_lane → old.to_controlled ≡ empty_lane → Relays D.disk turns old result new
+        → old.to_common ≡ empty_lane → old.to_controlled ≡ empty_lane
+        → Relays D.disk turns old result new
         → IsFlow D.disk old new (summary_of new.to_common new.to_controlled) }
 {}
 
@@ -56,9 +58,9 @@ pub fn attended<D: SectorDisk>()
         → IsAttendedFlow D.disk old events new (summary_of new.to_common new.to_controlled) }
 {}
 
-/// The words of what runs and relays promise say this: what is all but so many, what was taken, sent
-/// and counted, what a wire gives, and how a frame is settled. And an input becomes a capture where
-/// its records pass.
+/// The words of what runs and relays promise say this: what is all but so many, what was taken,
+/// sent and counted, what a wire gives, and how a frame is settled. And an input becomes a capture
+/// where its records pass.
 pub fn words<D: SectorDisk>()
     // What is lost, taken, sent and counted.
     ensures flows { FlowWords D.disk }
@@ -74,7 +76,8 @@ pub fn words<D: SectorDisk>()
 /// fault.
 pub fn steps_are_turns<D: SectorDisk>()
     ensures { (turns : ℕ) (old new : Relay D) (result : Result RelaySummary RefillFault)
-        → old.to_common ≡ empty_lane → old.to_controlled ≡ empty_lane → Relays D.disk turns old result new
+        → old.to_common ≡ empty_lane → old.to_controlled ≡ empty_lane
+        → Relays D.disk turns old result new
         → FlowsInTurns D.disk turns old result new }
 {}
 
@@ -105,7 +108,8 @@ pub fn noted()
     ensures spared { SparedWords }
 {}
 
-/// What is to be drawn of verdicts that are reported: which they are, of which frames, in which order, and how many.
+/// What is to be drawn of verdicts that are reported: which they are, of which frames, in which
+/// order, and how many.
 pub fn judged<D: SectorDisk, T, V: Verdicts<T>>()
     ensures { VerdictWords D.disk V.tells }
 {}

@@ -12,8 +12,8 @@ use macs_frame::{FrameBuf, MAX_FRAME};
 use std::alloc::Allocator;
 use std::collections::VecDeque;
 
-/// A wire in memory: it gives the frames that were pushed, in their order, and keeps those that are sent. It
-/// fails only where memory is refused, and no receive of it fails.
+/// A wire in memory: it gives the frames that were pushed, in their order, and keeps those that are
+/// sent. It fails only where memory is refused, and no receive of it fails.
 #[derive(Drop)]
 pub struct MemWire<A: Allocator + Copy> {
     alloc: A,
@@ -28,7 +28,8 @@ impl<A: Allocator + Copy> Wire for MemWire<A> {
     ghost state = { λ wire. mem_wire_state wire };
 
     fn receive(&mut self, into: &mut FrameBuf) -> Result<Got, WireFault>
-        ensures receives { Receives (mem_wire_state self.old) result into.new.items (mem_wire_state self.new) }
+        ensures receives { Receives (mem_wire_state self.old) result into.new.items
+            (mem_wire_state self.new) }
         ensures never { IsOk result }
         ensures counts { mem_wire_counts self.new
             ≡ counts_after_receive result (mem_wire_counts self.old) }
@@ -75,7 +76,8 @@ impl<A: Allocator + Copy> Counted for MemWire<A> {
 }
 
 impl<A: Allocator + Copy> MemWire<A> {
-    ghost use Rattle.std.specs.Prelude.{◌≡◌, ◌++◌, [], ◌∷◌, if◌then◌else◌, Some, IfErr, OnErr, OnOk};
+    ghost use Rattle.std.specs.Prelude.{◌≡◌, ◌++◌, [], ◌∷◌, if◌then◌else◌, Some, IfErr, OnErr};
+    ghost use Rattle.std.specs.Prelude.{OnOk};
     ghost use Rattle.macs_edge.specs.Counts.{no_counts};
     ghost use Rattle.macs_edge.specs.MemWires.{frames_of, mem_wire_counts, mem_wire_state, sent_in};
     ghost use Rattle.macs_edge.specs.MemWires.{waiting_in};
@@ -96,11 +98,14 @@ impl<A: Allocator + Copy> MemWire<A> {
         }
     }
 
-    /// A frame that the next receives give, after those that wait. It fails as `Memory` alone, and changes
-    /// nothing then.
+    /// A frame that the next receives give, after those that wait. It fails as `Memory` alone, and
+    /// changes nothing then.
     pub fn push(&mut self, frame: &[u8]) -> Result<(), WireFault>
         ensures pushed { OnOk result (mem_wire_state self.new
-            ≡ record (mem_wire_state self.old) { waiting = Some (waiting_in self.old ++ frame.now ∷ []) }) }
+            ≡ record (mem_wire_state self.old) {
+              waiting =
+                  Some (waiting_in self.old ++ frame.now ∷ []);
+            }) }
         ensures same { OnErr result (mem_wire_state self.new ≡ mem_wire_state self.old) }
         ensures memory { IfErr result (λ fault. fault ≡ WireFault.Memory) }
         ensures counts { mem_wire_counts self.new ≡ mem_wire_counts self.old }
@@ -123,8 +128,10 @@ impl<A: Allocator + Copy> MemWire<A> {
 
     /// Keeps a copy of a frame after those that were sent, where there is memory for it.
     fn keep(&mut self, frame: &[u8]) -> bool
-        ensures kept { mem_wire_state self.new ≡ record (mem_wire_state self.old)
-            { sent = Some (if result then sent_in self.old ++ frame.now ∷ [] else sent_in self.old) } }
+        ensures kept { mem_wire_state self.new ≡ record (mem_wire_state self.old) {
+          sent =
+              Some (if result then sent_in self.old ++ frame.now ∷ [] else sent_in self.old);
+        } }
         ensures counts { mem_wire_counts self.new ≡ mem_wire_counts self.old }
     {
         let Ok(copy) = Vec::from_slice(self.alloc, frame) else {

@@ -20,8 +20,8 @@ pub struct RelaySummary {
     pub sent: u64,
     /// Frames that were delivered and sent on the controlled wire.
     pub delivered: u64,
-    /// Frames that were taken and did not pass: those that the endpoint refused or discarded, those of more
-    /// than 9,216 octets, and those that still waited for packet numbers at the end.
+    /// Frames that were taken and did not pass: those that the endpoint refused or discarded, those
+    /// of more than 9,216 octets, and those that still waited for packet numbers at the end.
     pub dropped: u64,
     /// Failed calls of the wires. A frame that is not sent is lost; its packet number stays used.
     pub faults: u64,
@@ -96,7 +96,8 @@ impl Idle for Awake {
 
 /// Takes a frame from a wire into an empty lane.
 fn fill<F: Wire>(from: &mut F, lane: &mut Lane)
-    ensures { Fills (F.state from.old) (lane_value lane.old) (F.state from.new) (lane_value lane.new) }
+    ensures { Fills (F.state from.old) (lane_value lane.old) (F.state from.new)
+        (lane_value lane.new) }
 {
     if lane.is_full {
         return;
@@ -120,8 +121,8 @@ fn forward<T: Wire>(to: &mut T, frame: &[u8], tally: &mut Tally)
     }
 }
 
-/// Hands in the frame of a full lane. It stays there where it waits for packet numbers, and where the
-/// endpoint is stopped.
+/// Hands in the frame of a full lane. It stays there where it waits for packet numbers, and where
+/// the endpoint is stopped.
 fn hand_over<D: SectorDisk, T: Wire>(
     endpoint: &mut Endpoint<D>,
     side: Side,
@@ -257,16 +258,16 @@ fn rest<I: Idle>(idle: &mut I, is_quiet: bool)
 }
 
 /// Relays frames between two wires, in so many turns. In each turn a plain frame is taken from the
-/// controlled wire, protected, and sent on the common wire; then a frame is taken from the common wire, and
-/// sent on the controlled wire if it is delivered; then the work on the disk goes on by one `step`, where
-/// there is any: at most one device call comes between two frames. A frame that waits for packet numbers
-/// stays in its lane for the next turn, and no other is taken on its side. No frame is sent twice, not
-/// even after a failed send.
+/// controlled wire, protected, and sent on the common wire; then a frame is taken from the common
+/// wire, and sent on the controlled wire if it is delivered; then the work on the disk goes on by
+/// one `step`, where there is any: at most one device call comes between two frames. A frame that
+/// waits for packet numbers stays in its lane for the next turn, and no other is taken on its side.
+/// No frame is sent twice, not even after a failed send.
 ///
-/// Ends with the first turn whose step is refused, with the fault of the same name: the frames of that turn
-/// were handed in by then, and those that passed were sent. What a step reports of submitted commands is not
-/// kept. No call waits: where no frame comes a turn is soon over. No memory of an allocator is taken: three
-/// frames are in arrays.
+/// Ends with the first turn whose step is refused, with the fault of the same name: the frames of
+/// that turn were handed in by then, and those that passed were sent. What a step reports of
+/// submitted commands is not kept. No call waits: where no frame comes a turn is soon over. No
+/// memory of an allocator is taken: three frames are in arrays.
 pub fn relay<D: SectorDisk, P: Wire, C: Wire>(
     endpoint: &mut Endpoint<D>,
     controlled: &mut P,
@@ -274,7 +275,8 @@ pub fn relay<D: SectorDisk, P: Wire, C: Wire>(
     turns: u64,
 ) -> Result<RelaySummary, RefillFault>
     ensures relayed { IsRelayed D.disk turns
-        (relay_of endpoint.old (P.state controlled.old) (C.state common.old) empty_lane empty_lane) result
+        (relay_of endpoint.old (P.state controlled.old) (C.state common.old) empty_lane empty_lane)
+        result
         endpoint.new (P.state controlled.new) (C.state common.new) }
     ensures lives { LivesOn D.disk endpoint.old endpoint.new }
 {

@@ -1,9 +1,11 @@
 //! A frame is handed in until it is settled.
 
-ghost use Rattle.std.specs.Prelude.{◌≡◌, ◌<◌, ◌^◌, Bool, true, false, if◌then◌else◌, Some, None, IfOk, IfErr};
+ghost use Rattle.std.specs.Prelude.{◌≡◌, ◌<◌, ◌^◌, Bool, true, false, if◌then◌else◌, Some, None};
+ghost use Rattle.std.specs.Prelude.{IfOk, IfErr};
 ghost use Rattle.macs_endpoint.specs.Calls.{IsCall};
 ghost use Rattle.macs_endpoint.specs.State.{Reply};
-ghost use Rattle.macs_edge.specs.Settling.{Halts, HandsInAgain, IsJudged, Means, call_on, ending_of, is_passed};
+ghost use Rattle.macs_edge.specs.Settling.{Halts, HandsInAgain, IsJudged, Means, call_on};
+ghost use Rattle.macs_edge.specs.Settling.{ending_of, is_passed};
 ghost use Rattle.macs_edge.specs.Settling.{verdict_of};
 
 use macs_disk::SectorDisk;
@@ -42,8 +44,10 @@ fn hand_in_noting<D: SectorDisk>(
     out: &mut FrameBuf,
     verdict: &mut Option<Verdict>,
 ) -> Outcome
-    ensures { (reply : Reply) × IsCall D.disk endpoint.old (call_on side frame.now) reply endpoint.new
-        × Means (call_on side frame.now) reply out.new.items result × (verdict.new ≡ verdict_of reply) }
+    ensures { (reply : Reply)
+        × IsCall D.disk endpoint.old (call_on side frame.now) reply endpoint.new
+        × Means (call_on side frame.now) reply out.new.items result
+        × (verdict.new ≡ verdict_of reply) }
 {
     *verdict = None;
     match side {
@@ -78,7 +82,8 @@ pub(crate) fn hand_in<D: SectorDisk>(
     frame: &[u8],
     out: &mut FrameBuf,
 ) -> Outcome
-    ensures { (reply : Reply) × IsCall D.disk endpoint.old (call_on side frame.now) reply endpoint.new
+    ensures { (reply : Reply)
+        × IsCall D.disk endpoint.old (call_on side frame.now) reply endpoint.new
         × Means (call_on side frame.now) reply out.new.items result }
 {
     let mut verdict = None;
@@ -104,8 +109,8 @@ fn ending_of(outcome: Outcome) -> Result<bool, RefillFault>
     }
 }
 
-/// Reserves the packet numbers that a frame waits for, hands it in again, and says whether it passes; the
-/// verdict is noted, if there is one. It does not wait again.
+/// Reserves the packet numbers that a frame waits for, hands it in again, and says whether it
+/// passes; the verdict is noted, if there is one. It does not wait again.
 fn hand_in_again<D: SectorDisk>(
     endpoint: &mut Endpoint<D>,
     side: Side,
@@ -113,7 +118,8 @@ fn hand_in_again<D: SectorDisk>(
     out: &mut FrameBuf,
     verdict: &mut Option<Verdict>,
 ) -> Result<bool, RefillFault>
-    ensures { HandsInAgain D.disk endpoint.old (call_on side frame.now) result out.new.items verdict.new
+    ensures { HandsInAgain D.disk endpoint.old (call_on side frame.now) result
+        out.new.items verdict.new
         endpoint.new }
 {
     endpoint.facts();
@@ -127,8 +133,8 @@ fn hand_in_again<D: SectorDisk>(
     }
 }
 
-/// Hands a frame in, and once more after a refill where it waits; and says whether a frame passes. The verdict
-/// that settles it is noted, if there is one.
+/// Hands a frame in, and once more after a refill where it waits; and says whether a frame passes.
+/// The verdict that settles it is noted, if there is one.
 pub(crate) fn settle<D: SectorDisk>(
     endpoint: &mut Endpoint<D>,
     side: Side,

@@ -8,13 +8,14 @@ use std::io;
 use std::io::ErrorKind;
 use std::net::SocketAddr;
 
-/// A socket in front of another, for a wire of a relay that sleeps until a datagram is there. After a receive that
-/// found nothing, a receive that follows a send is left out, so many in a row at most: it is answered as one that
-/// finds nothing, and the socket behind is not asked. So a wire that gives nothing, while the other one gives frames,
-/// is asked only in some of the turns.
+/// A socket in front of another, for a wire of a relay that sleeps until a datagram is there. After
+/// a receive that found nothing, a receive that follows a send is left out, so many in a row at
+/// most: it is answered as one that finds nothing, and the socket behind is not asked. So a wire
+/// that gives nothing, while the other one gives frames, is asked only in some of the turns.
 ///
-/// A receive that follows no send is not left out. After a turn that brought nothing there was no send, so the wire is
-/// asked in the turn after it; and a sleep in between ends at once where a datagram is there.
+/// A receive that follows no send is not left out. After a turn that brought nothing there was no
+/// send, so the wire is asked in the turn after it; and a sleep in between ends at once where a
+/// datagram is there.
 #[derive(Drop)]
 pub struct SparedSocket<S> {
     socket: S,
@@ -46,7 +47,8 @@ impl<S> SparedSocket<S> {
     ghost use Rattle.std.specs.Prelude.{◌≡◌, ◌↔◌, IsTrue};
     ghost use Rattle.macs_edge.specs.SparedSockets.{IsSpared, over_socket};
 
-    /// A socket in front of this one, of which so many receives in a row are left out at most: at 0, none.
+    /// A socket in front of this one, of which so many receives in a row are left out at most: at
+    /// 0, none.
     pub(crate) fn new(socket: S, most: u8) -> SparedSocket<S>
         ensures { result ≡ over_socket socket most }
     {
@@ -70,14 +72,16 @@ impl<S: Datagrams> Datagrams for SparedSocket<S> {
     ghost use Rattle.std.specs.Prelude.{◌≡◌, ◌≤◌, length, IfOk};
     ghost use Rattle.std.specs.IoError.{error_kind};
     ghost use Rattle.macs_edge.specs.Datagrams.{GivesDatagram, TakesDatagram};
-    ghost use Rattle.macs_edge.specs.SparedSockets.{AfterAsking, FindsNothing, IsSpared, AfterSending, after_sparing, behind};
+    ghost use Rattle.macs_edge.specs.SparedSockets.{AfterAsking, FindsNothing, IsSpared};
+    ghost use Rattle.macs_edge.specs.SparedSockets.{AfterSending, after_sparing, behind};
 
     fn take_from(&mut self, into: &mut [u8]) -> io::Result<Arrived>
         ensures bound { IfOk result (λ arrived. arrived.count ≤ length into.new) }
         ensures spared { IsSpared self.old → FindsNothing error_kind result
             × (self.new ≡ after_sparing self.old) × (into.new ≡ into.old) }
         ensures asked { ¬ IsSpared self.old → AfterAsking error_kind result self.old self.new
-            × TakesDatagram (S.socket (behind self.old)) (S.socket (behind self.new)) error_kind into.new result }
+            × TakesDatagram (S.socket (behind self.old)) (S.socket (behind self.new)) error_kind
+            into.new result }
     {
         let is_spared = self.is_spared();
         self.has_sent = false;
@@ -92,7 +96,8 @@ impl<S: Datagrams> Datagrams for SparedSocket<S> {
 
     fn give_to(&mut self, octets: &[u8], to: SocketAddr) -> io::Result<usize>
         ensures noted { AfterSending self.old self.new }
-        ensures passed_on { GivesDatagram (S.socket (behind self.old)) (S.socket (behind self.new)) octets.now to result }
+        ensures passed_on { GivesDatagram (S.socket (behind self.old)) (S.socket (behind self.new))
+            octets.now to result }
     {
         self.has_sent = true;
         self.socket.give_to(octets, to)

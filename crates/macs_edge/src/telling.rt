@@ -30,7 +30,8 @@ impl Verdicts<Nobody> for Nobody {
 
 /// Reports a verdict, if there is one.
 pub(crate) fn tell<T, V: Verdicts<T>>(told: &mut V, to: &mut T, verdict: Option<Verdict>)
-    ensures { TellsAll V.tells (telling_of told.old to.old) (listed verdict) (telling_of told.new to.new) }
+    ensures { TellsAll V.tells (telling_of told.old to.old) (listed verdict)
+        (telling_of told.new to.new) }
 {
     match verdict {
         Some(verdict) => told.tell(to, verdict),

@@ -86,7 +86,8 @@ fn taken<S: Datagrams>(
     strangers: &mut u64,
 ) -> Result<Got, WireFault>
     requires { length room.old ≡ 9217 }
-    ensures datagram { ReceivesDatagram peer (S.socket socket.old) (S.socket socket.new) result into.new.items }
+    ensures datagram { ReceivesDatagram peer (S.socket socket.old) (S.socket socket.new) result
+        into.new.items }
     ensures fills { FillsBuffer result into.new.items }
     ensures fault { IfErr result (λ fault. fault ≡ WireFault.Receive) }
     ensures strangers { CountsStrangers result (S.socket socket.old) strangers.old strangers.new }
@@ -118,8 +119,8 @@ impl<A: Allocator> UdpWire<A, UdpSocket> {
     ghost use Rattle.macs_edge.specs.Counts.{no_counts};
     ghost use Rattle.macs_edge.specs.UdpWires.{counts_of, peer_of};
 
-    /// A wire from the own address to the peer's. Refused first as `Memory`, where there is none for 9,217 octets; then as
-    /// `Bind`. Memory is taken here and at no other call.
+    /// A wire from the own address to the peer's. Refused first as `Memory`, where there is none
+    /// for 9,217 octets; then as `Bind`. Memory is taken here and at no other call.
     pub fn bind<R: Net>(
         net: &R,
         alloc: A,
@@ -151,8 +152,8 @@ impl<A: Allocator, S: Datagrams> UdpWire<A, S> {
     ghost use Rattle.macs_edge.specs.UdpWires.{counts_of, peer_of, socket_of, udp_wire_state};
     ghost use Rattle.macs_edge.specs.declared.udp_wire.BindFault.TheVariants.{Memory};
 
-    /// A wire to the peer over a socket that is bound and does not wait. Refused as `Memory` alone, where there
-    /// is none for 9,217 octets.
+    /// A wire to the peer over a socket that is bound and does not wait. Refused as `Memory` alone,
+    /// where there is none for 9,217 octets.
     pub fn over(alloc: A, socket: S, peer: SocketAddr) -> Result<UdpWire<A, S>, BindFault>
         ensures state { IfOk result (λ wire. ⟦<UdpWire<A, S> as Wire>⟧.state wire
             ≡ record { waiting = None; sent = None; failed_receives = 0; failed_sends = 0 }) }
@@ -189,8 +190,8 @@ impl<A: Allocator, S: Datagrams> UdpWire<A, S> {
         }
     }
 
-    /// Notes how many octets of datagrams that wait the system keeps for its socket. They are among what it counted
-    /// from then on.
+    /// Notes how many octets of datagrams that wait the system keeps for its socket. They are among
+    /// what it counted from then on.
     pub fn note_buffer(&mut self, octets: u32)
         ensures state { udp_wire_state self.new ≡ udp_wire_state self.old }
         ensures peer { peer_of self.new ≡ peer_of self.old }
@@ -200,8 +201,8 @@ impl<A: Allocator, S: Datagrams> UdpWire<A, S> {
         self.buffer = Some(u64::from(octets));
     }
 
-    /// The same wire over a socket that is asked less often where nothing comes: so many receives in a row are left
-    /// out at most (`SparedSocket`).
+    /// The same wire over a socket that is asked less often where nothing comes: so many receives
+    /// in a row are left out at most (`SparedSocket`).
     pub fn sparing(self, most: u8) -> UdpWire<A, SparedSocket<S>>
         ensures state { udp_wire_state result ≡ udp_wire_state self }
         ensures peer { peer_of result ≡ peer_of self }
@@ -279,7 +280,8 @@ impl<A: Allocator, S: Datagrams> Wire for UdpWire<A, S> {
     ghost state = { λ wire. udp_wire_state wire };
 
     fn receive(&mut self, into: &mut FrameBuf) -> Result<Got, WireFault>
-        ensures receives { Receives (udp_wire_state self.old) result into.new.items (udp_wire_state self.new) }
+        ensures receives { Receives (udp_wire_state self.old) result into.new.items
+            (udp_wire_state self.new) }
         ensures datagram { ReceivesDatagram (peer_of self.old) (S.socket (socket_of self.old))
             (S.socket (socket_of self.new)) result into.new.items }
         ensures peer { peer_of self.new ≡ peer_of self.old }

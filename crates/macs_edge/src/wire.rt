@@ -15,8 +15,8 @@ pub enum Got {
     TooLong,
 }
 
-/// Why a wire does not give or take a frame. Of a wire that reports its frames: what it had to give it still
-/// has, and the frame that it was given is not sent.
+/// Why a wire does not give or take a frame. Of a wire that reports its frames: what it had to give
+/// it still has, and the frame that it was given is not sent.
 #[derive(Clone, Copy, Debug, PartialEq, Eq)]
 pub enum WireFault {
     /// A receive failed.
@@ -27,9 +27,9 @@ pub enum WireFault {
     Memory,
 }
 
-/// Where frames come from and go to. A frame is that of Ethernet without FCS. No call waits. A wire counts
-/// its failed receives and its failed sends, each up to 2^64 - 1, and may report which frames it will give
-/// and which it sent.
+/// Where frames come from and go to. A frame is that of Ethernet without FCS. No call waits. A wire
+/// counts its failed receives and its failed sends, each up to 2^64 - 1, and may report which
+/// frames it will give and which it sent.
 pub trait Wire {
     /// What it reports of itself.
     ghost state: { Self → WireState };

@@ -1,4 +1,5 @@
-//! Command files with each wrong value, captures that are cut or fail in mid-stream, want of memory, and wires of the system.
+//! Command files with each wrong value, captures that are cut or fail in mid-stream, want of
+//! memory, and wires of the system.
 
 mod captures;
 mod datagrams;

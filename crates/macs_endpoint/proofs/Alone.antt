@@ -13,7 +13,8 @@ module _ {D : Type 0} (disk_of : D → Disk) (old other : EndpointValue D) where
 
   -- no device call is made, and what a power loss leaves fits the state after the call
   pub alone-call : (call : Call) (reply : Reply) → Fails (disk_in disk_of old) (disk_in disk_of old) reply
-      → (IsBacked disk_of old → IsBacked disk_of alone) → CallBehaves disk_of old call reply alone → IsCall disk_of old call reply alone
+      → (IsBacked disk_of old → IsBacked disk_of alone) → CallBehaves disk_of old call reply alone
+      → IsCall disk_of old call reply alone
   alone-call call reply fails backs behaves = record {
     behaves = behaves;
     device = record { works = Works-start (disk_in disk_of old); fails = fails };

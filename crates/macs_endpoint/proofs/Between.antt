@@ -1,9 +1,11 @@
 -- Between two commands that wait one reservation at most has its turn.
-use Rattle.std.proofs.Common.{◌≡◌, ◌≢◌, ◌≤◌, ◌+◌, ◌++◌, ◌⊎◌, inl, inr, ℕ, true, false, List, [], ◌∷◌, Option, Some, None, Result, Ok, Err, refl, sym, ◌∙◌, ap, subst, arith}
+use Rattle.std.proofs.Common.{◌≡◌, ◌≢◌, ◌≤◌, ◌+◌, ◌++◌, ◌⊎◌, inl, inr, ℕ, true, false, List, [], ◌∷◌, Option, Some}
+use Rattle.std.proofs.Common.{None, Result, Ok, Err, refl, sym, ◌∙◌, ap, subst, arith}
 use Rattle.macs_config.specs.declared.command.Command.{Command}
 use Rattle.macs_disk.specs.Disk.{Disk}
 use Rattle.macs_store.specs.Value.{IsIdle, StoreValue}
-use Rattle.macs_endpoint.specs.Advancing.{AdvancesAs, BeginsWith, Piece, ToKeep, ToRaise, next_piece, piece_among, turn_after, turn_after_step}
+use Rattle.macs_endpoint.specs.Advancing.{AdvancesAs, BeginsWith, Piece, ToKeep, ToRaise, next_piece, piece_among}
+use Rattle.macs_endpoint.specs.Advancing.{turn_after, turn_after_step}
 use Rattle.macs_endpoint.specs.Calls.{AdvancesIn, IsCall}
 use Rattle.macs_endpoint.specs.Ceilings.{Raise}
 use Rattle.macs_endpoint.specs.WorkThroughCalls.{IsNotDone, NoneDone, reservations_in_reply, reservations_made}
@@ -11,9 +13,12 @@ use Rattle.macs_endpoint.specs.Limits.{IsStill}
 use Rattle.macs_endpoint.specs.Lives.{Lives, Transition}
 use Rattle.macs_endpoint.specs.Needed.{raise_in}
 use Rattle.macs_endpoint.specs.Queue.{first_waiting}
-use Rattle.macs_endpoint.specs.State.{Advanced, AdvancedLong, Advances, Call, Commands, Logs, Protected, Protects, Ran, Received, Receives, Refilled, Refills, RefusedLong, Reply, State, Submits, Submitted, no_logs}
+use Rattle.macs_endpoint.specs.State.{Advanced, AdvancedLong, Advances, Call, Commands, Logs, Protected, Protects, Ran}
+use Rattle.macs_endpoint.specs.State.{Received, Receives, Refilled, Refills, RefusedLong, Reply, State, Submits}
+use Rattle.macs_endpoint.specs.State.{Submitted, no_logs}
 use Rattle.macs_endpoint.specs.Step.{AdvanceStep, IsStopped, RunningStep, SubmitStep}
-use Rattle.macs_endpoint.specs.Value.{EndpointValue, IsAtRest, IsKeeping, IsReserving, IsSoundEndpoint, is_stopped, state_of}
+use Rattle.macs_endpoint.specs.Value.{EndpointValue, IsAtRest, IsKeeping, IsReserving, IsSoundEndpoint, is_stopped}
+use Rattle.macs_endpoint.specs.Value.{state_of}
 use Rattle.macs_endpoint.specs.declared.fault.CommandFault.TheVariants as ran
 use Rattle.macs_endpoint.specs.declared.fault.RefillFault.TheVariants as refill
 use Rattle.macs_endpoint.specs.declared.fault.StepFault.{StepFault}
@@ -38,19 +43,23 @@ abbrev IsCommands : {D : Type 0} → EndpointValue D → Type 0
 IsCommands e = ((command : Command) × (e.in_hand ≡ Some command)) ⊎ (IsIdle e.store × (e.turn ≡ turn.Command))
 
 -- where it is next it begins
-takes_by : (whose : Whose) (o : Option Raise) (w : Option Waiting) (first : Waiting) → whose ≡ turn.Command → w ≡ Some first
+takes_by : (whose : Whose) (o : Option Raise) (w : Option Waiting) (first : Waiting) → whose ≡ turn.Command
+    → w ≡ Some first
     → piece_among whose o w ≡ Some (ToKeep first)
 takes_by turn.Reservation o w first is waits = absurd cc
 takes_by turn.Command o None first is waits = absurd cc
 takes_by turn.Command None (Some f) first is waits = ap (λ (x : Waiting). Some (ToKeep x)) (some_is f first waits)
-takes_by turn.Command (Some raise) (Some f) first is waits = ap (λ (x : Waiting). Some (ToKeep x)) (some_is f first waits)
+takes_by turn.Command (Some raise) (Some f) first is waits =
+    ap (λ (x : Waiting). Some (ToKeep x)) (some_is f first waits)
 
-pub none_reserved : {D : Type 0} (old new : EndpointValue D) (piece : Option Piece) → BeginsWith old piece (Ok Reserved) new → ⊥
+pub none_reserved : {D : Type 0} (old new : EndpointValue D) (piece : Option Piece)
+    → BeginsWith old piece (Ok Reserved) new → ⊥
 none_reserved old new None begins = begins
 none_reserved old new (Some (ToRaise raise)) begins = begins
 none_reserved old new (Some (ToKeep first)) begins = begins
 
-none_idle : {D : Type 0} (old new : EndpointValue D) (piece : Option Piece) → BeginsWith old piece (Ok Idle) new → new ≡ old
+none_idle : {D : Type 0} (old new : EndpointValue D) (piece : Option Piece)
+    → BeginsWith old piece (Ok Idle) new → new ≡ old
 none_idle old new None begins = begins
 none_idle old new (Some (ToRaise raise)) begins = absurd begins
 none_idle old new (Some (ToKeep first)) begins = absurd begins
@@ -70,8 +79,10 @@ stopped_none call reply stopped = absurd stopped
 
 -- ---- one call
 
-module _ {D : Type 0} (disk_of : D → Disk) (old new : EndpointValue D) (kept : IsSoundEndpoint old) (waits : Waits old) where
-  -- The endpoint is stopped after it; or no reservation used its turn; or one did, where the turn was no command's, and it is one's now.
+module _ {D : Type 0} (disk_of : D → Disk) (old new : EndpointValue D) (kept : IsSoundEndpoint old)
+    (waits : Waits old) where
+  -- The endpoint is stopped after it; or no reservation used its turn; or one did, where the turn was no command's, and
+  -- it is one's now.
   abbrev Uses : Reply → Type 0
   Uses reply = ((is_stopped new ≡ true) × (reservations_in_reply reply ≡ 0))
       ⊎ (((reservations_in_reply reply ≡ 0) × (IsCommands old → IsCommands new) × Waits new)
@@ -84,7 +95,8 @@ module _ {D : Type 0} (disk_of : D → Disk) (old new : EndpointValue D) (kept :
   some_wait none = let is = sym none ∙ waits.2 in cc
 
   -- nothing changes but what waits after the first, and packet numbers
-  stays : (reply : Reply) → reservations_in_reply reply ≡ 0 → new.in_hand ≡ old.in_hand → new.store ≡ old.store → new.turn ≡ old.turn → Waits new → Uses reply
+  stays : (reply : Reply) → reservations_in_reply reply ≡ 0 → new.in_hand ≡ old.in_hand → new.store ≡ old.store
+      → new.turn ≡ old.turn → Waits new → Uses reply
   stays reply none in_hand store whose wait = inr (inl (
     none,
     (λ commands. elim commands [
@@ -102,7 +114,8 @@ module _ {D : Type 0} (disk_of : D → Disk) (old new : EndpointValue D) (kept :
     t = state_of new after
 
     -- the state is as it was
-    keeps : (reply : Reply) → reservations_in_reply reply ≡ 0 → new.store ≡ old.store → new.turn ≡ old.turn → t ≡ s → Uses reply
+    keeps : (reply : Reply) → reservations_in_reply reply ≡ 0 → new.store ≡ old.store → new.turn ≡ old.turn → t ≡ s
+        → Uses reply
     keeps reply none store whose is =
         stays reply none (ap (λ (x : State). x.in_hand) is) store whose (waits_still (ap (λ (x : State). x.waiting) is))
 
@@ -111,7 +124,8 @@ module _ {D : Type 0} (disk_of : D → Disk) (old new : EndpointValue D) (kept :
     -- a command that is next begins
     begins : IsIdle old.store → IsCommands old → next_piece old ≡ Some (ToKeep waits.0)
     begins idle (inl held) = absurd (let is = sym held.1 ∙ (at-rest old kept idle).in_hand running in cc)
-    begins idle (inr next) = takes_by old.turn (raise_in old) (first_waiting old.waiting) waits.0 next.1 (ap first_waiting waits.2)
+    begins idle (inr next) =
+        takes_by old.turn (raise_in old) (first_waiting old.waiting) waits.0 next.1 (ap first_waiting waits.2)
 
     -- work under way that is a command's
     held : (¬ IsIdle old.store) → IsCommands old → (command : Command) × (old.in_hand ≡ Some command)
@@ -119,7 +133,8 @@ module _ {D : Type 0} (disk_of : D → Disk) (old new : EndpointValue D) (kept :
     held busy (inr next) = absurd (busy next.0)
 
     -- and a reservation's is not
-    no_command : (¬ IsIdle old.store) → (raise : Raise) → old.reserving ≡ Some raise → IsAtRest old ⊎ (IsReserving old ⊎ IsKeeping old) → IsCommands old → ⊥
+    no_command : (¬ IsIdle old.store) → (raise : Raise) → old.reserving ≡ Some raise
+        → IsAtRest old ⊎ (IsReserving old ⊎ IsKeeping old) → IsCommands old → ⊥
     no_command busy raise is (inl rest) commands = busy rest.store
     no_command busy raise is (inr (inl work)) commands = let none = sym (held busy commands).1 ∙ work.in_hand in cc
     no_command busy raise is (inr (inr work)) commands = let none = sym is ∙ work.reserving in cc
@@ -127,12 +142,14 @@ module _ {D : Type 0} (disk_of : D → Disk) (old new : EndpointValue D) (kept :
     worked : AdvancesAs disk_of old (Ok Worked) new → IsCommands old → IsCommands new
     worked does commands = elim (in_hand_or_not old.store.hand) [
       | inl idle ↦
-          let began = subst (λ (piece : Option Piece). BeginsWith old piece (Ok Worked) new) (begins idle commands) (does.begins idle) in
+          let began = subst (λ (piece : Option Piece). BeginsWith old piece (Ok Worked) new) (begins idle commands)
+          (does.begins idle) in
           inl (waits.0.command, began.0)
       | inr busy ↦ let hand = held busy commands in inl (hand.0, (does.goes_on busy).1 ∙ hand.1)
     ]
 
-    advance : (result : Result Progress StepFault) → AdvanceStep s result t → IsStill old Advances (Advanced result) new → AdvancesAs disk_of old result new
+    advance : (result : Result Progress StepFault) → AdvanceStep s result t → IsStill old Advances (Advanced result) new
+        → AdvancesAs disk_of old result new
         → new.turn ≡ turn_after_step old.turn result → IsNotDone (Advanced result) → Uses (Advanced result)
     advance (Ok Idle) moves still does whose free = elim (in_hand_or_not old.store.hand) [
       | inl idle ↦
@@ -150,14 +167,20 @@ module _ {D : Type 0} (disk_of : D → Disk) (old new : EndpointValue D) (kept :
       | inl idle ↦ absurd (none_reserved old new (next_piece old) (does.begins idle))
       | inr busy ↦
           let goes = does.goes_on busy in
-          inr (inr (refl, no_command busy goes.0.0 goes.0.1 kept.work, inr (goes.1, whose), waits_still (ap (λ (x : State). x.waiting) moves)))
+          inr (inr (
+            refl,
+            no_command busy goes.0.0 goes.0.1 kept.work,
+            inr (goes.1, whose),
+            waits_still (ap (λ (x : State). x.waiting) moves),
+          ))
     ]
     advance (Ok (Done ticket result)) moves still does whose free = absurd free
     advance (Err step.Stopped) moves still does whose free = absurd moves
     advance (Err step.GenerationsSpent) moves still does whose free = elim (in_hand_or_not old.store.hand) [
       | inl idle ↦ inr (inr (
         refl,
-        (λ commands. subst (λ (piece : Option Piece). BeginsWith old piece (Err step.GenerationsSpent) new) (begins idle commands) (does.begins idle)),
+        (λ commands. subst (λ (piece : Option Piece). BeginsWith old piece (Err step.GenerationsSpent) new)
+            (begins idle commands) (does.begins idle)),
         inr (ap (λ (x : StoreValue D). x.hand) still ∙ idle, whose),
         waits_still (ap (λ (x : State). x.waiting) moves),
       ))
@@ -170,28 +193,38 @@ module _ {D : Type 0} (disk_of : D → Disk) (old new : EndpointValue D) (kept :
 
     -- ---- any call
 
-    submits : (command : Command) (result : Result ℕ SubmitFault) → SubmitStep s command result t → new.store ≡ old.store → new.turn ≡ old.turn
+    submits : (command : Command) (result : Result ℕ SubmitFault) → SubmitStep s command result t
+        → new.store ≡ old.store → new.turn ≡ old.turn
         → Uses (Submitted result)
     submits command (Ok ticket) moves store whose =
         let is = moves.3 in
         let last : Waiting = record { ticket = old.tickets + 1; command = command } in
-        stays (Submitted (Ok ticket)) refl (ap (λ (x : State). x.in_hand) is) store whose
-        (waits.0, waits.1 ++ last ∷ [], ap (λ (x : State). x.waiting) is ∙ ap (λ (w : List Waiting). w ++ last ∷ []) waits.2)
-    submits command (Err submit.QueueFull) moves store whose = keeps (Submitted (Err submit.QueueFull)) refl store whose moves.1
-    submits command (Err submit.TicketsSpent) moves store whose = keeps (Submitted (Err submit.TicketsSpent)) refl store whose moves.2
+        stays (Submitted (Ok ticket)) refl (ap (λ (x : State). x.in_hand) is) store whose (
+          waits.0,
+          waits.1 ++ last ∷ [],
+          ap (λ (x : State). x.waiting) is
+              ∙ ap (λ (w : List Waiting). w ++ last ∷ []) waits.2,
+        )
+    submits command (Err submit.QueueFull) moves store whose =
+        keeps (Submitted (Err submit.QueueFull)) refl store whose moves.1
+    submits command (Err submit.TicketsSpent) moves store whose =
+        keeps (Submitted (Err submit.TicketsSpent)) refl store whose moves.2
     submits command (Err submit.Stopped) moves store whose = absurd moves
 
-    runs : (call : Call) (reply : Reply) → RunningStep s call reply t → IsStill old call reply new → AdvancesIn disk_of old call reply new
+    runs : (call : Call) (reply : Reply) → RunningStep s call reply t → IsStill old call reply new
+        → AdvancesIn disk_of old call reply new
         → new.turn ≡ turn_after old call reply → IsNotDone reply → Uses reply
     runs (Commands command) (Ran (Ok done)) moves still does whose free = absurd (some_wait moves.0)
     runs (Commands command) (Ran (Err ran.Stopped)) moves still does whose free = absurd moves
-    runs (Commands command) (Ran (Err ran.Busy)) moves still does whose free = keeps (Ran (Err ran.Busy)) refl still whose moves.1
+    runs (Commands command) (Ran (Err ran.Busy)) moves still does whose free =
+        keeps (Ran (Err ran.Busy)) refl still whose moves.1
     runs (Commands command) (Ran (Err (ran.Refused refusal))) moves still does whose free = absurd (some_wait moves.0)
     runs (Commands command) (Ran (Err ran.GenerationsSpent)) moves still does whose free = absurd (some_wait moves.0)
     runs (Commands command) (Ran (Err ran.Disk)) moves still does whose free = absurd (some_wait moves.0)
     runs Refills (Refilled (Ok done)) moves still does whose free = absurd (some_wait moves.0)
     runs Refills (Refilled (Err refill.Stopped)) moves still does whose free = absurd moves
-    runs Refills (Refilled (Err refill.Busy)) moves still does whose free = keeps (Refilled (Err refill.Busy)) refl still whose moves.1
+    runs Refills (Refilled (Err refill.Busy)) moves still does whose free =
+        keeps (Refilled (Err refill.Busy)) refl still whose moves.1
     runs Refills (Refilled (Err refill.GenerationsSpent)) moves still does whose free = absurd (some_wait moves.0)
     runs Refills (Refilled (Err refill.Disk)) moves still does whose free = absurd (some_wait moves.0)
     runs (Submits command) (Submitted result) moves still does whose free = submits command result moves still whose
@@ -218,7 +251,8 @@ module _ {D : Type 0} (disk_of : D → Disk) (old new : EndpointValue D) (kept :
 
 module _ {D : Type 0} (disk_of : D → Disk) where
   -- a stopped endpoint reserves nothing
-  stopped_life : (turns : List (Transition D)) (e new : EndpointValue D) → is_stopped e ≡ true → Lives disk_of e turns new → reservations_made turns ≡ 0
+  stopped_life : (turns : List (Transition D)) (e new : EndpointValue D) → is_stopped e ≡ true
+      → Lives disk_of e turns new → reservations_made turns ≡ 0
   stopped_life [] e new stopped lives = refl
   stopped_life (turn ∷ turns) e new stopped lives = elim (lives.1.behaves.step no_logs).1 [
     | inl is ↦
@@ -228,27 +262,34 @@ module _ {D : Type 0} (disk_of : D → Disk) where
   ]
 
   -- no reservation has its turn before the command has had it
-  commands_life : (turns : List (Transition D)) (e new : EndpointValue D) → Waits e → IsCommands e → Lives disk_of e turns new → NoneDone turns → reservations_made turns ≡ 0
+  commands_life : (turns : List (Transition D)) (e new : EndpointValue D) → Waits e → IsCommands e
+      → Lives disk_of e turns new → NoneDone turns → reservations_made turns ≡ 0
   commands_life [] e new waits commands lives free = refl
-  commands_life (turn ∷ turns) e new waits commands lives free = elim (uses disk_of e turn.after lives.0 waits turn.call turn.reply lives.1 free.0) [
-    | inl (stopped, none) ↦ omega (arith, none, stopped_life turns turn.after new stopped lives.2)
-    | inr (inl (none, keeps, wait)) ↦ omega (arith, none, commands_life turns turn.after new wait (keeps commands) lives.2 free.1)
-    | inr (inr (one, others, now, wait)) ↦ absurd (others commands)
-  ]
+  commands_life (turn ∷ turns) e new waits commands lives free =
+      elim (uses disk_of e turn.after lives.0 waits turn.call turn.reply lives.1 free.0) [
+        | inl (stopped, none) ↦ omega (arith, none, stopped_life turns turn.after new stopped lives.2)
+        | inr (inl (none, keeps, wait)) ↦ omega
+            (arith, none, commands_life turns turn.after new wait (keeps commands) lives.2 free.1)
+        | inr (inr (one, others, now, wait)) ↦ absurd (others commands)
+      ]
 
-  one_life : (turns : List (Transition D)) (e new : EndpointValue D) → Waits e → Lives disk_of e turns new → NoneDone turns → reservations_made turns ≤ 1
+  one_life : (turns : List (Transition D)) (e new : EndpointValue D) → Waits e → Lives disk_of e turns new
+      → NoneDone turns → reservations_made turns ≤ 1
   one_life [] e new waits lives free = omega arith
-  one_life (turn ∷ turns) e new waits lives free = elim (uses disk_of e turn.after lives.0 waits turn.call turn.reply lives.1 free.0) [
-    | inl (stopped, none) ↦ omega (arith, none, stopped_life turns turn.after new stopped lives.2)
-    | inr (inl (none, keeps, wait)) ↦ omega (arith, none, one_life turns turn.after new wait lives.2 free.1)
-    | inr (inr (one, others, now, wait)) ↦ omega (arith, one, commands_life turns turn.after new wait now lives.2 free.1)
-  ]
+  one_life (turn ∷ turns) e new waits lives free =
+      elim (uses disk_of e turn.after lives.0 waits turn.call turn.reply lives.1 free.0) [
+        | inl (stopped, none) ↦ omega (arith, none, stopped_life turns turn.after new stopped lives.2)
+        | inr (inl (none, keeps, wait)) ↦ omega (arith, none, one_life turns turn.after new wait lives.2 free.1)
+        | inr (inr (one, others, now, wait)) ↦ omega
+            (arith, one, commands_life turns turn.after new wait now lives.2 free.1)
+      ]
 
   waits_by : (e : EndpointValue D) (w : List Waiting) → e.waiting ≡ w → w ≢ [] → Waits e
   waits_by e [] is some = absurd (some refl)
   waits_by e (first ∷ rest) is some = (first, rest, is)
 
   -- while a command waits, and none is done with, one reservation at most uses its turn
-  pub one-between : (old new : EndpointValue D) (turns : List (Transition D)) → old.waiting ≢ [] → Lives disk_of old turns new → NoneDone turns
+  pub one-between : (old new : EndpointValue D) (turns : List (Transition D)) → old.waiting ≢ []
+      → Lives disk_of old turns new → NoneDone turns
       → reservations_made turns ≤ 1
   one-between old new turns some lives free = one_life turns old new (waits_by old old.waiting refl some) lives free

@@ -1,11 +1,15 @@
--- What a call does to packet numbers and to ceilings, where no frame passes: raises, and a command that was made durable, if one was.
+-- What a call does to packet numbers and to ceilings, where no frame passes: raises, and a command that was made
+-- durable, if one was.
 use Rattle.std.proofs.Common.{◌≡◌, ◌⊎◌, inl, inr, ℕ, List, Option, Some, None, Ok, Err, refl, sym, ◌∙◌, ap, subst}
 use Rattle.macs_config.specs.declared.command.Command.{Command}
 use Rattle.macs_rxsc.specs.Receive.{Numbers}
 use Rattle.macs_store.specs.Standing.{Standing, accept}
-use Rattle.macs_endpoint.specs.Ceilings.{CeilingsAfter, IsRefilled, Raise, StandsAfter, first_raise, standing_with_raise, standing_with_reserved}
+use Rattle.macs_endpoint.specs.Ceilings.{CeilingsAfter, IsRefilled, Raise, StandsAfter, first_raise}
+use Rattle.macs_endpoint.specs.Ceilings.{standing_with_raise, standing_with_reserved}
 use Rattle.macs_endpoint.specs.Queue.{first_command}
-use Rattle.macs_endpoint.specs.State.{Advanced, AdvancedLong, Advances, Call, Commands, Protected, Protects, Ran, Received, Receives, Refilled, Refills, RefusedLong, Reply, State, Submits, Submitted, command_made, rx_side, state_after_fault, state_with_in_hand, tx_side}
+use Rattle.macs_endpoint.specs.State.{Advanced, AdvancedLong, Advances, Call, Commands, Protected, Protects, Ran}
+use Rattle.macs_endpoint.specs.State.{Received, Receives, Refilled, Refills, RefusedLong, Reply, State, Submits}
+use Rattle.macs_endpoint.specs.State.{Submitted, command_made, rx_side, state_after_fault, state_with_in_hand, tx_side}
 use Rattle.macs_endpoint.specs.Step.{Step, next_after, numbers_after, state_with_waiting, state_without_first}
 use Rattle.macs_endpoint.specs.declared.fault.CommandFault.TheVariants as ran
 use Rattle.macs_endpoint.specs.declared.fault.RefillFault.TheVariants as refill
@@ -48,11 +52,13 @@ no-answer (inr runs) = runs.1
 module _ (s t : State) where
   -- a command that waited takes effect
   done_first : (made : Option Command) (first : Waiting) → made ≡ Some first.command
-      → (t.next ≡ next_after first.command s.next) × (t.numbers ≡ numbers_after first.command s.numbers) → Changes s made t
+      → (t.next ≡ next_after first.command s.next) × (t.numbers ≡ numbers_after first.command s.numbers)
+      → Changes s made t
   done_first made first is changed = subst (λ (o : Option Command). Changes s o t) (sym is) changed
 
   -- what a call does to packet numbers
-  pub call-changes : (call : Call) (reply : Reply) → PassesNone call → Step s call reply t → Changes s (command_made s call reply) t
+  pub call-changes : (call : Call) (reply : Reply) → PassesNone call → Step s call reply t
+      → Changes s (command_made s call reply) t
   call-changes (Commands command) (Ran (Ok done)) quiet (inl stopped) = absurd stopped.1
   call-changes (Commands command) (Ran (Ok done)) quiet (inr runs) =
       (ap (λ (x : State). x.next) runs.1.1.2, ap (λ (x : State). x.numbers) runs.1.1.2)
@@ -60,7 +66,8 @@ module _ (s t : State) where
   call-changes (Commands command) (Ran (Err ran.Busy)) quiet (inr runs) = same s t runs.1.1
   call-changes (Commands command) (Ran (Err (ran.Refused refusal))) quiet (inr runs) = same s t runs.1.2
   call-changes (Commands command) (Ran (Err ran.GenerationsSpent)) quiet (inr runs) = same s t runs.1.2
-  call-changes (Commands command) (Ran (Err ran.Disk)) quiet (inr runs) = same (state_after_fault (state_with_in_hand s command)) t runs.1.2
+  call-changes (Commands command) (Ran (Err ran.Disk)) quiet (inr runs) =
+      same (state_after_fault (state_with_in_hand s command)) t runs.1.2
   call-changes (Commands command) (Ran (Err ran.Stopped)) quiet (inr runs) = absurd runs.1
   call-changes (Commands command) (Refilled result) quiet made = absurd (no-answer made)
   call-changes (Commands command) (Submitted result) quiet made = absurd (no-answer made)
@@ -84,7 +91,8 @@ module _ (s t : State) where
   call-changes Refills (Protected result out) quiet made = absurd (no-answer made)
   call-changes Refills (Received result out) quiet made = absurd (no-answer made)
   call-changes (Submits command) (Submitted result) quiet (inl stopped) = same s t stopped.2
-  call-changes (Submits command) (Submitted (Ok ticket)) quiet (inr runs) = same (state_with_waiting s command) t runs.1.3
+  call-changes (Submits command) (Submitted (Ok ticket)) quiet (inr runs) =
+      same (state_with_waiting s command) t runs.1.3
   call-changes (Submits command) (Submitted (Err submit.QueueFull)) quiet (inr runs) = same s t runs.1.1
   call-changes (Submits command) (Submitted (Err submit.TicketsSpent)) quiet (inr runs) = same s t runs.1.2
   call-changes (Submits command) (Submitted (Err submit.Stopped)) quiet (inr runs) = absurd runs.1
@@ -107,8 +115,10 @@ module _ (s t : State) where
       let made = runs.1.4 in
       done_first (first_command s.waiting) first (ap first_command runs.1.2)
       (ap (λ (x : State). x.next) made.2, ap (λ (x : State). x.numbers) made.2)
-  call-changes Advances (Advanced (Ok (Done ticket (Err (ran.Refused refusal))))) quiet (inr runs) = same (state_without_first s runs.1.1) t runs.1.4.2
-  call-changes Advances (Advanced (Ok (Done ticket (Err ran.GenerationsSpent)))) quiet (inr runs) = same (state_without_first s runs.1.1) t runs.1.4.2
+  call-changes Advances (Advanced (Ok (Done ticket (Err (ran.Refused refusal))))) quiet (inr runs) =
+      same (state_without_first s runs.1.1) t runs.1.4.2
+  call-changes Advances (Advanced (Ok (Done ticket (Err ran.GenerationsSpent)))) quiet (inr runs) =
+      same (state_without_first s runs.1.1) t runs.1.4.2
   call-changes Advances (Advanced (Ok (Done ticket (Err ran.Stopped)))) quiet (inr runs) = absurd runs.1.4
   call-changes Advances (Advanced (Ok (Done ticket (Err ran.Busy)))) quiet (inr runs) = absurd runs.1.4
   call-changes Advances (Advanced (Ok (Done ticket (Err ran.Disk)))) quiet (inr runs) = absurd runs.1.4
@@ -116,7 +126,8 @@ module _ (s t : State) where
   call-changes Advances (Advanced (Err step.GenerationsSpent)) quiet (inr runs) = same s t runs.1
   call-changes Advances (Advanced (Err step.Disk)) quiet (inr runs) = elim runs.1 [
     | inl is ↦ same (state_after_fault s) t is
-    | inr taken ↦ same (state_after_fault (state_with_in_hand s taken.1.0.command)) t (taken.2 ∙ ap state_after_fault taken.1.5)
+    | inr taken ↦ same (state_after_fault (state_with_in_hand s taken.1.0.command)) t
+        (taken.2 ∙ ap state_after_fault taken.1.5)
   ]
   call-changes Advances (Advanced (Err step.Stopped)) quiet (inr runs) = absurd runs.1
   call-changes Advances (Ran result) quiet made = absurd (no-answer made)
@@ -133,11 +144,14 @@ module _ (s t : State) where
 -- ---- the standing
 
 -- P holds of the standing until a command takes effect, which is one that is spared, and Q after it
-module _ (s : State) (f g : Standing) (reserving : Option Raise) (P : Standing → Type 0) (Q : Option Command → Standing → Type 0) (Spares : Option Command → Type 0)
-    (raised : (x : Standing) (raise : Raise) → first_raise x (tx_side s) (rx_side s) ≡ Some raise → P x → P (standing_with_raise x raise))
+module _ (s : State) (f g : Standing) (reserving : Option Raise) (P : Standing → Type 0) (Q : Option Command → Standing
+    → Type 0) (Spares : Option Command → Type 0)
+    (raised : (x : Standing) (raise : Raise) → first_raise x (tx_side s) (rx_side s) ≡ Some raise → P x
+    → P (standing_with_raise x raise))
     (reserved : (raise : Raise) → reserving ≡ Some raise → P f → P (standing_with_raise f raise))
     (none : (x : Standing) → P x → Q None x)
-    (made : (command : Command) (x y : Standing) → accept x command ≡ Ok y → Spares (Some command) → P x → Q (Some command) y) where
+    (made : (command : Command) (x y : Standing) → accept x command ≡ Ok y → Spares (Some command) → P x
+    → Q (Some command) y) where
   -- the reservation under way is done
   reserved_by : (o : Option Raise) → reserving ≡ o → P f → P (standing_with_reserved f o)
   reserved_by None is holds = holds
@@ -150,12 +164,15 @@ module _ (s : State) (f g : Standing) (reserving : Option Raise) (P : Standing �
   after_made None stands spares holds = to f stands holds
   after_made (Some command) stands spares holds = made command f g stands spares holds
 
-  refilled : (next : Option Raise) → IsRefilled (tx_side s) (rx_side s) (standing_with_reserved f reserving) g next → P f → Q None g
+  refilled : (next : Option Raise) → IsRefilled (tx_side s) (rx_side s) (standing_with_reserved f reserving) g next
+      → P f → Q None g
   refilled next is holds =
-      none g (raises-keep (tx_side s) (rx_side s) P raised (standing_with_reserved f reserving) g is.raises is.raised (reserved_by reserving refl holds))
+      none g (raises-keep (tx_side s) (rx_side s) P raised (standing_with_reserved f reserving) g is.raises is.raised
+      (reserved_by reserving refl holds))
 
   -- through a call
-  pub stands-keep : (call : Call) (reply : Reply) → CeilingsAfter s f reserving call reply g → Spares (command_made s call reply) → P f
+  pub stands-keep : (call : Call) (reply : Reply) → CeilingsAfter s f reserving call reply g
+      → Spares (command_made s call reply) → P f
       → Q (command_made s call reply) g
   stands-keep (Commands command) (Ran (Ok done)) stands spares holds =
       made command (standing_with_reserved f reserving) g stands spares (reserved_by reserving refl holds)
@@ -176,7 +193,8 @@ module _ (s : State) (f g : Standing) (reserving : Option Raise) (P : Standing �
   stands-keep (Commands command) (Protected result out) stands spares holds = to f stands holds
   stands-keep (Commands command) (Received result out) stands spares holds = to f stands holds
   stands-keep Refills (Refilled (Ok done)) stands spares holds = refilled None stands holds
-  stands-keep Refills (Refilled (Err refill.GenerationsSpent)) stands spares holds = refilled (Some stands.0) stands.1 holds
+  stands-keep Refills (Refilled (Err refill.GenerationsSpent)) stands spares holds =
+      refilled (Some stands.0) stands.1 holds
   stands-keep Refills (Refilled (Err refill.Disk)) stands spares holds = elim stands [
     | inl held ↦ to f held.2 holds
     | inr is ↦ refilled (Some is.0) is.1 holds
@@ -192,8 +210,10 @@ module _ (s : State) (f g : Standing) (reserving : Option Raise) (P : Standing �
   stands-keep Refills (Received result out) stands spares holds = to f stands holds
   stands-keep Advances (Advanced (Ok Idle)) stands spares holds = to f stands holds
   stands-keep Advances (Advanced (Ok Worked)) stands spares holds = to f stands holds
-  stands-keep Advances (Advanced (Ok Reserved)) stands spares holds = to (standing_with_raise f stands.0) stands.2 (reserved stands.0 stands.1 holds)
-  stands-keep Advances (Advanced (Ok (Done ticket (Ok done)))) stands spares holds = after_made (first_command s.waiting) stands spares holds
+  stands-keep Advances (Advanced (Ok Reserved)) stands spares holds =
+      to (standing_with_raise f stands.0) stands.2 (reserved stands.0 stands.1 holds)
+  stands-keep Advances (Advanced (Ok (Done ticket (Ok done)))) stands spares holds =
+      after_made (first_command s.waiting) stands spares holds
   stands-keep Advances (Advanced (Ok (Done ticket (Err fault)))) stands spares holds = to f stands holds
   stands-keep Advances (Advanced (Err fault)) stands spares holds = to f stands holds
   stands-keep Advances (Ran result) stands spares holds = to f stands holds
@@ -210,7 +230,8 @@ module _ (s : State) (f g : Standing) (reserving : Option Raise) (P : Standing �
 -- ---- a command that was made durable
 
 -- no frame passes in the call that made it durable
-pub made-quiet : (s : State) (call : Call) (reply : Reply) (command : Command) → command_made s call reply ≡ Some command → PassesNone call
+pub made-quiet : (s : State) (call : Call) (reply : Reply) (command : Command)
+    → command_made s call reply ≡ Some command → PassesNone call
 made-quiet s (Commands other) reply command made = tt
 made-quiet s Refills reply command made = tt
 made-quiet s (Submits other) reply command made = tt
@@ -224,8 +245,10 @@ IsAcceptedTo None new = Unit {0}
 IsAcceptedTo (Some command) new = (old : Standing) × (accept old command ≡ Ok new)
 
 -- so it is with the one that a call made durable
-pub made-accepted : (s : State) (f g : Standing) (reserving : Option Raise) (call : Call) (reply : Reply) → CeilingsAfter s f reserving call reply g
+pub made-accepted : (s : State) (f g : Standing) (reserving : Option Raise) (call : Call) (reply : Reply)
+    → CeilingsAfter s f reserving call reply g
     → IsAcceptedTo (command_made s call reply) g
 made-accepted s f g reserving call reply stands =
-    stands-keep s f g reserving (λ (x : Standing). Unit {0}) IsAcceptedTo (λ (o : Option Command). Unit {0}) (λ x raise first holds. tt)
+    stands-keep s f g reserving (λ (x : Standing). Unit {0}) IsAcceptedTo (λ (o : Option Command). Unit {0})
+    (λ x raise first holds. tt)
     (λ raise is holds. tt) (λ x holds. tt) (λ command x y is spares holds. (x, is)) call reply stands tt tt

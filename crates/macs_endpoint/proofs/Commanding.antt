@@ -1,5 +1,6 @@
 -- A command that does not wait: it is kept and followed, or refused, or cut short.
-use Rattle.std.proofs.Common.{◌≡◌, ◌≤◌, ◌+◌, [], inl, inr, ℕ, true, false, not, ◌&&◌, if◌then◌else◌, List, Option, Some, None, Result, Ok, Err, is_ok, IsOk, refl, sym, ◌∙◌, ap, subst, arith}
+use Rattle.std.proofs.Common.{◌≡◌, ◌≤◌, ◌+◌, [], inl, inr, ℕ, true, false, not, ◌&&◌, if◌then◌else◌, List, Option, Some}
+use Rattle.std.proofs.Common.{None, Result, Ok, Err, is_ok, IsOk, refl, sym, ◌∙◌, ap, subst, arith}
 use Rattle.macs_config.specs.Apply.{IsCommand, Named, Reason, apply}
 use Rattle.macs_config.specs.Config.{Config, this_edition}
 use Rattle.macs_config.specs.Identity.{IsIdentity}
@@ -15,7 +16,8 @@ use Rattle.macs_txsc.specs.declared.channel.Tx.{Tx}
 use Rattle.macs_rxsc.specs.Receive.{Numbers}
 use Rattle.macs_rxsc.specs.Value as rxsc
 use Rattle.macs_store.specs.Found.{CommitLeaves}
-use Rattle.macs_store.specs.Keeps.{Commits, generation_after, generation_with_change, most_calls, most_with_change, slots_after, slots_with_change}
+use Rattle.macs_store.specs.Keeps.{Commits, generation_after, generation_with_change, most_calls, most_with_change}
+use Rattle.macs_store.specs.Keeps.{slots_after, slots_with_change}
 use Rattle.macs_store.specs.Value.{IsIdle, calls_left, generation_then, slots_then, standing_in}
 use Rattle.macs_store.specs.Value as store
 use Rattle.macs_store.specs.Standing.{Standing, accept, ceilings_after, standing_or_refusal}
@@ -33,7 +35,8 @@ use Rattle.macs_endpoint.specs.Restart.{Fits, FitsCall, state_during, state_taki
 use Rattle.macs_endpoint.specs.RefillCosts.{reserved_in}
 use Rattle.macs_endpoint.specs.State.{Accepts, Commands, Logs, Ran, State, state_after_fault, state_with_in_hand}
 use Rattle.macs_endpoint.specs.Step.{Step, next_after, numbers_after}
-use Rattle.macs_endpoint.specs.Value.{AreChannels, EndpointValue, IsBacked, IsSoundEndpoint, disk_in, is_stopped, state_of}
+use Rattle.macs_endpoint.specs.Value.{AreChannels, EndpointValue, IsBacked, IsSoundEndpoint, disk_in, is_stopped}
+use Rattle.macs_endpoint.specs.Value.{state_of}
 use Rattle.macs_endpoint.specs.declared.fault.CommandFault.{CommandFault}
 use Rattle.macs_endpoint.specs.declared.fault.CommandFault.TheVariants.{Busy, Disk, GenerationsSpent, Refused, Stopped}
 use Rattle.macs_endpoint.specs.declared.queue.Waiting.{Waiting}
@@ -45,7 +48,8 @@ use Rattle.macs_endpoint.proofs.InHand.{at-rest, kept-backed}
 
 -- ---- refusals
 
-pub by_accepted : (s : Standing) (command : Command) (result : Result Config Reason) → IsOk (standing_or_refusal s command result) → IsOk result
+pub by_accepted : (s : Standing) (command : Command) (result : Result Config Reason)
+    → IsOk (standing_or_refusal s command result) → IsOk result
 by_accepted s command (Ok config) is = refl
 by_accepted s command (Err refusal) is = absurd cc
 
@@ -56,10 +60,12 @@ during-held s command none running accepts =
     ap (λ (waiting : List Waiting). state_taking_alone s command waiting) none
     ∙ (λ i. if not (running i) && accepts i then state_with_in_hand s command else s)
 
-module _ {D : Type 0} (disk_of : D → disk.Disk) (e : EndpointValue D) (command : Command) (ranges : IsCommand command) where
+module _ {D : Type 0} (disk_of : D → disk.Disk) (e : EndpointValue D) (command : Command)
+    (ranges : IsCommand command) where
   -- nothing changes but whose turn it is
   unmoved : (fault : CommandFault) (other : EndpointValue D) → other.tx ≡ e.tx → other.rx ≡ e.rx
-      → ((logs : Logs) → Step (state_of e logs) (Commands command) (Ran (Err fault)) (state_of (record other { store = e.store }) logs))
+      → ((logs : Logs) → Step (state_of e logs) (Commands command) (Ran (Err fault))
+      (state_of (record other { store = e.store }) logs))
       → Fails (disk_in disk_of e) (disk_in disk_of e) (Ran (Err fault))
       → StandsRan (standing_in e.store) e.reserving command (Err fault) (standing_in e.store)
       → IsLimited e (Commands command) (Ran (Err fault)) (record other { store = e.store })
@@ -68,19 +74,20 @@ module _ {D : Type 0} (disk_of : D → disk.Disk) (e : EndpointValue D) (command
       → other.turn ≡ turn_after e (Commands command) (Ran (Err fault))
       → (IsBacked disk_of e → IsBacked disk_of (record other { store = e.store }))
       → IsCall disk_of e (Commands command) (Ran (Err fault)) (record other { store = e.store })
-  unmoved fault other tx rx step fails stands limited still rests whose backs = alone-call disk_of e other (Commands command) (Ran (Err fault)) fails backs (record {
-    in_range = ranges;
-    step = λ logs. (logs, step logs);
-    ceilings = stands;
-    limited = limited;
-    still = still;
-    rests = rests;
-    advances = tt;
-    turn = whose;
-    tx_counters = ap txsc.counters_of tx;
-    rx_counters = ap rxsc.counters_of rx;
-    channel_counters = ap rxsc.channel_counters_of rx;
-  })
+  unmoved fault other tx rx step fails stands limited still rests whose backs =
+      alone-call disk_of e other (Commands command) (Ran (Err fault)) fails backs (record {
+        in_range = ranges;
+        step = λ logs. (logs, step logs);
+        ceilings = stands;
+        limited = limited;
+        still = still;
+        rests = rests;
+        advances = tt;
+        turn = whose;
+        tx_counters = ap txsc.counters_of tx;
+        rx_counters = ap rxsc.counters_of rx;
+        channel_counters = ap rxsc.channel_counters_of rx;
+      })
 
   quick : (disk_in disk_of e).clock ≤ (disk_in disk_of e).clock + most_in_command e
   quick = omega arith
@@ -114,7 +121,8 @@ module _ {D : Type 0} (disk_of : D → disk.Disk) (e : EndpointValue D) (command
       → apply this_edition (standing_in e.store).identity (standing_in e.store).config command ≡ Err (Named refusal)
       → KeepsCommand disk_of e command (Err (Refused refusal)) (record e { turn = turn.Reservation })
   refused-command refusal running none refused = record {
-    call = unmoved (Refused refusal) (record e { turn = turn.Reservation }) refl refl (λ logs. inr (running, (none, refused, refl))) refl refl tt refl tt refl turned_backed;
+    call = unmoved (Refused refusal) (record e { turn = turn.Reservation }) refl refl
+        (λ logs. inr (running, (none, refused, refl))) refl refl tt refl tt refl turned_backed;
     slots = tt;
     generation = tt;
     most = quick;
@@ -127,10 +135,13 @@ pub ok_not_err : {X : Type 0} (result : Result X Reason) (reason : Reason) → I
 ok_not_err (Ok x) reason is not = absurd cc
 ok_not_err (Err other) reason is not = absurd cc
 
-module _ {D : Type 0} (disk_of : D → disk.Disk) (e : EndpointValue D) (kept : IsSoundEndpoint e) (command : Command) (ranges : IsCommand command)
-    (running : is_stopped e ≡ false) (idle : IsIdle e.store) (none : e.waiting ≡ []) (accepted : IsOk (accept (standing_in e.store) command)) where
+module _ {D : Type 0} (disk_of : D → disk.Disk) (e : EndpointValue D) (kept : IsSoundEndpoint e) (command : Command)
+    (ranges : IsCommand command)
+    (running : is_stopped e ≡ false) (idle : IsIdle e.store) (none : e.waiting ≡ [])
+    (accepted : IsOk (accept (standing_in e.store) command)) where
   accepts : IsOk (apply this_edition (standing_in e.store).identity (standing_in e.store).config command)
-  accepts = by_accepted (standing_in e.store) command (apply this_edition (standing_in e.store).identity (standing_in e.store).config command) accepted
+  accepts = by_accepted (standing_in e.store) command
+      (apply this_edition (standing_in e.store).identity (standing_in e.store).config command) accepted
 
   free : e.reserving ≡ None
   free = (at-rest e kept idle).reserving
@@ -141,19 +152,24 @@ module _ {D : Type 0} (disk_of : D → disk.Disk) (e : EndpointValue D) (kept : 
   few_calls : (old new : ℕ) → new ≤ old + most_calls e.store → new ≤ old + most_in_command e
   few_calls old new within =
       let same : most_with_change (slots_then e.store) (reserved_in e) ≡ most_calls e.store =
-      λ i. most_with_change (store.slots_with e.store (idle i)) (standing_with_reserved (standing_in e.store) (free i)) in
+      λ i. most_with_change (store.slots_with e.store (idle i))
+      (standing_with_reserved (standing_in e.store) (free i)) in
       omega (arith, within, same)
 
   -- no work is under way, so a change leaves what it leaves of the store as it is
   same_slots : slots_after e.store ≡ slots_with_change (slots_then e.store) (reserved_in e)
-  same_slots = λ i. slots_with_change (store.slots_with e.store (sym idle i)) (standing_with_reserved (standing_in e.store) (sym free i))
+  same_slots = λ i. slots_with_change (store.slots_with e.store (sym idle i))
+      (standing_with_reserved (standing_in e.store) (sym free i))
 
   same_generation : generation_after e.store ≡ generation_with_change (slots_then e.store) (generation_then e.store)
-  same_generation = λ i. generation_with_change (store.slots_with e.store (sym idle i)) (store.generation_with e.store (sym idle i))
+  same_generation =
+      λ i. generation_with_change (store.slots_with e.store (sym idle i)) (store.generation_with e.store (sym idle i))
 
-  stands_ran : (result : Result (Unit {0}) CommandFault) (s : Standing) → StandsRan (standing_in e.store) None command result s
+  stands_ran : (result : Result (Unit {0}) CommandFault) (s : Standing)
+      → StandsRan (standing_in e.store) None command result s
       → StandsRan (standing_in e.store) e.reserving command result s
-  stands_ran result s stands = subst (λ (o : Option Raise). StandsRan (standing_in e.store) o command result s) (sym free) stands
+  stands_ran result s stands =
+      subst (λ (o : Option Raise). StandsRan (standing_in e.store) o command result s) (sym free) stands
 
   -- the journal cannot start over
   pub spent-command : (s : store.StoreValue D) → Commits disk_of e.store command (Err commit.GenerationsSpent) s
@@ -164,10 +180,12 @@ module _ {D : Type 0} (disk_of : D → disk.Disk) (e : EndpointValue D) (kept : 
         | inr is ↦ is
       ] in
       let spent = (commits.spent.0 refl).1 in
-      subst (λ (x : store.StoreValue D). KeepsCommand disk_of e command (Err GenerationsSpent) (record e { store = x; turn = turn.Reservation })) (sym same)
+      subst (λ (x : store.StoreValue D). KeepsCommand disk_of e command (Err GenerationsSpent)
+      (record e { store = x; turn = turn.Reservation })) (sym same)
       (record {
         call = unmoved disk_of e command ranges GenerationsSpent (record e { turn = turn.Reservation }) refl refl
-            (λ logs. inr (running, (none, accepts, refl))) refl (stands_ran (Err GenerationsSpent) (standing_in e.store) refl) spent (λ rests. refl) idle refl
+            (λ logs. inr (running, (none, accepts, refl))) refl
+            (stands_ran (Err GenerationsSpent) (standing_in e.store) refl) spent (λ rests. refl) idle refl
             (turned_backed disk_of e command ranges);
         slots = tt;
         generation = tt;
@@ -175,14 +193,18 @@ module _ {D : Type 0} (disk_of : D → disk.Disk) (e : EndpointValue D) (kept : 
         spent = λ is. no_call disk_of e command ranges;
       })
 
-  moments : (new : disk.Disk) (later : State) (logs : Logs) → IsBacked disk_of e → Leaves (disk_in disk_of e) new (CommitLeaves (standing_in e.store) command)
+  moments : (new : disk.Disk) (later : State) (logs : Logs) → IsBacked disk_of e
+      → Leaves (disk_in disk_of e) new (CommitLeaves (standing_in e.store) command)
       → Leaves (disk_in disk_of e) new (FitsCall (disk_in disk_of e).sectors (state_of e logs) (Commands command) later)
   moments new later logs backed leaves =
       let sectors = (disk_in disk_of e).sectors in
       let old = state_of e logs in
-      Leaves-weaker (disk_in disk_of e) new (CommitLeaves (standing_in e.store) command) (FitsCall sectors old (Commands command) later)
-      (λ image left. inl (subst (λ (s : State). Fits this_edition sectors image s) (sym (during-held old command none running accepts))
-      (fits-commit sectors image backed.size (state_with_in_hand old command) (standing_in e.store).ceilings command (kept-ahead e kept) ranges refl left)))
+      Leaves-weaker (disk_in disk_of e) new (CommitLeaves (standing_in e.store) command)
+      (FitsCall sectors old (Commands command) later)
+      (λ image left. inl
+      (subst (λ (s : State). Fits this_edition sectors image s) (sym (during-held old command none running accepts))
+      (fits-commit sectors image backed.size (state_with_in_hand old command) (standing_in e.store).ceilings command
+      (kept-ahead e kept) ranges refl left)))
       leaves
 
   -- ---- a device call failed
@@ -199,7 +221,12 @@ module _ {D : Type 0} (disk_of : D → disk.Disk) (e : EndpointValue D) (kept : 
 
     pub cut-kept : IsSoundEndpoint cut
     cut-kept = kept-held e cut kept cut_same kept.few kept.tickets
-        (inl (record { store = commits.idle; reserving = free; in_hand = λ going. absurd (not_stopped (store.is_stopped s) cut_stopped going) }))
+        (inl (record {
+          store = commits.idle;
+          reserving = free;
+          in_hand =
+              λ going. absurd (not_stopped (store.is_stopped s) cut_stopped going);
+        }))
 
     cut_state : (logs : Logs) → state_of cut logs ≡ state_after_fault (state_with_in_hand (state_of e logs) command)
     cut_state logs = λ i. record {
@@ -218,15 +245,19 @@ module _ {D : Type 0} (disk_of : D → disk.Disk) (e : EndpointValue D) (kept : 
     cut_backed : IsHonest (disk_in disk_of cut) → IsBacked disk_of e → IsBacked disk_of cut
     cut_backed honest backed =
         let sectors = (disk_in disk_of cut).sectors in
-        let size : least_sectors ≤ sectors = subst (λ (n : ℕ). least_sectors ≤ n) (sym commits.work.works.sectors) backed.size in
+        let size : least_sectors ≤ sectors =
+        subst (λ (n : ℕ). least_sectors ≤ n) (sym commits.work.works.sectors) backed.size in
         let leaves = commits.any_moment honest (backed.stored running) in
         record {
           size = size;
           stored = λ going. absurd (not_stopped (store.is_stopped s) cut_stopped going);
           fits = λ logs image left. subst (λ (x : State). Fits this_edition sectors image x) (sym (cut_state logs))
-              (fits-commit sectors image size (state_after_fault (state_with_in_hand (state_of e logs) command)) (standing_in e.store).ceilings command (kept-ahead e kept) ranges refl
-              (Leaves-now (disk_in disk_of e) (disk_in disk_of cut) (CommitLeaves (standing_in e.store) command) leaves image left));
-          form = λ image left. (Leaves-now (disk_in disk_of e) (disk_in disk_of cut) (CommitLeaves (standing_in e.store) command) leaves image left).1;
+              (fits-commit sectors image size (state_after_fault (state_with_in_hand (state_of e logs) command))
+              (standing_in e.store).ceilings command (kept-ahead e kept) ranges refl
+              (Leaves-now (disk_in disk_of e) (disk_in disk_of cut) (CommitLeaves (standing_in e.store) command) leaves
+              image left));
+          form = λ image left. (Leaves-now (disk_in disk_of e) (disk_in disk_of cut)
+              (CommitLeaves (standing_in e.store) command) leaves image left).1;
         }
 
     pub cut-command : KeepsCommand disk_of e command (Err Disk) cut
@@ -247,7 +278,8 @@ module _ {D : Type 0} (disk_of : D → disk.Disk) (e : EndpointValue D) (kept : 
         };
         device = record { works = commits.work.works; fails = commits.work.fails };
         survives = λ honest backed. record {
-          any_moment = λ logs later. moments (disk_in disk_of cut) (state_of cut later) logs backed (commits.any_moment honest (backed.stored running));
+          any_moment = λ logs later. moments (disk_in disk_of cut) (state_of cut later) logs backed
+              (commits.any_moment honest (backed.stored running));
           backed = cut_backed honest backed;
         };
       };
@@ -271,7 +303,8 @@ module _ {D : Type 0} (disk_of : D → disk.Disk) (e : EndpointValue D) (kept : 
         let old = standing_in e.store in
         let parts = accept-parts old command (standing_in s) commits.done in
         let made = parts.2 in
-        let first = command-ahead old.identity command (txsc.tx_side_of e.tx).next (rxsc.rx_side_of e.rx).numbers old.ceilings ranges
+        let first = command-ahead old.identity command (txsc.tx_side_of e.tx).next (rxsc.rx_side_of e.rx).numbers
+        old.ceilings ranges
         (accepted-in_range old command (ap is_ok commits.done)).0 (kept-ahead e kept) in
         let second : AreAhead old.identity (txsc.tx_side_of tx).next (rxsc.rx_side_of rx).numbers
         (ceilings_after old.identity command old.ceilings) =
@@ -279,8 +312,10 @@ module _ {D : Type 0} (disk_of : D → disk.Disk) (e : EndpointValue D) (kept : 
         (ceilings_after old.identity command old.ceilings)) (sym numbers)
         (subst (λ (n : ℕ → Option ℕ). AreAhead old.identity n (numbers_after command (rxsc.rx_side_of e.rx).numbers)
         (ceilings_after old.identity command old.ceilings)) (sym next) first) in
-        let third : AreAhead (standing_in s).identity (txsc.tx_side_of tx).next (rxsc.rx_side_of rx).numbers (standing_in s).ceilings =
-        subst (λ (x : Standing). AreAhead x.identity (txsc.tx_side_of tx).next (rxsc.rx_side_of rx).numbers x.ceilings) (sym made) second in
+        let third : AreAhead (standing_in s).identity (txsc.tx_side_of tx).next (rxsc.rx_side_of rx).numbers
+        (standing_in s).ceilings =
+        subst (λ (x : Standing). AreAhead x.identity (txsc.tx_side_of tx).next (rxsc.rx_side_of rx).numbers x.ceilings)
+        (sym made) second in
         record {
           identity = subst (λ (x : Standing). IsIdentity x.identity) (sym made) kept.identity;
           channels = channels;
@@ -336,7 +371,8 @@ module _ {D : Type 0} (disk_of : D → disk.Disk) (e : EndpointValue D) (kept : 
             };
             device = record { works = commits.work.works; fails = commits.work.fails };
             survives = λ honest backed. record {
-              any_moment = λ logs later. moments (disk_in disk_of done) (state_of done later) logs backed (commits.any_moment honest (backed.stored running));
+              any_moment = λ logs later. moments (disk_in disk_of done) (state_of done later) logs backed
+                  (commits.any_moment honest (backed.stored running));
               backed = kept-backed done done-kept disk_of
                   (subst (λ (n : ℕ). least_sectors ≤ n) (sym commits.work.works.sectors) backed.size)
                   (commits.stored honest (backed.stored running));
@@ -349,8 +385,10 @@ module _ {D : Type 0} (disk_of : D → disk.Disk) (e : EndpointValue D) (kept : 
         }
 
   -- no other refusal is left
-  pub spent_only : (at : CommitFault) (s : store.StoreValue D) → (¬ (at ≡ commit.Disk)) → Commits disk_of e.store command (Err at) s → at ≡ commit.GenerationsSpent
+  pub spent_only : (at : CommitFault) (s : store.StoreValue D) → (¬ (at ≡ commit.Disk))
+      → Commits disk_of e.store command (Err at) s → at ≡ commit.GenerationsSpent
   spent_only commit.Stopped s other commits = absurd (not_stopped (is_stopped e) (commits.stopped.0 refl) running)
-  spent_only (commit.Refused refusal) s other commits = absurd (ok_not_err (accept (standing_in e.store) command) (Named refusal) accepted ((commits.refused refusal).0 refl).1)
+  spent_only (commit.Refused refusal) s other commits = absurd
+      (ok_not_err (accept (standing_in e.store) command) (Named refusal) accepted ((commits.refused refusal).0 refl).1)
   spent_only commit.GenerationsSpent s other commits = refl
   spent_only commit.Disk s other commits = absurd (other refl)

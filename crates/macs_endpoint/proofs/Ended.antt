@@ -1,5 +1,6 @@
 -- Work under way that goes on, is done, or is cut short by a fault, and a reservation that ends so.
-use Rattle.std.proofs.Common.{◌≡◌, ◌≤◌, ◌+◌, ◌⊎◌, inl, inr, ℕ, Bool, true, false, length, Option, Some, None, Result, Ok, Err, refl, sym, ◌∙◌, ap, subst, arith}
+use Rattle.std.proofs.Common.{◌≡◌, ◌≤◌, ◌+◌, ◌⊎◌, inl, inr, ℕ, Bool, true, false, length, Option, Some, None, Result}
+use Rattle.std.proofs.Common.{Ok, Err, refl, sym, ◌∙◌, ap, subst, arith}
 use Rattle.std.specs.Prelude.{IsErrOf}
 use Rattle.macs_config.specs.Config.{this_edition}
 use Rattle.macs_config.specs.Identity.{Identity, IsIdentity}
@@ -32,7 +33,8 @@ use Rattle.macs_endpoint.specs.Calls.{Fails}
 use Rattle.macs_endpoint.specs.Limits.{IsLimited}
 use Rattle.macs_endpoint.specs.Reserving.{FitsState, Raised, ReservationEnds, ReserveStep, Reserves}
 use Rattle.macs_endpoint.specs.State.{Logs, Refilled, Refills, State, state_after_fault}
-use Rattle.macs_endpoint.specs.Value.{AreChannels, AreWithin, EndpointValue, IsAtRest, IsBacked, IsKeeping, IsRaiseWithin, IsReserving, IsSoundEndpoint, disk_in, is_stopped, state_of}
+use Rattle.macs_endpoint.specs.Value.{AreChannels, AreWithin, EndpointValue, IsAtRest, IsBacked, IsKeeping}
+use Rattle.macs_endpoint.specs.Value.{IsRaiseWithin, IsReserving, IsSoundEndpoint, disk_in, is_stopped, state_of}
 use Rattle.macs_endpoint.specs.declared.fault.RefillFault.{RefillFault}
 use Rattle.macs_endpoint.specs.declared.fault.RefillFault.TheVariants as refill
 use Rattle.macs_endpoint.specs.declared.turn.Turn.{Turn}
@@ -44,7 +46,8 @@ use Rattle.macs_endpoint.proofs.InHand.{at-rest, cut-backed, fits-moments, kept-
 -- ---- what the store says of its work
 
 -- the work of a store is done, and this is the standing
-pub record IsDone {D : Type 0} (disk_of : D → disk.Disk) (old : store.StoreValue D) (after : Standing) (new : store.StoreValue D) : Type 0 where
+pub record IsDone {D : Type 0} (disk_of : D → disk.Disk) (old : store.StoreValue D) (after : Standing)
+    (new : store.StoreValue D) : Type 0 where
   pub stands : standing_in new ≡ after
   pub running : store.is_stopped new ≡ false
   pub idle : IsIdle new
@@ -54,7 +57,8 @@ pub record IsDone {D : Type 0} (disk_of : D → disk.Disk) (old : store.StoreVal
   pub stored : IsHonest (store.disk_in disk_of new) → IsStored disk_of old → IsStored disk_of new
 
 -- a device call failed, and the standing is as it was
-pub record IsCut {D : Type 0} (disk_of : D → disk.Disk) (old : store.StoreValue D) (after : Standing) (new : store.StoreValue D) : Type 0 where
+pub record IsCut {D : Type 0} (disk_of : D → disk.Disk) (old : store.StoreValue D) (after : Standing)
+    (new : store.StoreValue D) : Type 0 where
   pub stands : standing_in new ≡ standing_in old
   pub stopped : store.is_stopped new ≡ true
   pub idle : IsIdle new
@@ -62,7 +66,8 @@ pub record IsCut {D : Type 0} (disk_of : D → disk.Disk) (old : store.StoreValu
   pub any_moment : IsHonest (store.disk_in disk_of new) → IsStored disk_of old
       → Leaves (store.disk_in disk_of old) (store.disk_in disk_of new) (StandsForEither (standing_in old) after)
 
-module _ {D : Type 0} (disk_of : D → disk.Disk) (old : store.StoreValue D) (after : Standing) (leads : standing_then old ≡ Some after) (new : store.StoreValue D) where
+module _ {D : Type 0} (disk_of : D → disk.Disk) (old : store.StoreValue D) (after : Standing)
+    (leads : standing_then old ≡ Some after) (new : store.StoreValue D) where
   pub finish-done : store.is_stopped old ≡ false → Finishes disk_of old (Ok tt) new → IsDone disk_of old after new
   finish-done running finishes = record {
     stands = some_is (standing_in new) after (sym finishes.done ∙ leads);
@@ -73,7 +78,8 @@ module _ {D : Type 0} (disk_of : D → disk.Disk) (old : store.StoreValue D) (af
     stored = finishes.stored;
   }
 
-  pub finish-cut : store.is_stopped old ≡ false → Finishes disk_of old (Err fault.Disk) new → IsCut disk_of old after new
+  pub finish-cut : store.is_stopped old ≡ false → Finishes disk_of old (Err fault.Disk) new
+      → IsCut disk_of old after new
   finish-cut running finishes = record {
     stands = ap standing_of (finishes.halted refl).1;
     stopped = (finishes.halted refl).0;
@@ -114,9 +120,11 @@ err_same at is = cc
 -- ---- the same channels over another store
 
 -- what holds of an endpoint holds of another one with its channels, and the same standing
-pub kept-held : {D : Type 0} (e other : EndpointValue D) → IsSoundEndpoint e → standing_in other.store ≡ standing_in e.store
+pub kept-held : {D : Type 0} (e other : EndpointValue D) → IsSoundEndpoint e
+    → standing_in other.store ≡ standing_in e.store
     → length other.waiting ≤ queue_length → other.tickets ≤ last_ticket
-    → IsAtRest (record other { tx = e.tx; rx = e.rx }) ⊎ (IsReserving (record other { tx = e.tx; rx = e.rx }) ⊎ IsKeeping (record other { tx = e.tx; rx = e.rx }))
+    → IsAtRest (record other { tx = e.tx; rx = e.rx })
+    ⊎ (IsReserving (record other { tx = e.tx; rx = e.rx }) ⊎ IsKeeping (record other { tx = e.tx; rx = e.rx }))
     → IsSoundEndpoint (record other { tx = e.tx; rx = e.rx })
 kept-held e other kept same few tickets work = record {
   identity = subst (λ (x : Standing). IsIdentity x.identity) (sym same) kept.identity;
@@ -129,7 +137,8 @@ kept-held e other kept same few tickets work = record {
 
 -- ---- a reservation begins
 
-module _ {D : Type 0} (disk_of : D → disk.Disk) (e : EndpointValue D) (kept : IsSoundEndpoint e) (running : is_stopped e ≡ false) (idle : IsIdle e.store)
+module _ {D : Type 0} (disk_of : D → disk.Disk) (e : EndpointValue D) (kept : IsSoundEndpoint e)
+    (running : is_stopped e ≡ false) (idle : IsIdle e.store)
     (raise : Raise) (first : raise_in e ≡ Some raise) (s : store.StoreValue D)
     (in_hand : HasInHand disk_of e.store (standing_with_raise (standing_in e.store) raise) s) where
   abbrev begun : EndpointValue D
@@ -146,7 +155,8 @@ module _ {D : Type 0} (disk_of : D → disk.Disk) (e : EndpointValue D) (kept : 
     reserving = refl;
     in_hand = (at-rest e kept idle).in_hand running;
     leads = in_hand.leads ∙ ap (λ (x : Standing). Some (standing_with_raise x raise)) (sym begun_same);
-    within = subst (λ (x : Standing). IsRaiseWithin e.tx e.rx x.identity raise) (sym begun_same) (first-within e kept raise first);
+    within = subst (λ (x : Standing). IsRaiseWithin e.tx e.rx x.identity raise) (sym begun_same)
+        (first-within e kept raise first);
   }
 
   pub begun-kept : IsSoundEndpoint begun
@@ -171,10 +181,12 @@ module _ {D : Type 0} (disk_of : D → disk.Disk) (e : EndpointValue D) (kept : 
 
   pub begun-backed : IsBacked disk_of e → IsBacked disk_of begun
   begun-backed backed =
-      kept-backed begun begun-kept disk_of (subst (λ (d : disk.Disk). least_sectors ≤ d.sectors) (sym begun_disk) backed.size)
+      kept-backed begun begun-kept disk_of
+      (subst (λ (d : disk.Disk). least_sectors ≤ d.sectors) (sym begun_disk) backed.size)
       (in_hand.stored (backed.stored running))
 
-  limited_from : (result : Result (Unit {0}) RefillFault) (new : EndpointValue D) → IsLimited begun Refills (Refilled result) new
+  limited_from : (result : Result (Unit {0}) RefillFault) (new : EndpointValue D)
+      → IsLimited begun Refills (Refilled result) new
       → IsLimited e Refills (Refilled result) new
   limited_from (Ok done) new limited = tt
   limited_from (Err refill.Stopped) new limited = tt
@@ -183,14 +195,16 @@ module _ {D : Type 0} (disk_of : D → disk.Disk) (e : EndpointValue D) (kept : 
   limited_from (Err refill.Disk) new limited = tt
 
   -- what follows is what the reservation does
-  pub begun-reserves : (result : Result (Unit {0}) RefillFault) (new : EndpointValue D) → Reserves disk_of begun result new → Reserves disk_of e result new
+  pub begun-reserves : (result : Result (Unit {0}) RefillFault) (new : EndpointValue D)
+      → Reserves disk_of begun result new → Reserves disk_of e result new
   begun-reserves result new r = record {
     step = λ logs. subst (λ (s : State). ReserveStep s result (state_of new logs)) (begun-state logs) (r.step logs);
     idle = r.idle;
     works = subst (λ (d : disk.Disk). Works d (disk_in disk_of new)) begun_disk r.works;
     fails = subst (λ (d : disk.Disk). Fails d (disk_in disk_of new) (Refilled result)) begun_disk r.fails;
     any_moment = λ honest backed logs.
-        subst (λ (s : State). Leaves (disk_in disk_of e) (disk_in disk_of new) (FitsState s (disk_in disk_of e))) (begun-state logs)
+        subst (λ (s : State). Leaves (disk_in disk_of e) (disk_in disk_of new) (FitsState s (disk_in disk_of e)))
+        (begun-state logs)
         (subst (λ (d : disk.Disk). Leaves d (disk_in disk_of new) (FitsState (state_of begun logs) d)) begun_disk
         (r.any_moment honest (begun-backed backed) logs));
     backed = λ honest backed. r.backed honest (begun-backed backed);
@@ -206,10 +220,12 @@ module _ {D : Type 0} (disk_of : D → disk.Disk) (e : EndpointValue D) (kept : 
       subst (λ (d : disk.Disk). (disk_in disk_of new).clock ≤ d.clock + most_calls e.store) begun_disk
       (subst (λ (n : ℕ). (disk_in disk_of new).clock ≤ (disk_in disk_of begun).clock + n) in_hand.left most)
 
-  not_spent : (at : RefillFault) → IsErrOf {T = Unit {0}} (Err at) refill.Disk → IsErrOf {T = Unit {0}} (Err at) refill.GenerationsSpent → ⊥
+  not_spent : (at : RefillFault) → IsErrOf {T = Unit {0}} (Err at) refill.Disk
+      → IsErrOf {T = Unit {0}} (Err at) refill.GenerationsSpent → ⊥
   not_spent at is other = cc
 
-  ends_raised : (result : Result (Unit {0}) RefillFault) (new : EndpointValue D) → (¬ IsSpent e.store) → ReservationEnds disk_of begun result new
+  ends_raised : (result : Result (Unit {0}) RefillFault) (new : EndpointValue D) → (¬ IsSpent e.store)
+      → ReservationEnds disk_of begun result new
       → Raised disk_of e raise result new
   ends_raised (Ok done) new room ends = record {
     reserves = begun-reserves (Ok done) new ends.reserves;
@@ -233,12 +249,15 @@ module _ {D : Type 0} (disk_of : D → disk.Disk) (e : EndpointValue D) (kept : 
   }
 
   -- the ceiling is raised, or not
-  pub begun-raised : (mid new : EndpointValue D) (result : Result (Unit {0}) RefillFault) → mid ≡ begun → (¬ IsSpent e.store) → ReservationEnds disk_of mid result new
+  pub begun-raised : (mid new : EndpointValue D) (result : Result (Unit {0}) RefillFault) → mid ≡ begun
+      → (¬ IsSpent e.store) → ReservationEnds disk_of mid result new
       → Raised disk_of e raise result new
-  begun-raised mid new result same room ends = ends_raised result new room (subst (λ (x : EndpointValue D). ReservationEnds disk_of x result new) same ends)
+  begun-raised mid new result same room ends =
+      ends_raised result new room (subst (λ (x : EndpointValue D). ReservationEnds disk_of x result new) same ends)
 
 -- no reservation begins, since the journal cannot start over
-pub spent-raised : {D : Type 0} (disk_of : D → disk.Disk) (e : EndpointValue D) (raise : Raise) → IsIdle e.store → IsSpent e.store
+pub spent-raised : {D : Type 0} (disk_of : D → disk.Disk) (e : EndpointValue D) (raise : Raise) → IsIdle e.store
+    → IsSpent e.store
     → Raised disk_of e raise (Err refill.GenerationsSpent) e
 spent-raised disk_of e raise idle spent = record {
   reserves = record {
@@ -246,7 +265,8 @@ spent-raised disk_of e raise idle spent = record {
     idle = idle;
     works = Works-start (disk_in disk_of e);
     fails = refl;
-    any_moment = λ honest backed logs. Leaves-start (disk_in disk_of e) (FitsState (state_of e logs) (disk_in disk_of e))
+    any_moment =
+        λ honest backed logs. Leaves-start (disk_in disk_of e) (FitsState (state_of e logs) (disk_in disk_of e))
         (λ image left. backed.fits logs image left);
     backed = λ honest backed. backed;
     limited = spent;
@@ -265,7 +285,8 @@ spent-raised disk_of e raise idle spent = record {
 
 -- ---- a reservation ends
 
-module _ {D : Type 0} (disk_of : D → disk.Disk) (e : EndpointValue D) (kept : IsSoundEndpoint e) (work : IsReserving e) where
+module _ {D : Type 0} (disk_of : D → disk.Disk) (e : EndpointValue D) (kept : IsSoundEndpoint e)
+    (work : IsReserving e) where
   abbrev pub raised_to : Standing
   raised_to = standing_with_raise (standing_in e.store) work.raise
 
@@ -273,18 +294,24 @@ module _ {D : Type 0} (disk_of : D → disk.Disk) (e : EndpointValue D) (kept : 
   same_parts = raise-parts (standing_in e.store) work.raise
 
   -- the ceiling is raised
-  module _ (s : store.StoreValue D) (done : IsDone disk_of e.store raised_to s) (tx : Tx) (rx : rxsc.RxValue) (turn : Turn)
+  module _ (s : store.StoreValue D) (done : IsDone disk_of e.store raised_to s) (tx : Tx) (rx : rxsc.RxValue)
+      (turn : Turn)
       (channels : AreChannels tx rx (standing_in s)) (tx_side : txsc.tx_side_of tx ≡ txsc.tx_side_of e.tx)
       (rx_side : rxsc.rx_side_of rx ≡ rxsc.rx_side_of e.rx) where
     abbrev pub raised : EndpointValue D
     raised = record e { store = s; tx = tx; rx = rx; reserving = None; turn = turn }
 
-    raised_ahead : AreAhead (standing_in s).identity (txsc.tx_side_of tx).next (rxsc.rx_side_of rx).numbers (standing_in s).ceilings
+    raised_ahead : AreAhead (standing_in s).identity (txsc.tx_side_of tx).next (rxsc.rx_side_of rx).numbers
+        (standing_in s).ceilings
     raised_ahead =
-        subst (λ (x : Standing). AreAhead x.identity (txsc.tx_side_of tx).next (rxsc.rx_side_of rx).numbers x.ceilings) (sym done.stands)
-        (subst (λ (x : TxSide). AreAhead raised_to.identity x.next (rxsc.rx_side_of rx).numbers raised_to.ceilings) (sym tx_side)
-        (subst (λ (x : RxSide). AreAhead raised_to.identity (txsc.tx_side_of e.tx).next x.numbers raised_to.ceilings) (sym rx_side)
-        (subst (λ (i : Identity). AreAhead i (txsc.tx_side_of e.tx).next (rxsc.rx_side_of e.rx).numbers raised_to.ceilings) (sym same_parts.0)
+        subst (λ (x : Standing). AreAhead x.identity (txsc.tx_side_of tx).next (rxsc.rx_side_of rx).numbers x.ceilings)
+        (sym done.stands)
+        (subst (λ (x : TxSide). AreAhead raised_to.identity x.next (rxsc.rx_side_of rx).numbers raised_to.ceilings)
+        (sym tx_side)
+        (subst (λ (x : RxSide). AreAhead raised_to.identity (txsc.tx_side_of e.tx).next x.numbers raised_to.ceilings)
+        (sym rx_side)
+        (subst (λ (i : Identity).
+        AreAhead i (txsc.tx_side_of e.tx).next (rxsc.rx_side_of e.rx).numbers raised_to.ceilings) (sym same_parts.0)
         (raise-ahead e.tx e.rx (standing_in e.store) kept.channels (kept-ahead e kept) work.raise work.within))))
 
     pub raised-rest : IsAtRest raised
@@ -292,7 +319,8 @@ module _ {D : Type 0} (disk_of : D → disk.Disk) (e : EndpointValue D) (kept : 
 
     pub raised-kept : IsSoundEndpoint raised
     raised-kept = record {
-      identity = subst (λ (x : Standing). IsIdentity x.identity) (sym done.stands) (subst IsIdentity (sym same_parts.0) kept.identity);
+      identity = subst (λ (x : Standing). IsIdentity x.identity) (sym done.stands)
+          (subst IsIdentity (sym same_parts.0) kept.identity);
       channels = channels;
       within = ahead-within tx rx (standing_in s) channels raised_ahead;
       few = kept.few;
@@ -317,11 +345,13 @@ module _ {D : Type 0} (disk_of : D → disk.Disk) (e : EndpointValue D) (kept : 
     pub raised-moments : IsHonest (disk_in disk_of raised) → IsBacked disk_of e → (logs : Logs)
         → Leaves (disk_in disk_of e) (disk_in disk_of raised) (FitsState (state_of e logs) (disk_in disk_of e))
     raised-moments honest backed logs =
-        fits-moments e kept disk_of (disk_in disk_of raised) logs raised_to backed.size work.leads (done.any_moment honest (backed.stored work.running))
+        fits-moments e kept disk_of (disk_in disk_of raised) logs raised_to backed.size work.leads
+        (done.any_moment honest (backed.stored work.running))
 
     pub raised-backed : IsHonest (disk_in disk_of raised) → IsBacked disk_of e → IsBacked disk_of raised
     raised-backed honest backed =
-        kept-backed raised raised-kept disk_of (subst (λ (n : ℕ). least_sectors ≤ n) (sym done.works.sectors) backed.size)
+        kept-backed raised raised-kept disk_of
+        (subst (λ (n : ℕ). least_sectors ≤ n) (sym done.works.sectors) backed.size)
         (done.stored honest (backed.stored work.running))
 
   -- or a device call failed
@@ -350,17 +380,20 @@ module _ {D : Type 0} (disk_of : D → disk.Disk) (e : EndpointValue D) (kept : 
     pub given_up-moments : IsHonest (disk_in disk_of given_up) → IsBacked disk_of e → (logs : Logs)
         → Leaves (disk_in disk_of e) (disk_in disk_of given_up) (FitsState (state_of e logs) (disk_in disk_of e))
     given_up-moments honest backed logs =
-        fits-moments e kept disk_of (disk_in disk_of given_up) logs raised_to backed.size work.leads (cut.any_moment honest (backed.stored work.running))
+        fits-moments e kept disk_of (disk_in disk_of given_up) logs raised_to backed.size work.leads
+        (cut.any_moment honest (backed.stored work.running))
 
     pub given_up-backed : IsHonest (disk_in disk_of given_up) → IsBacked disk_of e → IsBacked disk_of given_up
     given_up-backed honest backed =
         cut-backed e kept disk_of given_up cut.stopped given_up-state raised_to
-        (subst (λ (n : ℕ). least_sectors ≤ n) (sym cut.works.sectors) backed.size) work.leads (cut.any_moment honest (backed.stored work.running))
+        (subst (λ (n : ℕ). least_sectors ≤ n) (sym cut.works.sectors) backed.size) work.leads
+        (cut.any_moment honest (backed.stored work.running))
 
 -- ---- which reservation is under way
 
 module _ {D : Type 0} (e : EndpointValue D) where
-  pub which-reserving : (raise : Raise) → e.reserving ≡ Some raise → IsAtRest e ⊎ IsReserving e → (work : IsReserving e) × (work.raise ≡ raise)
+  pub which-reserving : (raise : Raise) → e.reserving ≡ Some raise → IsAtRest e ⊎ IsReserving e
+      → (work : IsReserving e) × (work.raise ≡ raise)
   which-reserving raise is (inl rest) = absurd (let none = sym rest.reserving ∙ is in cc)
   which-reserving raise is (inr work) = (work, some_is work.raise raise (sym work.reserving ∙ is))
 
@@ -371,7 +404,8 @@ module _ {D : Type 0} (e : EndpointValue D) where
   -- the channels may follow
   pub may-lift : (kept : IsSoundEndpoint e) (work : IsReserving e) (raise : Raise) → work.raise ≡ raise → (s : Standing)
       → s ≡ standing_with_raise (standing_in e.store) work.raise
-      → (before : Standing) × AreChannels e.tx e.rx before × IsRaiseWithin e.tx e.rx before.identity raise × (s ≡ standing_with_raise before raise)
+      → (before : Standing) × AreChannels e.tx e.rx before × IsRaiseWithin e.tx e.rx before.identity raise
+      × (s ≡ standing_with_raise before raise)
   may-lift kept work raise is s done = (
     standing_in e.store,
     kept.channels,
@@ -390,7 +424,8 @@ module _ {D : Type 0} (disk_of : D → disk.Disk) (e : EndpointValue D) (kept : 
       idle = rest.store;
       works = Works-start (disk_in disk_of e);
       fails = refl;
-      any_moment = λ honest backed logs. Leaves-start (disk_in disk_of e) (FitsState (state_of e logs) (disk_in disk_of e))
+      any_moment =
+          λ honest backed logs. Leaves-start (disk_in disk_of e) (FitsState (state_of e logs) (disk_in disk_of e))
           (λ image left. backed.fits logs image left);
       backed = λ honest backed. backed;
       limited = tt;
@@ -409,11 +444,13 @@ module _ {D : Type 0} (disk_of : D → disk.Disk) (e : EndpointValue D) (kept : 
   }
 
   module _ (running : is_stopped e ≡ false) (work : IsReserving e) (s : store.StoreValue D) where
-    abbrev reserved : standing_with_reserved (standing_in e.store) e.reserving ≡ standing_with_raise (standing_in e.store) work.raise
+    abbrev reserved : standing_with_reserved (standing_in e.store) e.reserving
+        ≡ standing_with_raise (standing_in e.store) work.raise
     reserved = ap (λ (o : Option Raise). standing_with_reserved (standing_in e.store) o) work.reserving
 
     -- it is done
-    pub finished-ends : Finishes disk_of e.store (Ok tt) s → (tx : Tx) (rx : rxsc.RxValue) → AreChannels tx rx (standing_in s)
+    pub finished-ends : Finishes disk_of e.store (Ok tt) s → (tx : Tx) (rx : rxsc.RxValue)
+        → AreChannels tx rx (standing_in s)
         → txsc.tx_side_of tx ≡ txsc.tx_side_of e.tx → rxsc.rx_side_of rx ≡ rxsc.rx_side_of e.rx
         → txsc.counters_of tx ≡ txsc.counters_of e.tx → rxsc.counters_of rx ≡ rxsc.counters_of e.rx
         → rxsc.channel_counters_of rx ≡ rxsc.channel_counters_of e.rx
@@ -444,7 +481,8 @@ module _ {D : Type 0} (disk_of : D → disk.Disk) (e : EndpointValue D) (kept : 
         }
 
     -- or cut short
-    cut-ends : Finishes disk_of e.store (Err fault.Disk) s → ReservationEnds disk_of e (Err refill.Disk) (record e { store = s; reserving = None })
+    cut-ends : Finishes disk_of e.store (Err fault.Disk) s
+        → ReservationEnds disk_of e (Err refill.Disk) (record e { store = s; reserving = None })
     cut-ends finishes =
         let cut = finish-cut disk_of e.store (raised_to disk_of e kept work) work.leads s running finishes in
         record {
@@ -480,11 +518,14 @@ module _ {D : Type 0} (disk_of : D → disk.Disk) (e : EndpointValue D) (kept : 
         → ReservationEnds disk_of e (Err (refill_fault_of at)) (record e { store = s; reserving = None })
     faulted-ends at finishes =
         let is = is_disk at finishes in
-        subst (λ (x : JournalFault). ReservationEnds disk_of e (Err (refill_fault_of x)) (record e { store = s; reserving = None })) (sym is)
+        subst (λ (x : JournalFault).
+        ReservationEnds disk_of e (Err (refill_fault_of x)) (record e { store = s; reserving = None })) (sym is)
         (cut-ends (subst (λ (x : JournalFault). Finishes disk_of e.store (Err x) s) is finishes))
 
-    pub faulted-kept : (at : JournalFault) → Finishes disk_of e.store (Err at) s → IsSoundEndpoint (record e { store = s; reserving = None })
+    pub faulted-kept : (at : JournalFault) → Finishes disk_of e.store (Err at) s
+        → IsSoundEndpoint (record e { store = s; reserving = None })
     faulted-kept at finishes =
         let is = is_disk at finishes in
         given_up-kept disk_of e kept work s
-        (finish-cut disk_of e.store (raised_to disk_of e kept work) work.leads s running (subst (λ (x : JournalFault). Finishes disk_of e.store (Err x) s) is finishes))
+        (finish-cut disk_of e.store (raised_to disk_of e kept work) work.leads s running
+        (subst (λ (x : JournalFault). Finishes disk_of e.store (Err x) s) is finishes))

@@ -16,7 +16,8 @@ use Rattle.macs_journal.specs.declared.fault.JournalFault.TheVariants.{TooSmall}
 use Rattle.macs_endpoint.specs.Formatting.{FormatLeaves, IsFormattedAs}
 
 -- a new journal is that of a new endpoint
-pub formatted-as : (sectors : ℕ) (identity : Identity) (image : Image) → least_sectors ≤ sectors → HasJournal image (first_content identity)
+pub formatted-as : (sectors : ℕ) (identity : Identity) (image : Image) → least_sectors ≤ sectors
+    → HasJournal image (first_content identity)
     → IsFormattedAs sectors identity image
 formatted-as sectors identity image size new = record {
   stands = (size, record { content = first_content identity; found = new; stands = refl });
@@ -24,7 +25,8 @@ formatted-as sectors identity image size new = record {
 }
 
 -- what a journal leaves, on a disk that is large enough
-formatted : (old : Disk) (identity : Identity) (image : Image) → least_sectors ≤ old.sectors → journal.IsOldNoneOrNew (now old) identity image
+formatted : (old : Disk) (identity : Identity) (image : Image) → least_sectors ≤ old.sectors
+    → journal.IsOldNoneOrNew (now old) identity image
     → FormatLeaves old identity image
 formatted old identity image size left = elim left [
   | inl before ↦ inl before
@@ -41,15 +43,18 @@ module _ {D : Type 0} (disk_of : D → Disk) where
       → Leaves (disk_of old) (disk_of new) (FormatLeaves (disk_of old) identity)
   format-leaves old new identity untouched leaves = elim (cases_lt (disk_of old).sectors least_sectors) [
     | inl small ↦
-        subst (λ (d : D). Leaves (disk_of old) (disk_of d) (FormatLeaves (disk_of old) identity)) (sym (untouched small))
+        subst (λ (d : D). Leaves (disk_of old) (disk_of d) (FormatLeaves (disk_of old) identity))
+        (sym (untouched small))
         (Leaves-start (disk_of old) (FormatLeaves (disk_of old) identity) (λ image left. inl left))
     | inr size ↦
-        Leaves-weaker (disk_of old) (disk_of new) (journal.IsOldNoneOrNew (now (disk_of old)) identity) (FormatLeaves (disk_of old) identity)
+        Leaves-weaker (disk_of old) (disk_of new) (journal.IsOldNoneOrNew (now (disk_of old)) identity)
+        (FormatLeaves (disk_of old) identity)
         (λ image left. formatted (disk_of old) identity image size left) leaves
   ]
 
   -- it is large enough where it answered Ok
-  kept_size : (old new : D) (identity : Identity) (result : Result (Unit {0}) JournalFault) → IsJournalFormat disk_of old identity result new
+  kept_size : (old new : D) (identity : Identity) (result : Result (Unit {0}) JournalFault)
+      → IsJournalFormat disk_of old identity result new
       → (IsErrOf result TooSmall → ⊥) → least_sectors ≤ (disk_of new).sectors
   kept_size old new identity result made large = elim (cases_lt (disk_of old).sectors least_sectors) [
     | inl small ↦ absurd (large (made.device.small.1 small))
@@ -57,8 +62,11 @@ module _ {D : Type 0} (disk_of : D → Disk) where
   ]
 
   -- and then each image is that of a new endpoint
-  pub kept-as : (old new : D) (identity : Identity) (result : Result (Unit {0}) JournalFault) → IsJournalFormat disk_of old identity result new
-      → OnOk result (IsHonest (disk_of new) → (image : Image) → MayLeave (disk_of new) image → IsFormattedAs (disk_of new).sectors identity image)
+  pub kept-as : (old new : D) (identity : Identity) (result : Result (Unit {0}) JournalFault)
+      → IsJournalFormat disk_of old identity result new
+      → OnOk result (IsHonest (disk_of new) → (image : Image) → MayLeave (disk_of new) image
+      → IsFormattedAs (disk_of new).sectors identity image)
   kept-as old new identity (Ok done) made = λ honest image left.
-      formatted-as (disk_of new).sectors identity image (kept_size old new identity (Ok done) made (λ is. absurd cc)) (made.kept honest image left)
+      formatted-as (disk_of new).sectors identity image (kept_size old new identity (Ok done) made (λ is. absurd cc))
+      (made.kept honest image left)
   kept-as old new identity (Err fault) made = tt

@@ -1,5 +1,6 @@
 -- Frames protected and received: from what the channels answer to what the endpoint does.
-use Rattle.std.proofs.Common.{◌≡◌, ◌≤◌, ◌<◌, ◌+◌, ◌==◌, ◌||◌, ◌^◌, ◌↔◌, ◌⊎◌, inl, inr, ℕ, Bool, true, false, cond, List, All, [], ◌∷◌, ◌++◌, Option, Some, None, Result, Ok, Err, refl, sym, ◌∙◌, ap, subst, arith}
+use Rattle.std.proofs.Common.{◌≡◌, ◌≤◌, ◌<◌, ◌+◌, ◌==◌, ◌||◌, ◌^◌, ◌↔◌, ◌⊎◌, inl, inr, ℕ, Bool, true, false, cond, List}
+use Rattle.std.proofs.Common.{All, [], ◌∷◌, ◌++◌, Option, Some, None, Result, Ok, Err, refl, sym, ◌∙◌, ap, subst, arith}
 use Rattle.std.specs.Prelude.{IfOk, IsSomeAnd, OnErr, OnOk, max}
 use Rattle.std.specs.Option.{option_map, option_map_or}
 use Rattle.std.proofs.lemmas.Bool.Decides.{nat_tests}
@@ -10,13 +11,19 @@ use Rattle.macs_config.specs.Tables.{put}
 use Rattle.macs_config.specs.declared.association.TxSa.{TxSa}
 use Rattle.macs_config.proofs.Tables.{put_all, put_at_all}
 use Rattle.macs_disk.specs.Disk.{Disk}
-use Rattle.macs_txsc.specs.Transmit.{Outgoing, TxSide, all_tx_faults, frame_of, is_at_ceiling, outgoing_with, next_outgoing, outgoing_at, side_after, side_after_frame, counters_after_answer, tx_faults}
+use Rattle.macs_txsc.specs.Transmit.{Outgoing, TxSide, all_tx_faults, frame_of, is_at_ceiling, outgoing_with}
+use Rattle.macs_txsc.specs.Transmit.{next_outgoing, outgoing_at, side_after, side_after_frame, counters_after_answer}
+use Rattle.macs_txsc.specs.Transmit.{tx_faults}
 use Rattle.macs_txsc.specs.Value as txsc
 use Rattle.macs_txsc.specs.declared.channel.Tx.{Tx}
 use Rattle.macs_txsc.specs.declared.fault.TxFault.{TxFault}
-use Rattle.macs_txsc.specs.declared.fault.TxFault.TheVariants.{Runt, TooLong, ForeignSource, NoEncodingSa, Exhausted, NoNumber}
+use Rattle.macs_txsc.specs.declared.fault.TxFault.TheVariants.{Runt, TooLong, ForeignSource, NoEncodingSa, Exhausted}
+use Rattle.macs_txsc.specs.declared.fault.TxFault.TheVariants.{NoNumber}
 use Rattle.macs_rxsc.specs.Counting.{counters_after_verdict, counters_after_verdict_at}
-use Rattle.macs_rxsc.specs.Receive.{Arrival, Arrives, Numbers, Outcome, RxSide, RxStep, Tag, NoChannel, NoAssociation, BelowLowest, NotVerified, numbers_after_delivery, arrival_outcome, channel_of, given_at, numbers_after_hold, is_below, is_strict, delivery_kind, put_numbers, seen_after, verdict_at}
+use Rattle.macs_rxsc.specs.Receive.{Arrival, Arrives, Numbers, Outcome, RxSide, RxStep, Tag, NoChannel, NoAssociation}
+use Rattle.macs_rxsc.specs.Receive.{BelowLowest, NotVerified, numbers_after_delivery, arrival_outcome, channel_of}
+use Rattle.macs_rxsc.specs.Receive.{given_at, numbers_after_hold, is_below, is_strict, delivery_kind, put_numbers}
+use Rattle.macs_rxsc.specs.Receive.{seen_after, verdict_at}
 use Rattle.macs_rxsc.specs.Receive as rx
 use Rattle.macs_rxsc.specs.Value.{association_in, channel_at}
 use Rattle.macs_rxsc.specs.Value as rxsc
@@ -33,7 +40,8 @@ use Rattle.macs_endpoint.specs.Counting.{tx_counters_after}
 use Rattle.macs_endpoint.specs.Value.{EndpointValue, IsRxWithin, IsSoundEndpoint, IsTxWithin, is_stopped, state_of}
 use Rattle.macs_endpoint.specs.Limits.{IsLimited}
 use Rattle.macs_endpoint.specs.Restart.{rx_limit}
-use Rattle.macs_endpoint.specs.State.{Logs, Protects, Protected, Received, State, no_logs, rx_side, tx_side_with, tx_side}
+use Rattle.macs_endpoint.specs.State.{Logs, Protects, Protected, Received, State, no_logs, rx_side, tx_side_with}
+use Rattle.macs_endpoint.specs.State.{tx_side}
 use Rattle.macs_endpoint.specs.State as state
 use Rattle.macs_endpoint.specs.Step as life
 use Rattle.macs_endpoint.specs.declared.fault.ProtectFault.{ProtectFault}
@@ -50,7 +58,8 @@ none_of : {X : Type 0} (o : Option X) → ((x : X) → ¬ (o ≡ Some x)) → o 
 none_of None none = refl
 none_of (Some x) none = absurd (none x refl)
 
-some_of : {X Y : Type 0} (f : X → Y) (o : Option X) (y : Y) → option_map f o ≡ Some y → (x : X) × (o ≡ Some x) × (f x ≡ y)
+some_of : {X Y : Type 0} (f : X → Y) (o : Option X) (y : Y) → option_map f o ≡ Some y
+    → (x : X) × (o ≡ Some x) × (f x ≡ y)
 some_of f None y is = absurd cc
 some_of f (Some x) y is = (x, refl, cc)
 
@@ -73,7 +82,8 @@ first_join [] x false y is = absurd cc
 first_join ((z, true) ∷ rows) x b y is = inl is
 first_join ((z, false) ∷ rows) x b y is = first_join rows x b y is
 
-first_none : {X : Type 0} (rows : List (X × Bool)) (x : X) (b : Bool) → first (rows ++ (x, b) ∷ []) ≡ None → (first rows ≡ None) × (b ≡ false)
+first_none : {X : Type 0} (rows : List (X × Bool)) (x : X) (b : Bool) → first (rows ++ (x, b) ∷ []) ≡ None
+    → (first rows ≡ None) × (b ≡ false)
 first_none [] x true is = absurd cc
 first_none [] x false is = (refl, refl)
 first_none ((z, true) ∷ rows) x b is = absurd cc
@@ -82,7 +92,8 @@ first_none ((z, false) ∷ rows) x b is = first_none rows x b is
 -- ---- a frame that is protected, or not
 
 -- what a transmit channel answers
-pub record Sends (side later : TxSide) (ceilings : ℕ → Option ℕ) (plain : List ℕ) (result : Result ℕ TxFault) (out : List ℕ) : Type 0 where
+pub record Sends (side later : TxSide) (ceilings : ℕ → Option ℕ) (plain : List ℕ) (result : Result ℕ TxFault)
+    (out : List ℕ) : Type 0 where
   pub fault : (fault : TxFault) → (result ≡ Err fault) ↔ (first (all_tx_faults side ceilings plain) ≡ Some fault)
   pub number : IfOk result (λ pn. option_map (λ (o : Outgoing). o.pn) (next_outgoing side) ≡ Some pn)
   pub frame : OnOk result (option_map (λ (o : Outgoing). frame_of side o plain) (next_outgoing side) ≡ Some out)
@@ -101,7 +112,8 @@ record Goes (side later : TxSide) (ceilings : ℕ → Option ℕ) (plain : List 
   pub frame : out ≡ frame_of side o plain
   pub sent : later ≡ record side { next = put side.next o.an (Some (o.pn + 1)) }
 
-numbered_next : (next : ℕ → Option ℕ) (an : ℕ) (sa : Option TxSa) (pn : Option ℕ) (o : Outgoing) → next an ≡ pn → outgoing_with an sa pn ≡ Some o
+numbered_next : (next : ℕ → Option ℕ) (an : ℕ) (sa : Option TxSa) (pn : Option ℕ) (o : Outgoing) → next an ≡ pn
+    → outgoing_with an sa pn ≡ Some o
     → next o.an ≡ Some o.pn
 numbered_next next an (Some sa) (Some pn) o at is =
     let same : ◌≡◌ {A = Outgoing} (record { an = an; sa = sa; pn = pn }) o = cc in
@@ -110,15 +122,18 @@ numbered_next next an (Some sa) None o at is = absurd cc
 numbered_next next an None (Some pn) o at is = absurd cc
 numbered_next next an None None o at is = absurd cc
 
-pub outgoing_next : (side : TxSide) (encoding : Option ℕ) (o : Outgoing) → outgoing_at side encoding ≡ Some o → side.next o.an ≡ Some o.pn
+pub outgoing_next : (side : TxSide) (encoding : Option ℕ) (o : Outgoing) → outgoing_at side encoding ≡ Some o
+    → side.next o.an ≡ Some o.pn
 outgoing_next side None o is = absurd cc
 outgoing_next side (Some an) o is = numbered_next side.next an (side.tx an) (side.next an) o refl is
 
-goes : (side later : TxSide) (ceilings : ℕ → Option ℕ) (plain : List ℕ) (pn : ℕ) (out : List ℕ) → Sends side later ceilings plain (Ok pn) out
+goes : (side later : TxSide) (ceilings : ℕ → Option ℕ) (plain : List ℕ) (pn : ℕ) (out : List ℕ)
+    → Sends side later ceilings plain (Ok pn) out
     → Goes side later ceilings plain pn out
 goes side later ceilings plain pn out sends =
     let unfaulted : first (all_tx_faults side ceilings plain) ≡ None =
-    none_of (first (all_tx_faults side ceilings plain)) (λ fault is. let wrong = (sends.fault fault).1 is in absurd cc) in
+    none_of (first (all_tx_faults side ceilings plain)) (λ fault is. let wrong = (sends.fault fault).1 is in
+    absurd cc) in
     let parts = first_none (tx_faults side plain) NoNumber (is_at_ceiling ceilings (next_outgoing side)) unfaulted in
     let found = some_of (λ (o : Outgoing). o.pn) (next_outgoing side) pn sends.number in
     record {
@@ -133,7 +148,8 @@ goes side later ceilings plain pn out sends =
     }
 
 -- the next number goes on below the ceiling
-sent_within : (block pn : ℕ) (ceiling : Option ℕ) → IsTxWithin block (Some pn) ceiling → option_map_or (λ ceiling. ceiling == pn) ceiling false ≡ false
+sent_within : (block pn : ℕ) (ceiling : Option ℕ) → IsTxWithin block (Some pn) ceiling
+    → option_map_or (λ ceiling. ceiling == pn) ceiling false ≡ false
     → IsTxWithin block (Some (pn + 1)) ceiling
 sent_within block pn None within below = within
 sent_within block pn (Some ceiling) within below =
@@ -141,13 +157,16 @@ sent_within block pn (Some ceiling) within below =
     let above : pn < ceiling = grind (arith, nat_tests) in
     (omega arith, omega (arith, above), omega (arith, within.2), within.3)
 
-put_within : (block : ℕ) (next ceilings : ℕ → Option ℕ) (at pn : ℕ) → ((an : ℕ) → IsTxWithin block (next an) (ceilings an)) → next at ≡ Some pn
+put_within : (block : ℕ) (next ceilings : ℕ → Option ℕ) (at pn : ℕ)
+    → ((an : ℕ) → IsTxWithin block (next an) (ceilings an)) → next at ≡ Some pn
     → option_map_or (λ ceiling. ceiling == pn) (ceilings at) false ≡ false
     → (an : ℕ) → IsTxWithin block (put next at (Some (pn + 1)) an) (ceilings an)
 put_within block next ceilings at pn within is below an =
-    let here : IsTxWithin block (Some pn) (ceilings at) = subst (λ (n : Option ℕ). IsTxWithin block n (ceilings at)) is (within at) in
+    let here : IsTxWithin block (Some pn) (ceilings at) =
+    subst (λ (n : Option ℕ). IsTxWithin block n (ceilings at)) is (within at) in
     put_all (λ (n : Option ℕ). IsTxWithin block n (ceilings an)) next at (Some (pn + 1)) an
-    (λ same. subst (λ (k : ℕ). IsTxWithin block (Some (pn + 1)) (ceilings k)) (sym same) (sent_within block pn (ceilings at) here below))
+    (λ same. subst (λ (k : ℕ). IsTxWithin block (Some (pn + 1)) (ceilings k)) (sym same)
+    (sent_within block pn (ceilings at) here below))
     (λ differ. within an)
 
 -- the answer of the channel is that of the endpoint
@@ -155,21 +174,30 @@ abbrev pub answered : Result ℕ TxFault → Result ℕ ProtectFault
 answered (Ok pn) = Ok pn
 answered (Err fault) = Err (OfTx fault)
 
-sent_step : (s : State) (later : TxSide) (ceilings : ℕ → Option ℕ) (plain : List ℕ) (pn : ℕ) (out : List ℕ) → s.stopped ≡ false
+sent_step : (s : State) (later : TxSide) (ceilings : ℕ → Option ℕ) (plain : List ℕ) (pn : ℕ) (out : List ℕ)
+    → s.stopped ≡ false
     → Goes (tx_side s) later ceilings plain pn out
-    → (after : Logs) × life.Step s (Protects plain) (Protected (Ok pn) out) (record s { next = later.next; logs = after })
+    → (after : Logs)
+    × life.Step s (Protects plain) (Protected (Ok pn) out) (record s { next = later.next; logs = after })
 sent_step s later ceilings plain pn out running g =
     let after : Logs = record s.logs { used = record { key = g.o.sa.key; pn = g.o.pn } ∷ s.logs.used } in
-    let next : later.next ≡ put s.next g.o.an (Some (g.o.pn + 1)) = ap (λ (side : TxSide). side.next) g.sent in
-    (after, inr (running, (g.none, (g.o, g.is, g.number, g.frame, ap (λ (n : ℕ → Option ℕ). record s { next = n; logs = after }) next))))
+    let next : later.next ≡ put s.next g.o.an (Some (g.o.pn + 1)) = ap (λ (side : TxSide). side.next) g.sent in (
+      after,
+      inr (
+        running,
+        (g.none, (g.o, g.is, g.number, g.frame, ap (λ (n : ℕ → Option ℕ). record s { next = n; logs = after }) next)),
+      ),
+    )
 
-refused_step : (s : State) (later : TxSide) (ceilings : ℕ → Option ℕ) (plain : List ℕ) (fault : TxFault) (out : List ℕ) → s.stopped ≡ false
+refused_step : (s : State) (later : TxSide) (ceilings : ℕ → Option ℕ) (plain : List ℕ) (fault : TxFault) (out : List ℕ)
+    → s.stopped ≡ false
     → Sends (tx_side s) later ceilings plain (Err fault) out
     → life.Step s (Protects plain) (Protected (Err (OfTx fault)) out) (record s { next = later.next })
 refused_step s later ceilings plain fault out running sends =
     let next : later.next ≡ s.next = ap (λ (side : TxSide). side.next) sends.same in
     let same : record s { next = later.next } ≡ s = ap (λ (n : ℕ → Option ℕ). record s { next = n }) next in
-    let found = first_join (tx_faults (tx_side s) plain) NoNumber (is_at_ceiling ceilings (next_outgoing (tx_side s))) fault ((sends.fault fault).0 refl) in
+    let found = first_join (tx_faults (tx_side s) plain) NoNumber (is_at_ceiling ceilings (next_outgoing (tx_side s)))
+    fault ((sends.fault fault).0 refl) in
     inr (
       running,
       (
@@ -182,16 +210,19 @@ refused_step s later ceilings plain fault out running sends =
       ),
     )
 
-protect_step : (s : State) (later : TxSide) (ceilings : ℕ → Option ℕ) (plain : List ℕ) (result : Result ℕ TxFault) (out : List ℕ) → s.stopped ≡ false
+protect_step : (s : State) (later : TxSide) (ceilings : ℕ → Option ℕ) (plain : List ℕ) (result : Result ℕ TxFault)
+    (out : List ℕ) → s.stopped ≡ false
     → Sends (tx_side s) later ceilings plain result out
-    → (after : Logs) × life.Step s (Protects plain) (Protected (answered result) out) (record s { next = later.next; logs = after })
+    → (after : Logs)
+    × life.Step s (Protects plain) (Protected (answered result) out) (record s { next = later.next; logs = after })
 protect_step s later ceilings plain (Ok pn) out running sends =
     sent_step s later ceilings plain pn out running (goes (tx_side s) later ceilings plain pn out sends)
 protect_step s later ceilings plain (Err fault) out running sends =
     (s.logs, refused_step s later ceilings plain fault out running sends)
 
 -- NoNumber is none of the faults that come before it
-pub five_others : (a b c d e : Bool) → ¬ (first ((Runt, a) ∷ (TooLong, b) ∷ (ForeignSource, c) ∷ (NoEncodingSa, d) ∷ (Exhausted, e) ∷ []) ≡ Some NoNumber)
+pub five_others : (a b c d e : Bool) → ¬
+    (first ((Runt, a) ∷ (TooLong, b) ∷ (ForeignSource, c) ∷ (NoEncodingSa, d) ∷ (Exhausted, e) ∷ []) ≡ Some NoNumber)
 five_others true b c d e is = absurd cc
 five_others false true c d e is = absurd cc
 five_others false false true d e is = absurd cc
@@ -200,7 +231,8 @@ five_others false false false false true is = absurd cc
 five_others false false false false false is = absurd cc
 
 -- where no fault holds, not every number is used
-pub not_exhausted : (a b c d e : Bool) → first ((Runt, a) ∷ (TooLong, b) ∷ (ForeignSource, c) ∷ (NoEncodingSa, d) ∷ (Exhausted, e) ∷ []) ≡ None → e ≡ false
+pub not_exhausted : (a b c d e : Bool)
+    → first ((Runt, a) ∷ (TooLong, b) ∷ (ForeignSource, c) ∷ (NoEncodingSa, d) ∷ (Exhausted, e) ∷ []) ≡ None → e ≡ false
 not_exhausted true b c d e is = absurd cc
 not_exhausted false true c d e is = absurd cc
 not_exhausted false false true d e is = absurd cc
@@ -208,10 +240,12 @@ not_exhausted false false false true e is = absurd cc
 not_exhausted false false false false true is = absurd cc
 not_exhausted false false false false false is = refl
 
-at_ceiling : (side later : TxSide) (ceilings : ℕ → Option ℕ) (plain : List ℕ) (out : List ℕ) → Sends side later ceilings plain (Err NoNumber) out
+at_ceiling : (side later : TxSide) (ceilings : ℕ → Option ℕ) (plain : List ℕ) (out : List ℕ)
+    → Sends side later ceilings plain (Err NoNumber) out
     → is_at_ceiling ceilings (next_outgoing side) ≡ true
 at_ceiling side later ceilings plain out sends =
-    elim (first_join (tx_faults side plain) NoNumber (is_at_ceiling ceilings (next_outgoing side)) NoNumber ((sends.fault NoNumber).0 refl)) [
+    elim (first_join (tx_faults side plain) NoNumber (is_at_ceiling ceilings (next_outgoing side)) NoNumber
+    ((sends.fault NoNumber).0 refl)) [
       | inl is ↦ absurd (five_others _ _ _ _ _ is)
       | inr is ↦ is.2
     ]
@@ -224,16 +258,19 @@ next_stays (Some next) = omega arith
 next_above : (pn : ℕ) → NextRises (Some pn) (Some (pn + 1))
 next_above pn = omega arith
 
-next_rises : (next : ℕ → Option ℕ) (at pn : ℕ) → next at ≡ Some pn → (an : ℕ) → NextRises (next an) (put next at (Some (pn + 1)) an)
+next_rises : (next : ℕ → Option ℕ) (at pn : ℕ) → next at ≡ Some pn → (an : ℕ)
+    → NextRises (next an) (put next at (Some (pn + 1)) an)
 next_rises next at pn is an =
     put_all (λ (n : Option ℕ). NextRises (next an) n) next at (Some (pn + 1)) an
-    (λ same. subst (λ (n : Option ℕ). NextRises n (Some (pn + 1))) (sym (ap next same ∙ is)) (next_above pn)) (λ differ. next_stays (next an))
+    (λ same. subst (λ (n : Option ℕ). NextRises n (Some (pn + 1))) (sym (ap next same ∙ is)) (next_above pn))
+    (λ differ. next_stays (next an))
 
 -- an endpoint with another transmit channel
 abbrev pub with_tx : {D : Type 0} → EndpointValue D → Tx → EndpointValue D
 with_tx e tx = record e { tx = tx }
 
-protect_limited : {D : Type 0} (old : EndpointValue D) (tx : Tx) (plain : List ℕ) (later : TxSide) (result : Result ℕ TxFault) (out : List ℕ)
+protect_limited : {D : Type 0} (old : EndpointValue D) (tx : Tx) (plain : List ℕ) (later : TxSide)
+    (result : Result ℕ TxFault) (out : List ℕ)
     → Sends (tx_side (state_of old no_logs)) later (standing_in old.store).ceilings.tx plain result out
     → IsLimited old (Protects plain) (Protected (answered result) out) (with_tx old tx)
 protect_limited old tx plain later (Ok pn) out sends = tt
@@ -245,18 +282,23 @@ protect_limited old tx plain later (Err ForeignSource) out sends = tt
 protect_limited old tx plain later (Err NoEncodingSa) out sends = tt
 protect_limited old tx plain later (Err Exhausted) out sends = tt
 
-module _ {D : Type 0} (old : EndpointValue D) (tx : Tx) (plain : List ℕ) (result : Result ℕ TxFault) (out : List ℕ) (kept : IsSoundEndpoint old)
+module _ {D : Type 0} (old : EndpointValue D) (tx : Tx) (plain : List ℕ) (result : Result ℕ TxFault) (out : List ℕ)
+    (kept : IsSoundEndpoint old)
     (sends : Sends (txsc.tx_side_of old.tx) (txsc.tx_side_of tx) (txsc.ceilings_of old.tx) plain result out)
     (ceilings : txsc.ceilings_of tx ≡ txsc.ceilings_of old.tx) where
   -- the same, in words of the standing
-  standing_sends : Sends (tx_side (state_of old no_logs)) (txsc.tx_side_of tx) (standing_in old.store).ceilings.tx plain result out
+  standing_sends : Sends (tx_side (state_of old no_logs)) (txsc.tx_side_of tx) (standing_in old.store).ceilings.tx
+      plain result out
   standing_sends =
-      subst (λ (side : TxSide). Sends side (txsc.tx_side_of tx) (standing_in old.store).ceilings.tx plain result out) kept.channels.tx_is
-      (subst (λ (c : ℕ → Option ℕ). Sends (txsc.tx_side_of old.tx) (txsc.tx_side_of tx) c plain result out) kept.channels.tx_ceilings sends)
+      subst (λ (side : TxSide). Sends side (txsc.tx_side_of tx) (standing_in old.store).ceilings.tx plain result out)
+      kept.channels.tx_is
+      (subst (λ (c : ℕ → Option ℕ). Sends (txsc.tx_side_of old.tx) (txsc.tx_side_of tx) c plain result out)
+      kept.channels.tx_ceilings sends)
 
   -- numbers alone change, and stay below their ceilings
   kept_with : (next : ℕ → Option ℕ) → txsc.tx_side_of tx ≡ record (tx_side (state_of old no_logs)) { next = next }
-      → ((an : ℕ) → IsTxWithin (standing_in old.store).identity.tx_block (next an) ((standing_in old.store).ceilings.tx an))
+      → ((an : ℕ)
+      → IsTxWithin (standing_in old.store).identity.tx_block (next an) ((standing_in old.store).ceilings.tx an))
       → ((an : ℕ) → NextRises ((txsc.tx_side_of old.tx).next an) (next an)) → IsSoundEndpoint (with_tx old tx)
   kept_with next is within rises =
       let s = standing_in old.store in
@@ -270,7 +312,8 @@ module _ {D : Type 0} (old : EndpointValue D) (tx : Tx) (plain : List ℕ) (resu
           rx_ceilings = kept.channels.rx_ceilings;
         };
         within = record {
-          tx_within = λ an. subst (λ (side : TxSide). IsTxWithin s.identity.tx_block (side.next an) (txsc.ceilings_of tx an)) (sym is)
+          tx_within = λ an.
+              subst (λ (side : TxSide). IsTxWithin s.identity.tx_block (side.next an) (txsc.ceilings_of tx an)) (sym is)
               (subst (λ (c : ℕ → Option ℕ). IsTxWithin s.identity.tx_block (next an) (c an)) (sym same) (within an));
           rx_within = kept.within.rx_within;
           few = kept.within.few;
@@ -278,10 +321,12 @@ module _ {D : Type 0} (old : EndpointValue D) (tx : Tx) (plain : List ℕ) (resu
         few = kept.few;
         tickets = kept.tickets;
         work = tx-carried old tx ceilings
-            (λ an. subst (λ (side : TxSide). NextRises ((txsc.tx_side_of old.tx).next an) (side.next an)) (sym is) (rises an)) kept.work;
+            (λ an. subst (λ (side : TxSide). NextRises ((txsc.tx_side_of old.tx).next an) (side.next an)) (sym is)
+            (rises an)) kept.work;
       }
 
-kept_sent : {D : Type 0} (old : EndpointValue D) (tx : Tx) (plain : List ℕ) (result : Result ℕ TxFault) (out : List ℕ) (kept : IsSoundEndpoint old)
+kept_sent : {D : Type 0} (old : EndpointValue D) (tx : Tx) (plain : List ℕ) (result : Result ℕ TxFault) (out : List ℕ)
+    (kept : IsSoundEndpoint old)
     (sends : Sends (txsc.tx_side_of old.tx) (txsc.tx_side_of tx) (txsc.ceilings_of old.tx) plain result out)
     (ceilings : txsc.ceilings_of tx ≡ txsc.ceilings_of old.tx)
     → Sends (tx_side (state_of old no_logs)) (txsc.tx_side_of tx) (standing_in old.store).ceilings.tx plain result out
@@ -291,30 +336,38 @@ kept_sent old tx plain (Ok pn) out kept sends ceilings standing =
     let s = standing_in old.store in
     let g = goes side (txsc.tx_side_of tx) s.ceilings.tx plain pn out standing in
     kept_with old tx plain (Ok pn) out kept sends ceilings (put side.next g.o.an (Some (g.o.pn + 1))) g.sent
-    (put_within s.identity.tx_block side.next s.ceilings.tx g.o.an g.o.pn (kept-ahead old kept).tx_ahead g.next_is g.below)
+    (put_within s.identity.tx_block side.next s.ceilings.tx g.o.an g.o.pn (kept-ahead old kept).tx_ahead
+    g.next_is g.below)
     (next_rises side.next g.o.an g.o.pn g.next_is)
 kept_sent old tx plain (Err fault) out kept sends ceilings standing =
-    kept_with old tx plain (Err fault) out kept sends ceilings (txsc.tx_side_of old.tx).next standing.same (kept-ahead old kept).tx_ahead
+    kept_with old tx plain (Err fault) out kept sends ceilings (txsc.tx_side_of old.tx).next standing.same
+    (kept-ahead old kept).tx_ahead
     (λ an. next_stays ((txsc.tx_side_of old.tx).next an))
 
-module _ {D : Type 0} (disk_of : D → Disk) (old : EndpointValue D) (tx : Tx) (plain : List ℕ) (result : Result ℕ TxFault) (out : List ℕ) (kept : IsSoundEndpoint old)
+module _ {D : Type 0} (disk_of : D → Disk) (old : EndpointValue D) (tx : Tx) (plain : List ℕ)
+    (result : Result ℕ TxFault) (out : List ℕ) (kept : IsSoundEndpoint old)
     (sends : Sends (txsc.tx_side_of old.tx) (txsc.tx_side_of tx) (txsc.ceilings_of old.tx) plain result out)
     (ceilings : txsc.ceilings_of tx ≡ txsc.ceilings_of old.tx) where
   pub protected-kept : IsSoundEndpoint (with_tx old tx)
-  protected-kept = kept_sent old tx plain result out kept sends ceilings (standing_sends old tx plain result out kept sends ceilings)
+  protected-kept =
+      kept_sent old tx plain result out kept sends ceilings (standing_sends old tx plain result out kept sends ceilings)
 
-  counted_after : (result : Result ℕ TxFault) → txsc.counters_of tx ≡ counters_after_answer result (txsc.counters_of old.tx)
+  counted_after : (result : Result ℕ TxFault)
+      → txsc.counters_of tx ≡ counters_after_answer result (txsc.counters_of old.tx)
       → txsc.counters_of tx ≡ tx_counters_after (Protected (answered result) out) (txsc.counters_of old.tx)
   counted_after (Ok pn) is = is
   counted_after (Err fault) is = is
 
-  pub protected-call : All (λ octet. octet < 2 ^ 8) plain → is_stopped old ≡ false → txsc.counters_of tx ≡ counters_after_answer result (txsc.counters_of old.tx)
+  pub protected-call : All (λ octet. octet < 2 ^ 8) plain → is_stopped old ≡ false
+      → txsc.counters_of tx ≡ counters_after_answer result (txsc.counters_of old.tx)
       → IsCall disk_of old (Protects plain) (Protected (answered result) out) (with_tx old tx)
   protected-call octets running counters =
       let standing = standing_sends old tx plain result out kept sends ceilings in
-      alone-call disk_of old (with_tx old tx) (Protects plain) (Protected (answered result) out) refl (λ backed. kept-backed (with_tx old tx) protected-kept disk_of backed.size (backed.stored running)) (record {
+      alone-call disk_of old (with_tx old tx) (Protects plain) (Protected (answered result) out) refl
+      (λ backed. kept-backed (with_tx old tx) protected-kept disk_of backed.size (backed.stored running)) (record {
         in_range = octets;
-        step = λ logs. protect_step (state_of old logs) (txsc.tx_side_of tx) (standing_in old.store).ceilings.tx plain result out running standing;
+        step = λ logs. protect_step (state_of old logs) (txsc.tx_side_of tx) (standing_in old.store).ceilings.tx plain
+            result out running standing;
         ceilings = refl;
         limited = protect_limited old tx plain (txsc.tx_side_of tx) result out standing;
         still = refl;
@@ -327,7 +380,8 @@ module _ {D : Type 0} (disk_of : D → Disk) (old : EndpointValue D) (tx : Tx) (
       })
 
 -- an endpoint that is stopped
-pub protect-stopped : {D : Type 0} (disk_of : D → Disk) (old : EndpointValue D) (plain out : List ℕ) → All (λ octet. octet < 2 ^ 8) plain
+pub protect-stopped : {D : Type 0} (disk_of : D → Disk) (old : EndpointValue D) (plain out : List ℕ)
+    → All (λ octet. octet < 2 ^ 8) plain
     → is_stopped old ≡ true → out ≡ []
     → IsCall disk_of old (Protects plain) (Protected (Err Stopped) out) old
 protect-stopped disk_of old plain out octets stopped empty =
@@ -364,22 +418,27 @@ kept_back side a = record {
 
 -- what holds of both holds of an arrival
 arrived_by : (P : Outcome → Type 0) (side : RxSide) (ceilings : List ℕ → ℕ → Option ℕ) (a : Arrival)
-    → (is_below (ceilings a.sci a.an) a.pn ≡ true → P (delivered side a)) → (is_below (ceilings a.sci a.an) a.pn ≡ false → P (kept_back side a))
+    → (is_below (ceilings a.sci a.an) a.pn ≡ true → P (delivered side a))
+    → (is_below (ceilings a.sci a.an) a.pn ≡ false → P (kept_back side a))
     → P (arrival_outcome side ceilings a)
-arrived_by P side ceilings a below above = by_test P (is_below (ceilings a.sci a.an) a.pn) (delivered side a) (kept_back side a) below above
+arrived_by P side ceilings a below above =
+    by_test P (is_below (ceilings a.sci a.an) a.pn) (delivered side a) (kept_back side a) below above
 
 limit_rises : (block next later pn ceiling : ℕ) (seen : Option ℕ) → next ≤ later → ceiling ≤ rx_limit block next seen
     → ceiling ≤ rx_limit block later (seen_after seen pn)
 limit_rises block next later pn ceiling None order within = omega arith
 limit_rises block next later pn ceiling (Some seen) order within = omega arith
 
-advanced_within : (block window : ℕ) (numbers : Numbers) (pn : ℕ) (ceiling : Option ℕ) → IsRxWithin block (Some numbers) ceiling
+advanced_within : (block window : ℕ) (numbers : Numbers) (pn : ℕ) (ceiling : Option ℕ)
+    → IsRxWithin block (Some numbers) ceiling
     → is_below ceiling pn ≡ true → IsRxWithin block (Some (numbers_after_delivery window numbers pn)) ceiling
 advanced_within block window numbers pn None within below = within
 advanced_within block window numbers pn (Some ceiling) within below =
     let above : pn < ceiling = grind (arith, nat_tests) in
-    let order : numbers.next ≤ ceiling = within.0 in
-    (omega arith, limit_rises block numbers.next (max numbers.next (pn + 1)) pn ceiling numbers.seen (omega arith) within.1)
+    let order : numbers.next ≤ ceiling = within.0 in (
+      omega arith,
+      limit_rises block numbers.next (max numbers.next (pn + 1)) pn ceiling numbers.seen (omega arith) within.1,
+    )
 
 held_within : (block : ℕ) (numbers : Numbers) (pn : ℕ) (ceiling : Option ℕ) → IsRxWithin block (Some numbers) ceiling
     → IsRxWithin block (Some (numbers_after_hold numbers pn)) ceiling
@@ -399,23 +458,29 @@ module _ (block : ℕ) (side : RxSide) (ceilings : List ℕ → ℕ → Option �
     (all : (sci : List ℕ) (an : ℕ) → IsRxWithin block (side.numbers sci an) (ceilings sci an)) where
   -- numbers with one place changed
   put_one : (at : List ℕ) (number : ℕ) (n : Numbers) → IsRxWithin block (Some n) (ceilings at number)
-      → (sci : List ℕ) (an : ℕ) → IsRxWithin block (put_numbers side.numbers at number (Some n) sci an) (ceilings sci an)
+      → (sci : List ℕ) (an : ℕ)
+      → IsRxWithin block (put_numbers side.numbers at number (Some n) sci an) (ceilings sci an)
   put_one at number n here sci an =
-      put_at_all (λ (f : ℕ → Option Numbers). IsRxWithin block (f an) (ceilings sci an)) side.numbers at (put (side.numbers at) number (Some n)) sci
-      (λ same. subst (λ (s : List ℕ). IsRxWithin block (put (side.numbers at) number (Some n) an) (ceilings s an)) (sym same)
+      put_at_all (λ (f : ℕ → Option Numbers). IsRxWithin block (f an) (ceilings sci an)) side.numbers
+      at (put (side.numbers at) number (Some n)) sci
+      (λ same.
+      subst (λ (s : List ℕ). IsRxWithin block (put (side.numbers at) number (Some n) an) (ceilings s an)) (sym same)
       (put_all (λ (x : Option Numbers). IsRxWithin block x (ceilings at an)) (side.numbers at) number (Some n) an
       (λ is. subst (λ (k : ℕ). IsRxWithin block (Some n) (ceilings at k)) (sym is) here) (λ differ. all at an)))
       (λ differ. all sci an)
 
   -- those of a frame that arrives
-  here_within : (frame : List ℕ) (a : Arrival) → Arrives side frame a → IsRxWithin block (Some a.numbers) (ceilings a.sci a.an)
-  here_within frame a arrives = subst (λ (n : Option Numbers). IsRxWithin block n (ceilings a.sci a.an)) arrives.are_numbers (all a.sci a.an)
+  here_within : (frame : List ℕ) (a : Arrival) → Arrives side frame a
+      → IsRxWithin block (Some a.numbers) (ceilings a.sci a.an)
+  here_within frame a arrives =
+      subst (λ (n : Option Numbers). IsRxWithin block n (ceilings a.sci a.an)) arrives.are_numbers (all a.sci a.an)
 
   -- numbers stay below their ceilings
   received_within : (frame : List ℕ) (outcome : Outcome) → rx.IsOutcome side ceilings frame outcome
       → (sci : List ℕ) (an : ℕ) → IsRxWithin block (outcome.numbers sci an) (ceilings sci an)
   received_within frame outcome receives sci an = elim receives [
-    | inl settles ↦ subst (λ (o : Outcome). IsRxWithin block (o.numbers sci an) (ceilings sci an)) (sym settles.2) (all sci an)
+    | inl settles ↦ subst (λ (o : Outcome). IsRxWithin block (o.numbers sci an) (ceilings sci an)) (sym settles.2)
+        (all sci an)
     | inr arrives ↦
         let P = λ (o : Outcome). IsRxWithin block (o.numbers sci an) (ceilings sci an) in
         let a = arrives.0 in
@@ -423,11 +488,13 @@ module _ (block : ℕ) (side : RxSide) (ceilings : List ℕ → ℕ → Option �
         subst P (sym arrives.2) (arrived_by P side ceilings a
         (λ below. put_one a.sci a.an (numbers_after_delivery side.replay.window a.numbers a.pn)
         (advanced_within block side.replay.window a.numbers a.pn (ceilings a.sci a.an) here below) sci an)
-        (λ above. put_one a.sci a.an (numbers_after_hold a.numbers a.pn) (held_within block a.numbers a.pn (ceilings a.sci a.an) here) sci an))
+        (λ above. put_one a.sci a.an (numbers_after_hold a.numbers a.pn)
+        (held_within block a.numbers a.pn (ceilings a.sci a.an) here) sci an))
   ]
 
 -- what was seen stays so
-later_seen : (seen : Option ℕ) (pn n : ℕ) → IsSomeAnd seen (λ (s : ℕ). n ≤ s) → IsSomeAnd (seen_after seen pn) (λ (s : ℕ). n ≤ s)
+later_seen : (seen : Option ℕ) (pn n : ℕ) → IsSomeAnd seen (λ (s : ℕ). n ≤ s)
+    → IsSomeAnd (seen_after seen pn) (λ (s : ℕ). n ≤ s)
 later_seen None pn n is = absurd is
 later_seen (Some seen) pn n is = omega (arith, is)
 
@@ -436,11 +503,14 @@ seen_stays None = tt
 seen_stays (Some numbers) = λ pn is. is
 
 module _ (side : RxSide) (ceilings : List ℕ → ℕ → Option ℕ) where
-  put_rises : (at : List ℕ) (number : ℕ) (old new : Numbers) → side.numbers at number ≡ Some old → SeenRises (Some old) (Some new)
+  put_rises : (at : List ℕ) (number : ℕ) (old new : Numbers) → side.numbers at number ≡ Some old
+      → SeenRises (Some old) (Some new)
       → (sci : List ℕ) (an : ℕ) → SeenRises (side.numbers sci an) (put_numbers side.numbers at number (Some new) sci an)
   put_rises at number old new is rises sci an =
-      put_at_all (λ (f : ℕ → Option Numbers). SeenRises (side.numbers sci an) (f an)) side.numbers at (put (side.numbers at) number (Some new)) sci
-      (λ same. subst (λ (s : List ℕ). SeenRises (side.numbers s an) (put (side.numbers at) number (Some new) an)) (sym same)
+      put_at_all (λ (f : ℕ → Option Numbers). SeenRises (side.numbers sci an) (f an)) side.numbers
+      at (put (side.numbers at) number (Some new)) sci
+      (λ same.
+      subst (λ (s : List ℕ). SeenRises (side.numbers s an) (put (side.numbers at) number (Some new) an)) (sym same)
       (put_all (λ (x : Option Numbers). SeenRises (side.numbers at an) x) (side.numbers at) number (Some new) an
       (λ same_an. subst (λ (k : ℕ). SeenRises (side.numbers at k) (Some new)) (sym same_an)
       (subst (λ (x : Option Numbers). SeenRises x (Some new)) (sym is) rises))
@@ -450,12 +520,14 @@ module _ (side : RxSide) (ceilings : List ℕ → ℕ → Option ℕ) where
   received_rises : (frame : List ℕ) (outcome : Outcome) → rx.IsOutcome side ceilings frame outcome
       → (sci : List ℕ) (an : ℕ) → SeenRises (side.numbers sci an) (outcome.numbers sci an)
   received_rises frame outcome receives sci an = elim receives [
-    | inl settles ↦ subst (λ (o : Outcome). SeenRises (side.numbers sci an) (o.numbers sci an)) (sym settles.2) (seen_stays (side.numbers sci an))
+    | inl settles ↦ subst (λ (o : Outcome). SeenRises (side.numbers sci an) (o.numbers sci an)) (sym settles.2)
+        (seen_stays (side.numbers sci an))
     | inr arrives ↦
         let P = λ (o : Outcome). SeenRises (side.numbers sci an) (o.numbers sci an) in
         let a = arrives.0 in
         subst P (sym arrives.2) (arrived_by P side ceilings a
-        (λ below. put_rises a.sci a.an a.numbers (numbers_after_delivery side.replay.window a.numbers a.pn) arrives.1.are_numbers
+        (λ below. put_rises a.sci a.an a.numbers (numbers_after_delivery side.replay.window a.numbers a.pn)
+        arrives.1.are_numbers
         (λ n is. later_seen a.numbers.seen a.pn n is) sci an)
         (λ above. put_rises a.sci a.an a.numbers (numbers_after_hold a.numbers a.pn) arrives.1.are_numbers
         (λ n is. later_seen a.numbers.seen a.pn n is) sci an))
@@ -463,17 +535,21 @@ module _ (side : RxSide) (ceilings : List ℕ → ℕ → Option ℕ) where
 
 -- the endpoint receives what its channels do
 receive_step : (s : State) (ceilings : List ℕ → ℕ → Option ℕ) (frame : List ℕ) (outcome : Outcome) → s.stopped ≡ false
-    → ((sci : List ℕ) (an : ℕ) → IsRxWithin s.identity.rx_block (s.numbers sci an) (ceilings sci an)) → rx.IsOutcome (rx_side s) ceilings frame outcome
-    → (after : Logs) × life.Step s (state.Receives frame) (Received (Ok outcome.verdict) outcome.given) (record s { numbers = outcome.numbers; logs = after })
+    → ((sci : List ℕ) (an : ℕ) → IsRxWithin s.identity.rx_block (s.numbers sci an) (ceilings sci an))
+    → rx.IsOutcome (rx_side s) ceilings frame outcome
+    → (after : Logs) × life.Step s (state.Receives frame) (Received (Ok outcome.verdict) outcome.given)
+    (record s { numbers = outcome.numbers; logs = after })
 receive_step s ceilings frame outcome running all receives = elim receives [
   | inl settles ↦
       let verdict = ap (λ (o : Outcome). o.verdict) settles.2 in
       let given = ap (λ (o : Outcome). o.given) settles.2 in
-      let same : record s { numbers = outcome.numbers } ≡ s = ap (λ (o : Outcome). record s { numbers = o.numbers }) settles.2 in
+      let same : record s { numbers = outcome.numbers } ≡ s =
+      ap (λ (o : Outcome). record s { numbers = o.numbers }) settles.2 in
       (s.logs, inr (running, inl (settles.0, settles.1, verdict, given ∙ ap (given_at frame) (sym verdict), same)))
   | inr arrives ↦
       let P = λ (o : Outcome). (after : Logs)
-      × life.Step s (state.Receives frame) (Received (Ok o.verdict) o.given) (record s { numbers = o.numbers; logs = after }) in
+      × life.Step s (state.Receives frame) (Received (Ok o.verdict) o.given)
+      (record s { numbers = o.numbers; logs = after }) in
       let a = arrives.0 in
       let here = here_within s.identity.rx_block (rx_side s) ceilings all frame a arrives.1 in
       subst P (sym arrives.2) (arrived_by P (rx_side s) ceilings a
@@ -508,19 +584,24 @@ settled_unheld side frame (Tag tag.NoTag) is = unheld (is_strict side.validate) 
 settled_unheld side frame (Tag tag.BadTag) is = absurd cc
 settled_unheld side frame (Tag tag.ForKay) is = absurd cc
 settled_unheld side frame NoChannel is = unheld (is_strict side.validate || changed (control frame)) NoSci UnknownSci is
-settled_unheld side frame NoAssociation is = unheld (is_strict side.validate || changed (control frame)) NotUsingSa UnusedSa is
+settled_unheld side frame NoAssociation is =
+    unheld (is_strict side.validate || changed (control frame)) NotUsingSa UnusedSa is
 settled_unheld side frame BelowLowest is = absurd cc
-settled_unheld side frame NotVerified is = unheld (is_strict side.validate || changed (control frame)) NotValid Invalid is
+settled_unheld side frame NotVerified is =
+    unheld (is_strict side.validate || changed (control frame)) NotValid Invalid is
 
 -- a frame is held back at its ceiling alone
-held_at_ceiling : (side : RxSide) (ceilings : List ℕ → ℕ → Option ℕ) (frame : List ℕ) (outcome : Outcome) → rx.IsOutcome side ceilings frame outcome
+held_at_ceiling : (side : RxSide) (ceilings : List ℕ → ℕ → Option ℕ) (frame : List ℕ) (outcome : Outcome)
+    → rx.IsOutcome side ceilings frame outcome
     → outcome.verdict ≡ HeldBack → (a : Arrival) × Arrives side frame a × (is_below (ceilings a.sci a.an) a.pn ≡ false)
 held_at_ceiling side ceilings frame outcome receives held = elim receives [
   | inl settles ↦ absurd (settled_unheld side frame settles.0 (sym (ap (λ (o : Outcome). o.verdict) settles.2) ∙ held))
   | inr arrives ↦
       let a = arrives.0 in
-      arrived_by (λ (o : Outcome). o.verdict ≡ HeldBack → (a : Arrival) × Arrives side frame a × (is_below (ceilings a.sci a.an) a.pn ≡ false))
-      side ceilings a (λ below is. absurd cc) (λ above is. (a, arrives.1, above)) (sym (ap (λ (o : Outcome). o.verdict) arrives.2) ∙ held)
+      arrived_by (λ (o : Outcome). o.verdict ≡ HeldBack
+      → (a : Arrival) × Arrives side frame a × (is_below (ceilings a.sci a.an) a.pn ≡ false))
+      side ceilings a (λ below is. absurd cc) (λ above is. (a, arrives.1, above))
+      (sym (ap (λ (o : Outcome). o.verdict) arrives.2) ∙ held)
 ]
 
 -- an endpoint with other receive channels
@@ -535,7 +616,8 @@ receive_limited old new frame HeldBack out held = held refl
 receive_limited old new frame (Delivered kind) out held = tt
 receive_limited old new frame (Discarded reason) out held = tt
 
-module _ {D : Type 0} (disk_of : D → Disk) (old : EndpointValue D) (r : rxsc.RxValue) (frame : List ℕ) (verdict : Verdict) (out : List ℕ) (kept : IsSoundEndpoint old)
+module _ {D : Type 0} (disk_of : D → Disk) (old : EndpointValue D) (r : rxsc.RxValue) (frame : List ℕ)
+    (verdict : Verdict) (out : List ℕ) (kept : IsSoundEndpoint old)
     (receives : rx.IsOutcome (rxsc.rx_side_of old.rx) (rxsc.ceilings_of old.rx) frame
     (record { verdict = verdict; given = out; numbers = (rxsc.rx_side_of r).numbers }))
     (side : rxsc.rx_side_of r ≡ record (rxsc.rx_side_of old.rx) { numbers = (rxsc.rx_side_of r).numbers })
@@ -546,14 +628,16 @@ module _ {D : Type 0} (disk_of : D → Disk) (old : EndpointValue D) (r : rxsc.R
   standing_receives =
       let outcome : Outcome = record { verdict = verdict; given = out; numbers = (rxsc.rx_side_of r).numbers } in
       subst (λ (x : RxSide). rx.IsOutcome x (standing_in old.store).ceilings.rx frame outcome) kept.channels.rx_is
-      (subst (λ (c : List ℕ → ℕ → Option ℕ). rx.IsOutcome (rxsc.rx_side_of old.rx) c frame outcome) kept.channels.rx_ceilings receives)
+      (subst (λ (c : List ℕ → ℕ → Option ℕ). rx.IsOutcome (rxsc.rx_side_of old.rx) c frame outcome)
+      kept.channels.rx_ceilings receives)
 
   pub received-kept : IsSoundEndpoint (with_rx old r)
   received-kept =
       let s = standing_in old.store in
       let numbers = (rxsc.rx_side_of r).numbers in
       let same : rxsc.ceilings_of r ≡ s.ceilings.rx = ceilings ∙ kept.channels.rx_ceilings in
-      let within = received_within s.identity.rx_block (rx_side (state_of old no_logs)) s.ceilings.rx (kept-ahead old kept).rx_ahead frame
+      let within = received_within s.identity.rx_block (rx_side (state_of old no_logs)) s.ceilings.rx
+      (kept-ahead old kept).rx_ahead frame
       (record { verdict = verdict; given = out; numbers = numbers }) standing_receives in
       record {
         identity = kept.identity;
@@ -565,9 +649,11 @@ module _ {D : Type 0} (disk_of : D → Disk) (old : EndpointValue D) (r : rxsc.R
         };
         within = record {
           tx_within = kept.within.tx_within;
-          rx_within = λ sci an. subst (λ (c : List ℕ → ℕ → Option ℕ). IsRxWithin s.identity.rx_block (numbers sci an) (c sci an)) (sym same) (within sci an);
+          rx_within = λ sci an. subst (λ (c : List ℕ → ℕ → Option ℕ).
+              IsRxWithin s.identity.rx_block (numbers sci an) (c sci an)) (sym same) (within sci an);
           few = λ sci an over. unnumbered (association_in (channel_at r.channels sci) an)
-              ((λ i. (side i).rx sci an) ∙ unowned (association_in (channel_at old.rx.channels sci) an) (kept.within.few sci an over));
+              ((λ i. (side i).rx sci an)
+              ∙ unowned (association_in (channel_at old.rx.channels sci) an) (kept.within.few sci an over));
         };
         few = kept.few;
         tickets = kept.tickets;
@@ -575,15 +661,19 @@ module _ {D : Type 0} (disk_of : D → Disk) (old : EndpointValue D) (r : rxsc.R
             (record { verdict = verdict; given = out; numbers = numbers }) standing_receives) kept.work;
       }
 
-  pub received-call : All (λ octet. octet < 2 ^ 8) frame → is_stopped old ≡ false → rxsc.counters_of r ≡ counters_after_verdict verdict (rxsc.counters_of old.rx)
-      → rxsc.channel_counters_of r ≡ counters_after_verdict_at (channel_of (rxsc.rx_side_of old.rx) frame) verdict (rxsc.channel_counters_of old.rx)
+  pub received-call : All (λ octet. octet < 2 ^ 8) frame → is_stopped old ≡ false
+      → rxsc.counters_of r ≡ counters_after_verdict verdict (rxsc.counters_of old.rx)
+      → rxsc.channel_counters_of r ≡ counters_after_verdict_at (channel_of (rxsc.rx_side_of old.rx) frame) verdict
+      (rxsc.channel_counters_of old.rx)
       → IsCall disk_of old (state.Receives frame) (Received (Ok verdict) out) (with_rx old r)
   received-call octets running counters channel_counters =
       let s = standing_in old.store in
       let outcome : Outcome = record { verdict = verdict; given = out; numbers = (rxsc.rx_side_of r).numbers } in
-      alone-call disk_of old (with_rx old r) (state.Receives frame) (Received (Ok verdict) out) refl (λ backed. kept-backed (with_rx old r) received-kept disk_of backed.size (backed.stored running)) (record {
+      alone-call disk_of old (with_rx old r) (state.Receives frame) (Received (Ok verdict) out) refl
+      (λ backed. kept-backed (with_rx old r) received-kept disk_of backed.size (backed.stored running)) (record {
         in_range = octets;
-        step = λ logs. receive_step (state_of old logs) s.ceilings.rx frame outcome running (kept-ahead old kept).rx_ahead standing_receives;
+        step = λ logs. receive_step (state_of old logs) s.ceilings.rx frame outcome running
+            (kept-ahead old kept).rx_ahead standing_receives;
         ceilings = refl;
         limited = receive_limited old (with_rx old r) frame verdict out
             (held_at_ceiling (rx_side (state_of old no_logs)) s.ceilings.rx frame outcome standing_receives);
@@ -594,10 +684,12 @@ module _ {D : Type 0} (disk_of : D → Disk) (old : EndpointValue D) (r : rxsc.R
         tx_counters = refl;
         rx_counters = counters;
         channel_counters = channel_counters
-            ∙ ap (λ (x : RxSide). counters_after_verdict_at (channel_of x frame) verdict (rxsc.channel_counters_of old.rx)) kept.channels.rx_is;
+            ∙ ap (λ (x : RxSide). counters_after_verdict_at (channel_of x frame) verdict
+            (rxsc.channel_counters_of old.rx)) kept.channels.rx_is;
       })
 
-pub receive-stopped : {D : Type 0} (disk_of : D → Disk) (old : EndpointValue D) (frame out : List ℕ) (fault : StoppedFault) → All (λ octet. octet < 2 ^ 8) frame
+pub receive-stopped : {D : Type 0} (disk_of : D → Disk) (old : EndpointValue D) (frame out : List ℕ)
+    (fault : StoppedFault) → All (λ octet. octet < 2 ^ 8) frame
     → is_stopped old ≡ true → out ≡ [] → IsCall disk_of old (state.Receives frame) (Received (Err fault) out) old
 receive-stopped disk_of old frame out fault octets stopped empty =
     alone-call disk_of old old (state.Receives frame) (Received (Err fault) out) refl (λ backed. backed) (record {

@@ -29,7 +29,8 @@ no_raise whose (Some raise) None is = absurd cc
 no_raise turn.Reservation (Some raise) (Some first) is = absurd cc
 no_raise turn.Command (Some raise) (Some first) is = absurd cc
 
-module _ {D : Type 0} (disk_of : D → Disk) (old new : EndpointValue D) (call : IsCall disk_of old Advances (Advanced (Ok Idle)) new) where
+module _ {D : Type 0} (disk_of : D → Disk) (old new : EndpointValue D)
+    (call : IsCall disk_of old Advances (Advanced (Ok Idle)) new) where
   begins_none : (piece : Option Piece) → BeginsWith old piece (Ok Idle) new → (piece ≡ None) × (new ≡ old)
   begins_none None begins = (refl, begins)
   begins_none (Some (ToRaise raise)) begins = absurd begins

@@ -1,5 +1,6 @@
 -- Work under way: what the disk of an endpoint leaves meanwhile.
-use Rattle.std.proofs.Common.{◌≡◌, ◌≤◌, ◌<◌, ◌^◌, ◌⊎◌, ◌∙◌, [], ℕ, Bool, true, false, inl, inr, List, Option, Some, None, refl, sym, ap, subst, arith}
+use Rattle.std.proofs.Common.{◌≡◌, ◌≤◌, ◌<◌, ◌^◌, ◌⊎◌, ◌∙◌, [], ℕ, Bool, true, false, inl, inr, List, Option, Some}
+use Rattle.std.proofs.Common.{None, refl, sym, ap, subst, arith}
 use Rattle.std.specs.Prelude.{IsSomeAnd}
 use Rattle.std.specs.Option.{option_map}
 use Rattle.macs_config.specs.Config.{this_edition}
@@ -24,7 +25,9 @@ use Rattle.macs_store.proofs.Keeping.{in_hand-image}
 use Rattle.macs_endpoint.specs.Ceilings.{Raise, RaiseRx, RaiseTx, standing_with_raise}
 use Rattle.macs_endpoint.specs.Restart.{Fits, rx_limit}
 use Rattle.macs_endpoint.specs.State.{Logs, State}
-use Rattle.macs_endpoint.specs.Value.{AreChannels, EndpointValue, IsAtRest, IsBacked, IsKeeping, IsRaiseWithin, IsReserving, IsRxRaiseWithin, IsRxWithin, IsSoundEndpoint, IsTxRaiseWithin, IsTxWithin, disk_in, is_stopped, state_of}
+use Rattle.macs_endpoint.specs.Value.{AreChannels, EndpointValue, IsAtRest, IsBacked, IsKeeping, IsRaiseWithin}
+use Rattle.macs_endpoint.specs.Value.{IsReserving, IsRxRaiseWithin, IsRxWithin, IsSoundEndpoint, IsTxRaiseWithin}
+use Rattle.macs_endpoint.specs.Value.{IsTxWithin, disk_in, is_stopped, state_of}
 use Rattle.macs_endpoint.proofs.Fitting.{AreAhead, fits-ahead, fits-commit, kept-ahead, standing_with}
 
 -- ---- a ceiling that is being raised
@@ -38,15 +41,18 @@ tx_further block (Some next) (Some ceiling) raise within =
     let below = raise.0 in
     let near = raise.1 in
     let before = within.1 in
-    let further : (next ≤ block_beyond ceiling block) × (block_beyond ceiling block ≤ 2 ^ 32) = (omega (arith, before, below), omega arith) in
+    let further : (next ≤ block_beyond ceiling block) × (block_beyond ceiling block ≤ 2 ^ 32) =
+    (omega (arith, before, below), omega arith) in
     (within.0, further.0, near, further.1)
 
-seen_further : (block next pn ceiling : ℕ) (seen : Option ℕ) → IsSomeAnd seen (λ s. pn ≤ s) → ceiling < block_beyond pn block → next ≤ ceiling
+seen_further : (block next pn ceiling : ℕ) (seen : Option ℕ) → IsSomeAnd seen (λ s. pn ≤ s)
+    → ceiling < block_beyond pn block → next ≤ ceiling
     → (next ≤ block_beyond pn block) × (block_beyond pn block ≤ rx_limit block next seen)
 seen_further block next pn ceiling None is above within = absurd is
 seen_further block next pn ceiling (Some seen) is above within = (omega (arith, above, within), omega (arith, is))
 
-rx_further : (block pn : ℕ) (numbers : Option Numbers) (ceiling : Option ℕ) → IsRxRaiseWithin block pn numbers ceiling → IsRxWithin block numbers ceiling
+rx_further : (block pn : ℕ) (numbers : Option Numbers) (ceiling : Option ℕ) → IsRxRaiseWithin block pn numbers ceiling
+    → IsRxWithin block numbers ceiling
     → IsRxWithin block numbers (Some (block_beyond pn block))
 rx_further block pn None ceiling raise within = absurd raise
 rx_further block pn (Some numbers) None raise within = absurd raise
@@ -57,14 +63,16 @@ rx_further block pn (Some numbers) (Some ceiling) raise within =
 module _ (tx : Tx) (rx : rxsc.RxValue) (s : Standing) (channels : AreChannels tx rx s)
     (are : AreAhead s.identity (txsc.tx_side_of tx).next (rxsc.rx_side_of rx).numbers s.ceilings) where
   pub raise-ahead : (raise : Raise) → IsRaiseWithin tx rx s.identity raise
-      → AreAhead s.identity (txsc.tx_side_of tx).next (rxsc.rx_side_of rx).numbers (standing_with_raise s raise).ceilings
+      → AreAhead s.identity (txsc.tx_side_of tx).next (rxsc.rx_side_of rx).numbers
+      (standing_with_raise s raise).ceilings
   raise-ahead (RaiseTx an) within =
       let block = s.identity.tx_block in
       let next = (txsc.tx_side_of tx).next in
       let x : Option ℕ = option_map (λ (ceiling : ℕ). block_beyond ceiling block) (s.ceilings.tx an) in
       let here : IsTxWithin block (next an) x =
       tx_further block (next an) (s.ceilings.tx an)
-      (subst (λ (c : ℕ → Option ℕ). IsTxRaiseWithin block (next an) (c an)) channels.tx_ceilings within) (are.tx_ahead an) in
+      (subst (λ (c : ℕ → Option ℕ). IsTxRaiseWithin block (next an) (c an)) channels.tx_ceilings within)
+      (are.tx_ahead an) in
       record {
         tx_ahead = λ i. put_all (λ (o : Option ℕ). IsTxWithin block (next i) o) s.ceilings.tx an x i
             (λ same. subst (λ (k : ℕ). IsTxWithin block (next k) x) (sym same) here) (λ other. are.tx_ahead i);
@@ -79,15 +87,18 @@ module _ (tx : Tx) (rx : rxsc.RxValue) (s : Standing) (channels : AreChannels tx
       let x : Option ℕ = Some (block_beyond need.pn block) in
       let here : IsRxWithin block (numbers sci an) x =
       rx_further block need.pn (numbers sci an) (s.ceilings.rx sci an)
-      (subst (λ (c : List ℕ → ℕ → Option ℕ). IsRxRaiseWithin block need.pn (numbers sci an) (c sci an)) channels.rx_ceilings within)
+      (subst (λ (c : List ℕ → ℕ → Option ℕ). IsRxRaiseWithin block need.pn (numbers sci an) (c sci an))
+      channels.rx_ceilings within)
       (are.rx_ahead sci an) in
       record {
         tx_ahead = are.tx_ahead;
-        rx_ahead = λ t k. put_at_all (λ (row : ℕ → Option ℕ). IsRxWithin block (numbers t k) (row k)) s.ceilings.rx sci (put (s.ceilings.rx sci) an x) t
+        rx_ahead = λ t k. put_at_all (λ (row : ℕ → Option ℕ). IsRxWithin block (numbers t k) (row k)) s.ceilings.rx sci
+            (put (s.ceilings.rx sci) an x) t
             (λ same. put_all (λ (o : Option ℕ). IsRxWithin block (numbers t k) o) (s.ceilings.rx sci) an x k
             (λ same_k. subst (λ (u : List ℕ). IsRxWithin block (numbers u k) x) (sym same)
             (subst (λ (m : ℕ). IsRxWithin block (numbers sci m) x) (sym same_k) here))
-            (λ other. subst (λ (u : List ℕ). IsRxWithin block (numbers t k) (s.ceilings.rx u k)) same (are.rx_ahead t k)))
+            (λ other.
+            subst (λ (u : List ℕ). IsRxWithin block (numbers t k) (s.ceilings.rx u k)) same (are.rx_ahead t k)))
             (λ other. are.rx_ahead t k);
         few = are.few;
       }
@@ -95,7 +106,8 @@ module _ (tx : Tx) (rx : rxsc.RxValue) (s : Standing) (channels : AreChannels tx
 -- ---- what is under way
 
 -- the ceilings alone are raised
-pub raise-is : (s : State) (c : Ceilings) (raise : Raise) → standing_with_raise (standing_with s c) raise ≡ standing_with s (standing_with_raise (standing_with s c) raise).ceilings
+pub raise-is : (s : State) (c : Ceilings) (raise : Raise) → standing_with_raise (standing_with s c) raise
+    ≡ standing_with s (standing_with_raise (standing_with s c) raise).ceilings
 raise-is s c (RaiseTx an) = refl
 raise-is s c (RaiseRx need) = refl
 
@@ -144,30 +156,41 @@ module _ {D : Type 0} (e : EndpointValue D) (kept : IsSoundEndpoint e) where
     fits_by : (after : Standing) → standing_then e.store ≡ Some after → IsAtRest e ⊎ (IsReserving e ⊎ IsKeeping e)
         → StandsForEither before after image → Fits this_edition sectors image state
     fits_by after leads (inl rest) left =
-        let same : before ≡ after = some_is before after (sym (ap (λ (h : Change). store.standing_with before h) rest.store) ∙ leads) in
+        let same : before ≡ after =
+        some_is before after (sym (ap (λ (h : Change). store.standing_with before h) rest.store) ∙ leads) in
         elim left.0 [
           | inl finds ↦ fits-ahead sectors image size state before.ceilings (kept-ahead e kept) finds
           | inr finds ↦ fits-ahead sectors image size state before.ceilings (kept-ahead e kept)
               (subst (λ (x : Standing). StandsFor this_edition image x) (sym same) finds)
         ]
     fits_by after leads (inr (inl work)) left =
-        let same : standing_with_raise before work.raise ≡ after = some_is (standing_with_raise before work.raise) after (sym work.leads ∙ leads) in
+        let same : standing_with_raise before work.raise ≡ after =
+        some_is (standing_with_raise before work.raise) after (sym work.leads ∙ leads) in
         elim left.0 [
           | inl finds ↦ fits-ahead sectors image size state before.ceilings (kept-ahead e kept) finds
           | inr finds ↦ fits-ahead sectors image size state (standing_with_raise before work.raise).ceilings
               (raise-ahead e.tx e.rx before kept.channels (kept-ahead e kept) work.raise work.within)
-              (subst (λ (x : Standing). StandsFor this_edition image x) (sym same ∙ raise-is state before.ceilings work.raise) finds)
+              (subst (λ (x : Standing). StandsFor this_edition image x)
+              (sym same ∙ raise-is state before.ceilings work.raise) finds)
         ]
     fits_by after leads (inr (inr work)) left =
         let same : work.after ≡ after = some_is work.after after (sym work.leads ∙ leads) in
         elim left.0 [
           | inl finds ↦ fits-ahead sectors image size state before.ceilings (kept-ahead e kept) finds
-          | inr finds ↦ fits-commit sectors image size state before.ceilings work.first.command (kept-ahead e kept) work.in_range work.in_hand
-              (inr (work.after, work.accepted, subst (λ (x : Standing). StandsFor this_edition image x) (sym same) finds), left.1)
+          | inr finds ↦ fits-commit sectors image size state before.ceilings work.first.command (kept-ahead e kept)
+              work.in_range work.in_hand (
+                inr (
+                  work.after,
+                  work.accepted,
+                  subst (λ (x : Standing). StandsFor this_edition image x) (sym same) finds,
+                ),
+                left.1,
+              )
         ]
 
     -- an image that stands for the standing, or for the standing once the work under way is done
-    pub fits-either : (after : Standing) → standing_then e.store ≡ Some after → StandsForEither before after image → Fits this_edition sectors image state
+    pub fits-either : (after : Standing) → standing_then e.store ≡ Some after → StandsForEither before after image
+        → Fits this_edition sectors image state
     fits-either after leads left = fits_by after leads kept.work left
 
   -- ---- its disk
@@ -185,23 +208,28 @@ module _ {D : Type 0} (e : EndpointValue D) (kept : IsSoundEndpoint e) where
     }
 
     -- what calls of the work under way leave
-    pub fits-moments : (new : Disk) (logs : Logs) (after : Standing) → least_sectors ≤ (disk_in disk_of e).sectors → standing_then e.store ≡ Some after
+    pub fits-moments : (new : Disk) (logs : Logs) (after : Standing) → least_sectors ≤ (disk_in disk_of e).sectors
+        → standing_then e.store ≡ Some after
         → Leaves (disk_in disk_of e) new (StandsForEither before after)
-        → Leaves (disk_in disk_of e) new (λ image. Fits this_edition (disk_in disk_of e).sectors image (state_of e logs))
+        → Leaves (disk_in disk_of e) new
+        (λ image. Fits this_edition (disk_in disk_of e).sectors image (state_of e logs))
     fits-moments new logs after size leads leaves =
         Leaves-weaker (disk_in disk_of e) new (StandsForEither before after)
         (λ image. Fits this_edition (disk_in disk_of e).sectors image (state_of e logs))
         (λ image left. fits-either (disk_in disk_of e).sectors image size logs (is_stopped e) after leads left) leaves
 
     -- a device call failed: what is left then
-    pub cut-backed : (cut : EndpointValue D) → is_stopped cut ≡ true → ((logs : Logs) → state_of cut logs ≡ record (state_of e logs) { stopped = true })
+    pub cut-backed : (cut : EndpointValue D) → is_stopped cut ≡ true
+        → ((logs : Logs) → state_of cut logs ≡ record (state_of e logs) { stopped = true })
         → (after : Standing) → least_sectors ≤ (disk_in disk_of cut).sectors → standing_then e.store ≡ Some after
         → Leaves (disk_in disk_of e) (disk_in disk_of cut) (StandsForEither before after) → IsBacked disk_of cut
     cut-backed cut stopped same after size leads leaves = record {
       size = size;
       stored = λ running. absurd (not_stopped (is_stopped cut) stopped running);
-      fits = λ logs image left. subst (λ (s : State). Fits this_edition (disk_in disk_of cut).sectors image s) (sym (same logs))
+      fits = λ logs image left.
+          subst (λ (s : State). Fits this_edition (disk_in disk_of cut).sectors image s) (sym (same logs))
           (fits-either (disk_in disk_of cut).sectors image size logs true after leads
           (Leaves-now (disk_in disk_of e) (disk_in disk_of cut) (StandsForEither before after) leaves image left));
-      form = λ image left. (Leaves-now (disk_in disk_of e) (disk_in disk_of cut) (StandsForEither before after) leaves image left).1;
+      form = λ image left.
+          (Leaves-now (disk_in disk_of e) (disk_in disk_of cut) (StandsForEither before after) leaves image left).1;
     }

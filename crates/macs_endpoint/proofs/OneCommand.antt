@@ -1,5 +1,6 @@
 -- While a ceiling is needed one submitted command at most is done with before a reservation has its turn.
-use Rattle.std.proofs.Common.{◌≡◌, ◌≢◌, ◌≤◌, ◌⊎◌, inl, inr, ℕ, true, false, List, [], ◌∷◌, Option, Some, None, Result, Ok, Err, refl, sym, ◌∙◌, ap, subst, arith}
+use Rattle.std.proofs.Common.{◌≡◌, ◌≢◌, ◌≤◌, ◌⊎◌, inl, inr, ℕ, true, false, List, [], ◌∷◌, Option, Some, None, Result}
+use Rattle.std.proofs.Common.{Ok, Err, refl, sym, ◌∙◌, ap, subst, arith}
 use Rattle.macs_config.specs.declared.command.Command.{Command}
 use Rattle.macs_disk.specs.Disk.{Disk}
 use Rattle.macs_store.specs.Value.{IsIdle, StoreValue, standing_in}
@@ -11,9 +12,12 @@ use Rattle.macs_endpoint.specs.Limits.{IsStill}
 use Rattle.macs_endpoint.specs.Lives.{Lives, Transition}
 use Rattle.macs_endpoint.specs.Needed.{raise_in}
 use Rattle.macs_endpoint.specs.Queue.{first_waiting}
-use Rattle.macs_endpoint.specs.State.{Advanced, AdvancedLong, Advances, Call, Commands, Logs, Protected, Protects, Ran, Received, Receives, Refilled, Refills, RefusedLong, Reply, State, Submits, Submitted, no_logs, rx_side, tx_side}
+use Rattle.macs_endpoint.specs.State.{Advanced, AdvancedLong, Advances, Call, Commands, Logs, Protected, Protects, Ran}
+use Rattle.macs_endpoint.specs.State.{Received, Receives, Refilled, Refills, RefusedLong, Reply, State, Submits}
+use Rattle.macs_endpoint.specs.State.{Submitted, no_logs, rx_side, tx_side}
 use Rattle.macs_endpoint.specs.Step.{AdvanceStep, Ends, IsStopped, RunningStep, SubmitStep}
-use Rattle.macs_endpoint.specs.Value.{EndpointValue, IsAtRest, IsKeeping, IsReserving, IsSoundEndpoint, is_stopped, state_of}
+use Rattle.macs_endpoint.specs.Value.{EndpointValue, IsAtRest, IsKeeping, IsReserving, IsSoundEndpoint, is_stopped}
+use Rattle.macs_endpoint.specs.Value.{state_of}
 use Rattle.macs_endpoint.specs.declared.fault.CommandFault.{CommandFault}
 use Rattle.macs_endpoint.specs.declared.fault.CommandFault.TheVariants as ran
 use Rattle.macs_endpoint.specs.declared.fault.RefillFault.TheVariants as refill
@@ -32,7 +36,8 @@ use Rattle.macs_endpoint.proofs.InHand.{not_stopped}
 
 -- a ceiling is being raised; or no command is under way, and where no work is, the turn is a reservation's
 abbrev IsReservations : {D : Type 0} → EndpointValue D → Type 0
-IsReservations e = ((raise : Raise) × (e.reserving ≡ Some raise)) ⊎ ((e.in_hand ≡ None) × (IsIdle e.store → e.turn ≡ turn.Reservation))
+IsReservations e = ((raise : Raise) × (e.reserving ≡ Some raise))
+    ⊎ ((e.in_hand ≡ None) × (IsIdle e.store → e.turn ≡ turn.Reservation))
 
 -- no submitted command is done with before a reservation has its turn, or none is needed
 abbrev IsQuiet : {D : Type 0} → EndpointValue D → Type 0
@@ -58,7 +63,8 @@ stopped_none (Receives frame) (Received result out) stopped = refl
 stopped_none call reply stopped = absurd stopped
 
 -- a command that is done with is no longer under way
-done_free : (s : State) (first : Waiting) (rest : List Waiting) (result : Result (Unit {0}) CommandFault) (t : State) → Ends s first rest result t
+done_free : (s : State) (first : Waiting) (rest : List Waiting) (result : Result (Unit {0}) CommandFault) (t : State)
+    → Ends s first rest result t
     → t.in_hand ≡ None
 done_free s first rest (Ok done) t (config, is, made) = ap (λ (x : State). x.in_hand) made
 done_free s first rest (Err (ran.Refused refusal)) t (free, is, made) = ap (λ (x : State). x.in_hand) made
@@ -89,7 +95,8 @@ module _ {D : Type 0} (disk_of : D → Disk) (old new : EndpointValue D) where
     abbrev t : State
     t = state_of new after
 
-    dones : (call : Call) (reply : Reply) → RunningStep s call reply t → new.turn ≡ turn_after old call reply → IsDone reply
+    dones : (call : Call) (reply : Reply) → RunningStep s call reply t → new.turn ≡ turn_after old call reply
+        → IsDone reply
     dones call (Ran result) moves whose = inl refl
     dones call (Refilled result) moves whose = inl refl
     dones call (Submitted result) moves whose = inl refl
@@ -134,7 +141,8 @@ module _ {D : Type 0} (disk_of : D → Disk) (old new : EndpointValue D) where
     IsStillQuiet reply = (commands_in_reply reply ≡ 0) × IsQuiet new
 
     -- nothing changes but what waits, and packet numbers
-    stays : (reply : Reply) → commands_in_reply reply ≡ 0 → new.in_hand ≡ old.in_hand → new.store ≡ old.store → new.turn ≡ old.turn → IsStillQuiet reply
+    stays : (reply : Reply) → commands_in_reply reply ≡ 0 → new.in_hand ≡ old.in_hand → new.store ≡ old.store
+        → new.turn ≡ old.turn → IsStillQuiet reply
     stays reply none in_hand store whose = (
       none,
       inr (inl (inr (
@@ -144,7 +152,8 @@ module _ {D : Type 0} (disk_of : D → Disk) (old new : EndpointValue D) where
     )
 
     -- the turn is a reservation's, and no command is under way
-    turns_to : (reply : Reply) → commands_in_reply reply ≡ 0 → new.in_hand ≡ None → new.turn ≡ turn.Reservation → IsStillQuiet reply
+    turns_to : (reply : Reply) → commands_in_reply reply ≡ 0 → new.in_hand ≡ None → new.turn ≡ turn.Reservation
+        → IsStillQuiet reply
     turns_to reply none in_hand whose = (none, inr (inl (inr (in_hand, λ idle. whose))))
 
     stops : (reply : Reply) → commands_in_reply reply ≡ 0 → is_stopped new ≡ true → IsStillQuiet reply
@@ -157,7 +166,8 @@ module _ {D : Type 0} (disk_of : D → Disk) (old new : EndpointValue D) where
       abbrev v : State
       v = state_of new after
 
-      keeps : (reply : Reply) → commands_in_reply reply ≡ 0 → new.store ≡ old.store → new.turn ≡ old.turn → v ≡ u → IsStillQuiet reply
+      keeps : (reply : Reply) → commands_in_reply reply ≡ 0 → new.store ≡ old.store → new.turn ≡ old.turn → v ≡ u
+          → IsStillQuiet reply
       keeps reply none store whose is = stays reply none (ap (λ (x : State). x.in_hand) is) store whose
 
       -- ---- a step
@@ -175,7 +185,8 @@ module _ {D : Type 0} (disk_of : D → Disk) (old new : EndpointValue D) where
       goes_on ticket (Ok done) goes = none_kept goes.0.0 goes.0.1
       goes_on ticket (Err fault) goes = goes
 
-      advance : (result : Result Progress StepFault) → AdvanceStep u result v → AdvancesAs disk_of old result new → IsNotReserved (Advanced result)
+      advance : (result : Result Progress StepFault) → AdvanceStep u result v → AdvancesAs disk_of old result new
+          → IsNotReserved (Advanced result)
           → IsStillQuiet (Advanced result)
       advance (Ok Idle) moves does calm = elim (in_hand_or_not old.store.hand) [
         | inl idle ↦ absurd (begins (Ok Idle) idle does).1
@@ -183,7 +194,8 @@ module _ {D : Type 0} (disk_of : D → Disk) (old new : EndpointValue D) where
       ]
       advance (Ok Worked) moves does calm = elim (in_hand_or_not old.store.hand) [
         | inl idle ↦ let began = begins (Ok Worked) idle does in (refl, inr (inl (inl (began.0, began.1.0))))
-        | inr busy ↦ let goes = does.goes_on busy in (refl, inr (inl (inr (goes.1 ∙ free.0, λ idle. absurd (goes.2 idle)))))
+        | inr busy ↦ let goes = does.goes_on busy in
+            (refl, inr (inl (inr (goes.1 ∙ free.0, λ idle. absurd (goes.2 idle)))))
       ]
       advance (Ok Reserved) moves does calm = absurd calm
       advance (Ok (Done ticket result)) moves does calm = elim (in_hand_or_not old.store.hand) [
@@ -199,35 +211,49 @@ module _ {D : Type 0} (disk_of : D → Disk) (old new : EndpointValue D) where
 
       -- ---- any call
 
-      submits : (command : Command) (result : Result ℕ SubmitFault) → SubmitStep u command result v → new.store ≡ old.store → new.turn ≡ old.turn
+      submits : (command : Command) (result : Result ℕ SubmitFault) → SubmitStep u command result v
+          → new.store ≡ old.store → new.turn ≡ old.turn
           → IsStillQuiet (Submitted result)
-      submits command (Ok ticket) moves store whose = stays (Submitted (Ok ticket)) refl (ap (λ (x : State). x.in_hand) moves.3) store whose
-      submits command (Err submit.QueueFull) moves store whose = keeps (Submitted (Err submit.QueueFull)) refl store whose moves.1
-      submits command (Err submit.TicketsSpent) moves store whose = keeps (Submitted (Err submit.TicketsSpent)) refl store whose moves.2
+      submits command (Ok ticket) moves store whose =
+          stays (Submitted (Ok ticket)) refl (ap (λ (x : State). x.in_hand) moves.3) store whose
+      submits command (Err submit.QueueFull) moves store whose =
+          keeps (Submitted (Err submit.QueueFull)) refl store whose moves.1
+      submits command (Err submit.TicketsSpent) moves store whose =
+          keeps (Submitted (Err submit.TicketsSpent)) refl store whose moves.2
       submits command (Err submit.Stopped) moves store whose = absurd moves
 
       -- after a refill that is answered Ok nothing is needed
-      refills : v ≡ u → CeilingsAfter u (standing_in old.store) old.reserving Refills (Refilled (Ok tt)) (standing_in new.store) → raise_in new ≡ None
-      refills is stands = subst (λ (x : State). first_raise (standing_in new.store) (tx_side x) (rx_side x) ≡ None) (sym is) stands.is_next
+      refills : v ≡ u → CeilingsAfter u (standing_in old.store) old.reserving Refills (Refilled (Ok tt))
+          (standing_in new.store) → raise_in new ≡ None
+      refills is stands = subst (λ (x : State). first_raise (standing_in new.store) (tx_side x) (rx_side x) ≡ None)
+          (sym is) stands.is_next
 
-      runs : (call : Call) (reply : Reply) → is_stopped old ≡ false → RunningStep u call reply v → IsStill old call reply new → AdvancesIn disk_of old call reply new
-          → CeilingsAfter u (standing_in old.store) old.reserving call reply (standing_in new.store) → new.turn ≡ turn_after old call reply
+      runs : (call : Call) (reply : Reply) → is_stopped old ≡ false → RunningStep u call reply v
+          → IsStill old call reply new → AdvancesIn disk_of old call reply new
+          → CeilingsAfter u (standing_in old.store) old.reserving call reply (standing_in new.store)
+          → new.turn ≡ turn_after old call reply
           → IsNotReserved reply → IsStillQuiet reply
       runs (Commands command) (Ran (Ok done)) run (none, (config, is, made)) still does stands whose calm =
           turns_to (Ran (Ok done)) refl (ap (λ (x : State). x.in_hand) made) whose
       runs (Commands command) (Ran (Err ran.Stopped)) run moves still does stands whose calm = absurd moves
-      runs (Commands command) (Ran (Err ran.Busy)) run moves still does stands whose calm = keeps (Ran (Err ran.Busy)) refl still whose moves.1
+      runs (Commands command) (Ran (Err ran.Busy)) run moves still does stands whose calm =
+          keeps (Ran (Err ran.Busy)) refl still whose moves.1
       runs (Commands command) (Ran (Err (ran.Refused refusal))) run moves still does stands whose calm =
           turns_to (Ran (Err (ran.Refused refusal))) refl (ap (λ (x : State). x.in_hand) moves.2 ∙ free.0) whose
       runs (Commands command) (Ran (Err ran.GenerationsSpent)) run moves still does stands whose calm =
           turns_to (Ran (Err ran.GenerationsSpent)) refl (ap (λ (x : State). x.in_hand) moves.2 ∙ free.0) whose
-      runs (Commands command) (Ran (Err ran.Disk)) run moves still does stands whose calm = stops (Ran (Err ran.Disk)) refl (ap (λ (x : State). x.stopped) moves.2)
-      runs Refills (Refilled (Ok done)) run moves still does stands whose calm = (refl, inr (inr (refills moves.1 stands)))
+      runs (Commands command) (Ran (Err ran.Disk)) run moves still does stands whose calm =
+          stops (Ran (Err ran.Disk)) refl (ap (λ (x : State). x.stopped) moves.2)
+      runs Refills (Refilled (Ok done)) run moves still does stands whose calm =
+          (refl, inr (inr (refills moves.1 stands)))
       runs Refills (Refilled (Err refill.Stopped)) run moves still does stands whose calm = absurd moves
-      runs Refills (Refilled (Err refill.Busy)) run moves still does stands whose calm = keeps (Refilled (Err refill.Busy)) refl still whose moves.1
+      runs Refills (Refilled (Err refill.Busy)) run moves still does stands whose calm =
+          keeps (Refilled (Err refill.Busy)) refl still whose moves.1
       runs Refills (Refilled (Err refill.GenerationsSpent)) run moves still does stands whose calm = absurd calm
-      runs Refills (Refilled (Err refill.Disk)) run moves still does stands whose calm = stops (Refilled (Err refill.Disk)) refl (ap (λ (x : State). x.stopped) moves.1)
-      runs (Submits command) (Submitted result) run moves still does stands whose calm = submits command result moves still whose
+      runs Refills (Refilled (Err refill.Disk)) run moves still does stands whose calm =
+          stops (Refilled (Err refill.Disk)) refl (ap (λ (x : State). x.stopped) moves.1)
+      runs (Submits command) (Submitted result) run moves still does stands whose calm =
+          submits command result moves still whose
       runs Advances (Advanced result) run moves still does stands whose calm = advance result moves (does run) calm
       runs (Protects plain) (Protected result out) run moves still does stands whose calm =
           stays (Protected result out) refl (alike-protect u v plain result out moves).0 still whose
@@ -237,24 +263,30 @@ module _ {D : Type 0} (disk_of : D → Disk) (old new : EndpointValue D) where
       runs Advances (AdvancedLong ticket) run moves still does stands whose calm = absurd still
       runs call reply run moves still does stands whose calm = absurd moves
 
-    reserves : (call : Call) (reply : Reply) → IsCall disk_of old call reply new → IsNotReserved reply → IsStillQuiet reply
+    reserves : (call : Call) (reply : Reply) → IsCall disk_of old call reply new → IsNotReserved reply
+        → IsStillQuiet reply
     reserves call reply is calm =
         let one = is.behaves.step no_logs in
         elim one.1 [
           | inl halts ↦ (stopped_none call reply halts.1, inl (ap (λ (x : State). x.stopped) halts.2 ∙ halts.0))
-          | inr steps ↦ runs one.0 call reply steps.0 steps.1 is.behaves.still is.behaves.advances is.behaves.ceilings is.behaves.turn calm
+          | inr steps ↦ runs one.0 call reply steps.0 steps.1 is.behaves.still is.behaves.advances is.behaves.ceilings
+              is.behaves.turn calm
         ]
 
-  quiet-call : (call : Call) (reply : Reply) → IsSoundEndpoint old → raise_in old ≢ None → IsQuiet old → IsCall disk_of old call reply new
+  quiet-call : (call : Call) (reply : Reply) → IsSoundEndpoint old → raise_in old ≢ None → IsQuiet old
+      → IsCall disk_of old call reply new
       → IsNotReserved reply → (commands_in_reply reply ≡ 0) × IsQuiet new
-  quiet-call call reply kept needed (inl stopped) is calm = let still = stopped_still call reply stopped is in (still.0, inl still.1)
-  quiet-call call reply kept needed (inr (inl reservations)) is calm = reserves kept needed reservations call reply is calm
+  quiet-call call reply kept needed (inl stopped) is calm = let still = stopped_still call reply stopped is in
+      (still.0, inl still.1)
+  quiet-call call reply kept needed (inr (inl reservations)) is calm =
+      reserves kept needed reservations call reply is calm
   quiet-call call reply kept needed (inr (inr none)) is calm = absurd (needed none)
 
 -- ---- through calls
 
 module _ {D : Type 0} (disk_of : D → Disk) where
-  quiet_life : (turns : List (Transition D)) (e new : EndpointValue D) → IsQuiet e → Lives disk_of e turns new → Needs e turns → NoneReserved turns
+  quiet_life : (turns : List (Transition D)) (e new : EndpointValue D) → IsQuiet e → Lives disk_of e turns new
+      → Needs e turns → NoneReserved turns
       → commands_done turns ≡ 0
   quiet_life [] e new quiet lives needs calm = refl
   quiet_life (turn ∷ turns) e new quiet lives needs calm =
@@ -262,10 +294,12 @@ module _ {D : Type 0} (disk_of : D → Disk) where
       omega (arith, one.0, quiet_life turns turn.after new one.1 lives.2 needs.1 calm.1)
 
   -- while a ceiling is needed, and no reservation has its turn, one submitted command at most is done with
-  pub one-command : (old new : EndpointValue D) (turns : List (Transition D)) → Lives disk_of old turns new → Needs old turns → NoneReserved turns
+  pub one-command : (old new : EndpointValue D) (turns : List (Transition D)) → Lives disk_of old turns new
+      → Needs old turns → NoneReserved turns
       → commands_done turns ≤ 1
   one-command old new [] lives needs calm = omega arith
-  one-command old new (turn ∷ turns) lives needs calm = elim (done-call disk_of old turn.after turn.call turn.reply lives.1) [
-    | inl none ↦ omega (arith, none, one-command turn.after new turns lives.2 needs.1 calm.1)
-    | inr (one, quiet) ↦ omega (arith, one, quiet_life turns turn.after new quiet lives.2 needs.1 calm.1)
-  ]
+  one-command old new (turn ∷ turns) lives needs calm =
+      elim (done-call disk_of old turn.after turn.call turn.reply lives.1) [
+        | inl none ↦ omega (arith, none, one-command turn.after new turns lives.2 needs.1 calm.1)
+        | inr (one, quiet) ↦ omega (arith, one, quiet_life turns turn.after new quiet lives.2 needs.1 calm.1)
+      ]

@@ -1,19 +1,24 @@
 -- The greatest number that was seen on a receive association, through calls.
-use Rattle.std.proofs.Common.{◌≡◌, ◌≢◌, ◌≤◌, ◌<◌, ◌⊎◌, ◌^◌, inl, inr, ℕ, List, [], ◌∷◌, Option, Some, None, Ok, Err, refl, sym, ◌∙◌, ap, subst, arith}
+use Rattle.std.proofs.Common.{◌≡◌, ◌≢◌, ◌≤◌, ◌<◌, ◌⊎◌, ◌^◌, inl, inr, ℕ, List, [], ◌∷◌, Option, Some, None, Ok, Err}
+use Rattle.std.proofs.Common.{refl, sym, ◌∙◌, ap, subst, arith}
 use Rattle.std.specs.Option.{option_map}
 use Rattle.macs_fields.proofs.FirstRefusal.{none-first}
 use Rattle.macs_config.specs.Tables.{put, put_at}
 use Rattle.macs_config.specs.declared.command.Command.{Command}
-use Rattle.macs_config.specs.declared.command.Command.TheVariants.{SetValidate, SetReplay, SetSciMode, TxInstall, TxUse, TxRemove, RxAdd, RxDrop, RxInstall, RxRemove}
+use Rattle.macs_config.specs.declared.command.Command.TheVariants.{SetValidate, SetReplay, SetSciMode, TxInstall, TxUse}
+use Rattle.macs_config.specs.declared.command.Command.TheVariants.{TxRemove, RxAdd, RxDrop, RxInstall, RxRemove}
 use Rattle.macs_config.proofs.Tables.{put-other, put_all, put_at-other, put_at_all, put_rx-here}
 use Rattle.macs_disk.specs.Disk.{Disk}
-use Rattle.macs_rxsc.specs.Receive.{Arrival, Arrives, RxStepHolds, Numbers, numbers_after_delivery, numbers_after_hold, put_numbers, seen_after, first_numbers, rx_steps, numbers_under_window}
+use Rattle.macs_rxsc.specs.Receive.{Arrival, Arrives, RxStepHolds, Numbers, numbers_after_delivery, numbers_after_hold}
+use Rattle.macs_rxsc.specs.Receive.{put_numbers, seen_after, first_numbers, rx_steps, numbers_under_window}
 use Rattle.macs_rxsc.specs.declared.verdict.Verdict.TheVariants.{HeldBack}
 use Rattle.macs_rxsc.proofs.Steps.{arrives_once}
 use Rattle.macs_endpoint.specs.Calls.{IsCall}
 use Rattle.macs_endpoint.specs.Lives.{Lives, Transition}
 use Rattle.macs_endpoint.specs.Rooms.{IsBelow, RxStays, SparesRx}
-use Rattle.macs_endpoint.specs.State.{Advanced, AdvancedLong, Advances, Call, Commands, Protected, Protects, Ran, Received, Receives, Refilled, Refills, RefusedLong, Reply, State, Submits, Submitted, command_made, no_logs, rx_side}
+use Rattle.macs_endpoint.specs.State.{Advanced, AdvancedLong, Advances, Call, Commands, Protected, Protects, Ran}
+use Rattle.macs_endpoint.specs.State.{Received, Receives, Refilled, Refills, RefusedLong, Reply, State, Submits}
+use Rattle.macs_endpoint.specs.State.{Submitted, command_made, no_logs, rx_side}
 use Rattle.macs_endpoint.specs.Step.{ArriveStep, Step, numbers_after}
 use Rattle.macs_endpoint.specs.Value.{EndpointValue, IsSoundEndpoint, state_of}
 use Rattle.macs_endpoint.specs.declared.fault.ProtectFault.TheVariants as protect
@@ -40,7 +45,8 @@ reached-still : (seen : Option ℕ) (pn other : ℕ) → IsReached seen pn → I
 reached-still None pn other reached = absurd reached
 reached-still (Some seen) pn other reached = omega (arith, reached)
 
-seen-windowed : (window : ℕ) (numbers : Option Numbers) (pn : ℕ) → HasSeen numbers pn → HasSeen (option_map (numbers_under_window window) numbers) pn
+seen-windowed : (window : ℕ) (numbers : Option Numbers) (pn : ℕ) → HasSeen numbers pn
+    → HasSeen (option_map (numbers_under_window window) numbers) pn
 seen-windowed window None pn seen = absurd seen
 seen-windowed window (Some numbers) pn seen = seen
 
@@ -52,7 +58,8 @@ module _ (sci : List ℕ) (an pn : ℕ) where
       subst (λ (f : ℕ → Option Numbers). HasSeen (f an) pn) (sym (put_at-other table at sci (λ an. None) differ)) seen
 
   -- another association changes
-  seen-other : (table : List ℕ → ℕ → Option Numbers) (at : List ℕ) (number : ℕ) (x : Option Numbers) → (at ≢ sci) ⊎ (number ≢ an)
+  seen-other : (table : List ℕ → ℕ → Option Numbers) (at : List ℕ) (number : ℕ) (x : Option Numbers)
+      → (at ≢ sci) ⊎ (number ≢ an)
       → HasSeen (table sci an) pn → HasSeen (put_numbers table at number x sci an) pn
   seen-other table at number x differ seen =
       put_at_all (λ (f : ℕ → Option Numbers). HasSeen (f an) pn) table at (put (table at) number x) sci
@@ -66,7 +73,8 @@ module _ (sci : List ℕ) (an pn : ℕ) where
 
   -- any association changes to numbers that have seen what it had seen
   seen-put : (table : List ℕ → ℕ → Option Numbers) (at : List ℕ) (number : ℕ) (x : Option Numbers)
-      → (HasSeen (table at number) pn → HasSeen x pn) → HasSeen (table sci an) pn → HasSeen (put_numbers table at number x sci an) pn
+      → (HasSeen (table at number) pn → HasSeen x pn) → HasSeen (table sci an) pn
+      → HasSeen (put_numbers table at number x sci an) pn
   seen-put table at number x keeps seen =
       put_at_all (λ (f : ℕ → Option Numbers). HasSeen (f an) pn) table at (put (table at) number x) sci
       (λ same.
@@ -77,7 +85,8 @@ module _ (sci : List ℕ) (an pn : ℕ) where
 
   -- ---- a command
 
-  seen-command : (command : Command) (numbers : List ℕ → ℕ → Option Numbers) → SparesRx sci an (Some command) → HasSeen (numbers sci an) pn
+  seen-command : (command : Command) (numbers : List ℕ → ℕ → Option Numbers) → SparesRx sci an (Some command)
+      → HasSeen (numbers sci an) pn
       → HasSeen (numbers_after command numbers sci an) pn
   seen-command (SetValidate validate) numbers spares seen = seen
   seen-command (SetReplay on window) numbers spares seen = seen-windowed window (numbers sci an) pn seen
@@ -87,7 +96,8 @@ module _ (sci : List ℕ) (an pn : ℕ) where
   seen-command (TxRemove at) numbers spares seen = seen
   seen-command (RxAdd added) numbers spares seen = seen
   seen-command (RxDrop dropped) numbers spares seen = seen-dropped numbers dropped spares seen
-  seen-command (RxInstall channel at key start offset) numbers spares seen = seen-other numbers channel at (Some (first_numbers start)) spares seen
+  seen-command (RxInstall channel at key start offset) numbers spares seen =
+      seen-other numbers channel at (Some (first_numbers start)) spares seen
   seen-command (RxRemove channel at) numbers spares seen = seen-other numbers channel at None spares seen
 
   -- ---- a call
@@ -100,8 +110,10 @@ module _ (sci : List ℕ) (an pn : ℕ) where
     seen-same same seen = subst (λ (f : List ℕ → ℕ → Option Numbers). HasSeen (f sci an) pn) (sym same) seen
 
     -- a frame arrived
-    seen-arrived : (a : Arrival) (x : Numbers) → s.numbers a.sci a.an ≡ Some a.numbers → x.seen ≡ seen_after a.numbers.seen a.pn
-        → t.numbers ≡ put_numbers s.numbers a.sci a.an (Some x) → HasSeen (s.numbers sci an) pn → HasSeen (t.numbers sci an) pn
+    seen-arrived : (a : Arrival) (x : Numbers) → s.numbers a.sci a.an ≡ Some a.numbers
+        → x.seen ≡ seen_after a.numbers.seen a.pn
+        → t.numbers ≡ put_numbers s.numbers a.sci a.an (Some x) → HasSeen (s.numbers sci an) pn
+        → HasSeen (t.numbers sci an) pn
     seen-arrived a x are is same seen =
         subst (λ (f : List ℕ → ℕ → Option Numbers). HasSeen (f sci an) pn) (sym same)
         (seen-put s.numbers a.sci a.an (Some x)
@@ -109,27 +121,34 @@ module _ (sci : List ℕ) (an pn : ℕ) where
         (reached-still a.numbers.seen pn a.pn (subst (λ (n : Option Numbers). HasSeen n pn) are had))) seen)
 
     -- no frame passes
-    seen_made : (made : Option Command) → SparesRx sci an made → HasSeen (s.numbers sci an) pn → HasSeen (numbers_after_made made s.numbers sci an) pn
+    seen_made : (made : Option Command) → SparesRx sci an made → HasSeen (s.numbers sci an) pn
+        → HasSeen (numbers_after_made made s.numbers sci an) pn
     seen_made None spares seen = seen
     seen_made (Some command) spares seen = seen-command command s.numbers spares seen
 
-    seen_quiet : (call : Call) (reply : Reply) → PassesNone call → Step s call reply t → SparesRx sci an (command_made s call reply)
+    seen_quiet : (call : Call) (reply : Reply) → PassesNone call → Step s call reply t
+        → SparesRx sci an (command_made s call reply)
         → HasSeen (s.numbers sci an) pn → HasSeen (t.numbers sci an) pn
     seen_quiet call reply quiet step spares seen =
         let made = command_made s call reply in
-        subst (λ (f : List ℕ → ℕ → Option Numbers). HasSeen (f sci an) pn) (sym (call-changes s t call reply quiet step).1) (seen_made made spares seen)
+        subst (λ (f : List ℕ → ℕ → Option Numbers). HasSeen (f sci an) pn)
+        (sym (call-changes s t call reply quiet step).1) (seen_made made spares seen)
 
-    seen-step : (call : Call) (reply : Reply) → Step s call reply t → SparesRx sci an (command_made s call reply) → HasSeen (s.numbers sci an) pn
+    seen-step : (call : Call) (reply : Reply) → Step s call reply t → SparesRx sci an (command_made s call reply)
+        → HasSeen (s.numbers sci an) pn
         → HasSeen (t.numbers sci an) pn
     seen-step (Commands command) reply step spares seen = seen_quiet (Commands command) reply tt step spares seen
     seen-step Refills reply step spares seen = seen_quiet Refills reply tt step spares seen
     seen-step (Submits command) reply step spares seen = seen_quiet (Submits command) reply tt step spares seen
     seen-step Advances reply step spares seen = seen_quiet Advances reply tt step spares seen
     seen-step (Protects plain) (Protected (Ok number) out) (inl step) spares seen = absurd step.1
-    seen-step (Protects plain) (Protected (Ok number) out) (inr step) spares seen = seen-same (ap numbers_in step.1.1.4) seen
+    seen-step (Protects plain) (Protected (Ok number) out) (inr step) spares seen =
+        seen-same (ap numbers_in step.1.1.4) seen
     seen-step (Protects plain) (Protected (Err (protect.Tx fault)) out) (inl step) spares seen = absurd step.1
-    seen-step (Protects plain) (Protected (Err (protect.Tx fault)) out) (inr step) spares seen = seen-same (ap numbers_in step.1.2) seen
-    seen-step (Protects plain) (Protected (Err protect.Stopped) out) (inl step) spares seen = seen-same (ap numbers_in step.2) seen
+    seen-step (Protects plain) (Protected (Err (protect.Tx fault)) out) (inr step) spares seen =
+        seen-same (ap numbers_in step.1.2) seen
+    seen-step (Protects plain) (Protected (Err protect.Stopped) out) (inl step) spares seen =
+        seen-same (ap numbers_in step.2) seen
     seen-step (Protects plain) (Protected (Err protect.Stopped) out) (inr step) spares seen = absurd step.1
     seen-step (Protects plain) (Ran result) step spares seen = absurd (no-answer step)
     seen-step (Protects plain) (Refilled result) step spares seen = absurd (no-answer step)
@@ -144,8 +163,10 @@ module _ (sci : List ℕ) (an pn : ℕ) where
       | inr arrives ↦
           let a = arrives.0 in
           elim arrives.2 [
-            | inl back ↦ seen-arrived a (numbers_after_hold a.numbers a.pn) arrives.1.are_numbers refl (ap numbers_in back.3) seen
-            | inr kept ↦ seen-arrived a (numbers_after_delivery s.config.replay.window a.numbers a.pn) arrives.1.are_numbers refl (ap numbers_in kept.2) seen
+            | inl back ↦ seen-arrived a (numbers_after_hold a.numbers a.pn) arrives.1.are_numbers refl
+                (ap numbers_in back.3) seen
+            | inr kept ↦ seen-arrived a (numbers_after_delivery s.config.replay.window a.numbers a.pn)
+                arrives.1.are_numbers refl (ap numbers_in kept.2) seen
           ]
     ]
     seen-step (Receives frame) (Received (Err stopped) out) (inr step) spares seen = absurd step.1
@@ -160,7 +181,8 @@ module _ (sci : List ℕ) (an pn : ℕ) where
 -- ---- an endpoint
 
 -- what was put at a place is there
-here_now : (table : List ℕ → ℕ → Option Numbers) (sci : List ℕ) (an : ℕ) (x : Option Numbers) → put_numbers table sci an x sci an ≡ x
+here_now : (table : List ℕ → ℕ → Option Numbers) (sci : List ℕ) (an : ℕ) (x : Option Numbers)
+    → put_numbers table sci an x sci an ≡ x
 here_now table sci an x =
     put_rx-here table sci an x
 
@@ -172,18 +194,22 @@ reached-numbers numbers (Some top) pn is reached =
     (top, λ i. record { next = numbers.next; lowest = numbers.lowest; seen = is i }, reached)
 
 module _ {D : Type 0} (disk_of : D → Disk) where
-  seen-lives : (sci : List ℕ) (an pn : ℕ) (turns : List (Transition D)) (old new : EndpointValue D) → Lives disk_of old turns new → RxStays sci an old turns
+  seen-lives : (sci : List ℕ) (an pn : ℕ) (turns : List (Transition D)) (old new : EndpointValue D)
+      → Lives disk_of old turns new → RxStays sci an old turns
       → HasSeen ((state_of old no_logs).numbers sci an) pn → HasSeen ((state_of new no_logs).numbers sci an) pn
   seen-lives sci an pn [] old new lives stays seen =
       subst (λ (e : EndpointValue D). HasSeen ((state_of e no_logs).numbers sci an) pn) (sym lives) seen
   seen-lives sci an pn (turn ∷ turns) old new lives stays seen =
       let ended = lives.1.behaves.step no_logs in
       seen-lives sci an pn turns turn.after new lives.2 stays.1
-      (seen-step sci an pn (state_of old no_logs) (state_of turn.after ended.0) turn.call turn.reply ended.1 stays.0 seen)
+      (seen-step sci an pn (state_of old no_logs) (state_of turn.after ended.0) turn.call turn.reply ended.1
+      stays.0 seen)
 
   -- a frame that is held back was seen
-  seen-held : (old new : EndpointValue D) (frame out : List ℕ) (a : Arrival) → Arrives (rx_side (state_of old no_logs)) frame a
-      → IsCall disk_of old (Receives frame) (Received (Ok HeldBack) out) new → HasSeen ((state_of new no_logs).numbers a.sci a.an) a.pn
+  seen-held : (old new : EndpointValue D) (frame out : List ℕ) (a : Arrival)
+      → Arrives (rx_side (state_of old no_logs)) frame a
+      → IsCall disk_of old (Receives frame) (Received (Ok HeldBack) out) new
+      → HasSeen ((state_of new no_logs).numbers a.sci a.an) a.pn
   seen-held old new frame out a arrives call =
       let s = state_of old no_logs in
       let side = rx_side s in
@@ -195,12 +221,15 @@ module _ {D : Type 0} (disk_of : D → Disk) where
           | inl settles ↦ absurd (none-first (RxStepHolds side frame) rx_steps settles.0 arrives.unsettled settles.1)
           | inr arrived ↦
               let same : arrived.0 ≡ a = arrives_once side frame arrived.0 a arrived.1 arrives in
-              let arriving : ArriveStep s a HeldBack out t = subst (λ (x : Arrival). ArriveStep s x HeldBack out t) same arrived.2 in
+              let arriving : ArriveStep s a HeldBack out t =
+              subst (λ (x : Arrival). ArriveStep s x HeldBack out t) same arrived.2 in
               elim arriving [
                 | inl back ↦
-                    let is : t.numbers ≡ put_numbers s.numbers a.sci a.an (Some (numbers_after_hold a.numbers a.pn)) = ap (λ (x : State). x.numbers) back.3 in
+                    let is : t.numbers ≡ put_numbers s.numbers a.sci a.an (Some (numbers_after_hold a.numbers a.pn)) =
+                    ap (λ (x : State). x.numbers) back.3 in
                     subst (λ (f : List ℕ → ℕ → Option Numbers). HasSeen (f a.sci a.an) a.pn) (sym is)
-                    (subst (λ (n : Option Numbers). HasSeen n a.pn) (sym (here_now s.numbers a.sci a.an (Some (numbers_after_hold a.numbers a.pn))))
+                    (subst (λ (n : Option Numbers). HasSeen n a.pn)
+                    (sym (here_now s.numbers a.sci a.an (Some (numbers_after_hold a.numbers a.pn))))
                     (reached-now a.numbers.seen a.pn))
                 | inr kept ↦ absurd (let differ = kept.0 in cc)
               ]
@@ -208,22 +237,27 @@ module _ {D : Type 0} (disk_of : D → Disk) where
       ]
 
   -- a frame that was held back, and calls after it that leave its association alone
-  module _ (old mid late new : EndpointValue D) (turns : List (Transition D)) (frame out : List ℕ) (a : Arrival) (kept : IsSoundEndpoint new)
-      (arrives : Arrives (rx_side (state_of old no_logs)) frame a) (held : IsCall disk_of old (Receives frame) (Received (Ok HeldBack) out) mid)
+  module _ (old mid late new : EndpointValue D) (turns : List (Transition D)) (frame out : List ℕ) (a : Arrival)
+      (kept : IsSoundEndpoint new)
+      (arrives : Arrives (rx_side (state_of old no_logs)) frame a)
+      (held : IsCall disk_of old (Receives frame) (Received (Ok HeldBack) out) mid)
       (lives : Lives disk_of mid turns late) (stays : RxStays a.sci a.an mid turns) where
     last : a.pn < 2 ^ 32
     last = subst (λ (pn : ℕ). pn < 2 ^ 32) (sym arrives.is_pn) (pn-in-range frame held.behaves.in_range)
 
     -- after a call that changes no numbers it is still seen
-    below_by : ((next lowest top : ℕ) → (state_of new no_logs).numbers a.sci a.an ≡ Some (record { next = next; lowest = lowest; seen = Some top })
+    below_by : ((next lowest top : ℕ)
+        → (state_of new no_logs).numbers a.sci a.an ≡ Some (record { next = next; lowest = lowest; seen = Some top })
         → a.pn ≤ top → IsBelow new a.sci a.an a.pn)
-        → (numbers : Option Numbers) → (state_of new no_logs).numbers a.sci a.an ≡ numbers → HasSeen numbers a.pn → IsBelow new a.sci a.an a.pn
+        → (numbers : Option Numbers) → (state_of new no_logs).numbers a.sci a.an ≡ numbers → HasSeen numbers a.pn
+        → IsBelow new a.sci a.an a.pn
     below_by far None are seen = absurd seen
     below_by far (Some numbers) are seen =
         let reached = reached-numbers numbers numbers.seen a.pn refl seen in
         far numbers.next numbers.lowest reached.0 (are ∙ ap Some reached.1) reached.2
 
-    seen_now : (state_of new no_logs).numbers ≡ (state_of late no_logs).numbers → HasSeen ((state_of new no_logs).numbers a.sci a.an) a.pn
+    seen_now : (state_of new no_logs).numbers ≡ (state_of late no_logs).numbers
+        → HasSeen ((state_of new no_logs).numbers a.sci a.an) a.pn
     seen_now same =
         subst (λ (f : List ℕ → ℕ → Option Numbers). HasSeen (f a.sci a.an) a.pn) (sym same)
         (seen-lives a.sci a.an a.pn turns mid late lives stays (seen-held old mid frame out a arrives held))
@@ -236,12 +270,14 @@ module _ {D : Type 0} (disk_of : D → Disk) where
           | inl stopped ↦ absurd stopped.1
           | inr ran ↦ ap (λ (x : State). x.numbers) ran.1.1
         ] in
-        below_by (λ next lowest top are reached. below-refilled disk_of late new a.sci a.an next lowest top a.pn kept refill are last (inl reached))
+        below_by (λ next lowest top are reached.
+        below-refilled disk_of late new a.sci a.an next lowest top a.pn kept refill are last (inl reached))
         ((state_of new no_logs).numbers a.sci a.an) refl (seen_now same)
 
     -- or a step found nothing to do
     pub below-later : IsCall disk_of late Advances (Advanced (Ok Idle)) new → IsBelow new a.sci a.an a.pn
     below-later step =
         let same = ap (λ (e : EndpointValue D). (state_of e no_logs).numbers) (idle-step disk_of late new step).0 in
-        below_by (λ next lowest top are reached. below-idle disk_of late new a.sci a.an next lowest top a.pn kept step are last (inl reached))
+        below_by (λ next lowest top are reached.
+        below-idle disk_of late new a.sci a.an next lowest top a.pn kept step are last (inl reached))
         ((state_of new no_logs).numbers a.sci a.an) refl (seen_now same)

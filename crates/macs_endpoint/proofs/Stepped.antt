@@ -1,5 +1,6 @@
 -- One device call of the work under way: it goes on, is done, or is cut short.
-use Rattle.std.proofs.Common.{◌≡◌, ◌≤◌, ◌⊎◌, ◌∷◌, inl, inr, ℕ, false, List, length, Option, Some, None, Result, Ok, Err, is_ok, refl, sym, ◌∙◌, ap, subst, arith}
+use Rattle.std.proofs.Common.{◌≡◌, ◌≤◌, ◌⊎◌, ◌∷◌, inl, inr, ℕ, false, List, length, Option, Some, None, Result, Ok, Err}
+use Rattle.std.proofs.Common.{is_ok, refl, sym, ◌∙◌, ap, subst, arith}
 use Rattle.macs_config.specs.Apply.{IsCommand}
 use Rattle.macs_config.specs.Config.{this_edition}
 use Rattle.macs_config.specs.Identity.{IsIdentity}
@@ -25,67 +26,80 @@ use Rattle.macs_store.proofs.Keeping.{accepted-in_range}
 use Rattle.macs_endpoint.specs.Advancing.{ClockAfter, GoesOn, turn_after_step}
 use Rattle.macs_endpoint.specs.Calls.{Fails, IsCall}
 use Rattle.macs_endpoint.specs.Ceilings.{StandsAdvanced, StandsAfter, standing_with_raise}
-use Rattle.macs_endpoint.specs.Counting.{channel_counters_after, channel_counters_after_command, channel_counters_after_made}
+use Rattle.macs_endpoint.specs.Counting.{channel_counters_after, channel_counters_after_command}
+use Rattle.macs_endpoint.specs.Counting.{channel_counters_after_made}
 use Rattle.macs_endpoint.specs.Queue.{first_command, queue_length}
 use Rattle.macs_endpoint.specs.Reserving.{FitsState}
 use Rattle.macs_endpoint.specs.Restart.{FitsCall}
 use Rattle.macs_endpoint.specs.State.{Advanced, Advances, Logs, command_made, no_logs, state_after_fault}
 use Rattle.macs_endpoint.specs.Step.{AdvanceStep, next_after, numbers_after}
-use Rattle.macs_endpoint.specs.Value.{AreChannels, EndpointValue, IsAtRest, IsBacked, IsKeeping, IsRaiseWithin, IsReserving, IsSoundEndpoint, disk_in, is_stopped, state_of}
+use Rattle.macs_endpoint.specs.Value.{AreChannels, EndpointValue, IsAtRest, IsBacked, IsKeeping, IsRaiseWithin}
+use Rattle.macs_endpoint.specs.Value.{IsReserving, IsSoundEndpoint, disk_in, is_stopped, state_of}
 use Rattle.macs_endpoint.specs.declared.fault.StepFault.{StepFault}
 use Rattle.macs_endpoint.specs.declared.fault.StepFault.TheVariants as step
 use Rattle.macs_endpoint.specs.declared.progress.Step.{Step as Progress}
 use Rattle.macs_endpoint.specs.declared.progress.Step.TheVariants.{Done, Reserved, Worked}
 use Rattle.macs_endpoint.specs.declared.queue.Waiting.{Waiting}
 use Rattle.macs_endpoint.specs.declared.turn.Turn.TheVariants as turn
-use Rattle.macs_endpoint.proofs.Ended.{IsCut, IsDone, err_same, given_up-backed, given_up-moments, given_up-state, kept-held, not_stopped, raised-backed, raised-moments, raised-state, raised_to, step-cut, step-done}
-use Rattle.macs_endpoint.proofs.Fitting.{AreAhead, accept-parts, ahead-within, command-ahead, fits-advancing, kept-ahead}
+use Rattle.macs_endpoint.proofs.Ended.{IsCut, IsDone, err_same, given_up-backed, given_up-moments, given_up-state}
+use Rattle.macs_endpoint.proofs.Ended.{kept-held, not_stopped, raised-backed, raised-moments, raised-state, raised_to}
+use Rattle.macs_endpoint.proofs.Ended.{step-cut, step-done}
+use Rattle.macs_endpoint.proofs.Fitting.{AreAhead, accept-parts, ahead-within, command-ahead, fits-advancing}
+use Rattle.macs_endpoint.proofs.Fitting.{kept-ahead}
 use Rattle.macs_endpoint.proofs.InHand.{cut-backed, fits-moments, kept-backed, leads-on}
 use Rattle.macs_endpoint.proofs.Still.{still-on}
 
 -- ---- the call that a step is
 
-module _ {D : Type 0} (disk_of : D → disk.Disk) (e : EndpointValue D) (running : is_stopped e ≡ false) (busy : ¬ IsIdle e.store)
+module _ {D : Type 0} (disk_of : D → disk.Disk) (e : EndpointValue D) (running : is_stopped e ≡ false)
+    (busy : ¬ IsIdle e.store)
     (result : Result Progress StepFault) (new : EndpointValue D) where
   -- what is left while it is made fits the state before it
   pub advance-call : ((logs : Logs) → AdvanceStep (state_of e logs) result (state_of new logs))
-      → StandsAdvanced (standing_in e.store) e.reserving (command_made (state_of e no_logs) Advances (Advanced result)) result (standing_in new.store)
+      → StandsAdvanced (standing_in e.store) e.reserving
+      (command_made (state_of e no_logs) Advances (Advanced result)) result (standing_in new.store)
       → GoesOn e result new → ClockAfter (disk_in disk_of e).clock result (disk_in disk_of new).clock
       → new.turn ≡ turn_after_step e.turn result
       → txsc.counters_of new.tx ≡ txsc.counters_of e.tx → rxsc.counters_of new.rx ≡ rxsc.counters_of e.rx
-      → rxsc.channel_counters_of new.rx ≡ channel_counters_after (state_of e no_logs) Advances (Advanced result) (rxsc.channel_counters_of e.rx)
-      → Works (disk_in disk_of e) (disk_in disk_of new) → Fails (disk_in disk_of e) (disk_in disk_of new) (Advanced result)
+      → rxsc.channel_counters_of new.rx
+      ≡ channel_counters_after (state_of e no_logs) Advances (Advanced result) (rxsc.channel_counters_of e.rx)
+      → Works (disk_in disk_of e) (disk_in disk_of new)
+      → Fails (disk_in disk_of e) (disk_in disk_of new) (Advanced result)
       → (IsHonest (disk_in disk_of new) → IsBacked disk_of e → (logs : Logs)
       → Leaves (disk_in disk_of e) (disk_in disk_of new) (FitsState (state_of e logs) (disk_in disk_of e)))
       → (IsHonest (disk_in disk_of new) → IsBacked disk_of e → IsBacked disk_of new)
       → IsCall disk_of e Advances (Advanced result) new
-  advance-call steps ceilings goes one whose tx_counters rx_counters channel_counters works fails moments backs = record {
-    behaves = record {
-      in_range = tt;
-      step = λ logs. (logs, inr (running, steps logs));
-      ceilings = ceilings;
-      limited = tt;
-      still = still-on e e new result goes;
-      rests = tt;
-      advances = λ runs. record { begins = λ idle. absurd (busy idle); goes_on = λ works. goes; one = one };
-      turn = whose;
-      tx_counters = tx_counters;
-      rx_counters = rx_counters;
-      channel_counters = channel_counters;
-    };
-    device = record { works = works; fails = fails };
-    survives = λ honest backed. record {
-      any_moment = λ logs later. Leaves-weaker (disk_in disk_of e) (disk_in disk_of new) (FitsState (state_of e logs) (disk_in disk_of e))
-          (FitsCall (disk_in disk_of e).sectors (state_of e logs) Advances (state_of new later))
-          (λ image fits. inl (fits-advancing (disk_in disk_of e).sectors image backed.size this_edition (state_of e logs) fits))
-          (moments honest backed logs);
-      backed = backs honest backed;
-    };
-  }
+  advance-call steps ceilings goes one whose tx_counters rx_counters channel_counters works fails moments
+      backs = record {
+        behaves = record {
+          in_range = tt;
+          step = λ logs. (logs, inr (running, steps logs));
+          ceilings = ceilings;
+          limited = tt;
+          still = still-on e e new result goes;
+          rests = tt;
+          advances = λ runs. record { begins = λ idle. absurd (busy idle); goes_on = λ works. goes; one = one };
+          turn = whose;
+          tx_counters = tx_counters;
+          rx_counters = rx_counters;
+          channel_counters = channel_counters;
+        };
+        device = record { works = works; fails = fails };
+        survives = λ honest backed. record {
+          any_moment = λ logs later.
+              Leaves-weaker (disk_in disk_of e) (disk_in disk_of new) (FitsState (state_of e logs) (disk_in disk_of e))
+              (FitsCall (disk_in disk_of e).sectors (state_of e logs) Advances (state_of new later))
+              (λ image fits.
+              inl (fits-advancing (disk_in disk_of e).sectors image backed.size this_edition (state_of e logs) fits))
+              (moments honest backed logs);
+          backed = backs honest backed;
+        };
+      }
 
 -- ---- it goes on
 
-module _ {D : Type 0} (disk_of : D → disk.Disk) (e : EndpointValue D) (kept : IsSoundEndpoint e) (running : is_stopped e ≡ false)
+module _ {D : Type 0} (disk_of : D → disk.Disk) (e : EndpointValue D) (kept : IsSoundEndpoint e)
+    (running : is_stopped e ≡ false)
     (s : store.StoreValue D) (steps : Steps disk_of e.store (Ok Going) s) where
   abbrev pub gone_on : EndpointValue D
   gone_on = record e { store = s }
@@ -100,7 +114,8 @@ module _ {D : Type 0} (disk_of : D → disk.Disk) (e : EndpointValue D) (kept : 
     raise = work.raise;
     reserving = work.reserving;
     in_hand = work.in_hand;
-    leads = (steps.going refl).1 ∙ work.leads ∙ ap (λ (x : Standing). Some (standing_with_raise x work.raise)) (sym on_same);
+    leads = (steps.going refl).1 ∙ work.leads
+        ∙ ap (λ (x : Standing). Some (standing_with_raise x work.raise)) (sym on_same);
     within = subst (λ (x : Standing). IsRaiseWithin e.tx e.rx x.identity work.raise) (sym on_same) work.within;
   }))
   on_work (inr work) = inr (inr (record {
@@ -134,25 +149,30 @@ module _ {D : Type 0} (disk_of : D → disk.Disk) (e : EndpointValue D) (kept : 
     tickets = e.tickets;
   }
 
-  pub gone_on-call : IsReserving e ⊎ IsKeeping e → ¬ IsIdle e.store → IsCall disk_of e Advances (Advanced (Ok Worked)) gone_on
+  pub gone_on-call : IsReserving e ⊎ IsKeeping e → ¬ IsIdle e.store
+      → IsCall disk_of e Advances (Advanced (Ok Worked)) gone_on
   gone_on-call work busy =
       let leads = leads-on e kept in
       advance-call disk_of e running busy (Ok Worked) gone_on (λ logs. inl (on_state logs)) on_same
-      (refl, refl, (steps.going refl).0, steps.left busy) (steps.call busy) refl refl refl refl steps.work.works steps.work.fails
+      (refl, refl, (steps.going refl).0, steps.left busy) (steps.call busy) refl refl refl refl steps.work.works
+      steps.work.fails
       (λ honest backed logs. fits-moments e kept disk_of (disk_in disk_of gone_on) logs leads.0 backed.size leads.1
       (steps.any_moment honest (backed.stored running) leads.0 leads.1))
       (λ honest backed. kept-backed gone_on (gone_on-kept work) disk_of
-      (subst (λ (n : ℕ). least_sectors ≤ n) (sym steps.work.works.sectors) backed.size) (steps.stored honest (backed.stored running)))
+      (subst (λ (n : ℕ). least_sectors ≤ n) (sym steps.work.works.sectors) backed.size)
+      (steps.stored honest (backed.stored running)))
 
 -- what a step of work under way answers that is not done
-pub still_going : {D : Type 0} (disk_of : D → disk.Disk) (old : store.StoreValue D) (busy : ¬ IsIdle old) (at : JournalStep) (new : store.StoreValue D)
+pub still_going : {D : Type 0} (disk_of : D → disk.Disk) (old : store.StoreValue D) (busy : ¬ IsIdle old)
+    (at : JournalStep) (new : store.StoreValue D)
     → (¬ (at ≡ Finished)) → Steps disk_of old (Ok at) new → at ≡ Going
 still_going disk_of old busy Going new other steps = refl
 still_going disk_of old busy Idle new other steps = absurd (busy (steps.idle.0 refl).1)
 still_going disk_of old busy Finished new other steps = absurd (other refl)
 
 -- a step of work under way fails as Disk
-pub step_fault : {D : Type 0} (disk_of : D → disk.Disk) (old new : store.StoreValue D) (at : JournalFault) → store.is_stopped old ≡ false
+pub step_fault : {D : Type 0} (disk_of : D → disk.Disk) (old new : store.StoreValue D) (at : JournalFault)
+    → store.is_stopped old ≡ false
     → Steps disk_of old (Err at) new → at ≡ fault.Disk
 step_fault disk_of old new at running steps = elim steps.names [
   | inl is ↦ absurd (not_stopped (store.is_stopped old) (steps.stopped.0 is) running)
@@ -161,26 +181,34 @@ step_fault disk_of old new at running steps = elim steps.names [
 
 -- ---- a reservation
 
-module _ {D : Type 0} (disk_of : D → disk.Disk) (e : EndpointValue D) (kept : IsSoundEndpoint e) (work : IsReserving e) (s : store.StoreValue D) where
-  pub reserved-call : (steps : Steps disk_of e.store (Ok Finished) s) (tx : Tx) (rx : rxsc.RxValue) → AreChannels tx rx (standing_in s)
+module _ {D : Type 0} (disk_of : D → disk.Disk) (e : EndpointValue D) (kept : IsSoundEndpoint e) (work : IsReserving e)
+    (s : store.StoreValue D) where
+  pub reserved-call : (steps : Steps disk_of e.store (Ok Finished) s) (tx : Tx) (rx : rxsc.RxValue)
+      → AreChannels tx rx (standing_in s)
       → txsc.tx_side_of tx ≡ txsc.tx_side_of e.tx → rxsc.rx_side_of rx ≡ rxsc.rx_side_of e.rx
       → txsc.counters_of tx ≡ txsc.counters_of e.tx → rxsc.counters_of rx ≡ rxsc.counters_of e.rx
       → rxsc.channel_counters_of rx ≡ rxsc.channel_counters_of e.rx
-      → IsCall disk_of e Advances (Advanced (Ok Reserved)) (record e { store = s; tx = tx; rx = rx; reserving = None; turn = turn.Command })
+      → IsCall disk_of e Advances (Advanced (Ok Reserved))
+      (record e { store = s; tx = tx; rx = rx; reserving = None; turn = turn.Command })
   reserved-call steps tx rx channels tx_side rx_side tx_counters rx_counters channel_counters =
       let done = step-done disk_of e.store (raised_to disk_of e kept work) work.leads s steps in
-      advance-call disk_of e work.running work.busy (Ok Reserved) (record e { store = s; tx = tx; rx = rx; reserving = None; turn = turn.Command })
-      (raised-state disk_of e kept work s done tx rx turn.Command channels tx_side rx_side) (work.raise, work.reserving, done.stands)
-      ((work.raise, work.reserving), done.idle, steps.last refl) (steps.call work.busy) refl tx_counters rx_counters channel_counters
+      advance-call disk_of e work.running work.busy (Ok Reserved)
+      (record e { store = s; tx = tx; rx = rx; reserving = None; turn = turn.Command })
+      (raised-state disk_of e kept work s done tx rx turn.Command channels tx_side rx_side)
+      (work.raise, work.reserving, done.stands)
+      ((work.raise, work.reserving), done.idle, steps.last refl) (steps.call work.busy) refl tx_counters rx_counters
+      channel_counters
       steps.work.works steps.work.fails
       (raised-moments disk_of e kept work s done tx rx turn.Command channels tx_side rx_side)
       (raised-backed disk_of e kept work s done tx rx turn.Command channels tx_side rx_side)
 
-  pub given_up-call : Steps disk_of e.store (Err fault.Disk) s → IsCall disk_of e Advances (Advanced (Err step.Disk)) (record e { store = s; reserving = None })
+  pub given_up-call : Steps disk_of e.store (Err fault.Disk) s
+      → IsCall disk_of e Advances (Advanced (Err step.Disk)) (record e { store = s; reserving = None })
   given_up-call steps =
       let cut = step-cut disk_of e.store (raised_to disk_of e kept work) work.leads s steps in
       advance-call disk_of e work.running work.busy (Err step.Disk) (record e { store = s; reserving = None })
-      (λ logs. inl (given_up-state disk_of e kept work s cut logs)) cut.stands refl steps.one refl refl refl refl steps.work.works steps.work.fails
+      (λ logs. inl (given_up-state disk_of e kept work s cut logs)) cut.stands refl steps.one refl refl refl refl
+      steps.work.works steps.work.fails
       (given_up-moments disk_of e kept work s cut) (given_up-backed disk_of e kept work s cut)
 
 -- ---- a command
@@ -188,7 +216,8 @@ module _ {D : Type 0} (disk_of : D → disk.Disk) (e : EndpointValue D) (kept : 
 heads_same : {A : Type 0} (a b : A) (rest others : List A) → a ∷ rest ≡ b ∷ others → a ≡ b
 heads_same a b rest others is = cc
 
-module _ {D : Type 0} (disk_of : D → disk.Disk) (e : EndpointValue D) (kept : IsSoundEndpoint e) (work : IsKeeping e) (first : Waiting) (rest : List Waiting)
+module _ {D : Type 0} (disk_of : D → disk.Disk) (e : EndpointValue D) (kept : IsSoundEndpoint e) (work : IsKeeping e)
+    (first : Waiting) (rest : List Waiting)
     (waits : e.waiting ≡ first ∷ rest) where
   same_first : work.first ≡ first
   same_first = heads_same work.first first work.rest rest (sym work.waiting ∙ waits)
@@ -221,15 +250,20 @@ module _ {D : Type 0} (disk_of : D → disk.Disk) (e : EndpointValue D) (kept : 
           let old = standing_in e.store in
           let parts = accept-parts old first.command (standing_in s) follows in
           let made = parts.2 in
-          let ahead = command-ahead old.identity first.command (txsc.tx_side_of e.tx).next (rxsc.rx_side_of e.rx).numbers old.ceilings ranges
+          let ahead = command-ahead old.identity first.command (txsc.tx_side_of e.tx).next
+          (rxsc.rx_side_of e.rx).numbers old.ceilings ranges
           (accepted-in_range old first.command (ap is_ok follows)).0 (kept-ahead e kept) in
-          let second : AreAhead old.identity (txsc.tx_side_of tx).next (rxsc.rx_side_of rx).numbers (ceilings_after old.identity first.command old.ceilings) =
+          let second : AreAhead old.identity (txsc.tx_side_of tx).next (rxsc.rx_side_of rx).numbers
+          (ceilings_after old.identity first.command old.ceilings) =
           subst (λ (m : List ℕ → ℕ → Option Numbers). AreAhead old.identity (txsc.tx_side_of tx).next m
           (ceilings_after old.identity first.command old.ceilings)) (sym numbers)
-          (subst (λ (n : ℕ → Option ℕ). AreAhead old.identity n (numbers_after first.command (rxsc.rx_side_of e.rx).numbers)
+          (subst (λ (n : ℕ → Option ℕ).
+          AreAhead old.identity n (numbers_after first.command (rxsc.rx_side_of e.rx).numbers)
           (ceilings_after old.identity first.command old.ceilings)) (sym next) ahead) in
-          let third : AreAhead (standing_in s).identity (txsc.tx_side_of tx).next (rxsc.rx_side_of rx).numbers (standing_in s).ceilings =
-          subst (λ (x : Standing). AreAhead x.identity (txsc.tx_side_of tx).next (rxsc.rx_side_of rx).numbers x.ceilings) (sym made) second in
+          let third : AreAhead (standing_in s).identity (txsc.tx_side_of tx).next (rxsc.rx_side_of rx).numbers
+          (standing_in s).ceilings =
+          subst (λ (x : Standing). AreAhead x.identity (txsc.tx_side_of tx).next (rxsc.rx_side_of rx).numbers
+          x.ceilings) (sym made) second in
           record {
             identity = subst (λ (x : Standing). IsIdentity x.identity) (sym made) kept.identity;
             channels = channels;
@@ -267,14 +301,19 @@ module _ {D : Type 0} (disk_of : D → disk.Disk) (e : EndpointValue D) (kept : 
               },
             ),
           ))
-          (subst (λ (w : List Waiting). StandsAfter (first_command w) (standing_in e.store) (standing_in s)) (sym waits) follows)
-          ((work.first.command, work.in_hand), done.idle, steps.last refl) (steps.call work.busy) refl tx_counters rx_counters
-          (subst (λ (w : List Waiting). rxsc.channel_counters_of rx ≡ channel_counters_after_made (first_command w) (rxsc.channel_counters_of e.rx)) (sym waits) channel_counters)
+          (subst (λ (w : List Waiting). StandsAfter (first_command w) (standing_in e.store) (standing_in s))
+          (sym waits) follows)
+          ((work.first.command, work.in_hand), done.idle, steps.last refl) (steps.call work.busy) refl
+          tx_counters rx_counters
+          (subst (λ (w : List Waiting). rxsc.channel_counters_of rx ≡ channel_counters_after_made (first_command w)
+          (rxsc.channel_counters_of e.rx)) (sym waits) channel_counters)
           steps.work.works steps.work.fails
-          (λ honest backed logs. fits-moments e kept disk_of (disk_in disk_of followed) logs work.after backed.size work.leads
+          (λ honest backed logs.
+          fits-moments e kept disk_of (disk_in disk_of followed) logs work.after backed.size work.leads
           (done.any_moment honest (backed.stored work.running)))
           (λ honest backed. kept-backed followed followed-kept disk_of
-          (subst (λ (n : ℕ). least_sectors ≤ n) (sym done.works.sectors) backed.size) (done.stored honest (backed.stored work.running)))
+          (subst (λ (n : ℕ). least_sectors ≤ n) (sym done.works.sectors) backed.size)
+          (done.stored honest (backed.stored work.running)))
 
 module _ {D : Type 0} (disk_of : D → disk.Disk) (e : EndpointValue D) (kept : IsSoundEndpoint e) (work : IsKeeping e)
     (s : store.StoreValue D) (steps : Steps disk_of e.store (Err fault.Disk) s) where
@@ -286,7 +325,12 @@ module _ {D : Type 0} (disk_of : D → disk.Disk) (e : EndpointValue D) (kept : 
 
   pub cut_short-kept : IsSoundEndpoint cut_short
   cut_short-kept = kept-held e cut_short kept cut.stands kept.few kept.tickets
-      (inl (record { store = cut.idle; reserving = work.reserving; in_hand = λ going. absurd (not_stopped (store.is_stopped s) cut.stopped going) }))
+      (inl (record {
+        store = cut.idle;
+        reserving = work.reserving;
+        in_hand =
+            λ going. absurd (not_stopped (store.is_stopped s) cut.stopped going);
+      }))
 
   cut_state : (logs : Logs) → state_of cut_short logs ≡ state_after_fault (state_of e logs)
   cut_state logs = λ i. record {
@@ -304,9 +348,12 @@ module _ {D : Type 0} (disk_of : D → disk.Disk) (e : EndpointValue D) (kept : 
 
   pub cut_short-call : IsCall disk_of e Advances (Advanced (Err step.Disk)) cut_short
   cut_short-call =
-      advance-call disk_of e work.running work.busy (Err step.Disk) cut_short (λ logs. inl (cut_state logs)) cut.stands refl steps.one refl refl refl refl
+      advance-call disk_of e work.running work.busy (Err step.Disk) cut_short (λ logs. inl (cut_state logs)) cut.stands
+      refl steps.one refl refl refl refl
       steps.work.works steps.work.fails
-      (λ honest backed logs. fits-moments e kept disk_of (disk_in disk_of cut_short) logs work.after backed.size work.leads
+      (λ honest backed logs.
+      fits-moments e kept disk_of (disk_in disk_of cut_short) logs work.after backed.size work.leads
       (cut.any_moment honest (backed.stored work.running)))
       (λ honest backed. cut-backed e kept disk_of cut_short cut.stopped cut_state work.after
-      (subst (λ (n : ℕ). least_sectors ≤ n) (sym cut.works.sectors) backed.size) work.leads (cut.any_moment honest (backed.stored work.running)))
+      (subst (λ (n : ℕ). least_sectors ≤ n) (sym cut.works.sectors) backed.size) work.leads
+      (cut.any_moment honest (backed.stored work.running)))

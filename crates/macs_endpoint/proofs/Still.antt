@@ -10,7 +10,8 @@ use Rattle.macs_endpoint.specs.declared.progress.Step.{Step as Progress}
 use Rattle.macs_endpoint.specs.declared.progress.Step.TheVariants.{Done, Idle, Reserved, Worked}
 
 -- nothing is said of the store where work under way goes on
-pub still-on : {D : Type 0} (e before new : EndpointValue D) (result : Result Progress StepFault) → GoesOn before result new
+pub still-on : {D : Type 0} (e before new : EndpointValue D) (result : Result Progress StepFault)
+    → GoesOn before result new
     → IsStill e Advances (Advanced result) new
 still-on e before new (Ok Idle) goes = absurd goes
 still-on e before new (Ok Worked) goes = tt

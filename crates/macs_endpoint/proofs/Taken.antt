@@ -1,5 +1,6 @@
 -- Work that is started with its first device call, and a command that is refused before.
-use Rattle.std.proofs.Common.{◌≡◌, ◌≤◌, ◌+◌, ◌==◌, inl, inr, ℕ, Bool, true, false, if◌then◌else◌, Option, Some, None, Result, Ok, Err, is_err, OnErr, OnOk, refl, sym, ◌∙◌, ap, subst, arith}
+use Rattle.std.proofs.Common.{◌≡◌, ◌≤◌, ◌+◌, ◌==◌, inl, inr, ℕ, Bool, true, false, if◌then◌else◌, Option, Some, None}
+use Rattle.std.proofs.Common.{Result, Ok, Err, is_err, OnErr, OnOk, refl, sym, ◌∙◌, ap, subst, arith}
 use Rattle.macs_config.specs.Config.{this_edition}
 use Rattle.macs_config.specs.declared.command.Command.{Command}
 use Rattle.macs_disk.specs.Disk as disk
@@ -16,7 +17,8 @@ use Rattle.macs_store.specs.Stepping.{HasInHand}
 use Rattle.macs_store.specs.Table.{standing_of}
 use Rattle.macs_store.specs.Value.{IsIdle, calls_left, standing_in}
 use Rattle.macs_store.specs.Value as store
-use Rattle.macs_endpoint.specs.Advancing.{BeginsWith, ClockAfter, GoesOn, Piece, ToKeep, ToRaise, next_piece, piece_among, turn_after_step}
+use Rattle.macs_endpoint.specs.Advancing.{BeginsWith, ClockAfter, GoesOn, Piece, ToKeep, ToRaise, next_piece}
+use Rattle.macs_endpoint.specs.Advancing.{piece_among, turn_after_step}
 use Rattle.macs_endpoint.specs.Calls.{Fails, IsCall}
 use Rattle.macs_endpoint.specs.Ceilings.{Raise, StandsAdvanced, standing_with_raise}
 use Rattle.macs_endpoint.specs.Counting.{channel_counters_after}
@@ -45,19 +47,25 @@ raised_piece a b is = cc
 taken_piece : (a b : Waiting) → ToKeep a ≡ ToKeep b → Some a ≡ Some b
 taken_piece a b is = cc
 
-pub raises-first : (whose : Turn) (o : Option Raise) (w : Option Waiting) (raise : Raise) → piece_among whose o w ≡ Some (ToRaise raise) → o ≡ Some raise
+pub raises-first : (whose : Turn) (o : Option Raise) (w : Option Waiting) (raise : Raise)
+    → piece_among whose o w ≡ Some (ToRaise raise) → o ≡ Some raise
 raises-first whose None None raise is = absurd cc
-raises-first whose (Some other) None raise is = let same : ToRaise other ≡ ToRaise raise = cc in raised_piece other raise same
+raises-first whose (Some other) None raise is = let same : ToRaise other ≡ ToRaise raise = cc in
+    raised_piece other raise same
 raises-first whose None (Some first) raise is = absurd cc
-raises-first turn.Reservation (Some other) (Some first) raise is = let same : ToRaise other ≡ ToRaise raise = cc in raised_piece other raise same
+raises-first turn.Reservation (Some other) (Some first) raise is = let same : ToRaise other ≡ ToRaise raise = cc in
+    raised_piece other raise same
 raises-first turn.Command (Some other) (Some first) raise is = absurd cc
 
-pub takes-first : (whose : Turn) (o : Option Raise) (w : Option Waiting) (first : Waiting) → piece_among whose o w ≡ Some (ToKeep first) → w ≡ Some first
+pub takes-first : (whose : Turn) (o : Option Raise) (w : Option Waiting) (first : Waiting)
+    → piece_among whose o w ≡ Some (ToKeep first) → w ≡ Some first
 takes-first whose None None first is = absurd cc
 takes-first whose (Some raise) None first is = absurd cc
-takes-first whose None (Some other) first is = let same : ToKeep other ≡ ToKeep first = cc in taken_piece other first same
+takes-first whose None (Some other) first is = let same : ToKeep other ≡ ToKeep first = cc in
+    taken_piece other first same
 takes-first turn.Reservation (Some raise) (Some other) first is = absurd cc
-takes-first turn.Command (Some raise) (Some other) first is = let same : ToKeep other ≡ ToKeep first = cc in taken_piece other first same
+takes-first turn.Command (Some raise) (Some other) first is = let same : ToKeep other ≡ ToKeep first = cc in
+    taken_piece other first same
 
 -- ---- a change takes more than one call
 
@@ -69,39 +77,50 @@ some_calls : {D : Type 0} (s : store.StoreValue D) → 4 ≤ most_calls s
 some_calls s = most_by (store.used_slots s == slots) (store.snapshot_length s)
 
 -- so the one after the start is not the last
-pub many-calls : {D : Type 0} (disk_of : D → disk.Disk) (old : store.StoreValue D) (after : Standing) (new : store.StoreValue D)
+pub many-calls : {D : Type 0} (disk_of : D → disk.Disk) (old : store.StoreValue D) (after : Standing)
+    (new : store.StoreValue D)
     → HasInHand disk_of old after new → calls_left new ≡ 1 → ⊥
-many-calls disk_of old after new has one = let most = has.left in let least = some_calls old in omega (arith, one, most, least)
+many-calls disk_of old after new has one = let most = has.left in let least = some_calls old in
+    omega (arith, one, most, least)
 
 -- ---- the call after the start
 
-module _ {D : Type 0} (disk_of : D → disk.Disk) (e : EndpointValue D) (running : is_stopped e ≡ false) (idle : IsIdle e.store) (after : Standing)
-    (s : store.StoreValue D) (has : HasInHand disk_of e.store after s) (in_hand : Option Command) (reserving : Option Raise) where
+module _ {D : Type 0} (disk_of : D → disk.Disk) (e : EndpointValue D) (running : is_stopped e ≡ false)
+    (idle : IsIdle e.store) (after : Standing)
+    (s : store.StoreValue D) (has : HasInHand disk_of e.store after s) (in_hand : Option Command)
+    (reserving : Option Raise) where
   abbrev pub taken : EndpointValue D
   taken = record e { store = s; in_hand = in_hand; reserving = reserving }
 
   taken_disk : disk_in disk_of taken ≡ disk_in disk_of e
   taken_disk = ap disk_of has.device
 
-  runs : (logs : Logs) (result : Result Progress StepFault) (t : State) → Step (state_of taken logs) Advances (Advanced result) t
+  runs : (logs : Logs) (result : Result Progress StepFault) (t : State)
+      → Step (state_of taken logs) Advances (Advanced result) t
       → AdvanceStep (state_of taken logs) result t
   runs logs result t made = elim made [
     | inl stopped ↦ absurd (not_stopped (is_stopped taken) stopped.0 has.running)
     | inr steps ↦ steps.1
   ]
 
-  pub taken-call : (result : Result Progress StepFault) (new : EndpointValue D) → IsCall disk_of taken Advances (Advanced result) new
-      → ((logs : Logs) (t : State) → AdvanceStep (state_of taken logs) result t → AdvanceStep (state_of e logs) result t)
-      → StandsAdvanced (standing_in e.store) e.reserving (command_made (state_of e no_logs) Advances (Advanced result)) result (standing_in new.store)
+  pub taken-call : (result : Result Progress StepFault) (new : EndpointValue D)
+      → IsCall disk_of taken Advances (Advanced result) new
+      → ((logs : Logs) (t : State) → AdvanceStep (state_of taken logs) result t
+      → AdvanceStep (state_of e logs) result t)
+      → StandsAdvanced (standing_in e.store) e.reserving
+      (command_made (state_of e no_logs) Advances (Advanced result)) result (standing_in new.store)
       → BeginsWith e (next_piece e) result new
-      → rxsc.channel_counters_of new.rx ≡ channel_counters_after (state_of e no_logs) Advances (Advanced result) (rxsc.channel_counters_of e.rx)
-      → ((logs : Logs) (sectors : ℕ) (image : Image) → least_sectors ≤ sectors → Fits this_edition sectors image (state_during (state_of taken logs) Advances)
+      → rxsc.channel_counters_of new.rx
+      ≡ channel_counters_after (state_of e no_logs) Advances (Advanced result) (rxsc.channel_counters_of e.rx)
+      → ((logs : Logs) (sectors : ℕ) (image : Image) → least_sectors ≤ sectors
+      → Fits this_edition sectors image (state_during (state_of taken logs) Advances)
       → Fits this_edition sectors image (state_during (state_of e logs) Advances))
       → (IsBacked disk_of e → IsBacked disk_of taken) → IsCall disk_of e Advances (Advanced result) new
   taken-call result new call leads stands begins counted during backs = record {
     behaves = record {
       in_range = tt;
-      step = λ logs. let made = call.behaves.step logs in (made.0, inr (running, leads logs (state_of new made.0) (runs logs result (state_of new made.0) made.1)));
+      step = λ logs. let made = call.behaves.step logs in
+          (made.0, inr (running, leads logs (state_of new made.0) (runs logs result (state_of new made.0) made.1)));
       ceilings = stands;
       limited = tt;
       still = still-on e taken new result ((call.behaves.advances has.running).goes_on has.busy);
@@ -109,7 +128,8 @@ module _ {D : Type 0} (disk_of : D → disk.Disk) (e : EndpointValue D) (running
       advances = λ going. record {
         begins = λ nothing. begins;
         goes_on = λ busy. absurd (busy idle);
-        one = subst (λ (d : disk.Disk). ClockAfter d.clock result (disk_in disk_of new).clock) taken_disk (call.behaves.advances has.running).one;
+        one = subst (λ (d : disk.Disk). ClockAfter d.clock result (disk_in disk_of new).clock) taken_disk
+            (call.behaves.advances has.running).one;
       };
       turn = call.behaves.turn;
       tx_counters = call.behaves.tx_counters;
@@ -125,21 +145,26 @@ module _ {D : Type 0} (disk_of : D → disk.Disk) (e : EndpointValue D) (running
         record {
           any_moment = λ logs later.
               let old = disk_in disk_of e in
-              let From : disk.Disk → Image → Type 0 = λ d. FitsCall d.sectors (state_of taken logs) Advances (state_of new later) in
-              Leaves-weaker old (disk_in disk_of new) (From old) (FitsCall old.sectors (state_of e logs) Advances (state_of new later))
+              let From : disk.Disk → Image
+              → Type 0 = λ d. FitsCall d.sectors (state_of taken logs) Advances (state_of new later) in
+              Leaves-weaker old (disk_in disk_of new) (From old)
+              (FitsCall old.sectors (state_of e logs) Advances (state_of new later))
               (λ image left. elim left [
                 | inl before ↦ inl (during logs old.sectors image backed.size before)
                 | inr made ↦ inr made
               ])
-              (subst (λ (d : disk.Disk). Leaves d (disk_in disk_of new) (From d)) taken_disk (survives.any_moment logs later));
+              (subst (λ (d : disk.Disk). Leaves d (disk_in disk_of new) (From d)) taken_disk
+              (survives.any_moment logs later));
           backed = survives.backed;
         };
   }
 
 -- ---- a reservation
 
-module _ {D : Type 0} (disk_of : D → disk.Disk) (e : EndpointValue D) (kept : IsSoundEndpoint e) (running : is_stopped e ≡ false) (idle : IsIdle e.store)
-    (raise : Raise) (first : raise_in e ≡ Some raise) (next : next_piece e ≡ Some (ToRaise raise)) (s : store.StoreValue D)
+module _ {D : Type 0} (disk_of : D → disk.Disk) (e : EndpointValue D) (kept : IsSoundEndpoint e)
+    (running : is_stopped e ≡ false) (idle : IsIdle e.store)
+    (raise : Raise) (first : raise_in e ≡ Some raise) (next : next_piece e ≡ Some (ToRaise raise))
+    (s : store.StoreValue D)
     (has : HasInHand disk_of e.store (standing_with_raise (standing_in e.store) raise) s) where
   abbrev raising : EndpointValue D
   raising = record e { store = s; reserving = Some raise }
@@ -150,26 +175,37 @@ module _ {D : Type 0} (disk_of : D → disk.Disk) (e : EndpointValue D) (kept : 
   many : calls_left s ≡ 1 → ⊥
   many one = many-calls disk_of e.store (standing_with_raise (standing_in e.store) raise) s has one
 
-  raise_call : (result : Result Progress StepFault) (new : EndpointValue D) → IsCall disk_of raising Advances (Advanced result) new
-      → StandsAdvanced (standing_in e.store) e.reserving (command_made (state_of e no_logs) Advances (Advanced result)) result (standing_in new.store)
+  raise_call : (result : Result Progress StepFault) (new : EndpointValue D)
+      → IsCall disk_of raising Advances (Advanced result) new
+      → StandsAdvanced (standing_in e.store) e.reserving
+      (command_made (state_of e no_logs) Advances (Advanced result)) result (standing_in new.store)
       → BeginsWith e (Some (ToRaise raise)) result new
-      → rxsc.channel_counters_of new.rx ≡ channel_counters_after (state_of e no_logs) Advances (Advanced result) (rxsc.channel_counters_of e.rx)
+      → rxsc.channel_counters_of new.rx
+      ≡ channel_counters_after (state_of e no_logs) Advances (Advanced result) (rxsc.channel_counters_of e.rx)
       → IsCall disk_of e Advances (Advanced result) new
   raise_call result new call stands begins counted =
       let state = begun-state disk_of e kept running idle raise first s has in
-      taken-call disk_of e running idle (standing_with_raise (standing_in e.store) raise) s has e.in_hand (Some raise) result new call
+      taken-call disk_of e running idle (standing_with_raise (standing_in e.store) raise) s has e.in_hand (Some raise)
+      result new call
       (λ logs t steps. subst (λ (x : State). AdvanceStep x result t) (state logs) steps) stands
       (subst (λ (p : Option Piece). BeginsWith e p result new) (sym next) begins) counted
-      (λ logs sectors image size fits. subst (λ (x : State). Fits this_edition sectors image (state_during x Advances)) (state logs) fits)
+      (λ logs sectors image size fits.
+      subst (λ (x : State). Fits this_edition sectors image (state_during x Advances)) (state logs) fits)
       (begun-backed disk_of e kept running idle raise first s has)
 
-  by_result : (result : Result Progress StepFault) (new : EndpointValue D) → IsCall disk_of raising Advances (Advanced result) new
+  by_result : (result : Result Progress StepFault) (new : EndpointValue D)
+      → IsCall disk_of raising Advances (Advanced result) new
       → GoesOn raising result new → IsCall disk_of e Advances (Advanced result) new
   by_result (Ok Worked) new call goes =
-      raise_call (Ok Worked) new call (call.behaves.ceilings ∙ same_standing)
-      (goes.0, (let left = goes.3 in let most = has.left in omega (arith, left, most)), goes.1 ∙ (at-rest e kept idle).in_hand running)
+      raise_call (Ok Worked) new call (call.behaves.ceilings ∙ same_standing) (
+        goes.0,
+        (let left = goes.3 in let most = has.left in
+            omega (arith, left, most)),
+        goes.1 ∙ (at-rest e kept idle).in_hand running,
+      )
       call.behaves.channel_counters
-  by_result (Err step.Disk) new call goes = raise_call (Err step.Disk) new call (call.behaves.ceilings ∙ same_standing) (goes ∙ (at-rest e kept idle).in_hand running) call.behaves.channel_counters
+  by_result (Err step.Disk) new call goes = raise_call (Err step.Disk) new call (call.behaves.ceilings ∙ same_standing)
+      (goes ∙ (at-rest e kept idle).in_hand running) call.behaves.channel_counters
   by_result (Ok Idle) new call goes = absurd goes
   by_result (Ok Reserved) new call goes = absurd (many goes.2)
   by_result (Ok (Done ticket (Ok done))) new call goes = absurd (many goes.2)
@@ -178,7 +214,8 @@ module _ {D : Type 0} (disk_of : D → disk.Disk) (e : EndpointValue D) (kept : 
   by_result (Err step.GenerationsSpent) new call goes = absurd goes
 
   -- a reservation begins, with its first device call
-  pub raise-begins : (mid new : EndpointValue D) (result : Result Progress StepFault) → mid ≡ raising → IsCall disk_of mid Advances (Advanced result) new
+  pub raise-begins : (mid new : EndpointValue D) (result : Result Progress StepFault) → mid ≡ raising
+      → IsCall disk_of mid Advances (Advanced result) new
       → IsCall disk_of e Advances (Advanced result) new
   raise-begins mid new result same call =
       let made = subst (λ (x : EndpointValue D). IsCall disk_of x Advances (Advanced result) new) same call in
@@ -190,34 +227,40 @@ module _ {D : Type 0} (disk_of : D → disk.Disk) (e : EndpointValue D) (kept : 
 pub clock-stays : (clock : ℕ) → clock ≤ clock + 1
 clock-stays clock = omega arith
 
-module _ {D : Type 0} (disk_of : D → disk.Disk) (e : EndpointValue D) (running : is_stopped e ≡ false) (idle : IsIdle e.store) where
+module _ {D : Type 0} (disk_of : D → disk.Disk) (e : EndpointValue D) (running : is_stopped e ≡ false)
+    (idle : IsIdle e.store) where
   pub quiet : (result : Result Progress StepFault) (other : EndpointValue D)
       → ((logs : Logs) → AdvanceStep (state_of e logs) result (state_of (record other { store = e.store }) logs))
       → Fails (disk_in disk_of e) (disk_in disk_of e) (Advanced result)
-      → StandsAdvanced (standing_in e.store) e.reserving (command_made (state_of e no_logs) Advances (Advanced result)) result (standing_in e.store)
-      → BeginsWith e (next_piece e) result (record other { store = e.store }) → other.turn ≡ turn_after_step e.turn result
+      → StandsAdvanced (standing_in e.store) e.reserving
+      (command_made (state_of e no_logs) Advances (Advanced result)) result (standing_in e.store)
+      → BeginsWith e (next_piece e) result (record other { store = e.store })
+      → other.turn ≡ turn_after_step e.turn result
       → other.tx ≡ e.tx → other.rx ≡ e.rx
-      → rxsc.channel_counters_of other.rx ≡ channel_counters_after (state_of e no_logs) Advances (Advanced result) (rxsc.channel_counters_of e.rx)
+      → rxsc.channel_counters_of other.rx
+      ≡ channel_counters_after (state_of e no_logs) Advances (Advanced result) (rxsc.channel_counters_of e.rx)
       → ClockAfter (disk_in disk_of e).clock result (disk_in disk_of e).clock
       → (IsBacked disk_of e → IsBacked disk_of (record other { store = e.store }))
       → IsCall disk_of e Advances (Advanced result) (record other { store = e.store })
-  quiet result other steps fails stands begins whose tx rx counted clock backs = alone-call disk_of e other Advances (Advanced result) fails backs (record {
-    in_range = tt;
-    step = λ logs. (logs, inr (running, steps logs));
-    ceilings = stands;
-    limited = tt;
-    still = still-same e (record other { store = e.store }) result refl;
-    rests = tt;
-    advances = λ going. record { begins = λ nothing. begins; goes_on = λ busy. absurd (busy idle); one = clock };
-    turn = whose;
-    tx_counters = ap txsc.counters_of tx;
-    rx_counters = ap rxsc.counters_of rx;
-    channel_counters = counted;
-  })
+  quiet result other steps fails stands begins whose tx rx counted clock backs =
+      alone-call disk_of e other Advances (Advanced result) fails backs (record {
+        in_range = tt;
+        step = λ logs. (logs, inr (running, steps logs));
+        ceilings = stands;
+        limited = tt;
+        still = still-same e (record other { store = e.store }) result refl;
+        rests = tt;
+        advances = λ going. record { begins = λ nothing. begins; goes_on = λ busy. absurd (busy idle); one = clock };
+        turn = whose;
+        tx_counters = ap txsc.counters_of tx;
+        rx_counters = ap rxsc.counters_of rx;
+        channel_counters = counted;
+      })
 
   -- no piece of work is there
   pub idle-call : next_piece e ≡ None → IsCall disk_of e Advances (Advanced (Ok Idle)) e
-  idle-call none = quiet (Ok Idle) e (λ logs. refl) refl refl (subst (λ (p : Option Piece). BeginsWith e p (Ok Idle) e) (sym none) refl) refl refl refl refl
+  idle-call none = quiet (Ok Idle) e (λ logs. refl) refl refl
+      (subst (λ (p : Option Piece). BeginsWith e p (Ok Idle) e) (sym none) refl) refl refl refl refl
       (clock-stays (disk_in disk_of e).clock) (λ backed. backed)
 
   -- the journal cannot start over for a reservation
@@ -225,25 +268,28 @@ module _ {D : Type 0} (disk_of : D → disk.Disk) (e : EndpointValue D) (running
       → IsCall disk_of e Advances (Advanced (Err step.GenerationsSpent)) (record e { turn = turn.Command })
   spent-call raise next spent =
       quiet (Err step.GenerationsSpent) (record e { turn = turn.Command }) (λ logs. refl) refl refl
-      (subst (λ (p : Option Piece). BeginsWith e p (Err step.GenerationsSpent) (record e { turn = turn.Command })) (sym next) spent) refl refl refl refl
-      (clock-stays (disk_in disk_of e).clock) (λ backed. record { size = backed.size; stored = backed.stored; fits = backed.fits; form = backed.form })
+      (subst (λ (p : Option Piece). BeginsWith e p (Err step.GenerationsSpent) (record e { turn = turn.Command }))
+      (sym next) spent) refl refl refl refl
+      (clock-stays (disk_in disk_of e).clock)
+      (λ backed. record { size = backed.size; stored = backed.stored; fits = backed.fits; form = backed.form })
 
 -- a device call failed before
 pub stopped-step : {D : Type 0} (disk_of : D → disk.Disk) (e : EndpointValue D) → is_stopped e ≡ true
     → IsCall disk_of e Advances (Advanced (Err step.Stopped)) e
-stopped-step disk_of e stopped = alone-call disk_of e e Advances (Advanced (Err step.Stopped)) refl (λ backed. backed) (record {
-  in_range = tt;
-  step = λ logs. (logs, inl (stopped, tt, refl));
-  ceilings = refl;
-  limited = tt;
-  still = refl;
-  rests = tt;
-  advances = λ going. absurd (not_stopped (is_stopped e) stopped going);
-  turn = refl;
-  tx_counters = refl;
-  rx_counters = refl;
-  channel_counters = refl;
-})
+stopped-step disk_of e stopped =
+    alone-call disk_of e e Advances (Advanced (Err step.Stopped)) refl (λ backed. backed) (record {
+      in_range = tt;
+      step = λ logs. (logs, inl (stopped, tt, refl));
+      ceilings = refl;
+      limited = tt;
+      still = refl;
+      rests = tt;
+      advances = λ going. absurd (not_stopped (is_stopped e) stopped going);
+      turn = refl;
+      tx_counters = refl;
+      rx_counters = refl;
+      channel_counters = refl;
+    })
 
 -- ---- what a start answers
 

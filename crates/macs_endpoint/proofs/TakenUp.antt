@@ -1,5 +1,6 @@
 -- The first command that waits: it is started with its first device call, or is refused.
-use Rattle.std.proofs.Common.{◌≡◌, ◌≤◌, [], ◌∷◌, ◌&&◌, inl, inr, ℕ, Bool, true, false, not, if◌then◌else◌, List, length, Option, Some, None, Result, Ok, Err, is_ok, IsOk, refl, sym, ◌∙◌, ap, subst, arith}
+use Rattle.std.proofs.Common.{◌≡◌, ◌≤◌, [], ◌∷◌, ◌&&◌, inl, inr, ℕ, Bool, true, false, not, if◌then◌else◌, List, length}
+use Rattle.std.proofs.Common.{Option, Some, None, Result, Ok, Err, is_ok, IsOk, refl, sym, ◌∙◌, ap, subst, arith}
 use Rattle.macs_config.specs.Apply.{IsCommand, Named, Reason, apply}
 use Rattle.macs_config.specs.Config.{Config, this_edition}
 use Rattle.macs_config.specs.declared.command.Command.{Command}
@@ -21,9 +22,11 @@ use Rattle.macs_endpoint.specs.Counting.{channel_counters_after}
 use Rattle.macs_endpoint.specs.Faults.{command_fault_of}
 use Rattle.macs_endpoint.specs.Queue.{first_waiting, queue_length}
 use Rattle.macs_endpoint.specs.Restart.{Fits, state_taking_first}
-use Rattle.macs_endpoint.specs.State.{Accepts, Advanced, Advances, Logs, State, command_made, no_logs, state_with_in_hand}
+use Rattle.macs_endpoint.specs.State.{Accepts, Advanced, Advances, Logs, State, command_made, no_logs}
+use Rattle.macs_endpoint.specs.State.{state_with_in_hand}
 use Rattle.macs_endpoint.specs.Step.{AdvanceStep, Ends, TakesUp, state_without_first}
-use Rattle.macs_endpoint.specs.Value.{EndpointValue, IsAtRest, IsBacked, IsKeeping, IsSoundEndpoint, disk_in, is_stopped, state_of}
+use Rattle.macs_endpoint.specs.Value.{EndpointValue, IsAtRest, IsBacked, IsKeeping, IsSoundEndpoint, disk_in}
+use Rattle.macs_endpoint.specs.Value.{is_stopped, state_of}
 use Rattle.macs_endpoint.specs.declared.fault.CommandFault.{CommandFault}
 use Rattle.macs_endpoint.specs.declared.fault.CommandFault.TheVariants as ran
 use Rattle.macs_endpoint.specs.declared.fault.StepFault.{StepFault}
@@ -39,12 +42,14 @@ use Rattle.macs_endpoint.proofs.Taken.{clock-stays, many-calls, quiet, taken-cal
 -- ---- which command is the first
 
 -- the commands after it
-pub rest-waiting : (waiting : List Waiting) (first : Waiting) → first_waiting waiting ≡ Some first → (rest : List Waiting) × (waiting ≡ first ∷ rest)
+pub rest-waiting : (waiting : List Waiting) (first : Waiting) → first_waiting waiting ≡ Some first
+    → (rest : List Waiting) × (waiting ≡ first ∷ rest)
 rest-waiting [] first is = absurd cc
 rest-waiting (other ∷ rest) first is = (rest, let same : other ≡ first = cc in ap (λ (w : Waiting). w ∷ rest) same)
 
 -- and the one that was taken away
-pub front-is : (waiting : List Waiting) (head first : Waiting) (others : List Waiting) → waiting ≡ head ∷ others → first_waiting waiting ≡ Some first
+pub front-is : (waiting : List Waiting) (head first : Waiting) (others : List Waiting) → waiting ≡ head ∷ others
+    → first_waiting waiting ≡ Some first
     → waiting ≡ first ∷ others
 front-is waiting head first others popped waits =
     popped ∙ ap (λ (w : Waiting). w ∷ others) (some_is head first (sym (ap first_waiting popped) ∙ waits))
@@ -56,7 +61,8 @@ pub refused_by : (s : Standing) (command : Command) (result : Result Config Reas
 refused_by s command (Ok config) reason is = absurd cc
 refused_by s command (Err other) reason is = let same : other ≡ reason = cc in ap Err same
 
-accepted_by : (s : Standing) (command : Command) (result : Result Config Reason) → IsOk (standing_or_refusal s command result) → is_ok result ≡ true
+accepted_by : (s : Standing) (command : Command) (result : Result Config Reason)
+    → IsOk (standing_or_refusal s command result) → is_ok result ≡ true
 accepted_by s command (Ok config) is = refl
 accepted_by s command (Err refusal) is = absurd cc
 
@@ -65,7 +71,8 @@ taken_by : (s : State) (command : Command) (stopped accepts : Bool) → stopped 
 taken_by s command stopped accepts running is = λ i. if not (running i) && is i then state_with_in_hand s command else s
 
 -- the first command is under way while it is taken up
-during_taken : (s : State) (in_hand : Option Command) (waiting : List Waiting) (first : Waiting) (rest : List Waiting) → in_hand ≡ None
+during_taken : (s : State) (in_hand : Option Command) (waiting : List Waiting) (first : Waiting) (rest : List Waiting)
+    → in_hand ≡ None
     → waiting ≡ first ∷ rest → s.stopped ≡ false → is_ok (apply s.edition s.identity s.config first.command) ≡ true
     → state_taking_first s in_hand waiting ≡ state_with_in_hand s first.command
 during_taken s in_hand waiting first rest free waits running accepts =
@@ -74,7 +81,8 @@ during_taken s in_hand waiting first rest free waits running accepts =
 
 -- ---- it is started
 
-module _ {D : Type 0} (disk_of : D → disk.Disk) (e : EndpointValue D) (kept : IsSoundEndpoint e) (running : is_stopped e ≡ false) (idle : IsIdle e.store)
+module _ {D : Type 0} (disk_of : D → disk.Disk) (e : EndpointValue D) (kept : IsSoundEndpoint e)
+    (running : is_stopped e ≡ false) (idle : IsIdle e.store)
     (first : Waiting) (ranges : IsCommand first.command) (waits : first_waiting e.waiting ≡ Some first) where
   abbrev rest : List Waiting
   rest = (rest-waiting e.waiting first waits).0
@@ -141,7 +149,8 @@ module _ {D : Type 0} (disk_of : D → disk.Disk) (e : EndpointValue D) (kept : 
     taken_backed : IsBacked disk_of e → IsBacked disk_of keeping
     taken_backed backed =
         kept-backed keeping taken-kept disk_of
-        (subst (λ (d : disk.Disk). least_sectors ≤ d.sectors) (sym (ap disk_of has.device)) backed.size) (has.stored (backed.stored running))
+        (subst (λ (d : disk.Disk). least_sectors ≤ d.sectors) (sym (ap disk_of has.device)) backed.size)
+        (has.stored (backed.stored running))
 
     -- one step takes it up
     takes : (logs : Logs) (t : State) → t ≡ state_of keeping logs → TakesUp (state_of e logs) t
@@ -152,28 +161,39 @@ module _ {D : Type 0} (disk_of : D → disk.Disk) (e : EndpointValue D) (kept : 
     none_more logs t up = let held : Some first.command ≡ None = up.3 in cc
 
     -- what follows is a step of the endpoint before
-    take_call : (result : Result Progress StepFault) (new : EndpointValue D) → IsCall disk_of keeping Advances (Advanced result) new
-        → ((logs : Logs) (t : State) → AdvanceStep (state_of keeping logs) result t → AdvanceStep (state_of e logs) result t)
-        → StandsAdvanced (standing_in e.store) e.reserving (command_made (state_of e no_logs) Advances (Advanced result)) result (standing_in new.store)
+    take_call : (result : Result Progress StepFault) (new : EndpointValue D)
+        → IsCall disk_of keeping Advances (Advanced result) new
+        → ((logs : Logs) (t : State) → AdvanceStep (state_of keeping logs) result t
+        → AdvanceStep (state_of e logs) result t)
+        → StandsAdvanced (standing_in e.store) e.reserving
+        (command_made (state_of e no_logs) Advances (Advanced result)) result (standing_in new.store)
         → BeginsWith e (Some (ToKeep first)) result new
-        → rxsc.channel_counters_of new.rx ≡ channel_counters_after (state_of e no_logs) Advances (Advanced result) (rxsc.channel_counters_of e.rx)
+        → rxsc.channel_counters_of new.rx
+        ≡ channel_counters_after (state_of e no_logs) Advances (Advanced result) (rxsc.channel_counters_of e.rx)
         → next_piece e ≡ Some (ToKeep first) → IsCall disk_of e Advances (Advanced result) new
     take_call result new call leads stands begins counted next =
         taken-call disk_of e running idle after s has (Some first.command) e.reserving result new call leads stands
         (subst (λ (p : Option Piece). BeginsWith e p result new) (sym next) begins) counted
         (λ logs sectors image size fits. subst (λ (x : State). Fits this_edition sectors image x)
-        (taken_state logs ∙ sym (during_taken (state_of e logs) e.in_hand e.waiting first rest (resting.in_hand running) waiting_is running accepts)) fits)
+        (taken_state logs ∙ sym (during_taken (state_of e logs) e.in_hand e.waiting first rest (resting.in_hand running)
+        waiting_is running accepts)) fits)
         taken_backed
 
-    by_result : (result : Result Progress StepFault) (new : EndpointValue D) → IsCall disk_of keeping Advances (Advanced result) new
-        → GoesOn keeping result new → next_piece e ≡ Some (ToKeep first) → IsCall disk_of e Advances (Advanced result) new
+    by_result : (result : Result Progress StepFault) (new : EndpointValue D)
+        → IsCall disk_of keeping Advances (Advanced result) new
+        → GoesOn keeping result new → next_piece e ≡ Some (ToKeep first)
+        → IsCall disk_of e Advances (Advanced result) new
     by_result (Ok Worked) new call goes next =
         take_call (Ok Worked) new call
         (λ logs t steps. elim steps [
           | inl same ↦ inr (takes logs t same)
           | inr up ↦ absurd (none_more logs t up)
         ])
-        (call.behaves.ceilings ∙ same_standing) (goes.1, (let left = goes.3 in let most = has.left in omega (arith, left, most)))
+        (call.behaves.ceilings ∙ same_standing) (
+          goes.1,
+          (let left = goes.3 in let most = has.left in
+              omega (arith, left, most)),
+        )
         call.behaves.channel_counters next
     by_result (Err step.Disk) new call goes next =
         take_call (Err step.Disk) new call
@@ -190,7 +210,8 @@ module _ {D : Type 0} (disk_of : D → disk.Disk) (e : EndpointValue D) (kept : 
     by_result (Err step.GenerationsSpent) new call goes next = absurd goes
 
     -- the command begins, with its first device call
-    pub keep-begins : (mid new : EndpointValue D) (result : Result Progress StepFault) → mid ≡ keeping → next_piece e ≡ Some (ToKeep first)
+    pub keep-begins : (mid new : EndpointValue D) (result : Result Progress StepFault) → mid ≡ keeping
+        → next_piece e ≡ Some (ToKeep first)
         → IsCall disk_of mid Advances (Advanced result) new → IsCall disk_of e Advances (Advanced result) new
     keep-begins mid new result same next call =
         let made = subst (λ (x : EndpointValue D). IsCall disk_of x Advances (Advanced result) new) same call in
@@ -207,7 +228,8 @@ module _ {D : Type 0} (disk_of : D → disk.Disk) (e : EndpointValue D) (kept : 
     fewer few = omega (arith, few)
 
     pub without-kept : IsSoundEndpoint without
-    without-kept = kept-held e without kept refl (fewer (subst (λ (w : List Waiting). length w ≤ queue_length) popped kept.few)) kept.tickets
+    without-kept = kept-held e without kept refl
+        (fewer (subst (λ (w : List Waiting). length w ≤ queue_length) popped kept.few)) kept.tickets
         (inl (record { store = resting.store; reserving = resting.reserving; in_hand = resting.in_hand }))
 
     without_backed : IsBacked disk_of e → IsBacked disk_of without
@@ -217,24 +239,35 @@ module _ {D : Type 0} (disk_of : D → disk.Disk) (e : EndpointValue D) (kept : 
     left_state logs = λ i. record (state_of without logs) { in_hand = resting.in_hand running i }
 
     -- it is done with, and nothing else changes
-    refused_call : (at : CommandFault) → ((logs : Logs) → Ends (state_of e logs) first others (Err at) (state_of without logs))
-        → BeginsWith e (Some (ToKeep first)) (Ok (Done first.ticket (Err at))) without → next_piece e ≡ Some (ToKeep first)
+    refused_call : (at : CommandFault)
+        → ((logs : Logs) → Ends (state_of e logs) first others (Err at) (state_of without logs))
+        → BeginsWith e (Some (ToKeep first)) (Ok (Done first.ticket (Err at))) without
+        → next_piece e ≡ Some (ToKeep first)
         → IsCall disk_of e Advances (Advanced (Ok (Done first.ticket (Err at)))) without
     refused_call at ends begins next =
-        quiet disk_of e running idle (Ok (Done first.ticket (Err at))) without (λ logs. (first, others, popped, refl, ends logs)) refl refl
-        (subst (λ (p : Option Piece). BeginsWith e p (Ok (Done first.ticket (Err at))) without) (sym next) begins) refl refl refl refl
+        quiet disk_of e running idle (Ok (Done first.ticket (Err at))) without
+        (λ logs. (first, others, popped, refl, ends logs)) refl refl
+        (subst (λ (p : Option Piece). BeginsWith e p (Ok (Done first.ticket (Err at))) without) (sym next) begins) refl
+        refl refl refl
         (clock-stays (disk_in disk_of e).clock) without_backed
 
-    by_fault : (at : CommitFault) (s : store.StoreValue D) → StartsCommit disk_of e.store first.command (Err at) s → next_piece e ≡ Some (ToKeep first)
+    by_fault : (at : CommitFault) (s : store.StoreValue D) → StartsCommit disk_of e.store first.command (Err at) s
+        → next_piece e ≡ Some (ToKeep first)
         → IsCall disk_of e Advances (Advanced (Ok (Done first.ticket (Err (command_fault_of at))))) without
     by_fault commit.Stopped s starts next = absurd (not_stopped (is_stopped e) (starts.stopped.0 refl) running)
     by_fault commit.Disk s starts next = absurd (starts.names refl)
     by_fault (commit.Refused refusal) s starts next =
         refused_call (ran.Refused refusal)
-        (λ logs. (resting.in_hand running, refused_by old first.command judged (Named refusal) ((starts.refused refusal).0 refl).1, left_state logs)) tt next
+        (λ logs. (
+          resting.in_hand running,
+          refused_by old first.command judged (Named refusal)
+              ((starts.refused refusal).0 refl).1,
+          left_state logs,
+        )) tt next
     by_fault commit.GenerationsSpent s starts next =
         let spent = starts.spent.0 refl in
-        refused_call ran.GenerationsSpent (λ logs. (resting.in_hand running, accepted_by old first.command judged spent.0, left_state logs)) spent.1 next
+        refused_call ran.GenerationsSpent (λ logs.
+        (resting.in_hand running, accepted_by old first.command judged spent.0, left_state logs)) spent.1 next
 
     -- the same, where endpoint and fault are named otherwise
     told_so : (at told : CommandFault) → told ≡ at → (x : EndpointValue D) → x ≡ e → (tickets : ℕ) → tickets ≡ x.tickets
@@ -242,14 +275,19 @@ module _ {D : Type 0} (disk_of : D → disk.Disk) (e : EndpointValue D) (kept : 
         → IsCall disk_of e Advances (Advanced (Ok (Done first.ticket (Err told))))
         (record x { waiting = others; tickets = tickets; turn = turn.Reservation })
     told_so at told is x same tickets given call =
-        let Ended : CommandFault → EndpointValue D → Type 0 = λ fault new. IsCall disk_of e Advances (Advanced (Ok (Done first.ticket (Err fault)))) new in
-        subst (λ (fault : CommandFault). Ended fault (record x { waiting = others; tickets = tickets; turn = turn.Reservation })) (sym is)
+        let Ended : CommandFault → EndpointValue D
+        → Type 0 = λ fault new. IsCall disk_of e Advances (Advanced (Ok (Done first.ticket (Err fault)))) new in
+        subst (λ (fault : CommandFault).
+        Ended fault (record x { waiting = others; tickets = tickets; turn = turn.Reservation })) (sym is)
         (subst (λ (n : ℕ). Ended at (record x { waiting = others; tickets = n; turn = turn.Reservation })) (sym given)
-        (subst (λ (y : EndpointValue D). Ended at (record y { waiting = others; turn = turn.Reservation })) (sym same) call))
+        (subst (λ (y : EndpointValue D). Ended at (record y { waiting = others; turn = turn.Reservation }))
+        (sym same) call))
 
     -- the store refuses it, and the reason is reported
-    pub refused-ends : (at : CommitFault) (s : store.StoreValue D) → StartsCommit disk_of e.store first.command (Err at) s
-        → next_piece e ≡ Some (ToKeep first) → (told : CommandFault) → told ≡ command_fault_of at → (x : EndpointValue D) → x ≡ e → (tickets : ℕ) → tickets ≡ x.tickets
+    pub refused-ends : (at : CommitFault) (s : store.StoreValue D)
+        → StartsCommit disk_of e.store first.command (Err at) s
+        → next_piece e ≡ Some (ToKeep first) → (told : CommandFault) → told ≡ command_fault_of at
+        → (x : EndpointValue D) → x ≡ e → (tickets : ℕ) → tickets ≡ x.tickets
         → IsCall disk_of e Advances (Advanced (Ok (Done first.ticket (Err told))))
         (record x { waiting = others; tickets = tickets; turn = turn.Reservation })
     refused-ends at s starts next told is x same tickets given =

@@ -1,5 +1,6 @@
 -- Work under way ends, and what is reserved then is what was needed when it began.
-use Rattle.std.proofs.Common.{◌≡◌, ◌≤◌, ◌+◌, ◌⊎◌, inl, inr, true, false, List, [], ◌∷◌, Option, Some, None, Result, Ok, Err, refl, ◌∙◌, ap, arith}
+use Rattle.std.proofs.Common.{◌≡◌, ◌≤◌, ◌+◌, ◌⊎◌, inl, inr, true, false, List, [], ◌∷◌, Option, Some, None, Result, Ok}
+use Rattle.std.proofs.Common.{Err, refl, ◌∙◌, ap, arith}
 use Rattle.macs_disk.specs.Disk.{Disk}
 use Rattle.macs_store.specs.Keeps.{most_calls}
 use Rattle.macs_store.specs.Value.{IsIdle, StoreValue, calls_left}
@@ -8,7 +9,9 @@ use Rattle.macs_endpoint.specs.Calls.{AdvancesIn, IsCall, Rests}
 use Rattle.macs_endpoint.specs.WorkThroughCalls.{Lasts, steps_in_call, steps_made}
 use Rattle.macs_endpoint.specs.Limits.{IsStill}
 use Rattle.macs_endpoint.specs.Lives.{Lives, Transition}
-use Rattle.macs_endpoint.specs.State.{Advanced, AdvancedLong, Advances, Call, Commands, Logs, Protected, Protects, Ran, Received, Receives, Refilled, Refills, RefusedLong, Reply, State, Submits, Submitted, no_logs}
+use Rattle.macs_endpoint.specs.State.{Advanced, AdvancedLong, Advances, Call, Commands, Logs, Protected, Protects, Ran}
+use Rattle.macs_endpoint.specs.State.{Received, Receives, Refilled, Refills, RefusedLong, Reply, State, Submits}
+use Rattle.macs_endpoint.specs.State.{Submitted, no_logs}
 use Rattle.macs_endpoint.specs.Step.{AdvanceStep, RunningStep}
 use Rattle.macs_endpoint.specs.Value.{EndpointValue, is_stopped, state_of}
 use Rattle.macs_endpoint.specs.declared.fault.CommandFault.TheVariants as ran
@@ -25,10 +28,12 @@ still_stopped s t stopped is = ap (λ (x : State). x.stopped) is ∙ stopped
 
 -- ---- one call
 
-module _ {D : Type 0} (disk_of : D → Disk) (old new : EndpointValue D) (busy : ¬ IsIdle old.store) (running : is_stopped new ≡ false) where
+module _ {D : Type 0} (disk_of : D → Disk) (old new : EndpointValue D) (busy : ¬ IsIdle old.store)
+    (running : is_stopped new ≡ false) where
   -- a call leaves fewer device calls of the work under way, by one for a step, or none
   abbrev LeavesFewer : Call → Type 0
-  LeavesFewer call = (IsIdle new.store × (steps_in_call call ≤ calls_left old.store)) ⊎ (steps_in_call call + calls_left new.store ≤ calls_left old.store)
+  LeavesFewer call = (IsIdle new.store × (steps_in_call call ≤ calls_left old.store))
+      ⊎ (steps_in_call call + calls_left new.store ≤ calls_left old.store)
 
   same : (call : Call) → steps_in_call call ≡ 0 → new.store ≡ old.store → LeavesFewer call
   same call none is = inr (omega (arith, none, ap (λ (s : StoreValue D). calls_left s) is))
@@ -46,7 +51,8 @@ module _ {D : Type 0} (disk_of : D → Disk) (old new : EndpointValue D) (busy :
     abbrev t : State
     t = state_of new after
 
-    advances : (result : Result Progress StepFault) → AdvanceStep s result t → GoesOn old result new → LeavesFewer Advances
+    advances : (result : Result Progress StepFault) → AdvanceStep s result t → GoesOn old result new
+        → LeavesFewer Advances
     advances (Ok Idle) moves goes = absurd goes
     advances (Ok Worked) moves goes = inr (omega (arith, goes.3))
     advances (Ok Reserved) moves goes = inl (goes.1, omega (arith, goes.2))
@@ -59,19 +65,24 @@ module _ {D : Type 0} (disk_of : D → Disk) (old new : EndpointValue D) (busy :
       | inr taken ↦ fails (ap (λ (x : State). x.stopped) taken.2)
     ]
 
-    runs : (call : Call) (reply : Reply) → is_stopped old ≡ false → RunningStep s call reply t → IsStill old call reply new → Rests call reply new
+    runs : (call : Call) (reply : Reply) → is_stopped old ≡ false → RunningStep s call reply t
+        → IsStill old call reply new → Rests call reply new
         → AdvancesIn disk_of old call reply new → LeavesFewer call
     runs (Commands command) (Ran (Ok done)) run moves still rests advanced = ends (Commands command) refl rests
     runs (Commands command) (Ran (Err ran.Stopped)) run moves still rests advanced = same (Commands command) refl still
     runs (Commands command) (Ran (Err ran.Busy)) run moves still rests advanced = same (Commands command) refl still
-    runs (Commands command) (Ran (Err (ran.Refused refusal))) run moves still rests advanced = same (Commands command) refl still
-    runs (Commands command) (Ran (Err ran.GenerationsSpent)) run moves still rests advanced = ends (Commands command) refl rests
-    runs (Commands command) (Ran (Err ran.Disk)) run moves still rests advanced = fails (ap (λ (x : State). x.stopped) moves.2)
+    runs (Commands command) (Ran (Err (ran.Refused refusal))) run moves still rests advanced =
+        same (Commands command) refl still
+    runs (Commands command) (Ran (Err ran.GenerationsSpent)) run moves still rests advanced =
+        ends (Commands command) refl rests
+    runs (Commands command) (Ran (Err ran.Disk)) run moves still rests advanced =
+        fails (ap (λ (x : State). x.stopped) moves.2)
     runs Refills (Refilled (Ok done)) run moves still rests advanced = ends Refills refl rests
     runs Refills (Refilled (Err refill.Stopped)) run moves still rests advanced = same Refills refl still
     runs Refills (Refilled (Err refill.Busy)) run moves still rests advanced = same Refills refl still
     runs Refills (Refilled (Err refill.GenerationsSpent)) run moves still rests advanced = ends Refills refl rests
-    runs Refills (Refilled (Err refill.Disk)) run moves still rests advanced = fails (ap (λ (x : State). x.stopped) moves.1)
+    runs Refills (Refilled (Err refill.Disk)) run moves still rests advanced =
+        fails (ap (λ (x : State). x.stopped) moves.1)
     runs (Submits command) (Submitted result) run moves still rests advanced = same (Submits command) refl still
     runs Advances (Advanced result) run moves still rests advanced = advances result moves ((advanced run).goes_on busy)
     runs (Protects plain) (Protected result out) run moves still rests advanced = same (Protects plain) refl still
@@ -96,12 +107,14 @@ module _ {D : Type 0} (disk_of : D → Disk) where
   no_more [] e idle lasts = refl
   no_more (turn ∷ turns) e idle lasts = absurd (lasts.0 idle)
 
-  steps_left : (turns : List (Transition D)) (e new : EndpointValue D) → Lives disk_of e turns new → Lasts e turns → steps_made turns ≤ calls_left e.store
+  steps_left : (turns : List (Transition D)) (e new : EndpointValue D) → Lives disk_of e turns new → Lasts e turns
+      → steps_made turns ≤ calls_left e.store
   steps_left [] e new lives lasts = omega arith
-  steps_left (turn ∷ turns) e new lives lasts = elim (leaves_fewer disk_of e turn.after lasts.0 lasts.1 turn.call turn.reply lives.1) [
-    | inl ended ↦ omega (arith, ended.1, no_more turns turn.after ended.0 lasts.2)
-    | inr fewer ↦ omega (arith, fewer, steps_left turns turn.after new lives.2 lasts.2)
-  ]
+  steps_left (turn ∷ turns) e new lives lasts =
+      elim (leaves_fewer disk_of e turn.after lasts.0 lasts.1 turn.call turn.reply lives.1) [
+        | inl ended ↦ omega (arith, ended.1, no_more turns turn.after ended.0 lasts.2)
+        | inr fewer ↦ omega (arith, fewer, steps_left turns turn.after new lives.2 lasts.2)
+      ]
 
   begins_within : (old begun : EndpointValue D) (piece : Option Piece) → BeginsWith old piece (Ok Worked) begun
       → calls_left begun.store + 1 ≤ most_calls old.store
@@ -110,11 +123,16 @@ module _ {D : Type 0} (disk_of : D → Disk) where
   begins_within old begun (Some (ToKeep first)) begins = begins.1
 
   -- how many steps a piece of work takes, with the one that begins it
-  pub work-ends : (old begun new : EndpointValue D) (turns : List (Transition D)) → IsIdle old.store → IsCall disk_of old Advances (Advanced (Ok Worked)) begun
+  pub work-ends : (old begun new : EndpointValue D) (turns : List (Transition D)) → IsIdle old.store
+      → IsCall disk_of old Advances (Advanced (Ok Worked)) begun
       → Lives disk_of begun turns new → Lasts begun turns → steps_made turns + 1 ≤ most_calls old.store
   work-ends old begun new turns idle call lives lasts =
       let running : is_stopped old ≡ false = elim (call.behaves.step no_logs).1 [
         | inl stopped ↦ absurd stopped.1
         | inr runs ↦ runs.0
       ] in
-      omega (arith, begins_within old begun (next_piece old) ((call.behaves.advances running).begins idle), steps_left turns begun new lives lasts)
+      omega (
+        arith,
+        begins_within old begun (next_piece old) ((call.behaves.advances running).begins idle),
+        steps_left turns begun new lives lasts,
+      )

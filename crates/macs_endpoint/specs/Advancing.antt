@@ -42,8 +42,8 @@ piece_among whose (Some raise) (Some first) = Some (piece_by_turn whose raise fi
 abbrev pub next_piece : {D : Type 0} → EndpointValue D → Option Piece
 next_piece e = piece_among e.turn (raise_in e) (first_waiting e.waiting)
 
--- whose turn it is after a step: a reservation that is done, or that the journal has no room for, leaves it to a command; a command that is
--- done, refused or not, to a reservation
+-- whose turn it is after a step: a reservation that is done, or that the journal has no room for, leaves it to a
+-- command; a command that is done, refused or not, to a reservation
 abbrev pub turn_after_step : Turn → Result Progress StepFault → Turn
 turn_after_step whose (Ok Reserved) = turn.Command
 turn_after_step whose (Ok (Done ticket result)) = turn.Reservation
@@ -68,31 +68,38 @@ turn_after e call reply = e.turn
 
 -- ---- a step
 
--- A step of an endpoint that runs and has no work under way: it is idle where there is no piece of work, and else that piece begins, with its
--- first device call, or is refused before. Whether that call succeeds or fails, a command is under way then, and a reservation leaves none under way.
-abbrev pub BeginsWith : {D : Type 0} → EndpointValue D → Option Piece → Result Progress StepFault → EndpointValue D → Type 0
+-- A step of an endpoint that runs and has no work under way: it is idle where there is no piece of work, and else that
+-- piece begins, with its first device call, or is refused before. Whether that call succeeds or fails, a command is
+-- under way then, and a reservation leaves none under way.
+abbrev pub BeginsWith : {D : Type 0} → EndpointValue D → Option Piece → Result Progress StepFault
+    → EndpointValue D → Type 0
 BeginsWith old None (Ok Idle) new = new ≡ old
 BeginsWith old (Some (ToRaise raise)) (Ok Worked) new =
     (new.reserving ≡ Some raise) × (calls_left new.store + 1 ≤ most_calls old.store) × (new.in_hand ≡ None)
 BeginsWith old (Some (ToRaise raise)) (Err step.GenerationsSpent) new = IsSpent old.store
 BeginsWith old (Some (ToRaise raise)) (Err step.Disk) new = new.in_hand ≡ None
-BeginsWith old (Some (ToKeep first)) (Ok Worked) new = (new.in_hand ≡ Some first.command) × (calls_left new.store + 1 ≤ most_calls old.store)
+BeginsWith old (Some (ToKeep first)) (Ok Worked) new = (new.in_hand ≡ Some first.command)
+    × (calls_left new.store + 1 ≤ most_calls old.store)
 BeginsWith old (Some (ToKeep first)) (Ok (Done ticket (Err (ran.Refused refusal)))) new = Unit {0}
 BeginsWith old (Some (ToKeep first)) (Ok (Done ticket (Err ran.GenerationsSpent))) new = IsSpent old.store
 BeginsWith old (Some (ToKeep first)) (Err step.Disk) new = new.in_hand ≡ Some first.command
 BeginsWith old piece result new = ⊥
 
--- A step of an endpoint with work under way: the next device call of that work, which goes on, with fewer calls left, or is done with the
--- last. Where the call fails a command under way stays so.
+-- A step of an endpoint with work under way: the next device call of that work, which goes on, with fewer calls left,
+-- or is done with the last. Where the call fails a command under way stays so.
 abbrev pub GoesOn : {D : Type 0} → EndpointValue D → Result Progress StepFault → EndpointValue D → Type 0
 GoesOn old (Ok Worked) new =
-    (new.reserving ≡ old.reserving) × (new.in_hand ≡ old.in_hand) × (¬ IsIdle new.store) × (calls_left new.store + 1 ≤ calls_left old.store)
-GoesOn old (Ok Reserved) new = ((raise : Raise) × (old.reserving ≡ Some raise)) × IsIdle new.store × (calls_left old.store ≡ 1)
-GoesOn old (Ok (Done ticket (Ok done))) new = ((command : Command) × (old.in_hand ≡ Some command)) × IsIdle new.store × (calls_left old.store ≡ 1)
+    (new.reserving ≡ old.reserving) × (new.in_hand ≡ old.in_hand) × (¬ IsIdle new.store)
+    × (calls_left new.store + 1 ≤ calls_left old.store)
+GoesOn old (Ok Reserved) new = ((raise : Raise) × (old.reserving ≡ Some raise)) × IsIdle new.store
+    × (calls_left old.store ≡ 1)
+GoesOn old (Ok (Done ticket (Ok done))) new = ((command : Command) × (old.in_hand ≡ Some command)) × IsIdle new.store
+    × (calls_left old.store ≡ 1)
 GoesOn old (Err step.Disk) new = new.in_hand ≡ old.in_hand
 GoesOn old result new = ⊥
 
--- how far the clock of the disk goes on in a step with this answer: by one where the work went on or was done, and else by one at most
+-- how far the clock of the disk goes on in a step with this answer: by one where the work went on or was done, and else
+-- by one at most
 abbrev pub ClockAfter : ℕ → Result Progress StepFault → ℕ → Type 0
 ClockAfter old (Ok Worked) new = new ≡ old + 1
 ClockAfter old (Ok Reserved) new = new ≡ old + 1
@@ -100,7 +107,8 @@ ClockAfter old (Ok (Done ticket (Ok done))) new = new ≡ old + 1
 ClockAfter old result new = new ≤ old + 1
 
 -- what a step of an endpoint that runs does
-pub record AdvancesAs {D : Type 0} (disk_of : D → Disk) (old : EndpointValue D) (result : Result Progress StepFault) (new : EndpointValue D) : Type 0 where
+pub record AdvancesAs {D : Type 0} (disk_of : D → Disk) (old : EndpointValue D) (result : Result Progress StepFault)
+    (new : EndpointValue D) : Type 0 where
   pub begins : IsIdle old.store → BeginsWith old (next_piece old) result new
   pub goes_on : (¬ IsIdle old.store) → GoesOn old result new
   pub one : ClockAfter (disk_in disk_of old).clock result (disk_in disk_of new).clock

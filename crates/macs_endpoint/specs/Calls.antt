@@ -11,7 +11,8 @@ use Rattle.macs_endpoint.specs.Ceilings.{CeilingsAfter}
 use Rattle.macs_endpoint.specs.Counting.{channel_counters_after, rx_counters_after, tx_counters_after}
 use Rattle.macs_endpoint.specs.Limits.{IsLimited, IsStill}
 use Rattle.macs_endpoint.specs.Restart.{FitsCall}
-use Rattle.macs_endpoint.specs.State.{Advanced, Advances, Call, Commands, Logs, Protects, Ran, Receives, Refilled, Refills, Reply, Submits, no_logs}
+use Rattle.macs_endpoint.specs.State.{Advanced, Advances, Call, Commands, Logs, Protects, Ran, Receives, Refilled}
+use Rattle.macs_endpoint.specs.State.{Refills, Reply, Submits, no_logs}
 use Rattle.macs_endpoint.specs.Step.{Step}
 use Rattle.macs_endpoint.specs.Value.{EndpointValue, IsBacked, disk_in, is_stopped, state_of}
 use Rattle.macs_endpoint.specs.declared.fault.CommandFault.TheVariants as ran
@@ -44,13 +45,15 @@ Rests Refills (Refilled (Ok done)) new = IsIdle new.store
 Rests Refills (Refilled (Err refill.GenerationsSpent)) new = IsIdle new.store
 Rests call reply new = Unit {0}
 
--- What a caller sees of one call: what it is given is in range; it is a step of the machine; what becomes of configuration and ceilings;
--- where the answers come that a step leaves to the endpoint; which calls make no device call; after which no work is under way; what a step of
--- its work does, and whose turn it is after; what is counted.
-pub record CallBehaves {D : Type 0} (disk_of : D → Disk) (old : EndpointValue D) (call : Call) (reply : Reply) (new : EndpointValue D) : Type 0 where
+-- What a caller sees of one call: what it is given is in range; it is a step of the machine; what becomes of
+-- configuration and ceilings; where the answers come that a step leaves to the endpoint; which calls make no device
+-- call; after which no work is under way; what a step of its work does, and whose turn it is after; what is counted.
+pub record CallBehaves {D : Type 0} (disk_of : D → Disk) (old : EndpointValue D) (call : Call) (reply : Reply)
+    (new : EndpointValue D) : Type 0 where
   pub in_range : IsInRange call
   pub step : (logs : Logs) → (after : Logs) × Step (state_of old logs) call reply (state_of new after)
-  pub ceilings : CeilingsAfter (state_of old no_logs) (standing_in old.store) old.reserving call reply (standing_in new.store)
+  pub ceilings : CeilingsAfter (state_of old no_logs) (standing_in old.store) old.reserving call reply
+      (standing_in new.store)
   pub limited : IsLimited old call reply new
   pub still : IsStill old call reply new
   pub rests : Rests call reply new
@@ -69,15 +72,17 @@ Fails old new (Advanced (Err step.Disk)) = FailsOnce old new
 Fails old new reply = new.failures ≡ old.failures
 
 -- its device calls
-pub record DeviceCalls {D : Type 0} (disk_of : D → Disk) (old : EndpointValue D) (reply : Reply) (new : EndpointValue D) : Type 0 where
+pub record DeviceCalls {D : Type 0} (disk_of : D → Disk) (old : EndpointValue D) (reply : Reply)
+    (new : EndpointValue D) : Type 0 where
   pub works : Works (disk_in disk_of old) (disk_in disk_of new)
   pub fails : Fails (disk_in disk_of old) (disk_in disk_of new) reply
 
 -- ---- on an honest disk that held what was in memory
 
--- What a power loss leaves of one call: at each moment since it began an image fits the state before it, with its command under way, or
--- the state after it; and the disk holds what is in memory again.
-pub record Survives {D : Type 0} (disk_of : D → Disk) (old : EndpointValue D) (call : Call) (new : EndpointValue D) : Type 0 where
+-- What a power loss leaves of one call: at each moment since it began an image fits the state before it, with its
+-- command under way, or the state after it; and the disk holds what is in memory again.
+pub record Survives {D : Type 0} (disk_of : D → Disk) (old : EndpointValue D) (call : Call)
+    (new : EndpointValue D) : Type 0 where
   pub any_moment : (logs after : Logs) → Leaves (disk_in disk_of old) (disk_in disk_of new)
       (FitsCall (disk_in disk_of old).sectors (state_of old logs) call (state_of new after))
   pub backed : IsBacked disk_of new
@@ -85,7 +90,8 @@ pub record Survives {D : Type 0} (disk_of : D → Disk) (old : EndpointValue D) 
 -- ---- the whole
 
 -- one call, whatever happened before it
-pub record IsCall {D : Type 0} (disk_of : D → Disk) (old : EndpointValue D) (call : Call) (reply : Reply) (new : EndpointValue D) : Type 0 where
+pub record IsCall {D : Type 0} (disk_of : D → Disk) (old : EndpointValue D) (call : Call) (reply : Reply)
+    (new : EndpointValue D) : Type 0 where
   pub behaves : CallBehaves disk_of old call reply new
   pub device : DeviceCalls disk_of old reply new
   pub survives : IsHonest (disk_in disk_of new) → IsBacked disk_of old → Survives disk_of old call new

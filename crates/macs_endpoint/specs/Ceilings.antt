@@ -8,7 +8,8 @@ use Rattle.macs_rxsc.specs.Needs.{Need}
 use Rattle.macs_rxsc.specs.Needs as rx
 use Rattle.macs_rxsc.specs.Receive.{RxSide}
 use Rattle.macs_store.specs.Standing.{Standing, accept, standing_with_rx_raised, standing_with_tx_raised}
-use Rattle.macs_endpoint.specs.State.{Advanced, Advances, Call, Commands, Ran, Refilled, Refills, Reply, State, command_made, rx_side, tx_side}
+use Rattle.macs_endpoint.specs.State.{Advanced, Advances, Call, Commands, Ran, Refilled, Refills, Reply, State}
+use Rattle.macs_endpoint.specs.State.{command_made, rx_side, tx_side}
 use Rattle.macs_endpoint.specs.declared.fault.CommandFault.{CommandFault}
 use Rattle.macs_endpoint.specs.declared.fault.CommandFault.TheVariants as ran
 use Rattle.macs_endpoint.specs.declared.fault.RefillFault.{RefillFault}
@@ -19,7 +20,8 @@ use Rattle.macs_endpoint.specs.declared.progress.Step.TheVariants.{Reserved}
 
 -- ---- reservations
 
--- which ceiling is raised: that of a transmit association, or that of a receive association for the number that was seen
+-- which ceiling is raised: that of a transmit association, or that of a receive association for the number that was
+-- seen
 pub data Raise : Type 0 where
   RaiseTx : (an : ℕ) → Raise
   RaiseRx : Need → Raise
@@ -33,7 +35,8 @@ standing_with_raise s (RaiseRx need) = standing_with_rx_raised s need.sci need.a
 abbrev pub Rises : Standing → Raise → Type 0
 Rises s (RaiseTx an) = IsSome (s.ceilings.tx an) × IfSome (s.ceilings.tx an) (λ old. old < 2 ^ 32)
 Rises s (RaiseRx need) =
-    IsSome (s.ceilings.rx need.sci need.an) × IfSome (s.ceilings.rx need.sci need.an) (λ old. old < block_beyond need.pn s.identity.rx_block)
+    IsSome (s.ceilings.rx need.sci need.an)
+    × IfSome (s.ceilings.rx need.sci need.an) (λ old. old < block_beyond need.pn s.identity.rx_block)
 
 -- the need of the transmit side, or else that of the receive side
 abbrev pub either_raise : Option ℕ → Option Need → Option Raise
@@ -41,7 +44,8 @@ either_raise (Some an) need = Some (RaiseTx an)
 either_raise None (Some need) = Some (RaiseRx need)
 either_raise None None = None
 
--- the ceiling that is to be raised first: that of the encoding association, then those of receive associations by ascending SCI and AN
+-- the ceiling that is to be raised first: that of the encoding association, then those of receive associations by
+-- ascending SCI and AN
 abbrev pub first_raise : Standing → TxSide → RxSide → Option Raise
 first_raise s tx_side rx_side = either_raise
     (tx.need_of tx_side s.ceilings.tx s.identity.tx_block)
@@ -71,17 +75,20 @@ abbrev pub StandsAfter : Option Command → Standing → Standing → Type 0
 StandsAfter None old new = new ≡ old
 StandsAfter (Some command) old new = accept old command ≡ Ok new
 
--- the standing after a command with this answer: a reservation under way is done first, unless the command is refused before
+-- the standing after a command with this answer: a reservation under way is done first, unless the command is refused
+-- before
 abbrev pub StandsRan : Standing → Option Raise → Command → Result (Unit {0}) CommandFault → Standing → Type 0
 StandsRan old reserving command (Ok done) new = accept (standing_with_reserved old reserving) command ≡ Ok new
 StandsRan old reserving command (Err ran.GenerationsSpent) new = new ≡ standing_with_reserved old reserving
 StandsRan old reserving command (Err ran.Disk) new = (new ≡ old) ⊎ (new ≡ standing_with_reserved old reserving)
 StandsRan old reserving command (Err fault) new = new ≡ old
 
--- the standing after a refill with this answer: a reservation under way is done first; then every need is served, or one is left that was not; or
--- nothing changed
-abbrev pub StandsRefilled : TxSide → RxSide → Standing → Option Raise → Result (Unit {0}) RefillFault → Standing → Type 0
-StandsRefilled tx_side rx_side old reserving (Ok done) new = IsRefilled tx_side rx_side (standing_with_reserved old reserving) new None
+-- the standing after a refill with this answer: a reservation under way is done first; then every need is served, or
+-- one is left that was not; or nothing changed
+abbrev pub StandsRefilled : TxSide → RxSide → Standing → Option Raise → Result (Unit {0}) RefillFault
+    → Standing → Type 0
+StandsRefilled tx_side rx_side old reserving (Ok done) new =
+    IsRefilled tx_side rx_side (standing_with_reserved old reserving) new None
 StandsRefilled tx_side rx_side old reserving (Err refill.GenerationsSpent) new =
     (raise : Raise) × IsRefilled tx_side rx_side (standing_with_reserved old reserving) new (Some raise)
 StandsRefilled tx_side rx_side old reserving (Err refill.Disk) new =
@@ -89,14 +96,18 @@ StandsRefilled tx_side rx_side old reserving (Err refill.Disk) new =
     ⊎ ((raise : Raise) × IsRefilled tx_side rx_side (standing_with_reserved old reserving) new (Some raise))
 StandsRefilled tx_side rx_side old reserving (Err fault) new = new ≡ old
 
--- the standing after a step with this answer: the reservation under way is done, or a command took effect, or nothing changed
+-- the standing after a step with this answer: the reservation under way is done, or a command took effect, or nothing
+-- changed
 abbrev pub StandsAdvanced : Standing → Option Raise → Option Command → Result Progress StepFault → Standing → Type 0
-StandsAdvanced old reserving made (Ok Reserved) new = (raise : Raise) × (reserving ≡ Some raise) × (new ≡ standing_with_raise old raise)
+StandsAdvanced old reserving made (Ok Reserved) new = (raise : Raise) × (reserving ≡ Some raise)
+    × (new ≡ standing_with_raise old raise)
 StandsAdvanced old reserving made result new = StandsAfter made old new
 
 -- the standing, its ceilings included, after a call of an endpoint in this state with this reservation under way
 abbrev pub CeilingsAfter : State → Standing → Option Raise → Call → Reply → Standing → Type 0
 CeilingsAfter s old reserving (Commands command) (Ran result) new = StandsRan old reserving command result new
-CeilingsAfter s old reserving Refills (Refilled result) new = StandsRefilled (tx_side s) (rx_side s) old reserving result new
-CeilingsAfter s old reserving Advances (Advanced result) new = StandsAdvanced old reserving (command_made s Advances (Advanced result)) result new
+CeilingsAfter s old reserving Refills (Refilled result) new =
+    StandsRefilled (tx_side s) (rx_side s) old reserving result new
+CeilingsAfter s old reserving Advances (Advanced result) new =
+    StandsAdvanced old reserving (command_made s Advances (Advanced result)) result new
 CeilingsAfter s old reserving call reply new = new ≡ old

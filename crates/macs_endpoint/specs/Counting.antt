@@ -24,20 +24,25 @@ abbrev pub rx_counters_after : Reply → RxCounters → RxCounters
 rx_counters_after (Received (Ok verdict) out) c = counters_after_verdict verdict c
 rx_counters_after reply c = c
 
--- the counters of channels after a command: a new channel begins to count, and a channel that goes takes its counts along
-abbrev pub channel_counters_after_command : Command → (List ℕ → Option ChannelCounters) → List ℕ → Option ChannelCounters
+-- the counters of channels after a command: a new channel begins to count, and a channel that goes takes its counts
+-- along
+abbrev pub channel_counters_after_command : Command → (List ℕ → Option ChannelCounters) → List ℕ
+    → Option ChannelCounters
 channel_counters_after_command (RxAdd sci) table = put_at table sci (Some no_channel_counts)
 channel_counters_after_command (RxDrop sci) table = put_at table sci None
 channel_counters_after_command command table = table
 
 -- the counters of channels after a command that was made durable, if one was
-abbrev pub channel_counters_after_made : Option Command → (List ℕ → Option ChannelCounters) → List ℕ → Option ChannelCounters
+abbrev pub channel_counters_after_made : Option Command → (List ℕ → Option ChannelCounters) → List ℕ
+    → Option ChannelCounters
 channel_counters_after_made None table = table
 channel_counters_after_made (Some command) table = channel_counters_after_command command table
 
 -- what channels count after a call of an endpoint in this state
-abbrev pub channel_counters_after : State → Call → Reply → (List ℕ → Option ChannelCounters) → List ℕ → Option ChannelCounters
-channel_counters_after s (Receives frame) (Received (Ok verdict) out) table = counters_after_verdict_at (channel_of (rx_side s) frame) verdict table
+abbrev pub channel_counters_after : State → Call → Reply → (List ℕ → Option ChannelCounters) → List ℕ
+    → Option ChannelCounters
+channel_counters_after s (Receives frame) (Received (Ok verdict) out) table =
+    counters_after_verdict_at (channel_of (rx_side s) frame) verdict table
 channel_counters_after s call reply table = channel_counters_after_made (command_made s call reply) table
 
 -- the counters of the channels of an endpoint that has just opened

@@ -19,10 +19,12 @@ is_of_rx (RxRemove sci an) = true
 is_of_rx command = false
 
 -- the channels become those of the standing after a command; its associations begin or end, and nothing is counted
-pub record Follows (command : Command) (after : Standing) (old_tx : Tx) (old_rx : rxsc.RxValue) (tx : Tx) (rx : rxsc.RxValue) : Type 0 where
+pub record Follows (command : Command) (after : Standing) (old_tx : Tx) (old_rx : rxsc.RxValue) (tx : Tx)
+    (rx : rxsc.RxValue) : Type 0 where
   pub channels : AreChannels tx rx after
   pub next : (txsc.tx_side_of tx).next ≡ next_after command (txsc.tx_side_of old_tx).next
   pub numbers : (rxsc.rx_side_of rx).numbers ≡ numbers_after command (rxsc.rx_side_of old_rx).numbers
   pub tx_counters : txsc.counters_of tx ≡ txsc.counters_of old_tx
   pub rx_counters : rxsc.counters_of rx ≡ rxsc.counters_of old_rx
-  pub channel_counters : rxsc.channel_counters_of rx ≡ channel_counters_after_command command (rxsc.channel_counters_of old_rx)
+  pub channel_counters : rxsc.channel_counters_of rx
+      ≡ channel_counters_after_command command (rxsc.channel_counters_of old_rx)

@@ -21,11 +21,14 @@ pub record IsFormattedAs (sectors : ℕ) (identity : Identity) (image : Image) :
 -- an image that the disk could leave before, or one of no journal, or one of a new endpoint of this identity
 abbrev pub FormatLeaves : Disk → Identity → Image → Type 0
 FormatLeaves old identity image =
-    MayLeave old image ⊎ (StandingIs this_edition old.sectors image (Err NotFormatted) ⊎ IsFormattedAs old.sectors identity image)
+    MayLeave old image
+    ⊎ (StandingIs this_edition old.sectors image (Err NotFormatted) ⊎ IsFormattedAs old.sectors identity image)
 
--- A disk that had no journal is made that of a new endpoint of this identity. On an honest disk a power loss on the way leaves what it
--- could leave before, no journal, or the new endpoint; once it is done a power loss leaves the new endpoint alone.
-pub record IsFormat {D : Type 0} (disk_of : D → Disk) (old : D) (identity : Identity) (result : Result (Unit {0}) JournalFault) (new : D) : Type 0 where
+-- A disk that had no journal is made that of a new endpoint of this identity. On an honest disk a power loss on the way
+-- leaves what it could leave before, no journal, or the new endpoint; once it is done a power loss leaves the new
+-- endpoint alone.
+pub record IsFormat {D : Type 0} (disk_of : D → Disk) (old : D) (identity : Identity)
+    (result : Result (Unit {0}) JournalFault) (new : D) : Type 0 where
   pub device : IsFormatOf disk_of old result new
   pub blank : OnOk result (IsHonest (disk_of new)
       → StandingIs this_edition (disk_of old).sectors (now (disk_of old)).seen (Err NotFormatted))

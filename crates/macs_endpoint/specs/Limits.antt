@@ -8,27 +8,31 @@ use Rattle.macs_store.specs.Keeps.{IsSpent}
 use Rattle.macs_store.specs.Value.{IsIdle, standing_in}
 use Rattle.macs_endpoint.specs.Needed.{raise_in}
 use Rattle.macs_endpoint.specs.Value.{EndpointValue, state_of}
-use Rattle.macs_endpoint.specs.State.{Advanced, AdvancedLong, Advances, Call, Commands, Protects, Protected, Ran, Received, Receives, Refilled, Refills, RefusedLong, Reply, Submits, Submitted, no_logs, rx_side, tx_side}
+use Rattle.macs_endpoint.specs.State.{Advanced, AdvancedLong, Advances, Call, Commands, Protects, Protected, Ran}
+use Rattle.macs_endpoint.specs.State.{Received, Receives, Refilled, Refills, RefusedLong, Reply, Submits, Submitted}
+use Rattle.macs_endpoint.specs.State.{no_logs, rx_side, tx_side}
 use Rattle.macs_endpoint.specs.declared.fault.CommandFault.TheVariants as ran
 use Rattle.macs_endpoint.specs.declared.fault.ProtectFault.TheVariants.{Tx}
 use Rattle.macs_endpoint.specs.declared.fault.RefillFault.TheVariants as refill
 use Rattle.macs_endpoint.specs.declared.fault.StepFault.TheVariants as step
 use Rattle.macs_endpoint.specs.declared.progress.Step.TheVariants.{Done}
 
--- GenerationsSpent only where all slots of the current area are used and its generation is the last, NoNumber only where the next number
--- is the ceiling, HeldBack only where a number is not below it
+-- GenerationsSpent only where all slots of the current area are used and its generation is the last, NoNumber only
+-- where the next number is the ceiling, HeldBack only where a number is not below it
 abbrev pub IsLimited : {D : Type 0} → EndpointValue D → Call → Reply → EndpointValue D → Type 0
 IsLimited old (Commands command) (Ran (Err ran.GenerationsSpent)) new = IsSpent new.store
 IsLimited old Refills (Refilled (Err refill.GenerationsSpent)) new = IsSpent new.store
 IsLimited old (Protects plain) (Protected (Err (Tx NoNumber)) out) new =
     is_at_ceiling (standing_in old.store).ceilings.tx (next_outgoing (tx_side (state_of old no_logs))) ≡ true
 IsLimited old (Receives frame) (Received (Ok HeldBack) out) new =
-    (a : Arrival) × Arrives (rx_side (state_of old no_logs)) frame a × (is_below ((standing_in old.store).ceilings.rx a.sci a.an) a.pn ≡ false)
+    (a : Arrival) × Arrives (rx_side (state_of old no_logs)) frame a
+    × (is_below ((standing_in old.store).ceilings.rx a.sci a.an) a.pn ≡ false)
 IsLimited old call reply new = Unit {0}
 
--- This program refuses no command for the length of its key. Frames, commands that are to wait, work that is refused before it begins and a stopped endpoint
--- leave the store as it was, and with it the disk and its clock. Where no work is under way so do a command that is answered GenerationsSpent, and a refill where
--- no ceiling is needed or no change is kept any more.
+-- This program refuses no command for the length of its key. Frames, commands that are to wait, work that is refused
+-- before it begins and a stopped endpoint leave the store as it was, and with it the disk and its clock. Where no work
+-- is under way so do a command that is answered GenerationsSpent, and a refill where no ceiling is needed or no change
+-- is kept any more.
 abbrev pub IsStill : {D : Type 0} → EndpointValue D → Call → Reply → EndpointValue D → Type 0
 IsStill old (Commands command) (Ran (Err (ran.Refused refusal))) new = new.store ≡ old.store
 IsStill old (Commands command) (Ran (Err ran.Busy)) new = new.store ≡ old.store
@@ -36,7 +40,8 @@ IsStill old (Commands command) (Ran (Err ran.Stopped)) new = new.store ≡ old.s
 IsStill old (Commands command) (Ran (Err ran.GenerationsSpent)) new = IsIdle old.store → new.store ≡ old.store
 IsStill old Refills (Refilled (Err refill.Busy)) new = new.store ≡ old.store
 IsStill old Refills (Refilled (Err refill.Stopped)) new = new.store ≡ old.store
-IsStill old Refills (Refilled result) new = IsIdle old.store → (raise_in old ≡ None) ⊎ IsSpent old.store → new.store ≡ old.store
+IsStill old Refills (Refilled result) new = IsIdle old.store → (raise_in old ≡ None) ⊎ IsSpent old.store
+    → new.store ≡ old.store
 IsStill old Advances (Advanced (Ok (Done ticket (Err fault)))) new = new.store ≡ old.store
 IsStill old Advances (Advanced (Err step.GenerationsSpent)) new = new.store ≡ old.store
 IsStill old Advances (Advanced (Err step.Stopped)) new = new.store ≡ old.store

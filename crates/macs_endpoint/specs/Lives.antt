@@ -32,10 +32,11 @@ LivesOn {D} disk_of old new = (turns : List (Transition D)) × Lives disk_of old
 abbrev pub FitsLife : {D : Type 0} → ℕ → EndpointValue D → List (Transition D) → Image → Type 0
 FitsLife sectors e [] image = Fits (state_of e no_logs).edition sectors image (state_of e no_logs)
 FitsLife sectors e (turn ∷ turns) image =
-    Fits (state_of e no_logs).edition sectors image (state_during (state_of e no_logs) turn.call) ⊎ FitsLife sectors turn.after turns image
+    Fits (state_of e no_logs).edition sectors image (state_during (state_of e no_logs) turn.call)
+    ⊎ FitsLife sectors turn.after turns image
 
--- Since each of these calls was answered, on a disk that is `final` at last, a power loss at any moment leaves an image that fits
--- the state after it or a later one, with at most one command under way
+-- Since each of these calls was answered, on a disk that is `final` at last, a power loss at any moment leaves an image
+-- that fits the state after it or a later one, with at most one command under way
 abbrev pub LeavesLife : {D : Type 0} → (D → Disk) → Disk → EndpointValue D → List (Transition D) → Type 0
 LeavesLife disk_of final e [] =
     (image : Image) → LeftSince final (disk_in disk_of e).clock image → FitsLife final.sectors e [] image

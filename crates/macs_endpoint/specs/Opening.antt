@@ -36,8 +36,8 @@ pub record IsNewRx (rx : rxsc.RxValue) : Type 0 where
   pub counters : rxsc.counters_of rx ≡ counting.no_counts
   pub channel_counters : rxsc.channel_counters_of rx ≡ (λ sci. None)
 
--- A sound endpoint begins with what is in a store: its packet numbers begin at their ceilings, nothing is under way or waits, the first
--- turn is a reservation's, and nothing is counted.
+-- A sound endpoint begins with what is in a store: its packet numbers begin at their ceilings, nothing is under way or
+-- waits, the first turn is a reservation's, and nothing is counted.
 pub record Begins {D : Type 0} (store : StoreValue D) (e : EndpointValue D) : Type 0 where
   pub from : e.store ≡ store
   pub sound : IsSoundEndpoint e
@@ -45,37 +45,42 @@ pub record Begins {D : Type 0} (store : StoreValue D) (e : EndpointValue D) : Ty
   pub queue : (e.waiting ≡ []) × (e.tickets ≡ 0)
   pub turn : e.turn ≡ Reservation
   pub next : (txsc.tx_side_of e.tx).next ≡ (standing_in store).ceilings.tx
-  pub numbers : (rxsc.rx_side_of e.rx).numbers ≡ (λ sci an. option_map first_numbers ((standing_in store).ceilings.rx sci an))
+  pub numbers : (rxsc.rx_side_of e.rx).numbers
+      ≡ (λ sci an. option_map first_numbers ((standing_in store).ceilings.rx sci an))
   pub tx_counters : txsc.counters_of e.tx ≡ transmit.no_counts
   pub rx_counters : rxsc.counters_of e.rx ≡ counting.no_counts
   pub channel_counters : rxsc.channel_counters_of e.rx ≡ new_channel_counters (standing_in store).config.channels
 
 -- what comes of an opened store, or of a refusal, which stays as it was
-abbrev pub BeginsOpened : {D : Type 0} → Result (StoreValue D) (RecoverRefused D) → Result (EndpointValue D) (RecoverRefused D) → Type 0
+abbrev pub BeginsOpened : {D : Type 0} → Result (StoreValue D) (RecoverRefused D)
+    → Result (EndpointValue D) (RecoverRefused D) → Type 0
 BeginsOpened (Ok store) (Ok e) = Begins store e
 BeginsOpened (Ok store) (Err left) = ⊥
 BeginsOpened (Err refused) (Ok e) = ⊥
 BeginsOpened (Err refused) (Err left) = left ≡ refused
 
--- A disk is opened to this endpoint. It is in the state of one that begins with what is in its store, after whatever logs, no work is
--- under way, and nothing is counted. On an honest disk the disk stood for that, and holds it.
+-- A disk is opened to this endpoint. It is in the state of one that begins with what is in its store, after whatever
+-- logs, no work is under way, and nothing is counted. On an honest disk the disk stood for that, and holds it.
 pub record Opens {D : Type 0} (disk_of : D → Disk) (disk : D) (e : EndpointValue D) : Type 0 where
   pub device : OpensDisk (disk_of disk) (disk_in disk_of e) (standing_in e.store)
   pub state : (logs : Logs) → state_of e logs ≡ opened_state (standing_in e.store) logs
   pub idle : IsAtRest e
   pub turn : e.turn ≡ Reservation
-  pub found : IsHonest (disk_in disk_of e) → StandingIs this_edition (disk_of disk).sectors (now (disk_of disk)).seen (Ok (standing_in e.store))
+  pub found : IsHonest (disk_in disk_of e)
+      → StandingIs this_edition (disk_of disk).sectors (now (disk_of disk)).seen (Ok (standing_in e.store))
   pub backed : IsHonest (disk_in disk_of e) → IsBacked disk_of e
   pub tx_counters : txsc.counters_of e.tx ≡ transmit.no_counts
   pub rx_counters : rxsc.counters_of e.rx ≡ counting.no_counts
   pub channel_counters : rxsc.channel_counters_of e.rx ≡ new_channel_counters (standing_in e.store).config.channels
 
--- A disk is refused for what is on it, or for a device call that failed. Where each image that a power loss could leave of an honest
--- disk fits a state, only a failed device call remains, and a journal of format one in the last generation.
+-- A disk is refused for what is on it, or for a device call that failed. Where each image that a power loss could leave
+-- of an honest disk fits a state, only a failed device call remains, and a journal of format one in the last
+-- generation.
 pub record RefusesOpening {D : Type 0} (disk_of : D → Disk) (disk left : D) (fault : JournalFault) : Type 0 where
   pub refused : RefusesDisk disk_of disk left fault
   pub opens : IsHonest (disk_of left) → ((image : Image) → MayLeave (disk_of disk) image
-      → (s : State) × Fits this_edition (disk_of disk).sectors image s) → (fault ≡ variant.Disk) ⊎ (fault ≡ variant.GenerationsSpent)
+      → (s : State) × Fits this_edition (disk_of disk).sectors image s)
+      → (fault ≡ variant.Disk) ⊎ (fault ≡ variant.GenerationsSpent)
 
 -- A disk is opened, or refused.
 abbrev pub IsOpening : {D : Type 0} → (D → Disk) → D → Result (EndpointValue D) (RecoverRefused D) → Type 0

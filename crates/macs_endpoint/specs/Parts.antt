@@ -11,7 +11,8 @@ use Rattle.macs_endpoint.specs.declared.refilling.Raise.{Raise}
 use Rattle.macs_endpoint.specs.declared.turn.Turn.{Turn}
 
 -- what an endpoint keeps that is made of these parts
-abbrev pub endpoint_of : {D : Type 0} → StoreValue D → Channels → Option Command → Option Raise → QueueValue → Turn → EndpointValue D
+abbrev pub endpoint_of : {D : Type 0} → StoreValue D → Channels → Option Command → Option Raise → QueueValue → Turn
+    → EndpointValue D
 endpoint_of store channels in_hand reserving queue turn = record {
   store = store;
   tx = channels.tx;

@@ -1,5 +1,6 @@
 -- Commands that wait, and the tickets that name them.
-use Rattle.std.specs.Prelude.{◌≡◌, ◌<◌, ◌≤◌, ◌+◌, ◌-◌, ◌^◌, ◌++◌, ℕ, List, [], ◌∷◌, length, Option, Some, None, Result, Ok, Err}
+use Rattle.std.specs.Prelude.{◌≡◌, ◌<◌, ◌≤◌, ◌+◌, ◌-◌, ◌^◌, ◌++◌, ℕ, List, [], ◌∷◌, length, Option, Some, None, Result}
+use Rattle.std.specs.Prelude.{Ok, Err}
 use Rattle.std.specs.Option.{option_map}
 use Rattle.macs_config.specs.declared.command.Command.{Command}
 use Rattle.macs_endpoint.specs.declared.fault.SubmitFault.{SubmitFault}
@@ -30,7 +31,8 @@ first_command waiting = option_map (λ (first : Waiting). first.command) (first_
 
 -- these commands, and one more under this ticket
 abbrev pub with_waiting : List Waiting → ℕ → Command → List Waiting
-with_waiting waiting ticket command = let last : Waiting = record { ticket = ticket; command = command } in waiting ++ last ∷ []
+with_waiting waiting ticket command = let last : Waiting = record { ticket = ticket; command = command } in
+    waiting ++ last ∷ []
 
 -- a command is to wait, and its ticket is answered: unless as many wait as may, or no ticket is left
 abbrev pub Queues : QueueValue → Command → Result ℕ SubmitFault → QueueValue → Type 0
@@ -38,5 +40,6 @@ Queues old command (Ok ticket) new =
     (length old.waiting < queue_length) × (old.given < last_ticket) × (ticket ≡ old.given + 1)
     × (new ≡ record { waiting = with_waiting old.waiting ticket command; given = ticket })
 Queues old command (Err QueueFull) new = (queue_length ≤ length old.waiting) × (new ≡ old)
-Queues old command (Err TicketsSpent) new = (length old.waiting < queue_length) × (last_ticket ≤ old.given) × (new ≡ old)
+Queues old command (Err TicketsSpent) new = (length old.waiting < queue_length) × (last_ticket ≤ old.given)
+    × (new ≡ old)
 Queues old command (Err Stopped) new = ⊥

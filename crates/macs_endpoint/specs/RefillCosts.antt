@@ -3,7 +3,8 @@ use Rattle.std.specs.Prelude.{◌≡◌, ◌⊎◌, ◌≤◌, ◌+◌, ◌++◌
 use Rattle.macs_disk.specs.Disk.{Disk}
 use Rattle.macs_store.specs.Keeps.{generation_with_change, most_with_change, slots_with_change}
 use Rattle.macs_store.specs.Standing.{Standing}
-use Rattle.macs_store.specs.Value.{IsIdle, StoreValue, calls_left, disk_in, generation, generation_then, slots_then, standing_in, used_slots}
+use Rattle.macs_store.specs.Value.{IsIdle, StoreValue, calls_left, disk_in, generation, generation_then, slots_then}
+use Rattle.macs_store.specs.Value.{standing_in, used_slots}
 use Rattle.macs_endpoint.specs.Ceilings.{Raise, Raises, first_raise, standing_with_raise, standing_with_reserved}
 use Rattle.macs_endpoint.specs.State.{no_logs, rx_side, tx_side}
 use Rattle.macs_endpoint.specs.Value.{EndpointValue, state_of}
@@ -15,13 +16,15 @@ use Rattle.macs_endpoint.specs.declared.fault.RefillFault.TheVariants as refill
 -- how many slots are used after them, where so many were used and this was the standing
 abbrev pub slots_in_raises : ℕ → Standing → List Raise → ℕ
 slots_in_raises used s [] = used
-slots_in_raises used s (raise ∷ raises) = slots_in_raises (slots_with_change used s) (standing_with_raise s raise) raises
+slots_in_raises used s (raise ∷ raises) =
+    slots_in_raises (slots_with_change used s) (standing_with_raise s raise) raises
 
 -- and in which generation they are, where those before were in this one
 abbrev pub generation_in_raises : ℕ → ℕ → Standing → List Raise → ℕ
 generation_in_raises used number s [] = number
 generation_in_raises used number s (raise ∷ raises) =
-    generation_in_raises (slots_with_change used s) (generation_with_change used number) (standing_with_raise s raise) raises
+    generation_in_raises (slots_with_change used s) (generation_with_change used number)
+    (standing_with_raise s raise) raises
 
 -- how many device calls they take, at most
 abbrev pub most_in_raises : ℕ → Standing → List Raise → ℕ
@@ -37,18 +40,21 @@ reserved_in e = standing_with_reserved (standing_in e.store) e.reserving
 
 -- these ceilings were raised then, each the first that was needed
 abbrev pub RaisesBehind : {D : Type 0} → EndpointValue D → List Raise → Standing → Type 0
-RaisesBehind e raises new = Raises (tx_side (state_of e no_logs)) (rx_side (state_of e no_logs)) (reserved_in e) raises new
+RaisesBehind e raises new =
+    Raises (tx_side (state_of e no_logs)) (rx_side (state_of e no_logs)) (reserved_in e) raises new
 
 -- how many device calls are left of the reservation, with those of these ceilings after it, at most
 abbrev pub most_behind : {D : Type 0} → EndpointValue D → List Raise → ℕ
 most_behind e raises = calls_left e.store + most_in_raises (slots_then e.store) (reserved_in e) raises
 
--- The reservation under way was finished and these ceilings were raised, by one change each, with the device calls of these changes at most.
--- Where there was nothing under way and nothing was raised the store is as it was.
-pub record HasRaised {D : Type 0} (disk_of : D → Disk) (old : EndpointValue D) (raises : List Raise) (new : StoreValue D) : Type 0 where
+-- The reservation under way was finished and these ceilings were raised, by one change each, with the device calls of
+-- these changes at most. Where there was nothing under way and nothing was raised the store is as it was.
+pub record HasRaised {D : Type 0} (disk_of : D → Disk) (old : EndpointValue D) (raises : List Raise)
+    (new : StoreValue D) : Type 0 where
   pub raised : RaisesBehind old raises (standing_in new)
   pub slots : used_slots new ≡ slots_in_raises (slots_then old.store) (reserved_in old) raises
-  pub generation : generation new ≡ generation_in_raises (slots_then old.store) (generation_then old.store) (reserved_in old) raises
+  pub generation : generation new
+      ≡ generation_in_raises (slots_then old.store) (generation_then old.store) (reserved_in old) raises
   pub most : (disk_in disk_of new).clock ≤ (disk_in disk_of old.store).clock + most_behind old raises
   pub still : IsIdle old.store → raises ≡ [] → new ≡ old.store
 
@@ -60,9 +66,11 @@ pub record FailsInHand {D : Type 0} (disk_of : D → Disk) (old : EndpointValue 
   pub most : (disk_in disk_of new).clock ≤ (disk_in disk_of old.store).clock + calls_left old.store
 
 -- these ceilings were raised, and a device call of the raise after them failed
-pub record FailsBehind {D : Type 0} (disk_of : D → Disk) (old : EndpointValue D) (raises : List Raise) (raise : Raise) (new : StoreValue D) : Type 0 where
+pub record FailsBehind {D : Type 0} (disk_of : D → Disk) (old : EndpointValue D) (raises : List Raise) (raise : Raise)
+    (new : StoreValue D) : Type 0 where
   pub raised : RaisesBehind old raises (standing_in new)
-  pub failed : first_raise (standing_in new) (tx_side (state_of old no_logs)) (rx_side (state_of old no_logs)) ≡ Some raise
+  pub failed : first_raise (standing_in new) (tx_side (state_of old no_logs)) (rx_side (state_of old no_logs))
+      ≡ Some raise
   pub most : (disk_in disk_of new).clock ≤ (disk_in disk_of old.store).clock + most_behind old (raises ++ raise ∷ [])
 
 -- ---- a refill

@@ -32,9 +32,10 @@ ReserveStep old (Err refill.GenerationsSpent) new = new ≡ old
 ReserveStep old (Err refill.Disk) new = new ≡ state_after_fault old
 ReserveStep old (Err fault) new = ⊥
 
--- Whatever is raised: the step that it is, that no work is under way then, what it does with the disk, and what a power loss leaves at any
--- moment since it began
-pub record Reserves {D : Type 0} (disk_of : D → Disk) (old : EndpointValue D) (result : Result (Unit {0}) RefillFault) (new : EndpointValue D) : Type 0 where
+-- Whatever is raised: the step that it is, that no work is under way then, what it does with the disk, and what a power
+-- loss leaves at any moment since it began
+pub record Reserves {D : Type 0} (disk_of : D → Disk) (old : EndpointValue D) (result : Result (Unit {0}) RefillFault)
+    (new : EndpointValue D) : Type 0 where
   pub step : (logs : Logs) → ReserveStep (state_of old logs) result (state_of new logs)
   pub idle : IsIdle new.store
   pub works : Works (disk_in disk_of old) (disk_in disk_of new)
@@ -47,8 +48,10 @@ pub record Reserves {D : Type 0} (disk_of : D → Disk) (old : EndpointValue D) 
   pub rx_counters : rxsc.counters_of new.rx ≡ rxsc.counters_of old.rx
   pub channel_counters : rxsc.channel_counters_of new.rx ≡ rxsc.channel_counters_of old.rx
 
--- This ceiling is raised by one change, or stays. Refused as GenerationsSpent exactly where no change is kept any more, and nothing changes.
-pub record Raised {D : Type 0} (disk_of : D → Disk) (old : EndpointValue D) (raise : Raise) (result : Result (Unit {0}) RefillFault) (new : EndpointValue D) : Type 0 where
+-- This ceiling is raised by one change, or stays. Refused as GenerationsSpent exactly where no change is kept any more,
+-- and nothing changes.
+pub record Raised {D : Type 0} (disk_of : D → Disk) (old : EndpointValue D) (raise : Raise)
+    (result : Result (Unit {0}) RefillFault) (new : EndpointValue D) : Type 0 where
   pub reserves : Reserves disk_of old result new
   pub done : OnOk result (standing_in new.store ≡ standing_with_raise (standing_in old.store) raise)
   pub same : OnErr result (standing_in new.store ≡ standing_in old.store)
@@ -59,7 +62,8 @@ pub record Raised {D : Type 0} (disk_of : D → Disk) (old : EndpointValue D) (r
   pub most : (disk_in disk_of new).clock ≤ (disk_in disk_of old).clock + most_calls old.store
 
 -- the ceiling that is being raised is raised, if one is
-pub record ReservationEnds {D : Type 0} (disk_of : D → Disk) (old : EndpointValue D) (result : Result (Unit {0}) RefillFault) (new : EndpointValue D) : Type 0 where
+pub record ReservationEnds {D : Type 0} (disk_of : D → Disk) (old : EndpointValue D)
+    (result : Result (Unit {0}) RefillFault) (new : EndpointValue D) : Type 0 where
   pub reserves : Reserves disk_of old result new
   pub done : OnOk result (standing_in new.store ≡ standing_with_reserved (standing_in old.store) old.reserving)
   pub free : OnOk result (new.reserving ≡ None)
@@ -70,16 +74,19 @@ pub record ReservationEnds {D : Type 0} (disk_of : D → Disk) (old : EndpointVa
   pub generation : OnOk result (generation new.store ≡ generation_then old.store)
   pub most : (disk_in disk_of new).clock ≤ (disk_in disk_of old).clock + calls_left old.store
 
--- Every ceiling that is needed is raised, or one is left. Where no work is under way, and none is needed or no change is kept any more,
--- the store stays as it is.
-pub record ReservesAll {D : Type 0} (disk_of : D → Disk) (old : EndpointValue D) (result : Result (Unit {0}) RefillFault) (new : EndpointValue D) : Type 0 where
+-- Every ceiling that is needed is raised, or one is left. Where no work is under way, and none is needed or no change
+-- is kept any more, the store stays as it is.
+pub record ReservesAll {D : Type 0} (disk_of : D → Disk) (old : EndpointValue D)
+    (result : Result (Unit {0}) RefillFault) (new : EndpointValue D) : Type 0 where
   pub reserves : Reserves disk_of old result new
-  pub ceilings : StandsRefilled (tx_side (state_of old no_logs)) (rx_side (state_of old no_logs)) (standing_in old.store) old.reserving result (standing_in new.store)
+  pub ceilings : StandsRefilled (tx_side (state_of old no_logs)) (rx_side (state_of old no_logs))
+      (standing_in old.store) old.reserving result (standing_in new.store)
   pub still : IsIdle old.store → (raise_in old ≡ None) ⊎ IsSpent old.store → new.store ≡ old.store
   pub spends : Spends disk_of old result new.store
 
 -- The raise of this ceiling is started, and no device call is made; or no change is kept any more, and nothing changes.
-pub record StartsRaise {D : Type 0} (disk_of : D → Disk) (old : EndpointValue D) (raise : Raise) (result : Result (Unit {0}) JournalFault) (new : EndpointValue D) : Type 0 where
+pub record StartsRaise {D : Type 0} (disk_of : D → Disk) (old : EndpointValue D) (raise : Raise)
+    (result : Result (Unit {0}) JournalFault) (new : EndpointValue D) : Type 0 where
   pub refused : OnErr result (IsErrOf result journal.GenerationsSpent × (new ≡ old) × IsSpent old.store)
   pub room : OnOk result (¬ IsSpent old.store)
   pub in_hand : OnOk result (HasInHand disk_of old.store (standing_with_raise (standing_in old.store) raise) new.store)

@@ -1,5 +1,6 @@
 -- What a restart may find.
-use Rattle.std.specs.Prelude.{◌≡◌, ◌⊎◌, ◌≤◌, ◌+◌, ◌/◌, ◌^◌, ℕ, min, max, is_ok, not, false, ◌&&◌, if◌then◌else◌, List, [], ◌∷◌, Option, Some, None, Ok}
+use Rattle.std.specs.Prelude.{◌≡◌, ◌⊎◌, ◌≤◌, ◌+◌, ◌/◌, ◌^◌, ℕ, min, max, is_ok, not, false, ◌&&◌, if◌then◌else◌, List}
+use Rattle.std.specs.Prelude.{[], ◌∷◌, Option, Some, None, Ok}
 use Rattle.std.specs.Option.{option_map}
 use Rattle.macs_config.specs.Apply.{apply}
 use Rattle.macs_config.specs.Config.{Edition, IsUpTo}
@@ -14,7 +15,8 @@ use Rattle.macs_endpoint.specs.declared.queue.Waiting.{Waiting}
 
 -- ---- numbers rise
 
--- A transmit number rises by at most a block and a half, and at most to 2^32, one more than the last packet number; where there is none, there is none
+-- A transmit number rises by at most a block and a half, and at most to 2^32, one more than the last packet number;
+-- where there is none, there is none
 abbrev pub TxRises : ℕ → Option ℕ → Option ℕ → Type 0
 TxRises block None found = found ≡ None
 TxRises block (Some next) found =
@@ -29,12 +31,14 @@ rx_limit block next (Some seen) = max next (min (seen + block) (2 ^ 32))
 abbrev pub RxRises : ℕ → Option Numbers → Option Numbers → Type 0
 RxRises block None found = found ≡ None
 RxRises block (Some numbers) found =
-    (later : ℕ) × (found ≡ Some (first_numbers later)) × (numbers.next ≤ later) × (later ≤ rx_limit block numbers.next numbers.seen)
+    (later : ℕ) × (found ≡ Some (first_numbers later)) × (numbers.next ≤ later)
+    × (later ≤ rx_limit block numbers.next numbers.seen)
 
 -- ---- a restart
 
--- The same configuration and logs, with numbers that rose, nothing under way or waiting and no ticket given, in a program of no smaller
--- edition. Where an opening is spoken of, the logs are the same by themselves; they count where restarts are put together.
+-- The same configuration and logs, with numbers that rose, nothing under way or waiting and no ticket given, in a
+-- program of no smaller edition. Where an opening is spoken of, the logs are the same by themselves; they count where
+-- restarts are put together.
 pub record Resumes (old new : State) : Type 0 where
   pub edition : IsUpTo old.edition new.edition
   pub identity : new.identity ≡ old.identity
@@ -77,7 +81,8 @@ pub record Fits (edition : Edition) (sectors : ℕ) (image : Image) (s : State) 
 
 -- the state with a command under way where work on it may begin: the endpoint runs, and accepts it
 abbrev pub state_taking : State → Command → State
-state_taking s command = if not s.stopped && is_ok (apply s.edition s.identity s.config command) then state_with_in_hand s command else s
+state_taking s command = if not s.stopped && is_ok (apply s.edition s.identity s.config command)
+    then state_with_in_hand s command else s
 
 -- a command that does not wait is taken where none waits
 abbrev pub state_taking_alone : State → Command → List Waiting → State
@@ -97,4 +102,5 @@ state_during s call = s
 
 -- what a power loss during a call or after it leaves
 abbrev pub FitsCall : ℕ → State → Call → State → Image → Type 0
-FitsCall sectors old call new image = Fits old.edition sectors image (state_during old call) ⊎ Fits new.edition sectors image new
+FitsCall sectors old call new image = Fits old.edition sectors image (state_during old call)
+    ⊎ Fits new.edition sectors image new

@@ -1,5 +1,6 @@
 -- How far ceilings are ahead, so that frames need not wait.
-use Rattle.std.specs.Prelude.{◌≡◌, ◌≢◌, ◌⊎◌, ◌<◌, ◌≤◌, ◌+◌, ◌^◌, ◌==◌, ℕ, if◌then◌else◌, List, [], ◌∷◌, Option, Some, Ok}
+use Rattle.std.specs.Prelude.{◌≡◌, ◌≢◌, ◌⊎◌, ◌<◌, ◌≤◌, ◌+◌, ◌^◌, ◌==◌, ℕ, if◌then◌else◌, List, [], ◌∷◌, Option, Some}
+use Rattle.std.specs.Prelude.{Ok}
 use Rattle.std.specs.Option.{IsSome}
 use Rattle.macs_config.specs.declared.command.Command.{Command}
 use Rattle.macs_config.specs.declared.command.Command.TheVariants.{RxDrop, RxInstall, RxRemove, TxInstall, TxRemove}
@@ -31,7 +32,8 @@ SparesTx an command = Unit {0}
 -- no command that these calls made durable removes or replaces the transmit association at this AN
 abbrev pub TxStays : {D : Type 0} → ℕ → EndpointValue D → List (Transition D) → Type 0
 TxStays an e [] = Unit {0}
-TxStays an e (turn ∷ turns) = SparesTx an (command_made (state_of e no_logs) turn.call turn.reply) × TxStays an turn.after turns
+TxStays an e (turn ∷ turns) = SparesTx an (command_made (state_of e no_logs) turn.call turn.reply)
+    × TxStays an turn.after turns
 
 -- 1 where the encoding association is at this AN and a frame went out, else 0
 abbrev pub frames_in_reply : Option ℕ → ℕ → Reply → ℕ
@@ -41,7 +43,8 @@ frames_in_reply encoding an reply = 0
 -- how many frames went out under the transmit association at this AN
 abbrev pub frames_sent : {D : Type 0} → ℕ → EndpointValue D → List (Transition D) → ℕ
 frames_sent an e [] = 0
-frames_sent an e (turn ∷ turns) = frames_in_reply (standing_in e.store).config.encoding an turn.reply + frames_sent an turn.after turns
+frames_sent an e (turn ∷ turns) =
+    frames_in_reply (standing_in e.store).config.encoding an turn.reply + frames_sent an turn.after turns
 
 -- ---- reception
 
@@ -61,4 +64,5 @@ SparesRx sci an command = Unit {0}
 -- no command that these calls made durable removes or replaces the receive association of this SCI and AN
 abbrev pub RxStays : {D : Type 0} → List ℕ → ℕ → EndpointValue D → List (Transition D) → Type 0
 RxStays sci an e [] = Unit {0}
-RxStays sci an e (turn ∷ turns) = SparesRx sci an (command_made (state_of e no_logs) turn.call turn.reply) × RxStays sci an turn.after turns
+RxStays sci an e (turn ∷ turns) = SparesRx sci an (command_made (state_of e no_logs) turn.call turn.reply)
+    × RxStays sci an turn.after turns

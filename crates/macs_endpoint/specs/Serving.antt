@@ -1,9 +1,11 @@
 -- Events taken from a source, and answers given to a sink.
-use Rattle.std.specs.Prelude.{◌≡◌, ◌<◌, ◌≤◌, ℕ, Bool, true, false, List, [], ◌∷◌, ◌++◌, map, length, Option, Some, None, Err}
+use Rattle.std.specs.Prelude.{◌≡◌, ◌<◌, ◌≤◌, ℕ, Bool, true, false, List, [], ◌∷◌, ◌++◌, map, length, Option, Some, None}
+use Rattle.std.specs.Prelude.{Err}
 use Rattle.macs_disk.specs.Disk.{Disk, IsHonest}
 use Rattle.macs_endpoint.specs.Value.{IsBacked, EndpointValue, disk_in, state_of}
 use Rattle.macs_endpoint.specs.Lives.{LeavesLife, Lives, Transition, exchange_of}
-use Rattle.macs_endpoint.specs.State.{Advanced, Advances, Call, Logs, Protects, Protected, Ran, Received, Receives, Refilled, Reply, Submits, Submitted}
+use Rattle.macs_endpoint.specs.State.{Advanced, Advances, Call, Logs, Protects, Protected, Ran, Received, Receives}
+use Rattle.macs_endpoint.specs.State.{Refilled, Reply, Submits, Submitted}
 use Rattle.macs_endpoint.specs.Step.{Steps}
 use Rattle.macs_endpoint.specs.declared.event.Answer.{Answer}
 use Rattle.macs_endpoint.specs.declared.event.Answer.TheVariants as answer
@@ -65,14 +67,17 @@ pub record Told : Type 0 where
   pub sink_tells : Bool
   pub took : List Answer
 
--- What was served in at most so many turns, with what source and sink report before and after: the calls link the earlier endpoint to the
--- later one, their answers are a run of the machine, and a power loss at any moment leaves what fits one of their states. Ended comes only with a turn left, in which the source had no further event.
-pub record IsServed {D : Type 0} (disk_of : D → Disk) (most : ℕ) (old : EndpointValue D) (before : Told) (end : ServeEnd) (new : EndpointValue D) (after : Told) : Type 0 where
+-- What was served in at most so many turns, with what source and sink report before and after: the calls link the
+-- earlier endpoint to the later one, their answers are a run of the machine, and a power loss at any moment leaves what
+-- fits one of their states. Ended comes only with a turn left, in which the source had no further event.
+pub record IsServed {D : Type 0} (disk_of : D → Disk) (most : ℕ) (old : EndpointValue D) (before : Told)
+    (end : ServeEnd) (new : EndpointValue D) (after : Told) : Type 0 where
   pub turns : List (Transition D)
   pub lives : Lives disk_of old turns new
   pub few : length turns ≤ most
   pub run : (logs : Logs) → (later : Logs) × Steps (state_of old logs) (map exchange_of turns) (state_of new later)
-  pub any_moment : IsHonest (disk_in disk_of new) → IsBacked disk_of old → LeavesLife disk_of (disk_in disk_of new) old turns
+  pub any_moment : IsHonest (disk_in disk_of new) → IsBacked disk_of old
+      → LeavesLife disk_of (disk_in disk_of new) old turns
   pub backed : IsHonest (disk_in disk_of new) → IsBacked disk_of old → IsBacked disk_of new
   pub source : after.source_tells ≡ before.source_tells
   pub sink : after.sink_tells ≡ before.sink_tells

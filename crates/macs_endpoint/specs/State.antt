@@ -44,9 +44,10 @@ no_logs = record { used = []; given = [] }
 
 -- ---- a moment
 
--- The edition of the program; next packet numbers of transmit associations by their numbers, numbers of receive associations by
--- SCI and number; the command whose call or whose work on the disk began and did not end, which after a device fault stays; the submitted commands that
--- wait, the one under way first where it is one of them; and how many tickets were given
+-- The edition of the program; next packet numbers of transmit associations by their numbers, numbers of receive
+-- associations by SCI and number; the command whose call or whose work on the disk began and did not end, which after a
+-- device fault stays; the submitted commands that wait, the one under way first where it is one of them; and how many
+-- tickets were given
 pub record State : Type 0 where
   pub edition : Edition
   pub identity : Identity
@@ -105,8 +106,8 @@ NoneWait s = s.waiting ≡ []
 
 -- ---- calls
 
--- what is asked: a command, a refill of the ceilings, a command that may wait, one device call of the work that there is, or a frame from the
--- controlled or the common port
+-- what is asked: a command, a refill of the ceilings, a command that may wait, one device call of the work that there
+-- is, or a frame from the controlled or the common port
 pub data Call : Type 0 where
   Commands : Command → Call
   Refills : Call
@@ -115,8 +116,8 @@ pub data Call : Type 0 where
   Protects : (plain : List ℕ) → Call
   Receives : (frame : List ℕ) → Call
 
--- What is answered, with what is in `out` then. The last two are answers of an edition without long keys: a command, and the first that
--- waited, was refused for the length of its key.
+-- What is answered, with what is in `out` then. The last two are answers of an edition without long keys: a command,
+-- and the first that waited, was refused for the length of its key.
 pub data Reply : Type 0 where
   Ran : Result (Unit {0}) CommandFault → Reply
   Refilled : Result (Unit {0}) RefillFault → Reply

@@ -1,15 +1,19 @@
 -- One life of an endpoint, a call at a time (IEEE Std 802.1AE-2018, clause 10).
-use Rattle.std.specs.Prelude.{◌≡◌, ◌⊎◌, ◌<◌, ◌≤◌, ◌+◌, ℕ, true, false, List, [], ◌∷◌, ◌++◌, length, Option, Some, None, Result, Ok, Err}
+use Rattle.std.specs.Prelude.{◌≡◌, ◌⊎◌, ◌<◌, ◌≤◌, ◌+◌, ℕ, true, false, List, [], ◌∷◌, ◌++◌, length, Option, Some, None}
+use Rattle.std.specs.Prelude.{Result, Ok, Err}
 use Rattle.std.specs.Option.{option_map}
 use Rattle.macs_fields.specs.First.{IsFirst, first}
 use Rattle.macs_config.specs.Apply.{LongKey, Named, apply}
 use Rattle.macs_config.specs.Config.{Config}
 use Rattle.macs_config.specs.Tables.{put, put_at}
 use Rattle.macs_config.specs.declared.command.Command.{Command}
-use Rattle.macs_config.specs.declared.command.Command.TheVariants.{SetReplay, TxInstall, TxRemove, RxDrop, RxInstall, RxRemove}
+use Rattle.macs_config.specs.declared.command.Command.TheVariants.{SetReplay, TxInstall, TxRemove, RxDrop, RxInstall}
+use Rattle.macs_config.specs.declared.command.Command.TheVariants.{RxRemove}
 use Rattle.macs_txsc.specs.Transmit.{Outgoing, frame_of, next_outgoing, tx_faults}
 use Rattle.macs_txsc.specs.declared.fault.TxFault.TheVariants.{NoNumber}
-use Rattle.macs_rxsc.specs.Receive.{Arrival, Arrives, RxStepHolds, Numbers, numbers_after_delivery, given_at, numbers_after_hold, delivery_kind, put_numbers, first_numbers, rx_steps, verdict_at, numbers_under_window}
+use Rattle.macs_rxsc.specs.Receive.{Arrival, Arrives, RxStepHolds, Numbers, numbers_after_delivery, given_at}
+use Rattle.macs_rxsc.specs.Receive.{numbers_after_hold, delivery_kind, put_numbers, first_numbers, rx_steps, verdict_at}
+use Rattle.macs_rxsc.specs.Receive.{numbers_under_window}
 use Rattle.macs_rxsc.specs.Receive as rx
 use Rattle.macs_rxsc.specs.declared.verdict.Verdict.{Verdict}
 use Rattle.macs_rxsc.specs.declared.verdict.Verdict.TheVariants.{Delivered, HeldBack}
@@ -28,7 +32,9 @@ use Rattle.macs_endpoint.specs.declared.progress.Step.{Step as Progress}
 use Rattle.macs_endpoint.specs.declared.progress.Step.TheVariants.{Done, Idle, Reserved, Worked}
 use Rattle.macs_endpoint.specs.declared.queue.Waiting.{Waiting}
 use Rattle.macs_endpoint.specs.Queue.{last_ticket, queue_length, with_waiting}
-use Rattle.macs_endpoint.specs.State.{Accepts, Advanced, AdvancedLong, Advances, Call, Commands, NoneWait, Protects, Protected, Ran, Received, Receives, Refilled, Refills, RefusedLong, Reply, State, Submits, Submitted, state_after_fault, state_with_in_hand, rx_side, tx_side}
+use Rattle.macs_endpoint.specs.State.{Accepts, Advanced, AdvancedLong, Advances, Call, Commands, NoneWait, Protects}
+use Rattle.macs_endpoint.specs.State.{Protected, Ran, Received, Receives, Refilled, Refills, RefusedLong, Reply, State}
+use Rattle.macs_endpoint.specs.State.{Submits, Submitted, state_after_fault, state_with_in_hand, rx_side, tx_side}
 
 -- ---- commands
 
@@ -38,7 +44,8 @@ next_after (TxInstall an key start confidential offset) next = put next an (Some
 next_after (TxRemove an) next = put next an None
 next_after command next = next
 
--- the same of receive associations; and a new window raises the lowest acceptable number of each that is further below next than the window
+-- the same of receive associations; and a new window raises the lowest acceptable number of each that is further below
+-- next than the window
 abbrev pub numbers_after : Command → (List ℕ → ℕ → Option Numbers) → List ℕ → ℕ → Option Numbers
 numbers_after (SetReplay on window) numbers = λ sci an. option_map (numbers_under_window window) (numbers sci an)
 numbers_after (RxDrop sci) numbers = put_at numbers sci (λ an. None)
@@ -57,22 +64,25 @@ state_after_command s command config = record s {
 
 -- a command is not refused, and leads from old to new
 abbrev pub Makes : State → Command → State → Type 0
-Makes old command new = (config : Config) × (apply old.edition old.identity old.config command ≡ Ok config) × (new ≡ state_after_command old command config)
+Makes old command new = (config : Config) × (apply old.edition old.identity old.config command ≡ Ok config)
+    × (new ≡ state_after_command old command config)
 
--- A command takes effect, or nothing changes, or a device call failed and the command is under way. While a submitted command waits, under way or
--- not, no other is taken.
+-- A command takes effect, or nothing changes, or a device call failed and the command is under way. While a submitted
+-- command waits, under way or not, no other is taken.
 abbrev pub CommandStep : State → Command → Result (Unit {0}) CommandFault → State → Type 0
 CommandStep old command (Ok done) new = NoneWait old × Makes old command new
 CommandStep old command (Err ran.Busy) new = (¬ NoneWait old) × (new ≡ old)
 CommandStep old command (Err (ran.Refused refusal)) new =
     NoneWait old × (apply old.edition old.identity old.config command ≡ Err (Named refusal)) × (new ≡ old)
 CommandStep old command (Err ran.GenerationsSpent) new = NoneWait old × Accepts old command × (new ≡ old)
-CommandStep old command (Err ran.Disk) new = NoneWait old × Accepts old command × (new ≡ state_after_fault (state_with_in_hand old command))
+CommandStep old command (Err ran.Disk) new = NoneWait old × Accepts old command
+    × (new ≡ state_after_fault (state_with_in_hand old command))
 CommandStep old command (Err ran.Stopped) new = ⊥
 
 -- an edition that does not take the key of a command refuses it for that, and nothing changes
 abbrev pub RefusesLong : State → Command → State → Type 0
-RefusesLong old command new = NoneWait old × (apply old.edition old.identity old.config command ≡ Err LongKey) × (new ≡ old)
+RefusesLong old command new = NoneWait old × (apply old.edition old.identity old.config command ≡ Err LongKey)
+    × (new ≡ old)
 
 -- ---- commands that wait
 
@@ -86,9 +96,11 @@ state_with_waiting s command = record s {
 -- A command is to wait, and its ticket is answered: unless as many wait as may, or no ticket is left.
 abbrev pub SubmitStep : State → Command → Result ℕ SubmitFault → State → Type 0
 SubmitStep old command (Ok ticket) new =
-    (length old.waiting < queue_length) × (old.tickets < last_ticket) × (ticket ≡ old.tickets + 1) × (new ≡ state_with_waiting old command)
+    (length old.waiting < queue_length) × (old.tickets < last_ticket) × (ticket ≡ old.tickets + 1)
+    × (new ≡ state_with_waiting old command)
 SubmitStep old command (Err submit.QueueFull) new = (queue_length ≤ length old.waiting) × (new ≡ old)
-SubmitStep old command (Err submit.TicketsSpent) new = (length old.waiting < queue_length) × (last_ticket ≤ old.tickets) × (new ≡ old)
+SubmitStep old command (Err submit.TicketsSpent) new = (length old.waiting < queue_length) × (last_ticket ≤ old.tickets)
+    × (new ≡ old)
 SubmitStep old command (Err submit.Stopped) new = ⊥
 
 -- the first waiting command is started: it is accepted, and nothing was under way
@@ -100,39 +112,47 @@ TakesUp old new = (first : Waiting) × (rest : List Waiting) × (old.waiting ≡
 abbrev pub state_without_first : State → List Waiting → State
 state_without_first s rest = record s { waiting = rest; in_hand = None }
 
--- The first waiting command is done with. One that is under way took effect; one that is not took effect, or was refused, or the journal
--- cannot start over for it.
+-- The first waiting command is done with. One that is under way took effect; one that is not took effect, or was
+-- refused, or the journal cannot start over for it.
 abbrev pub Ends : State → Waiting → List Waiting → Result (Unit {0}) CommandFault → State → Type 0
 Ends old first rest (Ok done) new = Makes (state_without_first old rest) first.command new
 Ends old first rest (Err (ran.Refused refusal)) new =
-    (old.in_hand ≡ None) × (apply old.edition old.identity old.config first.command ≡ Err (Named refusal)) × (new ≡ state_without_first old rest)
-Ends old first rest (Err ran.GenerationsSpent) new = (old.in_hand ≡ None) × Accepts old first.command × (new ≡ state_without_first old rest)
+    (old.in_hand ≡ None) × (apply old.edition old.identity old.config first.command ≡ Err (Named refusal))
+    × (new ≡ state_without_first old rest)
+Ends old first rest (Err ran.GenerationsSpent) new = (old.in_hand ≡ None) × Accepts old first.command
+    × (new ≡ state_without_first old rest)
 Ends old first rest (Err fault) new = ⊥
 
--- One device call of the work that there is, or none. Nothing changes but what is under way, unless the first waiting command is done with.
+-- One device call of the work that there is, or none. Nothing changes but what is under way, unless the first waiting
+-- command is done with.
 abbrev pub AdvanceStep : State → Result Progress StepFault → State → Type 0
 AdvanceStep old (Ok Idle) new = new ≡ old
 AdvanceStep old (Ok Worked) new = (new ≡ old) ⊎ TakesUp old new
 AdvanceStep old (Ok Reserved) new = new ≡ old
 AdvanceStep old (Ok (Done ticket result)) new =
-    (first : Waiting) × (rest : List Waiting) × (old.waiting ≡ first ∷ rest) × (ticket ≡ first.ticket) × Ends old first rest result new
+    (first : Waiting) × (rest : List Waiting) × (old.waiting ≡ first ∷ rest) × (ticket ≡ first.ticket)
+    × Ends old first rest result new
 AdvanceStep old (Err step.GenerationsSpent) new = new ≡ old
-AdvanceStep old (Err step.Disk) new = (new ≡ state_after_fault old) ⊎ ((mid : State) × TakesUp old mid × (new ≡ state_after_fault mid))
+AdvanceStep old (Err step.Disk) new = (new ≡ state_after_fault old)
+    ⊎ ((mid : State) × TakesUp old mid × (new ≡ state_after_fault mid))
 AdvanceStep old (Err step.Stopped) new = ⊥
 
 -- the first waiting command, which is not under way, is refused for the length of its key
 abbrev pub RefusesFirst : State → Waiting → List Waiting → State → Type 0
 RefusesFirst old first rest new =
-    (old.in_hand ≡ None) × (apply old.edition old.identity old.config first.command ≡ Err LongKey) × (new ≡ state_without_first old rest)
+    (old.in_hand ≡ None) × (apply old.edition old.identity old.config first.command ≡ Err LongKey)
+    × (new ≡ state_without_first old rest)
 
 -- a step of an edition that does not take the key of the first waiting command
 abbrev pub AdvancesLong : State → ℕ → State → Type 0
 AdvancesLong old ticket new =
-    (first : Waiting) × (rest : List Waiting) × (old.waiting ≡ first ∷ rest) × (ticket ≡ first.ticket) × RefusesFirst old first rest new
+    (first : Waiting) × (rest : List Waiting) × (old.waiting ≡ first ∷ rest) × (ticket ≡ first.ticket)
+    × RefusesFirst old first rest new
 
 -- ---- work on the disk
 
--- A refill leaves the state, which has no ceilings, as it was, unless a device call failed. While a submitted command waits there is none.
+-- A refill leaves the state, which has no ceilings, as it was, unless a device call failed. While a submitted command
+-- waits there is none.
 abbrev pub RefillStep : State → Result (Unit {0}) RefillFault → State → Type 0
 RefillStep old (Ok done) new = NoneWait old × (new ≡ old)
 RefillStep old (Err refill.Busy) new = (¬ NoneWait old) × (new ≡ old)
@@ -153,15 +173,18 @@ state_after_frame s o = record s {
 abbrev pub ProtectStep : State → List ℕ → Result ℕ ProtectFault → List ℕ → State → Type 0
 ProtectStep old plain (Ok pn) out new =
     (first (tx_faults (tx_side old) plain) ≡ None)
-    × ((o : Outgoing) × (next_outgoing (tx_side old) ≡ Some o) × (pn ≡ o.pn) × (out ≡ frame_of (tx_side old) o plain) × (new ≡ state_after_frame old o))
+    × ((o : Outgoing) × (next_outgoing (tx_side old) ≡ Some o) × (pn ≡ o.pn) × (out ≡ frame_of (tx_side old) o plain)
+    × (new ≡ state_after_frame old o))
 ProtectStep old plain (Err (protect.Tx fault)) out new =
-    ((first (tx_faults (tx_side old) plain) ≡ Some fault) ⊎ ((first (tx_faults (tx_side old) plain) ≡ None) × (fault ≡ NoNumber)))
+    ((first (tx_faults (tx_side old) plain) ≡ Some fault)
+    ⊎ ((first (tx_faults (tx_side old) plain) ≡ None) × (fault ≡ NoNumber)))
     × (out ≡ []) × (new ≡ old)
 ProtectStep old plain (Err protect.Stopped) out new = ⊥
 
 -- the state after a frame that verified was held back
 abbrev pub state_after_hold : State → Arrival → State
-state_after_hold s a = record s { numbers = put_numbers s.numbers a.sci a.an (Some (numbers_after_hold a.numbers a.pn)) }
+state_after_hold s a =
+    record s { numbers = put_numbers s.numbers a.sci a.an (Some (numbers_after_hold a.numbers a.pn)) }
 
 -- the state after a frame that verified was delivered
 abbrev pub state_after_delivery : State → Arrival → State
@@ -187,7 +210,8 @@ SettleStep old frame verdict out new =
 -- a received frame is settled by one of the first nine steps, or verified and arrives
 abbrev pub ReceiveStep : State → List ℕ → Result Verdict Stopped → List ℕ → State → Type 0
 ReceiveStep old frame (Ok verdict) out new =
-    SettleStep old frame verdict out new ⊎ ((a : Arrival) × Arrives (rx_side old) frame a × ArriveStep old a verdict out new)
+    SettleStep old frame verdict out new
+    ⊎ ((a : Arrival) × Arrives (rx_side old) frame a × ArriveStep old a verdict out new)
 ReceiveStep old frame (Err stopped) out new = ⊥
 
 -- ---- a step

@@ -1,5 +1,6 @@
 -- An endpoint in memory, and what its disk holds.
-use Rattle.std.specs.Prelude.{◌≡◌, ◌⊎◌, ◌<◌, ◌≤◌, ◌+◌, ◌/◌, ◌^◌, ℕ, Bool, false, List, ◌∷◌, length, Option, Some, None, IsSomeAnd, Ok}
+use Rattle.std.specs.Prelude.{◌≡◌, ◌⊎◌, ◌<◌, ◌≤◌, ◌+◌, ◌/◌, ◌^◌, ℕ, Bool, false, List, ◌∷◌, length, Option, Some, None}
+use Rattle.std.specs.Prelude.{IsSomeAnd, Ok}
 use Rattle.macs_config.specs.Apply.{IsCommand}
 use Rattle.macs_config.specs.Identity.{Identity, IsIdentity}
 use Rattle.macs_config.specs.Numbers.{block_beyond}
@@ -23,8 +24,9 @@ use Rattle.macs_endpoint.specs.State.{Logs, State, rx_side_with, tx_side_with}
 use Rattle.macs_endpoint.specs.declared.queue.Waiting.{Waiting}
 use Rattle.macs_endpoint.specs.declared.turn.Turn.{Turn}
 
--- What an endpoint keeps: its store, its channels, the command whose call or whose work on the disk began and did not end, the ceiling whose work did, the
--- commands that wait, how many tickets were given, and whose turn it is where a ceiling is needed and a command waits
+-- What an endpoint keeps: its store, its channels, the command whose call or whose work on the disk began and did not
+-- end, the ceiling whose work did, the commands that wait, how many tickets were given, and whose turn it is where a
+-- ceiling is needed and a command waits
 pub record EndpointValue (D : Type 0) : Type 0 where
   pub store : StoreValue D
   pub tx : Tx
@@ -66,13 +68,15 @@ state_of e logs = record {
 
 -- a next transmit number is at least 1, its ceiling not below it, and at most a block and a half above it
 abbrev pub IsTxWithin : ℕ → Option ℕ → Option ℕ → Type 0
-IsTxWithin block (Some next) (Some ceiling) = (1 ≤ next) × (next ≤ ceiling) × (ceiling ≤ next + (block + block / 2)) × (ceiling ≤ 2 ^ 32)
+IsTxWithin block (Some next) (Some ceiling) = (1 ≤ next) × (next ≤ ceiling) × (ceiling ≤ next + (block + block / 2))
+    × (ceiling ≤ 2 ^ 32)
 IsTxWithin block None None = Unit {0}
 IsTxWithin block next ceiling = ⊥
 
 -- a receive ceiling is not below the next number, and no further than receive numbers may rise
 abbrev pub IsRxWithin : ℕ → Option Numbers → Option ℕ → Type 0
-IsRxWithin block (Some numbers) (Some ceiling) = (numbers.next ≤ ceiling) × (ceiling ≤ rx_limit block numbers.next numbers.seen)
+IsRxWithin block (Some numbers) (Some ceiling) = (numbers.next ≤ ceiling)
+    × (ceiling ≤ rx_limit block numbers.next numbers.seen)
 IsRxWithin block None None = Unit {0}
 IsRxWithin block numbers ceiling = ⊥
 
@@ -83,7 +87,8 @@ pub record AreChannels (tx : Tx) (rx : rxsc.RxValue) (s : Standing) : Type 0 whe
   pub tx_ceilings : txsc.ceilings_of tx ≡ s.ceilings.tx
   pub rx_ceilings : rxsc.ceilings_of rx ≡ s.ceilings.rx
 
--- each association has its numbers and a ceiling that is not too far ahead, and a receive channel has four associations at most
+-- each association has its numbers and a ceiling that is not too far ahead, and a receive channel has four associations
+-- at most
 pub record AreWithin (tx : Tx) (rx : rxsc.RxValue) (identity : Identity) : Type 0 where
   pub tx_within : (an : ℕ) → IsTxWithin identity.tx_block ((txsc.tx_side_of tx).next an) (txsc.ceilings_of tx an)
   pub rx_within : (sci : List ℕ) (an : ℕ)
@@ -92,19 +97,23 @@ pub record AreWithin (tx : Tx) (rx : rxsc.RxValue) (identity : Identity) : Type 
 
 -- a raised transmit ceiling is at most a block and a half above the next number
 abbrev pub IsTxRaiseWithin : ℕ → Option ℕ → Option ℕ → Type 0
-IsTxRaiseWithin block (Some next) (Some ceiling) = (ceiling < 2 ^ 32) × (block_beyond ceiling block ≤ next + (block + block / 2))
+IsTxRaiseWithin block (Some next) (Some ceiling) = (ceiling < 2 ^ 32)
+    × (block_beyond ceiling block ≤ next + (block + block / 2))
 IsTxRaiseWithin block next ceiling = ⊥
 
 -- a raised receive ceiling is a block beyond a number that was seen, and above the ceiling
 abbrev pub IsRxRaiseWithin : ℕ → ℕ → Option Numbers → Option ℕ → Type 0
-IsRxRaiseWithin block pn (Some numbers) (Some ceiling) = IsSomeAnd numbers.seen (λ seen. pn ≤ seen) × (ceiling < block_beyond pn block)
+IsRxRaiseWithin block pn (Some numbers) (Some ceiling) = IsSomeAnd numbers.seen (λ seen. pn ≤ seen)
+    × (ceiling < block_beyond pn block)
 IsRxRaiseWithin block pn numbers ceiling = ⊥
 
 -- a ceiling that is being raised is not too far ahead once it is
 abbrev pub IsRaiseWithin : Tx → rxsc.RxValue → Identity → Raise → Type 0
-IsRaiseWithin tx rx identity (RaiseTx an) = IsTxRaiseWithin identity.tx_block ((txsc.tx_side_of tx).next an) (txsc.ceilings_of tx an)
+IsRaiseWithin tx rx identity (RaiseTx an) =
+    IsTxRaiseWithin identity.tx_block ((txsc.tx_side_of tx).next an) (txsc.ceilings_of tx an)
 IsRaiseWithin tx rx identity (RaiseRx need) =
-    IsRxRaiseWithin identity.rx_block need.pn ((rxsc.rx_side_of rx).numbers need.sci need.an) (rxsc.ceilings_of rx need.sci need.an)
+    IsRxRaiseWithin identity.rx_block need.pn ((rxsc.rx_side_of rx).numbers need.sci need.an)
+    (rxsc.ceilings_of rx need.sci need.an)
 
 -- no work is under way: nothing is being raised, and no command is under way unless a device call failed
 pub record IsAtRest {D : Type 0} (e : EndpointValue D) : Type 0 where
@@ -136,7 +145,8 @@ pub record IsKeeping {D : Type 0} (e : EndpointValue D) : Type 0 where
   pub leads : standing_then e.store ≡ Some after
   pub accepted : accept (standing_in e.store) first.command ≡ Ok after
 
--- The channels are those of the standing, no ceiling is too far ahead, no more commands wait than may, and the work under way is one of these.
+-- The channels are those of the standing, no ceiling is too far ahead, no more commands wait than may, and the work
+-- under way is one of these.
 pub record IsSoundEndpoint {D : Type 0} (e : EndpointValue D) : Type 0 where
   pub identity : IsIdentity (standing_in e.store).identity
   pub channels : AreChannels e.tx e.rx (standing_in e.store)
@@ -147,8 +157,8 @@ pub record IsSoundEndpoint {D : Type 0} (e : EndpointValue D) : Type 0 where
 
 -- ---- what its disk holds
 
--- The disk holds what is in memory, with the work under way, unless a device call failed; and what a power loss leaves now fits the state, in a
--- journal of format two.
+-- The disk holds what is in memory, with the work under way, unless a device call failed; and what a power loss leaves
+-- now fits the state, in a journal of format two.
 pub record IsBacked {D : Type 0} (disk_of : D → Disk) (e : EndpointValue D) : Type 0 where
   pub size : least_sectors ≤ (disk_in disk_of e).sectors
   pub stored : is_stopped e ≡ false → IsStored disk_of e.store

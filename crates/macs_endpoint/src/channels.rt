@@ -6,7 +6,8 @@ ghost use Rattle.macs_config.specs.Judged.{asked_by};
 ghost use Rattle.macs_config.specs.Tables.{put, put_at};
 ghost use Rattle.macs_txsc.specs.Value as txsc;
 ghost use Rattle.macs_rxsc.specs.Value as rxsc;
-ghost use Rattle.macs_rxsc.specs.Receive.{has_channel, put_numbers, first_numbers, numbers_under_window};
+ghost use Rattle.macs_rxsc.specs.Receive.{has_channel, put_numbers, first_numbers};
+ghost use Rattle.macs_rxsc.specs.Receive.{numbers_under_window};
 ghost use Rattle.macs_store.specs.Value.{standing_in};
 ghost use Rattle.macs_store.specs.Standing.{Standing, accept};
 ghost use Rattle.macs_endpoint.specs.Ceilings.{standing_with_raise};
@@ -34,7 +35,8 @@ impl Channels {
     pub(crate) fn follow<D: SectorDisk>(&mut self, checked: &Checked, store: &Store<D>)
         requires { (before : Standing) × AreChannels self.old.tx self.old.rx before
             × (accept before checked.now ≡ Ok (standing_in store.now)) }
-        ensures { Follows checked.now (standing_in store.now) self.old.tx self.old.rx self.new.tx self.new.rx }
+        ensures { Follows checked.now (standing_in store.now) self.old.tx self.old.rx self.new.tx
+            self.new.rx }
     {
         self.follow_judged(checked.judged(), store);
     }
@@ -43,7 +45,8 @@ impl Channels {
     fn follow_judged<D: SectorDisk>(&mut self, judged: &Judged, store: &Store<D>)
         requires { (before : Standing) × AreChannels self.old.tx self.old.rx before
             × (accept before (asked_by judged.now) ≡ Ok (standing_in store.now)) }
-        ensures { Follows (asked_by judged.now) (standing_in store.now) self.old.tx self.old.rx self.new.tx self.new.rx }
+        ensures { Follows (asked_by judged.now) (standing_in store.now) self.old.tx self.old.rx
+            self.new.tx self.new.rx }
     {
         match *judged {
             Judged::SetValidate(_) | Judged::SetReplay { .. } => set_policy(&mut self.rx, store),
@@ -65,7 +68,8 @@ impl Channels {
         requires received { is_of_rx (asked_by judged.now) ≡ true }
         requires kept { (before : Standing) × AreChannels self.old.tx self.old.rx before
             × (accept before (asked_by judged.now) ≡ Ok (standing_in store.now)) }
-        ensures { Follows (asked_by judged.now) (standing_in store.now) self.old.tx self.old.rx self.new.tx self.new.rx }
+        ensures { Follows (asked_by judged.now) (standing_in store.now) self.old.tx self.old.rx
+            self.new.tx self.new.rx }
     {
         match *judged {
             Judged::RxAdd { sci } => self.rx.add(sci),
@@ -88,7 +92,8 @@ impl Channels {
         ensures rx_side { rxsc.rx_side_of self.new.rx ≡ rxsc.rx_side_of self.old.rx }
         ensures tx_counters { txsc.counters_of self.new.tx ≡ txsc.counters_of self.old.tx }
         ensures rx_counters { rxsc.counters_of self.new.rx ≡ rxsc.counters_of self.old.rx }
-        ensures channel_counters { rxsc.channel_counters_of self.new.rx ≡ rxsc.channel_counters_of self.old.rx }
+        ensures channel_counters { rxsc.channel_counters_of self.new.rx
+            ≡ rxsc.channel_counters_of self.old.rx }
     {
         store.facts();
         match raise {
@@ -104,14 +109,17 @@ impl Channels {
     }
 }
 
-/// Sets how received frames are validated, and the replay window. An unchanged window moves no number.
+/// Sets how received frames are validated, and the replay window. An unchanged window moves no
+/// number.
 pub(crate) fn set_policy<D: SectorDisk>(rx: &mut Rx, store: &Store<D>)
     ensures side { rxsc.rx_side_of rx.new ≡ record (rxsc.rx_side_of rx.old) {
       validate = (standing_in store.now).config.validate;
       replay = (standing_in store.now).config.replay;
-      numbers = λ sci an. option_map (numbers_under_window (standing_in store.now).config.replay.window) ((rxsc.rx_side_of rx.old).numbers sci an);
+      numbers = λ sci an. option_map (numbers_under_window
+          (standing_in store.now).config.replay.window) ((rxsc.rx_side_of rx.old).numbers sci an);
     } }
-    ensures same_window { (rxsc.rx_side_of rx.old).replay.window ≡ (standing_in store.now).config.replay.window
+    ensures same_window { (rxsc.rx_side_of rx.old).replay.window
+        ≡ (standing_in store.now).config.replay.window
         → (rxsc.rx_side_of rx.new).numbers ≡ (rxsc.rx_side_of rx.old).numbers }
     ensures ceilings { rxsc.ceilings_of rx.new ≡ rxsc.ceilings_of rx.old }
     ensures counters { rxsc.counters_of rx.new ≡ rxsc.counters_of rx.old }
@@ -122,8 +130,8 @@ pub(crate) fn set_policy<D: SectorDisk>(rx: &mut Rx, store: &Store<D>)
     rx.set_policy(store.config().validate(), replay.on, replay.window);
 }
 
-/// Installs a transmit association that the store has, where there is none. `next` is its next packet
-/// number, 1 to the ceiling.
+/// Installs a transmit association that the store has, where there is none. `next` is its next
+/// packet number, 1 to the ceiling.
 pub(crate) fn install_tx<D: SectorDisk>(tx: &mut Tx, store: &Store<D>, an: An, next: u64)
     requires stands { IsSome ((standing_in store.now).config.tx an) }
     requires empty { (txsc.tx_side_of tx.old).tx an ≡ None }
@@ -133,7 +141,8 @@ pub(crate) fn install_tx<D: SectorDisk>(tx: &mut Tx, store: &Store<D>, an: An, n
       tx = put (txsc.tx_side_of tx.old).tx an ((standing_in store.now).config.tx an);
       next = put (txsc.tx_side_of tx.old).next an (Some next);
     } }
-    ensures ceilings { txsc.ceilings_of tx.new ≡ put (txsc.ceilings_of tx.old) an ((standing_in store.now).ceilings.tx an) }
+    ensures ceilings { txsc.ceilings_of tx.new
+        ≡ put (txsc.ceilings_of tx.old) an ((standing_in store.now).ceilings.tx an) }
     ensures counters { txsc.counters_of tx.new ≡ txsc.counters_of tx.old }
 {
     store.facts();
@@ -157,9 +166,11 @@ pub(crate) fn install_rx<D: SectorDisk>(rx: &mut Rx, store: &Store<D>, sci: Sci,
     requires channel { has_channel (rxsc.rx_side_of rx.old) sci ≡ true }
     requires empty { (rxsc.rx_side_of rx.old).rx sci an ≡ None }
     requires numbered { 1 ≤ next }
-    requires ordered { IfSome ((standing_in store.now).ceilings.rx sci an) (λ ceiling. next ≤ ceiling) }
+    requires ordered { IfSome ((standing_in store.now).ceilings.rx sci an)
+        (λ ceiling. next ≤ ceiling) }
     ensures side { rxsc.rx_side_of rx.new ≡ record (rxsc.rx_side_of rx.old) {
-      rx = put_at (rxsc.rx_side_of rx.old).rx sci (put ((rxsc.rx_side_of rx.old).rx sci) an ((standing_in store.now).config.rx sci an));
+      rx = put_at (rxsc.rx_side_of rx.old).rx sci
+          (put ((rxsc.rx_side_of rx.old).rx sci) an ((standing_in store.now).config.rx sci an));
       numbers = put_numbers (rxsc.rx_side_of rx.old).numbers sci an (Some (first_numbers next));
     } }
     ensures ceilings { rxsc.ceilings_of rx.new ≡ put_at (rxsc.ceilings_of rx.old) sci

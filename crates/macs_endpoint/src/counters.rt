@@ -41,11 +41,12 @@ impl Counters<'_> {
         self.rx.count(verdict)
     }
 
-    /// How often a verdict was given on frames of a channel, since the channel was added or the disk
-    /// was opened. It is 0 for a verdict that is not counted for channels, and `None` where the
-    /// channel does not exist.
+    /// How often a verdict was given on frames of a channel, since the channel was added or the
+    /// disk was opened. It is 0 for a verdict that is not counted for channels, and `None` where
+    /// the channel does not exist.
     pub fn channel(&self, sci: Sci, verdict: Verdict) -> Option<u64>
-        ensures { result ≡ option_map (channel_count_of verdict) (rxsc.channel_counters_of self.now.rx.now sci) }
+        ensures { result
+            ≡ option_map (channel_count_of verdict) (rxsc.channel_counters_of self.now.rx.now sci) }
     {
         self.rx.channel_count(sci, verdict)
     }

@@ -11,7 +11,8 @@ ghost use Rattle.macs_endpoint.specs.Calls.{IsCall};
 ghost use Rattle.macs_endpoint.specs.Opening.{BeginsOpened, IsOpening};
 ghost use Rattle.macs_endpoint.specs.KeptCommands.{KeepsCommand};
 ghost use Rattle.macs_endpoint.specs.Parts.{endpoint_of};
-ghost use Rattle.macs_endpoint.specs.Value.{EndpointValue, IsSoundEndpoint, device_in, is_stopped, state_of};
+ghost use Rattle.macs_endpoint.specs.Value.{EndpointValue, IsSoundEndpoint, device_in, is_stopped};
+ghost use Rattle.macs_endpoint.specs.Value.{state_of};
 ghost use Rattle.macs_endpoint.specs.State.{Protects, Protected, Received, Receives, no_logs};
 
 use crate::channels::Channels;
@@ -31,12 +32,14 @@ use macs_txsc::Tx;
 use std::marker::Model;
 
 /// An endpoint of MACsec on a disk of its own. Only packet numbers below ceilings that are durable
-/// are used, or delivered as verified; a command takes effect once it is durable. After a device fault
-/// every call that can answer `Stopped` does so until the disk is opened again; readers go on to answer.
+/// are used, or delivered as verified; a command takes effect once it is durable. After a device
+/// fault every call that can answer `Stopped` does so until the disk is opened again; readers go on
+/// to answer.
 #[derive(Drop)]
 pub struct Endpoint<D: SectorDisk> {
     pub(crate) store: Store<D>,
-    /// The command whose call or whose work on the disk began and did not end; after a device fault it stays.
+    /// The command whose call or whose work on the disk began and did not end; after a device fault
+    /// it stays.
     pub(crate) in_hand: Option<Checked>,
     /// The ceiling that is being raised.
     pub(crate) reserving: Option<Raise>,
@@ -50,16 +53,18 @@ impl<D: SectorDisk> Model for Endpoint<D> {
 
     ghost view = { λ e. endpoint_of e.store e.channels e.in_hand e.reserving e.queue e.turn };
 
-    ghost invariant = { λ e. IsSoundEndpoint (endpoint_of e.store e.channels e.in_hand e.reserving e.queue e.turn) };
+    ghost invariant = { λ e.
+        IsSoundEndpoint (endpoint_of e.store e.channels e.in_hand e.reserving e.queue e.turn) };
 }
 
 impl<D: SectorDisk> Endpoint<D> {
-    /// Opens a disk: makes sure of what reads give by one sync, and then only reads, unless its journal is of
-    /// format one: that then starts over in the other area, in format two, and stands for the same. The packet
-    /// numbers of each association begin at its ceiling, and nothing is counted. Refused as `TooSmall`, then
-    /// as `Disk` at the first call that fails, `NotFormatted` and `BadJournal`, as `GenerationsSpent` where a
-    /// journal of format one has generation 2^64 - 1, and as `Disk` at the first call that fails while the
-    /// journal starts over: the next opening finds what this one found. The disk is given back.
+    /// Opens a disk: makes sure of what reads give by one sync, and then only reads, unless its
+    /// journal is of format one: that then starts over in the other area, in format two, and stands
+    /// for the same. The packet numbers of each association begin at its ceiling, and nothing is
+    /// counted. Refused as `TooSmall`, then as `Disk` at the first call that fails, `NotFormatted`
+    /// and `BadJournal`, as `GenerationsSpent` where a journal of format one has generation 2^64 -
+    /// 1, and as `Disk` at the first call that fails while the journal starts over: the next
+    /// opening finds what this one found. The disk is given back.
     #[inline(always)] // Else it has a place of its own for the endpoint, beside its caller's.
     pub fn open(disk: D) -> Result<Endpoint<D>, OpenRefused<D>>
         ensures { IsOpening D.disk disk result }
@@ -67,8 +72,9 @@ impl<D: SectorDisk> Endpoint<D> {
         Endpoint::begun(Store::open(disk))
     }
 
-    /// What comes of an opened store that has nothing under way, or of a refusal: the endpoint that begins with what
-    /// is in the store. It is put together in one place, where each part is moved to once.
+    /// What comes of an opened store that has nothing under way, or of a refusal: the endpoint that
+    /// begins with what is in the store. It is put together in one place, where each part is moved
+    /// to once.
     #[inline(never)] // What it takes of the stack is not there while the disk is read.
     fn begun(opened: Result<Store<D>, OpenRefused<D>>) -> Result<Endpoint<D>, OpenRefused<D>>
         requires { IfOk opened IsIdle }
@@ -96,12 +102,13 @@ impl<D: SectorDisk> Endpoint<D> {
         })
     }
 
-    /// Keeps a command and follows it. A reservation that is under way is finished first, and no other begins. Refused
-    /// as `Stopped`, then as `Busy` where a submitted command waits: nothing changes. Then as `Refused` with the first
-    /// refusal that holds: nothing changes but whose turn it is. Then as `GenerationsSpent`, where all 256 slots are used
-    /// and the generation is 2^64 - 1: nothing changes but whose turn it is, and the ceiling of a reservation that was
-    /// under way. `Disk` at the first device call that fails: the endpoint is stopped, and the next opening finds it with the
-    /// command or without.
+    /// Keeps a command and follows it. A reservation that is under way is finished first, and no
+    /// other begins. Refused as `Stopped`, then as `Busy` where a submitted command waits: nothing
+    /// changes. Then as `Refused` with the first refusal that holds: nothing changes but whose turn
+    /// it is. Then as `GenerationsSpent`, where all 256 slots are used and the generation is 2^64 -
+    /// 1: nothing changes but whose turn it is, and the ceiling of a reservation that was under
+    /// way. `Disk` at the first device call that fails: the endpoint is stopped, and the next
+    /// opening finds it with the command or without.
     pub fn command(&mut self, command: Command) -> Result<(), CommandFault>
         ensures { KeepsCommand D.disk self.old command result self.new }
     {
@@ -121,8 +128,8 @@ impl<D: SectorDisk> Endpoint<D> {
         }
     }
 
-    /// Finishes a reservation that is under way, and then keeps a command that is accepted, as its check judged it:
-    /// what is reserved changes no configuration. No submitted command waits.
+    /// Finishes a reservation that is under way, and then keeps a command that is accepted, as its
+    /// check judged it: what is reserved changes no configuration. No submitted command waits.
     fn keep(&mut self, checked: &Checked) -> Result<(), CommandFault>
         requires running { is_stopped self.old ≡ false }
         requires none { self.old.waiting ≡ [] }
@@ -139,8 +146,8 @@ impl<D: SectorDisk> Endpoint<D> {
         self.commit(checked)
     }
 
-    /// Keeps a command that is accepted, as its check judged it, and follows it. No work is under way, and no submitted
-    /// command waits.
+    /// Keeps a command that is accepted, as its check judged it, and follows it. No work is under
+    /// way, and no submitted command waits.
     fn commit(&mut self, checked: &Checked) -> Result<(), CommandFault>
         requires running { is_stopped self.old ≡ false }
         requires idle { IsIdle self.old.store }
@@ -165,13 +172,14 @@ impl<D: SectorDisk> Endpoint<D> {
         }
     }
 
-    /// Protects a plain frame, writes the frame that goes out on the common side to `out`, and answers its
-    /// packet number, which is then used. Refused as `Stopped`, then as the first fault of the transmit
-    /// channel: below 14 octets, or above 9,216 with SecTAG and ICV, among others; then `out` is empty, and
-    /// no number is used. No device call is made. On `NoNumber` call `refill`, or `step` until it goes out, and
-    /// hand the frame in again.
+    /// Protects a plain frame, writes the frame that goes out on the common side to `out`, and
+    /// answers its packet number, which is then used. Refused as `Stopped`, then as the first fault
+    /// of the transmit channel: below 14 octets, or above 9,216 with SecTAG and ICV, among others;
+    /// then `out` is empty, and no number is used. No device call is made. On `NoNumber` call
+    /// `refill`, or `step` until it goes out, and hand the frame in again.
     pub fn protect(&mut self, plain: &[u8], out: &mut FrameBuf) -> Result<Pn, ProtectFault>
-        ensures call { IsCall D.disk self.old (Protects plain.now) (Protected result out.new.items) self.new }
+        ensures call { IsCall D.disk self.old (Protects plain.now)
+            (Protected result out.new.items) self.new }
         ensures store { self.new.store ≡ self.old.store }
     {
         octets_in_range(plain);
@@ -186,11 +194,12 @@ impl<D: SectorDisk> Endpoint<D> {
     }
 
     /// The verdict on a frame from the common side, of any number of octets. What is delivered is
-    /// written to `out`, which is empty unless the verdict is `Delivered`. Refused as `Stopped` where a device call
-    /// failed before; then `out` is empty. No device call is made. On `HeldBack` call `refill`, or `step` until it is
-    /// settled, and hand the same frame in again.
+    /// written to `out`, which is empty unless the verdict is `Delivered`. Refused as `Stopped`
+    /// where a device call failed before; then `out` is empty. No device call is made. On
+    /// `HeldBack` call `refill`, or `step` until it is settled, and hand the same frame in again.
     pub fn receive(&mut self, frame: &[u8], out: &mut FrameBuf) -> Result<Verdict, Stopped>
-        ensures call { IsCall D.disk self.old (Receives frame.now) (Received result out.new.items) self.new }
+        ensures call { IsCall D.disk self.old (Receives frame.now)
+            (Received result out.new.items) self.new }
         ensures store { self.new.store ≡ self.old.store }
     {
         octets_in_range(frame);
@@ -208,8 +217,8 @@ impl<D: SectorDisk> Endpoint<D> {
         self.store.is_stopped()
     }
 
-    /// The command under way: its call, or its work, began and did not end. After a device fault it stays, and is
-    /// found or not once the disk is opened again.
+    /// The command under way: its call, or its work, began and did not end. After a device fault it
+    /// stays, and is found or not once the disk is opened again.
     pub fn in_hand(&self) -> Option<Command>
         ensures { result ≡ (state_of self.now no_logs).in_hand }
     {
@@ -251,16 +260,16 @@ impl<D: SectorDisk> Endpoint<D> {
         }
     }
 
-    /// The next packet number of a transmit association, 1 to 2^32, `None` where there is none at that
-    /// number.
+    /// The next packet number of a transmit association, 1 to 2^32, `None` where there is none at
+    /// that number.
     pub fn next_number(&self, an: An) -> Option<u64>
         ensures { result ≡ (state_of self.now no_logs).next an }
     {
         self.channels.tx.next_number(an)
     }
 
-    /// The next and the lowest acceptable packet number of a receive association, 1 to 2^32, the lowest not
-    /// above the next; `None` where there is none.
+    /// The next and the lowest acceptable packet number of a receive association, 1 to 2^32, the
+    /// lowest not above the next; `None` where there is none.
     pub fn numbers(&self, sci: Sci, an: An) -> Option<RxNumbers>
         ensures { result ≡ option_map (λ (n : Numbers). record { next = n.next; lowest = n.lowest })
             ((state_of self.now no_logs).numbers sci an) }
@@ -268,9 +277,9 @@ impl<D: SectorDisk> Endpoint<D> {
         self.channels.rx.numbers(sci, an)
     }
 
-    /// What holds of every endpoint: its channels are those of what is in its store, no ceiling is too
-    /// far ahead, no more commands wait than may, and the work under way is a reservation or the first command
-    /// that waits.
+    /// What holds of every endpoint: its channels are those of what is in its store, no ceiling is
+    /// too far ahead, no more commands wait than may, and the work under way is a reservation or
+    /// the first command that waits.
     pub fn facts(&self)
         ensures { IsSoundEndpoint self.now }
     {

@@ -16,7 +16,8 @@ pub enum Event {
     Controlled(FrameBuf),
     /// A frame comes from the common side.
     Common(FrameBuf),
-    /// There is time for one device call: of a reservation of packet numbers, or of a command that waits.
+    /// There is time for one device call: of a reservation of packet numbers, or of a command that
+    /// waits.
     Work,
 }
 
@@ -45,6 +46,7 @@ pub enum ServeEnd {
     Ended,
     /// As many events were served as were asked for.
     TurnsSpent,
-    /// A device call failed, now or before: the last answer says so, and the disk is to be opened again.
+    /// A device call failed, now or before: the last answer says so, and the disk is to be opened
+    /// again.
     Halted,
 }

@@ -14,8 +14,8 @@ pub enum CommandFault {
     Busy,
     /// The command does not fit the configuration.
     Refused(Refusal),
-    /// All 256 slots of the journal's current area are used, and its generation is 2^64 - 1: it cannot
-    /// start over.
+    /// All 256 slots of the journal's current area are used, and its generation is 2^64 - 1: it
+    /// cannot start over.
     GenerationsSpent,
     /// A device call failed: after the next opening the command is found or not.
     Disk,
@@ -53,23 +53,24 @@ pub enum SubmitFault {
 pub enum StepFault {
     /// A device call failed before: the disk is to be opened again.
     Stopped,
-    /// A ceiling is to be raised, all 256 slots of the journal's current area are used, and its generation is
-    /// 2^64 - 1: it cannot start over. The next step takes the first command that waits, if one does.
+    /// A ceiling is to be raised, all 256 slots of the journal's current area are used, and its
+    /// generation is 2^64 - 1: it cannot start over. The next step takes the first command that
+    /// waits, if one does.
     GenerationsSpent,
     /// The device call failed.
     Disk,
 }
 
-/// Why a reservation of packet numbers is not kept, in the order in which it is looked for. What was
-/// reserved before stays.
+/// Why a reservation of packet numbers is not kept, in the order in which it is looked for. What
+/// was reserved before stays.
 #[derive(Clone, Copy, Debug, PartialEq, Eq)]
 pub enum RefillFault {
     /// A device call failed before: the disk is to be opened again.
     Stopped,
     /// A submitted command waits: nothing changes.
     Busy,
-    /// All 256 slots of the journal's current area are used, and its generation is 2^64 - 1: it cannot
-    /// start over. No further ceiling is raised.
+    /// All 256 slots of the journal's current area are used, and its generation is 2^64 - 1: it
+    /// cannot start over. No further ceiling is raised.
     GenerationsSpent,
     /// A device call failed.
     Disk,

@@ -25,20 +25,23 @@ use macs_txsc::Tx;
 pub use macs_store::OpenRefused;
 
 impl Channels {
-    /// Takes up what a store has, where the channels are new. The packet numbers of each association begin at its ceiling.
+    /// Takes up what a store has, where the channels are new. The packet numbers of each
+    /// association begin at its ceiling.
     #[inline(never)]
     pub(crate) fn take_up<D: SectorDisk>(&mut self, store: &Store<D>)
         requires new_tx { IsNewTx (standing_in store.now).identity self.old.tx }
         requires new_rx { IsNewRx self.old.rx }
         ensures tx { txsc.tx_side_of self.new.tx
-            ≡ tx_side_with (standing_in store.now).identity (standing_in store.now).config (standing_in store.now).ceilings.tx }
+            ≡ tx_side_with (standing_in store.now).identity (standing_in store.now).config
+            (standing_in store.now).ceilings.tx }
         ensures rx { rxsc.rx_side_of self.new.rx ≡ rx_side_with (standing_in store.now).config
             (λ sci an. option_map first_numbers ((standing_in store.now).ceilings.rx sci an)) }
         ensures tx_ceilings { txsc.ceilings_of self.new.tx ≡ (standing_in store.now).ceilings.tx }
         ensures rx_ceilings { rxsc.ceilings_of self.new.rx ≡ (standing_in store.now).ceilings.rx }
         ensures tx_counters { txsc.counters_of self.new.tx ≡ transmit.no_counts }
         ensures rx_counters { rxsc.counters_of self.new.rx ≡ counting.no_counts }
-        ensures channel_counters { rxsc.channel_counters_of self.new.rx ≡ new_channel_counters (standing_in store.now).config.channels }
+        ensures channel_counters { rxsc.channel_counters_of self.new.rx
+            ≡ new_channel_counters (standing_in store.now).config.channels }
     {
         take_up_tx(&mut self.tx, store);
         take_up_rx(&mut self.rx, store);
@@ -49,7 +52,8 @@ impl Channels {
 fn take_up_tx<D: SectorDisk>(tx: &mut Tx, store: &Store<D>)
     requires { IsNewTx (standing_in store.now).identity tx.old }
     ensures side { txsc.tx_side_of tx.new
-        ≡ tx_side_with (standing_in store.now).identity (standing_in store.now).config (standing_in store.now).ceilings.tx }
+        ≡ tx_side_with (standing_in store.now).identity (standing_in store.now).config
+        (standing_in store.now).ceilings.tx }
     ensures ceilings { txsc.ceilings_of tx.new ≡ (standing_in store.now).ceilings.tx }
     ensures counters { txsc.counters_of tx.new ≡ transmit.no_counts }
 {
@@ -74,7 +78,8 @@ fn take_up_rx<D: SectorDisk>(rx: &mut Rx, store: &Store<D>)
         (λ sci an. option_map first_numbers ((standing_in store.now).ceilings.rx sci an)) }
     ensures ceilings { rxsc.ceilings_of rx.new ≡ (standing_in store.now).ceilings.rx }
     ensures counters { rxsc.counters_of rx.new ≡ counting.no_counts }
-    ensures channel_counters { rxsc.channel_counters_of rx.new ≡ new_channel_counters (standing_in store.now).config.channels }
+    ensures channel_counters { rxsc.channel_counters_of rx.new
+        ≡ new_channel_counters (standing_in store.now).config.channels }
 {
     let config = store.config();
     config.facts();
@@ -92,9 +97,11 @@ fn install_channel<D: SectorDisk>(rx: &mut Rx, store: &Store<D>, sci: Sci)
     requires empty { (an : ℕ) → (rxsc.rx_side_of rx.old).rx sci an ≡ None }
     ensures side { rxsc.rx_side_of rx.new ≡ record (rxsc.rx_side_of rx.old) {
       rx = put_at (rxsc.rx_side_of rx.old).rx sci ((standing_in store.now).config.rx sci);
-      numbers = put_at (rxsc.rx_side_of rx.old).numbers sci (λ an. option_map first_numbers ((standing_in store.now).ceilings.rx sci an));
+      numbers = put_at (rxsc.rx_side_of rx.old).numbers sci
+          (λ an. option_map first_numbers ((standing_in store.now).ceilings.rx sci an));
     } }
-    ensures ceilings { rxsc.ceilings_of rx.new ≡ put_at (rxsc.ceilings_of rx.old) sci ((standing_in store.now).ceilings.rx sci) }
+    ensures ceilings { rxsc.ceilings_of rx.new
+        ≡ put_at (rxsc.ceilings_of rx.old) sci ((standing_in store.now).ceilings.rx sci) }
     ensures counters { rxsc.counters_of rx.new ≡ rxsc.counters_of rx.old }
     ensures channel_counters { rxsc.channel_counters_of rx.new ≡ rxsc.channel_counters_of rx.old }
 {

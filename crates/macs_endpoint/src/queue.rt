@@ -110,7 +110,8 @@ impl Queue {
         self.waiting.as_slice().first().copied()
     }
 
-    /// Puts a command at the end and answers its ticket. Refused as `QueueFull`, then as `TicketsSpent`.
+    /// Puts a command at the end and answers its ticket. Refused as `QueueFull`, then as
+    /// `TicketsSpent`.
     pub(crate) fn push(&mut self, command: Command) -> Result<Ticket, SubmitFault>
         ensures { Queues self.old command result self.new }
     {

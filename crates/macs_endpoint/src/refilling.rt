@@ -31,13 +31,14 @@ pub enum Raise {
 }
 
 impl<D: SectorDisk> Endpoint<D> {
-    /// Finishes a reservation that is under way, and then makes every reservation of packet numbers that is needed: that
-    /// of the transmit association that frames go out under, then those of receive associations by ascending SCI and
-    /// number. Refused as `Stopped`, then as `Busy` where a submitted command waits; these change nothing. Then as
-    /// `GenerationsSpent`, where a ceiling is needed, all 256 slots are used and the generation is 2^64 - 1; and as `Disk`
-    /// at the first device call that fails. What was reserved before a fault stays.
-    /// A reservation takes one slot of the journal and four device calls at most, and a compaction more where all slots
-    /// are used.
+    /// Finishes a reservation that is under way, and then makes every reservation of packet numbers
+    /// that is needed: that of the transmit association that frames go out under, then those of
+    /// receive associations by ascending SCI and number. Refused as `Stopped`, then as `Busy` where
+    /// a submitted command waits; these change nothing. Then as `GenerationsSpent`, where a ceiling
+    /// is needed, all 256 slots are used and the generation is 2^64 - 1; and as `Disk` at the first
+    /// device call that fails. What was reserved before a fault stays. A reservation takes one slot
+    /// of the journal and four device calls at most, and a compaction more where all slots are
+    /// used.
     pub fn refill(&mut self) -> Result<(), RefillFault>
         ensures call { IsCall D.disk self.old Refills (Refilled result) self.new }
         ensures spends { Spends D.disk self.old result self.new.store }
@@ -54,7 +55,8 @@ impl<D: SectorDisk> Endpoint<D> {
         result
     }
 
-    /// Whose turn it is after a refill: a command's where a reservation is under way, and else whose it was before.
+    /// Whose turn it is after a refill: a command's where a reservation is under way, and else
+    /// whose it was before.
     fn turn_after_refill(&self) -> Turn
         ensures { result ≡ turn_after_refill self.now.turn self.now.reserving }
     {
@@ -122,8 +124,8 @@ impl<D: SectorDisk> Endpoint<D> {
         Ok(())
     }
 
-    /// Finishes a reservation that is under way. Refused as `Disk` at the first device call that fails; the next opening
-    /// finds it or not.
+    /// Finishes a reservation that is under way. Refused as `Disk` at the first device call that
+    /// fails; the next opening finds it or not.
     pub(crate) fn finish_reservation(&mut self) -> Result<(), RefillFault>
         requires running { is_stopped self.old ≡ false }
         requires work { IsAtRest self.old ⊎ IsReserving self.old }
@@ -142,7 +144,8 @@ impl<D: SectorDisk> Endpoint<D> {
 fn start_ceiling<D: SectorDisk>(store: &mut Store<D>, raise: &Raise) -> Result<(), JournalFault>
     requires idle { IsIdle store.old }
     requires rises { Rises (standing_in store.old) (raise_of raise.now) }
-    ensures { Starts D.disk store.old (standing_with_raise (standing_in store.old) (raise_of raise.now)) result store.new }
+    ensures { Starts D.disk store.old
+        (standing_with_raise (standing_in store.old) (raise_of raise.now)) result store.new }
 {
     match raise {
         Raise::Tx(an) => store.start_tx(*an),

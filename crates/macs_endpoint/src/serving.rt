@@ -30,8 +30,8 @@ impl Answer {
 }
 
 impl<D: SectorDisk> Endpoint<D> {
-    /// Takes up to `turns` events from a source and gives each answer to a sink. Ends as `Halted` at
-    /// once after the first answer that says that a device call failed, on the last turn too, as
+    /// Takes up to `turns` events from a source and gives each answer to a sink. Ends as `Halted`
+    /// at once after the first answer that says that a device call failed, on the last turn too, as
     /// `Ended` where the source has no further event, and else as `TurnsSpent`. Without turns the
     /// source is asked nothing.
     pub fn serve<S: EventSource, K: AnswerSink>(
@@ -41,9 +41,21 @@ impl<D: SectorDisk> Endpoint<D> {
         turns: u64,
     ) -> ServeEnd
         ensures served { IsServed D.disk turns self.old
-            (record { source_tells = S.tells source.old; left = S.left source.old; sink_tells = K.tells sink.old; took = K.took sink.old })
+            (record {
+              source_tells = S.tells source.old;
+              left = S.left source.old;
+              sink_tells =
+                  K.tells sink.old;
+              took = K.took sink.old;
+            })
             result self.new
-            (record { source_tells = S.tells source.new; left = S.left source.new; sink_tells = K.tells sink.new; took = K.took sink.new }) }
+            (record {
+              source_tells = S.tells source.new;
+              left = S.left source.new;
+              sink_tells =
+                  K.tells sink.new;
+              took = K.took sink.new;
+            }) }
         ensures lives { LivesOn D.disk self.old self.new }
     {
         for _ in 0..turns {

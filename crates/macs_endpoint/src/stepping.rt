@@ -31,9 +31,10 @@ pub enum Piece {
 }
 
 impl<D: SectorDisk> Endpoint<D> {
-    /// Takes a command that is to be kept when its turn comes, and answers the ticket by which `step` reports what
-    /// became of it. Whether it fits the configuration is judged then. Refused as `Stopped`, then as `QueueFull` where 16
-    /// commands wait, then as `TicketsSpent` where 2^64 - 1 tickets were given; these change nothing. No device call is made.
+    /// Takes a command that is to be kept when its turn comes, and answers the ticket by which
+    /// `step` reports what became of it. Whether it fits the configuration is judged then. Refused
+    /// as `Stopped`, then as `QueueFull` where 16 commands wait, then as `TicketsSpent` where 2^64
+    /// - 1 tickets were given; these change nothing. No device call is made.
     pub fn submit(&mut self, command: Command) -> Result<Ticket, SubmitFault>
         ensures call { IsCall D.disk self.old (Submits command) (Submitted result) self.new }
     {
@@ -44,12 +45,13 @@ impl<D: SectorDisk> Endpoint<D> {
         self.queue.push(command)
     }
 
-    /// Makes one device call of the work that there is, or none where there is none. Work under way goes on; else the
-    /// reservation that is needed first begins, or the first command that waits, by turns where there are both, of which
-    /// the first after an opening is the reservation's. What is reserved or commanded takes effect with the last device
-    /// call of its work. Refused as `Stopped`; as `GenerationsSpent`, where a reservation has its turn and the journal
-    /// cannot start over; and as `Disk` where the call fails: the endpoint is stopped, and the next opening finds what
-    /// was under way or not.
+    /// Makes one device call of the work that there is, or none where there is none. Work under way
+    /// goes on; else the reservation that is needed first begins, or the first command that waits,
+    /// by turns where there are both, of which the first after an opening is the reservation's.
+    /// What is reserved or commanded takes effect with the last device call of its work. Refused as
+    /// `Stopped`; as `GenerationsSpent`, where a reservation has its turn and the journal cannot
+    /// start over; and as `Disk` where the call fails: the endpoint is stopped, and the next
+    /// opening finds what was under way or not.
     pub fn step(&mut self) -> Result<Step, StepFault>
         ensures call { IsCall D.disk self.old Advances (Advanced result) self.new }
     {
@@ -79,7 +81,8 @@ impl<D: SectorDisk> Endpoint<D> {
         }
     }
 
-    /// The piece of work that is next: that whose turn it is where there are both, and else the one that there is.
+    /// The piece of work that is next: that whose turn it is where there are both, and else the one
+    /// that there is.
     fn next_piece(&self) -> Option<Piece>
         ensures { option_map piece_of result ≡ next_piece self.now }
     {
@@ -108,7 +111,8 @@ impl<D: SectorDisk> Endpoint<D> {
         self.go_on_reserving()
     }
 
-    /// Starts the first command that waits and makes its first device call, or reports why it is not kept.
+    /// Starts the first command that waits and makes its first device call, or reports why it is
+    /// not kept.
     fn begin_command(&mut self, first: Waiting) -> Result<Step, StepFault>
         requires running { is_stopped self.old ≡ false }
         requires idle { IsIdle self.old.store }
@@ -124,7 +128,8 @@ impl<D: SectorDisk> Endpoint<D> {
         self.go_on_keeping()
     }
 
-    /// Starts the first command that waits, and makes no device call. Refused as the store refuses it.
+    /// Starts the first command that waits, and makes no device call. Refused as the store refuses
+    /// it.
     fn start_first(&mut self, first: Waiting) -> Result<(), CommitFault>
         requires running { is_stopped self.old ≡ false }
         requires idle { IsIdle self.old.store }

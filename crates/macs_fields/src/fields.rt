@@ -1,5 +1,5 @@
-//! The values of a SecTAG's fields (IEEE Std 802.1AE-2018, 9.6, 9.8 and 9.9), and the confidentiality
-//! offset.
+//! The values of a SecTAG's fields (IEEE Std 802.1AE-2018, 9.6, 9.8 and 9.9), and the
+//! confidentiality offset.
 
 ghost use Rattle.std.specs.Prelude.{◌≡◌, ℕ, ◌<◌, ◌^◌, ◌↔◌, List, [], ◌∷◌, IsSome, IfSome};
 

@@ -1,5 +1,5 @@
-//! Laws of the definitions, for the layers above. Where a law speaks of a value behind a reference, its
-//! body reads it: that is how a proof learns its range.
+//! Laws of the definitions, for the layers above. Where a law speaks of a value behind a reference,
+//! its body reads it: that is how a proof learns its range.
 
 ghost use Rattle.std.specs.Prelude.{◌≡◌, ◌<◌, ◌^◌, Bool, List, All, IsTrue};
 ghost use Rattle.std.specs.Bool.{IsFalse};
@@ -13,7 +13,8 @@ use crate::{An, Sci};
 /// else none.
 pub fn one_first_refusal<R>()
     ensures once { (holds : R → Bool) (refusals : List R) (a b : R)
-        → IsFirst (λ r. IsTrue (holds r)) refusals a → IsFirst (λ r. IsTrue (holds r)) refusals b → a ≡ b }
+        → IsFirst (λ r. IsTrue (holds r)) refusals a
+        → IsFirst (λ r. IsTrue (holds r)) refusals b → a ≡ b }
     ensures some { (holds : R → Bool) (refusals : List R) → IsTrue (list_any holds refusals)
         → (first : R) × IsFirst (λ r. IsTrue (holds r)) refusals first }
     ensures none { (holds : R → Bool) (refusals : List R) → IsFalse (list_any holds refusals)

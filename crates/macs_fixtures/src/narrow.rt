@@ -3,7 +3,8 @@
 use std::alloc::Global;
 use std::io::{self, ErrorKind, Read, Write};
 
-/// A reader that gives one octet a call. The call of this number fails, as if it were interrupted; at 0 none does.
+/// A reader that gives one octet a call. The call of this number fails, as if it were interrupted;
+/// at 0 none does.
 #[derive(Drop)]
 pub struct NarrowReader<'a> {
     octets: &'a [u8],
@@ -48,7 +49,8 @@ pub enum Failure {
     Nothing,
 }
 
-/// A writer that takes one octet a call. The call of this number fails, flushes included; at 0 none does.
+/// A writer that takes one octet a call. The call of this number fails, flushes included; at 0 none
+/// does.
 #[derive(Drop)]
 pub struct NarrowWriter {
     octets: Vec<u8>,

@@ -17,16 +17,21 @@ abbrev later_faults : List OpenFault
 later_faults = OtherSci ∷ NotValid ∷ []
 
 -- a frame that has parts for this endpoint has no fault of its tag
-pub no_tag_fault : (frame : List ℕ) (parts : Parts) → Tag frame parts × (¬ IsForKay frame) → NoneHolds (TagFaultHolds frame) tag_faults
-no_tag_fault frame parts (tag, kay) = (λ runt. omega arith, (λ oversize. omega arith, (λ no. no tag.tagged, (λ bad. bad tag.reading.good, (kay, tt)))))
+pub no_tag_fault : (frame : List ℕ) (parts : Parts) → Tag frame parts × (¬ IsForKay frame)
+    → NoneHolds (TagFaultHolds frame) tag_faults
+no_tag_fault frame parts (tag, kay) =
+    (λ runt. omega arith, (λ oversize. omega arith, (λ no. no tag.tagged, (λ bad. bad tag.reading.good, (kay, tt)))))
 
 module _ (frame key sci : List ℕ) (offset : ℕ) where
   -- the first fault of the tag is the first of all
-  pub first_tag_fault : (fault : TagFault) → IsFirst (TagFaultHolds frame) tag_faults fault → IsFirst (OpenFaultHolds frame key sci offset) open_faults (TagRefused fault)
-  first_tag_fault fault first = first-map-append (OpenFaultHolds frame key sci offset) TagRefused tag_faults later_faults fault first
+  pub first_tag_fault : (fault : TagFault) → IsFirst (TagFaultHolds frame) tag_faults fault
+      → IsFirst (OpenFaultHolds frame key sci offset) open_faults (TagRefused fault)
+  first_tag_fault fault first =
+      first-map-append (OpenFaultHolds frame key sci offset) TagRefused tag_faults later_faults fault first
 
   -- a frame whose parts open is verified
-  pub verified : (parts : Parts) → Tag frame parts × (¬ IsForKay frame) → (plain : List ℕ) → OpensTo frame key sci offset parts plain → Verified frame key sci offset plain
+  pub verified : (parts : Parts) → Tag frame parts × (¬ IsForKay frame) → (plain : List ℕ)
+      → OpensTo frame key sci offset parts plain → Verified frame key sci offset plain
   verified parts read plain opens = (verified_by_its_parts frame key sci offset parts plain read.0 read.1).1 opens
 
   -- what follows once the parts are read, and it is known whether they name another SCI
@@ -34,7 +39,8 @@ module _ (frame key sci : List ℕ) (offset : ℕ) where
       (is_other : IsTrue other ↔ IsSomeAnd (named_sci frame parts.tag.name) (λ named. named ≢ sci)) where
     -- the SCI that the parts name is the one that the frame names
     names_other : IsTrue other ↔ OpenFaultHolds frame key sci offset OtherSci
-    names_other = subst (λ name. IsTrue other ↔ IsSomeAnd (named_sci frame name) (λ named. named ≢ sci)) (ap (λ (t : SecTag). t.name) read.0.reading.tag) is_other
+    names_other = subst (λ name. IsTrue other ↔ IsSomeAnd (named_sci frame name) (λ named. named ≢ sci))
+        (ap (λ (t : SecTag). t.name) read.0.reading.tag) is_other
 
     same_sci : other ≡ false → ¬ OpenFaultHolds frame key sci offset OtherSci
     same_sci same = λ differs. let yes = names_other.1 differs in cc
@@ -42,18 +48,23 @@ module _ (frame key sci : List ℕ) (offset : ℕ) where
     -- another SCI is the first fault
     pub first_other_sci : other ≡ true → IsFirst (OpenFaultHolds frame key sci offset) open_faults OtherSci
     first_other_sci differs =
-        first-behind (OpenFaultHolds frame key sci offset) TagRefused tag_faults later_faults OtherSci (no_tag_fault frame parts read) (inl (names_other.0 differs, refl))
+        first-behind (OpenFaultHolds frame key sci offset) TagRefused tag_faults later_faults OtherSci
+        (no_tag_fault frame parts read) (inl (names_other.0 differs, refl))
 
     -- else that the parts open to nothing is
-    pub first_not_valid : other ≡ false → ((plain : List ℕ) → ¬ OpensTo frame key sci offset parts plain) → IsFirst (OpenFaultHolds frame key sci offset) open_faults NotValid
+    pub first_not_valid : other ≡ false → ((plain : List ℕ) → ¬ OpensTo frame key sci offset parts plain)
+        → IsFirst (OpenFaultHolds frame key sci offset) open_faults NotValid
     first_not_valid same closed =
         let wrong : OpenFaultHolds frame key sci offset NotValid = λ plain found.
         closed plain ((verified_by_its_parts frame key sci offset parts plain read.0 read.1).0 found) in
-        first-behind (OpenFaultHolds frame key sci offset) TagRefused tag_faults later_faults NotValid (no_tag_fault frame parts read)
+        first-behind (OpenFaultHolds frame key sci offset) TagRefused tag_faults later_faults NotValid
+        (no_tag_fault frame parts read)
         (inr (same_sci same, inl (wrong, refl)))
 
     -- else there is no fault
-    pub no_fault : other ≡ false → (plain : List ℕ) → OpensTo frame key sci offset parts plain → NoneHolds (OpenFaultHolds frame key sci offset) open_faults
+    pub no_fault : other ≡ false → (plain : List ℕ) → OpensTo frame key sci offset parts plain
+        → NoneHolds (OpenFaultHolds frame key sci offset) open_faults
     no_fault same plain opens =
-        none-map-append (OpenFaultHolds frame key sci offset) TagRefused tag_faults later_faults (no_tag_fault frame parts read)
+        none-map-append (OpenFaultHolds frame key sci offset) TagRefused tag_faults later_faults
+        (no_tag_fault frame parts read)
         (same_sci same, (λ wrong. wrong plain (verified parts read plain opens), tt))

@@ -13,10 +13,13 @@ pub record Pieces (frame sci : List ℕ) (offset : ℕ) (parts : Parts) (clear :
   pub iv_is : iv ≡ iv_of sci parts.tag.pn
   pub icv_is : icv ≡ icv_of frame parts
 
-module _ (frame key sci : List ℕ) (offset : ℕ) (parts : Parts) (clear : ℕ) (iv icv : List ℕ) (p : Pieces frame sci offset parts clear iv icv) where
+module _ (frame key sci : List ℕ) (offset : ℕ) (parts : Parts) (clear : ℕ) (iv icv : List ℕ)
+    (p : Pieces frame sci offset parts clear iv icv) where
   -- a buffer with the octets in the clear in front of opened ones is the plain frame
-  pub opened_in_place : (start : ℕ) (out : List ℕ) → take start out ≡ take 12 frame ++ slice_range frame parts.start clear
-      → seal key iv (take clear frame) (drop start out) ≡ (slice_range frame clear parts.end, icv) → OpensTo frame key sci offset parts out
+  pub opened_in_place : (start : ℕ) (out : List ℕ)
+      → take start out ≡ take 12 frame ++ slice_range frame parts.start clear
+      → seal key iv (take clear frame) (drop start out) ≡ (slice_range frame clear parts.end, icv)
+      → OpensTo frame key sci offset parts out
   opened_in_place start out front sealed = record {
     plaintext = drop start out;
     sealed = rw (← p.aad_is, ← p.hidden_is, ← p.iv_is, ← p.icv_is) sealed;
@@ -24,5 +27,6 @@ module _ (frame key sci : List ℕ) (offset : ℕ) (parts : Parts) (clear : ℕ)
   }
 
   -- and parts that open to a plain frame open
-  pub opens_in_place : (plain : List ℕ) → OpensTo frame key sci offset parts plain → Opens key iv (take clear frame) (slice_range frame clear parts.end) icv
+  pub opens_in_place : (plain : List ℕ) → OpensTo frame key sci offset parts plain
+      → Opens key iv (take clear frame) (slice_range frame clear parts.end) icv
   opens_in_place plain opens = (opens.plaintext, rw (p.aad_is, p.hidden_is, p.iv_is, p.icv_is) opens.sealed)

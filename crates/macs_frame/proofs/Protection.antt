@@ -1,5 +1,7 @@
 -- A protected frame is read as it was written, and verified as its own plain frame and as no other.
-use Rattle.std.proofs.Common.{◌≡◌, ◌∙◌, ◌↔◌, ◌<◌, ◌≤◌, ◌+◌, ◌-◌, ℕ, Bool, true, false, List, [], ◌∷◌, ◌++◌, length, take, drop, inl, inr, refl, ap, sym, subst, arith, append_assoc, length-append, length-take, length-drop}
+use Rattle.std.proofs.Common.{◌≡◌, ◌∙◌, ◌↔◌, ◌<◌, ◌≤◌, ◌+◌, ◌-◌, ℕ, Bool, true, false, List, [], ◌∷◌, ◌++◌, length}
+use Rattle.std.proofs.Common.{take, drop, inl, inr, refl, ap, sym, subst, arith, append_assoc, length-append}
+use Rattle.std.proofs.Common.{length-take, length-drop}
 use Rattle.std.proofs.lemmas.Bool.{cases_lt}
 use Rattle.std.proofs.lemmas.List.{append-nil, drop_all, drop_at, take-append-drop, take_all, take_at}
 use Rattle.std.specs.Prelude.{slice_range}
@@ -8,7 +10,8 @@ use Rattle.macs_gcm.specs.Gcm.{seal}
 use Rattle.macs_frame.specs.declared.tag.Parts.{Parts}
 use Rattle.macs_frame.specs.declared.tag.SecTag.{SecTag}
 use Rattle.macs_frame.specs.Opening.{OpensTo, Verified, clear_of, hidden_of, iv_of}
-use Rattle.macs_frame.specs.Protection.{IsWritten, header_of, overhead, written_parts, protected_frame, tag_octets, user_data, written_tag}
+use Rattle.macs_frame.specs.Protection.{IsWritten, header_of, overhead, written_parts, protected_frame, tag_octets}
+use Rattle.macs_frame.specs.Protection.{user_data, written_tag}
 use Rattle.macs_frame.specs.Tag.{IsForKay, Tag}
 use Rattle.macs_frame.proofs.Readings.{verified_once}
 use Rattle.macs_frame.proofs.WrittenTag.{length-written_tag, parts_at, written_is_read}
@@ -24,7 +27,8 @@ no_octet [] h = refl
 no_octet (x ∷ c) h = absurd (omega arith)
 
 -- with the ciphertext after them the octets in the clear are the same
-clear_again : (e : Bool) (o : ℕ) (u c : List ℕ) → length c ≡ length (hidden_of e o u) → clear_of e o (clear_of e o u ++ c) ≡ clear_of e o u
+clear_again : (e : Bool) (o : ℕ) (u c : List ℕ) → length c ≡ length (hidden_of e o u)
+    → clear_of e o (clear_of e o u ++ c) ≡ clear_of e o u
 clear_again true o u c h = elim (cases_lt o (length u)) [
   | inl lt ↦ take_at (take o u) c o (omega (arith, length-take o u))
   | inr ge ↦
@@ -34,7 +38,8 @@ clear_again true o u c h = elim (cases_lt o (length u)) [
 clear_again false o u c h = rw (no_octet c h) (append-nil u)
 
 -- and the encrypted ones are the ciphertext
-hidden_again : (e : Bool) (o : ℕ) (u c : List ℕ) → length c ≡ length (hidden_of e o u) → hidden_of e o (clear_of e o u ++ c) ≡ c
+hidden_again : (e : Bool) (o : ℕ) (u c : List ℕ) → length c ≡ length (hidden_of e o u)
+    → hidden_of e o (clear_of e o u ++ c) ≡ c
 hidden_again true o u c h = elim (cases_lt o (length u)) [
   | inl lt ↦ drop_at (take o u) c o (omega (arith, length-take o u))
   | inr ge ↦
@@ -68,43 +73,52 @@ cut a w s i la li =
       front = ap (take (length a + length w)) two ∙ take_at (a ++ w) (s ++ i) (length a + length w) n;
       secure =
           ap (λ (k : ℕ). take k (drop (length a + length w) (a ++ (w ++ (s ++ i))))) count
-          ∙ ap (take (length s)) (ap (drop (length a + length w)) two ∙ drop_at (a ++ w) (s ++ i) (length a + length w) n) ∙ take_at s i (length s) refl;
+          ∙ ap (take (length s)) (ap (drop (length a + length w)) two
+          ∙ drop_at (a ++ w) (s ++ i) (length a + length w) n) ∙ take_at s i (length s) refl;
       icv =
           ap (λ (k : ℕ). take k (drop (length a + length w + length s) (a ++ (w ++ (s ++ i))))) sixteen
-          ∙ ap (take 16) (ap (drop (length a + length w + length s)) three ∙ drop_at ((a ++ w) ++ s) i (length a + length w + length s) m) ∙ take_all 16 i (omega arith);
+          ∙ ap (take 16) (ap (drop (length a + length w + length s)) three
+          ∙ drop_at ((a ++ w) ++ s) i (length a + length w + length s) m) ∙ take_all 16 i (omega arith);
     }
 
 -- ---- the frame that protects
 
 regroup : (a w clear c i : List ℕ) → a ++ w ++ clear ++ c ++ i ≡ a ++ (w ++ ((clear ++ c) ++ i))
 regroup a w clear c i =
-    ap (λ (l : List ℕ). l ++ i) (append_assoc (a ++ w) clear c) ∙ append_assoc (a ++ w) (clear ++ c) i ∙ append_assoc a w ((clear ++ c) ++ i)
+    ap (λ (l : List ℕ). l ++ i) (append_assoc (a ++ w) clear c) ∙ append_assoc (a ++ w) (clear ++ c) i
+    ∙ append_assoc a w ((clear ++ c) ++ i)
 
 abbrev parts_to : SecTag → ℕ → ℕ → Parts
 parts_to tag start end = record { tag = tag; start = start; end = end }
 
 -- what a frame of these pieces is read and opened as
 abbrev Stands : (frame key sci : List ℕ) → ℕ → Parts → List ℕ → Type 0
-Stands frame key sci offset parts plain = Tag frame parts × (¬ IsForKay frame) × OpensTo frame key sci offset parts plain
+Stands frame key sci offset parts plain = Tag frame parts × (¬ IsForKay frame)
+    × OpensTo frame key sci offset parts plain
 
-stands_alike : (f g key sci : List ℕ) (o : ℕ) (parts parts' : Parts) (p q : List ℕ) → f ≡ g → parts ≡ parts' → p ≡ q → Stands g key sci o parts' q → Stands f key sci o parts p
+stands_alike : (f g key sci : List ℕ) (o : ℕ) (parts parts' : Parts) (p q : List ℕ) → f ≡ g → parts ≡ parts' → p ≡ q
+    → Stands g key sci o parts' q → Stands f key sci o parts p
 stands_alike f g key sci o parts parts' p q h0 h1 h2 found = rw (h0, h1, h2) found
 
-module _ (key sci : List ℕ) (tag : SecTag) (o : ℕ) (a user c i : List ℕ) (la : length a ≡ 12) (is : IsWritten tag) (some : 0 < length user)
+module _ (key sci : List ℕ) (tag : SecTag) (o : ℕ) (a user c i : List ℕ) (la : length a ≡ 12) (is : IsWritten tag)
+    (some : 0 < length user)
     (lc : length c ≡ length (hidden_of tag.encrypted o user)) (li : length i ≡ 16) where
   length-secure : length (clear_of tag.encrypted o user ++ c) ≡ length user
   length-secure = omega (arith, length-append (clear_of tag.encrypted o user) c, length-split tag.encrypted o user)
 
   stands : 12 + tag_octets tag.name + length user + 16 ≤ 9216
-      → seal key (iv_of sci tag.pn) (a ++ written_tag tag (length user) ++ clear_of tag.encrypted o user) (hidden_of tag.encrypted o user) ≡ (c, i)
-      → Stands (a ++ (written_tag tag (length user) ++ ((clear_of tag.encrypted o user ++ c) ++ i))) key sci o (parts_at tag (length user)) (a ++ user)
+      → seal key (iv_of sci tag.pn) (a ++ written_tag tag (length user) ++ clear_of tag.encrypted o user)
+      (hidden_of tag.encrypted o user) ≡ (c, i)
+      → Stands (a ++ (written_tag tag (length user) ++ ((clear_of tag.encrypted o user ++ c) ++ i))) key sci o
+      (parts_at tag (length user)) (a ++ user)
   stands fits sealed =
       let w = written_tag tag (length user) in
       let s = clear_of tag.encrypted o user ++ c in
       let frame = a ++ (w ++ (s ++ i)) in
       let lw : length w ≡ tag_octets tag.name = length-written_tag tag (length user) is.name in
       let starts : length a + length w ≡ 12 + tag_octets tag.name = omega arith in
-      let ends : length a + length w + length s ≡ 12 + tag_octets tag.name + length user = omega (arith, length-secure) in
+      let ends : length a + length w + length s ≡ 12 + tag_octets tag.name + length user =
+      omega (arith, length-secure) in
       let pieces = cut a w s i la li in
       let from = 12 + tag_octets tag.name in
       let upto = 12 + tag_octets tag.name + length user in
@@ -113,17 +127,21 @@ module _ (key sci : List ℕ) (tag : SecTag) (o : ℕ) (a user c i : List ℕ) (
       let icv : slice_range frame upto (upto + 16) ≡ i = rw (← ends) pieces.icv in
       let again : clear_of tag.encrypted o s ≡ clear_of tag.encrypted o user = clear_again tag.encrypted o user c lc in
       let behind : hidden_of tag.encrypted o s ≡ c = hidden_again tag.encrypted o user c lc in
-      let read = written_is_read a tag (length user) (s ++ i) la is (omega (arith, length-append s i, length-secure)) some fits in (
+      let read = written_is_read a tag (length user) (s ++ i) la is (omega (arith, length-append s i, length-secure))
+      some fits in (
         read.0,
         read.1,
         record {
           plaintext = hidden_of tag.encrypted o user;
           sealed = rw (front, secure, icv, again, behind) sealed;
-          plain_is = rw (pieces.addresses, secure, again) (ap (λ (l : List ℕ). a ++ l) (sym (whole tag.encrypted o user)) ∙ sym (append_assoc a (clear_of tag.encrypted o user) (hidden_of tag.encrypted o user)));
+          plain_is =
+              rw (pieces.addresses, secure, again) (ap (λ (l : List ℕ). a ++ l) (sym (whole tag.encrypted o user))
+              ∙ sym (append_assoc a (clear_of tag.encrypted o user) (hidden_of tag.encrypted o user)));
         },
       )
 
-module _ (key sci : List ℕ) (tag : SecTag) (offset : ℕ) (plain : List ℕ) (is : IsWritten tag) (long : 14 ≤ length plain) where
+module _ (key sci : List ℕ) (tag : SecTag) (offset : ℕ) (plain : List ℕ) (is : IsWritten tag)
+    (long : 14 ≤ length plain) where
   length-user_data : 12 + length (user_data plain) ≡ length plain
   length-user_data = omega (arith, length-drop 12 plain)
 
@@ -152,28 +170,36 @@ module _ (key sci : List ℕ) (tag : SecTag) (offset : ℕ) (plain : List ℕ) (
 
   same_parts : parts_at tag (length (user_data plain)) ≡ written_parts tag (length plain)
   same_parts =
-      let end : 12 + tag_octets tag.name + length (user_data plain) ≡ length plain + tag_octets tag.name = omega (arith, length-user_data) in
+      let end : 12 + tag_octets tag.name + length (user_data plain) ≡ length plain + tag_octets tag.name =
+      omega (arith, length-user_data) in
       ap (λ (e : ℕ). parts_to tag (12 + tag_octets tag.name) e) end
 
-  protected_stands : length plain + overhead tag.name ≤ 9216 → Stands (protected_frame key sci tag offset plain) key sci offset (written_parts tag (length plain)) plain
+  protected_stands : length plain + overhead tag.name ≤ 9216
+      → Stands (protected_frame key sci tag offset plain) key sci offset (written_parts tag (length plain)) plain
   unfolding protected_frame
   protected_stands fits =
       let user = user_data plain in
-      let sealed = seal key (iv_of sci tag.pn) (header_of tag plain ++ clear_of tag.encrypted offset user) (hidden_of tag.encrypted offset user) in
-      let found = stands key sci tag offset (take 12 plain) user sealed.0 sealed.1 (omega (arith, length-take 12 plain)) is (omega (arith, length-user_data))
+      let sealed = seal key (iv_of sci tag.pn) (header_of tag plain ++ clear_of tag.encrypted offset user)
+      (hidden_of tag.encrypted offset user) in
+      let found = stands key sci tag offset (take 12 plain) user sealed.0 sealed.1 (omega (arith, length-take 12 plain))
+      is (omega (arith, length-user_data))
       (seal-length key _ _ _) (seal-tag_length key _ _ _) (omega (arith, length-user_data)) refl in
-      stands_alike _ _ key sci offset _ _ _ _ (regroup (take 12 plain) (written_tag tag (length user)) (clear_of tag.encrypted offset user) sealed.0 sealed.1) (sym same_parts)
+      stands_alike _ _ key sci offset _ _ _ _ (regroup (take 12 plain) (written_tag tag (length user))
+      (clear_of tag.encrypted offset user) sealed.0 sealed.1) (sym same_parts)
       (sym (take-append-drop 12 plain)) found
 
 -- a protected frame is read as it was written
-pub protected_is_read : (key sci : List ℕ) (tag : SecTag) (offset : ℕ) (plain : List ℕ) → IsWritten tag → 14 ≤ length plain → length plain + overhead tag.name ≤ 9216
-    → Tag (protected_frame key sci tag offset plain) (written_parts tag (length plain)) × (¬ IsForKay (protected_frame key sci tag offset plain))
+pub protected_is_read : (key sci : List ℕ) (tag : SecTag) (offset : ℕ) (plain : List ℕ) → IsWritten tag
+    → 14 ≤ length plain → length plain + overhead tag.name ≤ 9216
+    → Tag (protected_frame key sci tag offset plain) (written_parts tag (length plain))
+    × (¬ IsForKay (protected_frame key sci tag offset plain))
 protected_is_read key sci tag offset plain is long fits =
     let found = protected_stands key sci tag offset plain is long fits in
     (found.0, found.1)
 
 -- and verified as its own plain frame and as no other
-pub protected_is_verified : (key sci : List ℕ) (tag : SecTag) (offset : ℕ) (plain other : List ℕ) → IsWritten tag → 14 ≤ length plain → length plain + overhead tag.name ≤ 9216
+pub protected_is_verified : (key sci : List ℕ) (tag : SecTag) (offset : ℕ) (plain other : List ℕ) → IsWritten tag
+    → 14 ≤ length plain → length plain + overhead tag.name ≤ 9216
     → (Verified (protected_frame key sci tag offset plain) key sci offset other ↔ (other ≡ plain))
 protected_is_verified key sci tag offset plain other is long fits =
     let found = protected_stands key sci tag offset plain is long fits in
@@ -184,5 +210,6 @@ protected_is_verified key sci tag offset plain other is long fits =
       opens = found.2;
     } in (
       λ opened. verified_once _ key sci offset other plain opened verified,
-      λ same. subst (λ (p : List ℕ). Verified (protected_frame key sci tag offset plain) key sci offset p) (sym same) verified,
+      λ same. subst (λ (p : List ℕ). Verified (protected_frame key sci tag offset plain) key sci offset p)
+          (sym same) verified,
     )

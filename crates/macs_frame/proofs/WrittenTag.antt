@@ -1,5 +1,6 @@
 -- A frame with a written SecTAG is read as it was written.
-use Rattle.std.proofs.Common.{◌≡◌, ◌∙◌, ◌<◌, ◌≤◌, ◌+◌, ◌%◌, ◌&&◌, ℕ, zero, suc, Bool, true, false, List, ◌∷◌, ◌++◌, length, take, drop, get_or, refl, ap, sym, arith, rules, length-append}
+use Rattle.std.proofs.Common.{◌≡◌, ◌∙◌, ◌<◌, ◌≤◌, ◌+◌, ◌%◌, ◌&&◌, ℕ, zero, suc, Bool, true, false, List, ◌∷◌, ◌++◌}
+use Rattle.std.proofs.Common.{length, take, drop, get_or, refl, ap, sym, arith, rules, length-append}
 use Rattle.std.proofs.lemmas.Bool.Decides.{nat_tests}
 use Rattle.std.proofs.lemmas.List.{drop-drop, drop_at, get_or-append_right, take_at}
 use Rattle.std.proofs.lemmas.Nat.{from_be_bytes-to_be_bytes_4}
@@ -10,7 +11,9 @@ use Rattle.macs_frame.specs.declared.tag.ScName.TheVariants.{Explicit, EndStatio
 use Rattle.macs_frame.specs.declared.tag.SecTag.{SecTag}
 use Rattle.macs_frame.specs.declared.tag.Parts.{Parts}
 use Rattle.macs_frame.specs.Protection.{IsName, IsWritten, name_bits, sci_octets, short_of, tag_octets, written_tag}
-use Rattle.macs_frame.specs.Tag.{Agrees, IsForKay, IsTagged, Tag, changed, control, encrypted, end_at, end_station, has_bit, has_sci, name_of, pn_of, sci_of, short_length, single_copy_broadcast, start_of, has_version}
+use Rattle.macs_frame.specs.Tag.{Agrees, IsForKay, IsTagged, Tag, changed, control, encrypted, end_at, end_station}
+use Rattle.macs_frame.specs.Tag.{has_bit, has_sci, name_of, pn_of, sci_of, short_length, single_copy_broadcast}
+use Rattle.macs_frame.specs.Tag.{start_of, has_version}
 
 -- ---- octet 3
 
@@ -46,18 +49,30 @@ four P a b c d (suc (suc (suc zero))) h = d
 four P a b c d (suc (suc (suc (suc n)))) h = absurd (omega arith)
 
 bits : (name : ScName) (e c : Bool) (an : ℕ) → an < 4 → Bits name e c an
-bits (Explicit s) true true an h = four (Bits (Explicit s) true true) (search rules) (search rules) (search rules) (search rules) an h
-bits (Explicit s) true false an h = four (Bits (Explicit s) true false) (search rules) (search rules) (search rules) (search rules) an h
-bits (Explicit s) false true an h = four (Bits (Explicit s) false true) (search rules) (search rules) (search rules) (search rules) an h
-bits (Explicit s) false false an h = four (Bits (Explicit s) false false) (search rules) (search rules) (search rules) (search rules) an h
-bits EndStation true true an h = four (Bits EndStation true true) (search rules) (search rules) (search rules) (search rules) an h
-bits EndStation true false an h = four (Bits EndStation true false) (search rules) (search rules) (search rules) (search rules) an h
-bits EndStation false true an h = four (Bits EndStation false true) (search rules) (search rules) (search rules) (search rules) an h
-bits EndStation false false an h = four (Bits EndStation false false) (search rules) (search rules) (search rules) (search rules) an h
-bits Implicit true true an h = four (Bits Implicit true true) (search rules) (search rules) (search rules) (search rules) an h
-bits Implicit true false an h = four (Bits Implicit true false) (search rules) (search rules) (search rules) (search rules) an h
-bits Implicit false true an h = four (Bits Implicit false true) (search rules) (search rules) (search rules) (search rules) an h
-bits Implicit false false an h = four (Bits Implicit false false) (search rules) (search rules) (search rules) (search rules) an h
+bits (Explicit s) true true an h =
+    four (Bits (Explicit s) true true) (search rules) (search rules) (search rules) (search rules) an h
+bits (Explicit s) true false an h =
+    four (Bits (Explicit s) true false) (search rules) (search rules) (search rules) (search rules) an h
+bits (Explicit s) false true an h =
+    four (Bits (Explicit s) false true) (search rules) (search rules) (search rules) (search rules) an h
+bits (Explicit s) false false an h =
+    four (Bits (Explicit s) false false) (search rules) (search rules) (search rules) (search rules) an h
+bits EndStation true true an h =
+    four (Bits EndStation true true) (search rules) (search rules) (search rules) (search rules) an h
+bits EndStation true false an h =
+    four (Bits EndStation true false) (search rules) (search rules) (search rules) (search rules) an h
+bits EndStation false true an h =
+    four (Bits EndStation false true) (search rules) (search rules) (search rules) (search rules) an h
+bits EndStation false false an h =
+    four (Bits EndStation false false) (search rules) (search rules) (search rules) (search rules) an h
+bits Implicit true true an h =
+    four (Bits Implicit true true) (search rules) (search rules) (search rules) (search rules) an h
+bits Implicit true false an h =
+    four (Bits Implicit true false) (search rules) (search rules) (search rules) (search rules) an h
+bits Implicit false true an h =
+    four (Bits Implicit false true) (search rules) (search rules) (search rules) (search rules) an h
+bits Implicit false false an h =
+    four (Bits Implicit false false) (search rules) (search rules) (search rules) (search rules) an h
 
 -- ---- the fields of a frame
 
@@ -76,12 +91,14 @@ record Reads (frame : List ℕ) (tag : SecTag) (secure : ℕ) : Type 0 where
   pub number : pn_of frame ≡ tag.pn
   pub sci : SciAt tag.name frame
 
-start_is : (name : ScName) (frame : List ℕ) → has_sci (control frame) ≡ is_explicit name → start_of frame ≡ 12 + tag_octets name
+start_is : (name : ScName) (frame : List ℕ) → has_sci (control frame) ≡ is_explicit name
+    → start_of frame ≡ 12 + tag_octets name
 start_is (Explicit sci) frame explicit = rw explicit refl
 start_is EndStation frame explicit = rw explicit refl
 start_is Implicit frame explicit = rw explicit refl
 
-name_is : (name : ScName) (frame : List ℕ) → has_sci (control frame) ≡ is_explicit name → end_station (control frame) ≡ is_end_station name → SciAt name frame
+name_is : (name : ScName) (frame : List ℕ) → has_sci (control frame) ≡ is_explicit name
+    → end_station (control frame) ≡ is_end_station name → SciAt name frame
     → name ≡ name_of frame
 name_is (Explicit sci) frame explicit station sci_is = rw explicit (ap Explicit (sym sci_is))
 name_is EndStation frame explicit station sci_is = rw (explicit, station) refl
@@ -95,13 +112,15 @@ one_name Implicit = refl
 below_64 : (n : ℕ) → short_of n < 64
 below_64 n = grind (arith, nat_tests)
 
-agrees : (octets start short n : ℕ) → 0 < n → short ≡ short_of n → octets ≡ start + n + 16 → Agrees octets start short × (start + n ≡ end_at octets start short)
+agrees : (octets start short n : ℕ) → 0 < n → short ≡ short_of n → octets ≡ start + n + 16
+    → Agrees octets start short × (start + n ≡ end_at octets start short)
 agrees octets start short n some is len = grind (arith, nat_tests)
 
 abbrev made_tag : ℕ → ℕ → ScName → Bool → Bool → SecTag
 made_tag an pn name e c = record { an = an; pn = pn; name = name; encrypted = e; changed = c }
 
-same_tag : (an number : ℕ) (name : ScName) (e c : Bool) (tag : SecTag) → tag.an ≡ an → tag.pn ≡ number → tag.name ≡ name → tag.encrypted ≡ e → tag.changed ≡ c
+same_tag : (an number : ℕ) (name : ScName) (e c : Bool) (tag : SecTag) → tag.an ≡ an → tag.pn ≡ number → tag.name ≡ name
+    → tag.encrypted ≡ e → tag.changed ≡ c
     → tag ≡ made_tag an number name e c
 same_tag an number name e c tag h0 h1 h2 h3 h4 = rw (← h0, ← h1, ← h2, ← h3, ← h4) refl
 
@@ -110,7 +129,8 @@ abbrev pub parts_at : SecTag → ℕ → Parts
 parts_at tag n = record { tag = tag; start = 12 + tag_octets tag.name; end = 12 + tag_octets tag.name + n }
 
 -- a bit of the octet, as a bit of the frame's
-bit : (frame : List ℕ) (octet mask : ℕ) (b : Bool) → control frame ≡ octet → has_bit octet mask ≡ b → has_bit (control frame) mask ≡ b
+bit : (frame : List ℕ) (octet mask : ℕ) (b : Bool) → control frame ≡ octet → has_bit octet mask ≡ b
+    → has_bit (control frame) mask ≡ b
 bit frame octet mask b same is = ap (λ (x : ℕ). has_bit x mask) same ∙ is
 
 read_back : (frame : List ℕ) (tag : SecTag) (n : ℕ) → Reads frame tag n → IsWritten tag → 0 < n → length frame ≤ 9216
@@ -160,14 +180,16 @@ read_back frame tag n r is some fits =
 
 -- what is after the addresses
 past : (a rest : List ℕ) (k : ℕ) → length a ≡ 12 → get_or (a ++ rest) (12 + k) 0 ≡ get_or rest k 0
-past a rest k h = get_or-append_right a rest 12 (12 + k) 0 h (omega arith) ∙ ap (λ (n : ℕ). get_or rest n 0) (omega arith)
+past a rest k h = get_or-append_right a rest 12 (12 + k) 0 h (omega arith)
+    ∙ ap (λ (n : ℕ). get_or rest n 0) (omega arith)
 
 drop_past : (a rest : List ℕ) (k : ℕ) → length a ≡ 12 → drop (12 + k) (a ++ rest) ≡ drop k rest
 drop_past a rest k h = rw (← h, ← drop-drop k (length a) (a ++ rest), drop_at a rest (length a) refl) refl
 
 sci_read : (a : List ℕ) (w0 w1 w2 w3 w4 w5 w6 w7 : ℕ) (name : ScName) (more : List ℕ) → length a ≡ 12 → IsName name
     → SciAt name (a ++ (w0 ∷ w1 ∷ w2 ∷ w3 ∷ w4 ∷ w5 ∷ w6 ∷ w7 ∷ (sci_octets name ++ more)))
-sci_read a w0 w1 w2 w3 w4 w5 w6 w7 (Explicit s) more h is = ap (λ (l : List ℕ). take 8 l) (drop_past a _ 8 h) ∙ take_at s more 8 is
+sci_read a w0 w1 w2 w3 w4 w5 w6 w7 (Explicit s) more h is = ap (λ (l : List ℕ). take 8 l) (drop_past a _ 8 h)
+    ∙ take_at s more 8 is
 sci_read a w0 w1 w2 w3 w4 w5 w6 w7 EndStation more h is = tt
 sci_read a w0 w1 w2 w3 w4 w5 w6 w7 Implicit more h is = tt
 
@@ -180,18 +202,26 @@ pub length-written_tag : (tag : SecTag) (n : ℕ) → IsName tag.name → length
 length-written_tag tag n is = omega (arith, length-sci_octets tag.name is)
 
 -- addresses, a written tag and what comes after it
-reads : (addresses : List ℕ) (tag : SecTag) (n : ℕ) (more : List ℕ) → length addresses ≡ 12 → IsWritten tag → length more ≡ n + 16
+reads : (addresses : List ℕ) (tag : SecTag) (n : ℕ) (more : List ℕ) → length addresses ≡ 12 → IsWritten tag
+    → length more ≡ n + 16
     → Reads (addresses ++ (written_tag tag n ++ more)) tag n
 reads a tag n more la is lm = record {
-  octets = omega (arith, length-append a (written_tag tag n ++ more), length-append (written_tag tag n) more, length-written_tag tag n is.name);
+  octets = omega (
+    arith,
+    length-append a (written_tag tag n ++ more),
+    length-append (written_tag tag n) more,
+    length-written_tag tag n is.name,
+  );
   tagged = (past a _ 0 la, past a _ 1 la);
   control = past a _ 2 la;
   short = past a _ 3 la;
-  number = ap (λ (l : List ℕ). from_be_bytes w32 (take 4 l)) (drop_past a _ 4 la) ∙ from_be_bytes-to_be_bytes_4 tag.pn is.pn;
+  number = ap (λ (l : List ℕ). from_be_bytes w32 (take 4 l)) (drop_past a _ 4 la)
+      ∙ from_be_bytes-to_be_bytes_4 tag.pn is.pn;
   sci = sci_read a _ _ _ _ _ _ _ _ tag.name more la is.name;
 }
 
-pub written_is_read : (addresses : List ℕ) (tag : SecTag) (n : ℕ) (more : List ℕ) → length addresses ≡ 12 → IsWritten tag → length more ≡ n + 16 → 0 < n
+pub written_is_read : (addresses : List ℕ) (tag : SecTag) (n : ℕ) (more : List ℕ) → length addresses ≡ 12
+    → IsWritten tag → length more ≡ n + 16 → 0 < n
     → 12 + tag_octets tag.name + n + 16 ≤ 9216
     → Tag (addresses ++ (written_tag tag n ++ more)) (parts_at tag n)
     × (¬ IsForKay (addresses ++ (written_tag tag n ++ more)))

@@ -1,6 +1,7 @@
--- Validation of a protected frame (IEEE Std 802.1AE-2018, 10.6 and clause 14): what is authenticated, what is encrypted,
--- and the plain frame that the protected one stands for.
-use Rattle.std.specs.Prelude.{◌≡◌, ◌≢◌, ℕ, ◌+◌, Bool, List, [], ◌∷◌, ◌++◌, map, take, drop, slice_range, if◌then◌else◌, Option, Some, None, IsSomeAnd}
+-- Validation of a protected frame (IEEE Std 802.1AE-2018, 10.6 and clause 14): what is authenticated, what is
+-- encrypted, and the plain frame that the protected one stands for.
+use Rattle.std.specs.Prelude.{◌≡◌, ◌≢◌, ℕ, ◌+◌, Bool, List, [], ◌∷◌, ◌++◌, map, take, drop, slice_range, if◌then◌else◌}
+use Rattle.std.specs.Prelude.{Option, Some, None, IsSomeAnd}
 use Rattle.std.specs.Int.{w32, to_be_bytes}
 use Rattle.macs_gcm.specs.Gcm.{seal}
 use Rattle.macs_frame.specs.declared.tag.ScName.{ScName}
@@ -35,8 +36,8 @@ abbrev pub additional_data : List ℕ → ℕ → Parts → List ℕ
 additional_data frame offset parts =
     take parts.start frame ++ clear_of parts.tag.encrypted offset (secure_data frame parts)
 
--- Under the key, the SCI and the offset these parts of the frame open to the plain frame: its User Data are the octets in
--- the clear and then the plaintext, and what the plaintext is sealed to is the encrypted Secure Data and the ICV.
+-- Under the key, the SCI and the offset these parts of the frame open to the plain frame: its User Data are the octets
+-- in the clear and then the plaintext, and what the plaintext is sealed to is the encrypted Secure Data and the ICV.
 pub record OpensTo (frame key sci : List ℕ) (offset : ℕ) (parts : Parts) (plain : List ℕ) : Type 0 where
   pub plaintext : List ℕ
   pub sealed : seal key (iv_of sci parts.tag.pn) (additional_data frame offset parts) plaintext
@@ -51,7 +52,8 @@ pub record Verified (frame key sci : List ℕ) (offset : ℕ) (plain : List ℕ)
   pub not_for_kay : ¬ IsForKay frame
   pub opens : OpensTo frame key sci offset parts plain
 
--- the SCI that a frame's tag names: the one that is spelled out, or the source address with port 00-01, or none (9.5, 9.9)
+-- the SCI that a frame's tag names: the one that is spelled out, or the source address with port 00-01, or none (9.5,
+-- 9.9)
 abbrev pub named_sci : List ℕ → ScName → Option (List ℕ)
 named_sci frame (Explicit sci) = Some sci
 named_sci frame EndStation = Some (slice_range frame 6 12 ++ 0 ∷ 1 ∷ [])

@@ -57,12 +57,13 @@ user_data plain = drop 12 plain
 abbrev pub header_of : SecTag → List ℕ → List ℕ
 header_of tag plain = take 12 plain ++ written_tag tag (length (user_data plain))
 
--- Addresses, SecTAG, Secure Data and ICV. Secure Data are the User Data in the clear and then the ciphertext of those that
--- are encrypted; addresses, SecTAG and the octets in the clear are authenticated with them (14.5 and 14.6).
+-- Addresses, SecTAG, Secure Data and ICV. Secure Data are the User Data in the clear and then the ciphertext of those
+-- that are encrypted; addresses, SecTAG and the octets in the clear are authenticated with them (14.5 and 14.6).
 unfoldable pub protected_frame : (key sci : List ℕ) → SecTag → (offset : ℕ) → (plain : List ℕ) → List ℕ
 protected_frame key sci tag offset plain =
     let clear = clear_of tag.encrypted offset (user_data plain) in
-    let sealed = seal key (iv_of sci tag.pn) (header_of tag plain ++ clear) (hidden_of tag.encrypted offset (user_data plain)) in
+    let sealed =
+    seal key (iv_of sci tag.pn) (header_of tag plain ++ clear) (hidden_of tag.encrypted offset (user_data plain)) in
     header_of tag plain ++ clear ++ sealed.0 ++ sealed.1
 
 -- the parts of the frame that protects a plain frame of so many octets

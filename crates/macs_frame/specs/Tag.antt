@@ -1,6 +1,7 @@
--- The SecTAG of a frame (IEEE Std 802.1AE-2018, clause 9), and what makes it bad. Octets of the frame are counted from 0,
--- octets of the SecTAG from 1: octet 1 of the SecTAG is octet 12 of the frame.
-use Rattle.std.specs.Prelude.{◌≡◌, ◌≢◌, ℕ, ◌+◌, ◌-◌, ◌%◌, ◌<◌, ◌≤◌, ◌⊎◌, ◌&&◌, ◌==◌, Bool, true, false, not, List, [], ◌∷◌, length, slice_index, slice_range, if◌then◌else◌, bit_and}
+-- The SecTAG of a frame (IEEE Std 802.1AE-2018, clause 9), and what makes it bad. Octets of the frame are counted from
+-- 0, octets of the SecTAG from 1: octet 1 of the SecTAG is octet 12 of the frame.
+use Rattle.std.specs.Prelude.{◌≡◌, ◌≢◌, ℕ, ◌+◌, ◌-◌, ◌%◌, ◌<◌, ◌≤◌, ◌⊎◌, ◌&&◌, ◌==◌, Bool, true, false, not, List, []}
+use Rattle.std.specs.Prelude.{◌∷◌, length, slice_index, slice_range, if◌then◌else◌, bit_and}
 use Rattle.std.specs.Int.{w32, from_be_bytes}
 use Rattle.macs_frame.specs.declared.tag.ScName.{ScName}
 use Rattle.macs_frame.specs.declared.tag.ScName.TheVariants.{Explicit, EndStation, Implicit}
@@ -59,15 +60,16 @@ pn_of frame = from_be_bytes w32 (slice_range frame 16 20)
 abbrev pub sci_of : List ℕ → List ℕ
 sci_of frame = slice_range frame 20 28
 
--- the place of the first octet of Secure Data: 28 after a SecTAG with an SCI, which has 16 octets, else 20 after one of 8 (9.3)
+-- the place of the first octet of Secure Data: 28 after a SecTAG with an SCI, which has 16 octets, else 20 after one of
+-- 8 (9.3)
 abbrev pub start_of : List ℕ → ℕ
 start_of frame = if has_sci (control frame) then 28 else 20
 
 -- ---- where Secure Data end
 
--- A frame of so many octets, with Secure Data from start on, agrees with SL (9.7, 9.12): where SL is 0 there are 48 octets
--- of Secure Data or more in front of the ICV; else SL octets and the ICV end the frame, or the padding to 60 octets follows
--- them. That padding, and an SL of 48 to 63, are this profile's own.
+-- A frame of so many octets, with Secure Data from start on, agrees with SL (9.7, 9.12): where SL is 0 there are 48
+-- octets of Secure Data or more in front of the ICV; else SL octets and the ICV end the frame, or the padding to 60
+-- octets follows them. That padding, and an SL of 48 to 63, are this profile's own.
 abbrev pub Agrees : ℕ → ℕ → ℕ → Type 0
 Agrees octets start short =
     ((short ≡ 0) × (start + 48 + 16 ≤ octets))

@@ -1,7 +1,8 @@
-//! Laws of the definitions, for the layers above. Where a law speaks of a value behind a reference, its
-//! body reads it: that is how a proof learns its range.
+//! Laws of the definitions, for the layers above. Where a law speaks of a value behind a reference,
+//! its body reads it: that is how a proof learns its range.
 
-ghost use Rattle.std.specs.Prelude.{◌≡◌, ◌↔◌, ◌⊎◌, ◌≤◌, ◌<◌, ◌+◌, ◌^◌, ℕ, Bool, List, All, IsTrue, length};
+ghost use Rattle.std.specs.Prelude.{◌≡◌, ◌↔◌, ◌⊎◌, ◌≤◌, ◌<◌, ◌+◌, ◌^◌, ℕ, Bool, List, All, IsTrue};
+ghost use Rattle.std.specs.Prelude.{length};
 ghost use Rattle.std.specs.Bool.{IsFalse};
 ghost use Rattle.std.specs.List.{list_any};
 ghost use Rattle.macs_fields.specs.Fields.{IsAn, IsSci};
@@ -47,28 +48,33 @@ pub fn verified_by_its_parts()
 
 /// A frame is verified as a plain frame, or as none.
 pub fn verified_or_not()
-    ensures { (frame key sci : List ℕ) (offset : ℕ) → ((plain : List ℕ) × Verified frame key sci offset plain)
+    ensures { (frame key sci : List ℕ) (offset : ℕ)
+        → ((plain : List ℕ) × Verified frame key sci offset plain)
         ⊎ ((plain : List ℕ) → ¬ Verified frame key sci offset plain) }
 {}
 
 /// A protected frame is longer than its plain frame by its SecTAG and its ICV.
 pub fn protected_length()
-    ensures { (key sci : List ℕ) (tag : SecTag) (offset : ℕ) (plain : List ℕ) → IsWritten tag → 14 ≤ length plain
+    ensures { (key sci : List ℕ) (tag : SecTag) (offset : ℕ) (plain : List ℕ) → IsWritten tag
+        → 14 ≤ length plain
         → length (protected_frame key sci tag offset plain) ≡ length plain + overhead tag.name }
 {}
 
 /// A protected frame is read as it was written.
 pub fn protected_is_read()
-    ensures { (key sci : List ℕ) (tag : SecTag) (offset : ℕ) (plain : List ℕ) → IsWritten tag → 14 ≤ length plain
+    ensures { (key sci : List ℕ) (tag : SecTag) (offset : ℕ) (plain : List ℕ) → IsWritten tag
+        → 14 ≤ length plain
         → length plain + overhead tag.name ≤ 9216
         → Tag (protected_frame key sci tag offset plain) (written_parts tag (length plain))
         × (¬ IsForKay (protected_frame key sci tag offset plain)) }
 {}
 
-/// A protected frame is verified, under the key, the SCI and the offset that it was protected under,
-/// as its own plain frame and as no other.
+/// A protected frame is verified, under the key, the SCI and the offset that it was protected
+/// under, as its own plain frame and as no other.
 pub fn protected_is_verified()
-    ensures { (key sci : List ℕ) (tag : SecTag) (offset : ℕ) (plain other : List ℕ) → IsWritten tag → 14 ≤ length plain
+    ensures { (key sci : List ℕ) (tag : SecTag) (offset : ℕ) (plain other : List ℕ) → IsWritten tag
+        → 14 ≤ length plain
         → length plain + overhead tag.name ≤ 9216
-        → (Verified (protected_frame key sci tag offset plain) key sci offset other ↔ (other ≡ plain)) }
+        → (Verified (protected_frame key sci tag offset plain) key sci offset other
+        ↔ (other ≡ plain)) }
 {}

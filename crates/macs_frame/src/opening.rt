@@ -1,11 +1,14 @@
 //! Opening a protected frame (IEEE Std 802.1AE-2018, 10.6, 14.5 and 14.6).
 
-ghost use Rattle.std.specs.Prelude.{◌≡◌, ◌≢◌, ◌<◌, ◌≤◌, ◌+◌, ◌^◌, ◌++◌, ◌↔◌, List, ℕ, [], ◌∷◌, length, take, drop, slice_range, IsTrue, IfOk, IsSomeAnd, OnOk, OnErr};
+ghost use Rattle.std.specs.Prelude.{◌≡◌, ◌≢◌, ◌<◌, ◌≤◌, ◌+◌, ◌^◌, ◌++◌, ◌↔◌, List, ℕ, [], ◌∷◌};
+ghost use Rattle.std.specs.Prelude.{length, take, drop, slice_range, IsTrue, IfOk, IsSomeAnd, OnOk};
+ghost use Rattle.std.specs.Prelude.{OnErr};
 ghost use Rattle.std.specs.Bool.{OnFalse, OnTrue};
 ghost use Rattle.macs_gcm.specs.Gcm.{Opens, seal};
 ghost use Rattle.macs_fields.specs.Fields.{octets_of};
 ghost use Rattle.macs_fields.specs.First.{IsFirst};
-ghost use Rattle.macs_frame.specs.Opening.{OpenFaultHolds, OpensTo, Verified, named_sci, open_faults};
+ghost use Rattle.macs_frame.specs.Opening.{OpenFaultHolds, OpensTo, Verified, named_sci};
+ghost use Rattle.macs_frame.specs.Opening.{open_faults};
 ghost use Rattle.macs_frame.specs.Tag.{Tag, tag_of};
 
 use crate::reading::read_tag;
@@ -19,7 +22,8 @@ use macs_gcm::{GcmKey, open};
 pub enum OpenFault {
     /// The SecTAG has a fault.
     Tag(TagFault),
-    /// The SecTAG names another SCI: it spells one out, or names the source address with port 00-01.
+    /// The SecTAG names another SCI: it spells one out, or names the source address with port
+    /// 00-01.
     OtherSci,
     /// The ICV is not that of the frame under this key, SCI and offset.
     NotValid,
@@ -65,9 +69,9 @@ fn open_from(
     open(key, iv, aad, &mut octets[start..], icv)
 }
 
-/// Opens the Secure Data and the ICV of a frame, and writes its plain frame to `out`. The parts are a
-/// reading of this frame, as `read_tag` answers. The answer is whether they open under this key, SCI
-/// and offset; if not, `out` is empty.
+/// Opens the Secure Data and the ICV of a frame, and writes its plain frame to `out`. The parts are
+/// a reading of this frame, as `read_tag` answers. The answer is whether they open under this key,
+/// SCI and offset; if not, `out` is empty.
 pub fn open_parts(
     key: &GcmKey,
     sci: Sci,
@@ -110,8 +114,8 @@ fn named_sci(frame: &[u8], name: ScName) -> Option<Sci>
     }
 }
 
-/// The SCI of the end station that a frame of 12 octets or more comes from: its source address, with
-/// port 00-01 (9.5).
+/// The SCI of the end station that a frame of 12 octets or more comes from: its source address,
+/// with port 00-01 (9.5).
 pub fn end_station_sci(frame: &[u8]) -> Sci
     requires { 12 ≤ length frame.now }
     ensures { result ≡ slice_range frame.now 6 12 ++ 0 ∷ 1 ∷ [] }

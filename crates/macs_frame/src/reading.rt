@@ -2,7 +2,9 @@
 
 ghost use Rattle.std.specs.Prelude.{◌≡◌, ◌<◌, ◌≤◌, ◌+◌, ◌↔◌, length, IsTrue, MatchOption};
 ghost use Rattle.macs_fields.specs.First.{IsFirst};
-ghost use Rattle.macs_frame.specs.Tag.{Agrees, IsForKay, IsGoodControl, IsGoodTag, IsReading, Tag, TagFaultHolds, end_at, has_bit, name_of, pn_of, sci_of, start_of, tag_faults};
+ghost use Rattle.macs_frame.specs.Tag.{Agrees, IsForKay, IsGoodControl, IsGoodTag, IsReading, Tag};
+ghost use Rattle.macs_frame.specs.Tag.{TagFaultHolds, end_at, has_bit, name_of, pn_of, sci_of};
+ghost use Rattle.macs_frame.specs.Tag.{start_of, tag_faults};
 
 use crate::tag::{ICV_OCTETS, MAX_FRAME, MIN_FRAME, Parts, ScName, SecTag, TagFault};
 use macs_fields::{An, Pn, Sci};
@@ -128,7 +130,8 @@ fn parts_of(frame: &[u8]) -> Option<Parts>
 /// The parts of a protected frame of any number of octets, or the first fault in the order of
 /// `TagFault`.
 pub fn read_tag(frame: &[u8]) -> Result<Parts, TagFault>
-    ensures parts { (parts : Parts) → (result ≡ Ok parts) ↔ (Tag frame.now parts × (¬ IsForKay frame.now)) }
+    ensures parts { (parts : Parts)
+        → (result ≡ Ok parts) ↔ (Tag frame.now parts × (¬ IsForKay frame.now)) }
     ensures fault { (fault : TagFault)
         → (result ≡ Err fault) ↔ IsFirst (TagFaultHolds frame.now) tag_faults fault }
 {

@@ -4,7 +4,8 @@ ghost use Rattle.std.specs.Prelude.{◌≡◌, ◌<◌, ◌≤◌, ◌+◌, ◌^
 ghost use Rattle.arrayvec.specs.ArrayVec.{array_vec_len};
 ghost use Rattle.macs_gcm.specs.Gcm.{seal};
 ghost use Rattle.macs_fields.specs.Fields.{octets_of};
-ghost use Rattle.macs_frame.specs.Protection.{control_octet, overhead, protected_frame, short_of, tag_octets, written_tag};
+ghost use Rattle.macs_frame.specs.Protection.{control_octet, overhead, protected_frame, short_of};
+ghost use Rattle.macs_frame.specs.Protection.{tag_octets, written_tag};
 
 use crate::reading::{CHANGED, ENCRYPTED, END_STATION, MIN_LONG_DATA, SCI_PRESENT};
 use crate::shared::{append, clear_end, iv_of};
@@ -37,9 +38,9 @@ fn short_of(secure_len: usize) -> u8
     }
 }
 
-/// Appends a SecTAG, 16 octets where it spells an SCI out and else 8, in front of `secure_len` octets
-/// of Secure Data (9.3): SL is their number where it is below 48, else 0 (9.7). There is room for 16
-/// octets.
+/// Appends a SecTAG, 16 octets where it spells an SCI out and else 8, in front of `secure_len`
+/// octets of Secure Data (9.3): SL is their number where it is below 48, else 0 (9.7). There is
+/// room for 16 octets.
 pub fn write_tag(tag: &SecTag, secure_len: usize, out: &mut FrameBuf)
     requires { array_vec_len out.old + 16 ≤ 9216 }
     ensures written { out.new.items ≡ out.old.items ++ written_tag tag.now secure_len }
@@ -66,13 +67,13 @@ fn seal_from(key: &GcmKey, iv: &[u8; 12], octets: &mut [u8], start: usize) -> [u
     seal(key, iv, aad, text)
 }
 
-/// Protects a plain frame of 14 octets or more under a key, by GCM-AES-128 where that has 128 bits and
-/// by GCM-AES-256 where it has 256 (14.5 and 14.6), and writes the protected frame to `out` in place of
-/// what was there. The tag names the association, the packet number and the channel, and its
-/// `encrypted` is its `changed`: with both set User Data are encrypted from `offset` on, else all of
-/// them stay in the clear. `sci` is the transmit channel's, which enters the initialisation vector. The
-/// protected frame has at most 9,216 octets: it is 32 octets longer than the plain one where the tag
-/// spells an SCI out, else 24.
+/// Protects a plain frame of 14 octets or more under a key, by GCM-AES-128 where that has 128 bits
+/// and by GCM-AES-256 where it has 256 (14.5 and 14.6), and writes the protected frame to `out` in
+/// place of what was there. The tag names the association, the packet number and the channel, and
+/// its `encrypted` is its `changed`: with both set User Data are encrypted from `offset` on, else
+/// all of them stay in the clear. `sci` is the transmit channel's, which enters the initialisation
+/// vector. The protected frame has at most 9,216 octets: it is 32 octets longer than the plain one
+/// where the tag spells an SCI out, else 24.
 pub fn seal_frame(
     key: &GcmKey,
     sci: Sci,

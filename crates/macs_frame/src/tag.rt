@@ -33,8 +33,9 @@ impl ScName {
     ghost use Rattle.std.specs.Prelude.{◌≡◌};
     ghost use Rattle.macs_frame.specs.Protection.{overhead};
 
-    /// By how many octets a frame that is protected under a SecTAG with this name is longer than its
-    /// plain frame: 16 of SecTAG where the SCI is spelled out, else 8, and 16 of ICV (9.3, 9.11).
+    /// By how many octets a frame that is protected under a SecTAG with this name is longer than
+    /// its plain frame: 16 of SecTAG where the SCI is spelled out, else 8, and 16 of ICV (9.3,
+    /// 9.11).
     pub fn overhead(self) -> usize
         ensures { result ≡ overhead self }
     {

@@ -4,7 +4,8 @@ ghost use Rattle.std.specs.Prelude.{◌≡◌, ◌^◌, ◌<◌, ◌↔◌, ℕ,
 ghost use Rattle.std.specs.Bool.{OnFalse, OnTrue};
 ghost use Rattle.macs_aes.specs.Keys.{octets_of_key};
 ghost use Rattle.macs_aes.specs.Cipher.{encrypt};
-ghost use Rattle.macs_gcm.specs.Gcm.{Opens, hash_subkey, pre_counter_block, seal, authentication_tag};
+ghost use Rattle.macs_gcm.specs.Gcm.{Opens, hash_subkey, pre_counter_block, seal};
+ghost use Rattle.macs_gcm.specs.Gcm.{authentication_tag};
 
 use crate::counter::{
     GROUPED, gctr_next_by_blocks, gctr_next_by_groups, mask_room, put_masks, xor_whole,

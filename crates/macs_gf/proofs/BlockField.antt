@@ -1,13 +1,15 @@
 -- The product of blocks is linear in each factor, associative and commutative, with the block
 -- 1 0 .. 0 as its one.
-use Rattle.std.proofs.Common.{◌≡◌, ℕ, zero, suc, ◌+◌, ◌-◌, ◌*◌, ◌/◌, ◌%◌, ◌^◌, ◌<◌, bit_xor, refl, sym, ap, ◌∙◌, arith, add-one, lit<}
+use Rattle.std.proofs.Common.{◌≡◌, ℕ, zero, suc, ◌+◌, ◌-◌, ◌*◌, ◌/◌, ◌%◌, ◌^◌, ◌<◌, bit_xor, refl, sym, ap, ◌∙◌, arith}
+use Rattle.std.proofs.Common.{add-one, lit<}
 use Rattle.std.specs.Int.{bit_at}
 use Rattle.std.proofs.lemmas.Nat.{pow_pos, shr-shr, xor_shr, xor_mod, xor_lt}
 use Rattle.std.proofs.lemmas.Nat.Bits.{bit_at-lt, bit_at-suc, bit_at-zero, bit_at_above, bit_at_lowest}
 use native.Mathlib.Nat.{div-eq_of_lt, pow-suc, zero-mul}
 use lib.Bits.{xor_self, xor_zero_r, xor_shifted}
 use Rattle.macs_gf.specs.Gf128.{block_bit, block_product, block_product_below, reduction, times_power, times_x}
-use Rattle.macs_gf.proofs.Xor.{bit_at_xor_product, chosen_zero, digit-lt, digit_of_sum, digit_product, digit_scaled, xor_middle}
+use Rattle.macs_gf.proofs.Xor.{bit_at_xor_product, chosen_zero, digit-lt, digit_of_sum, digit_product, digit_scaled}
+use Rattle.macs_gf.proofs.Xor.{xor_middle}
 
 -- ---- x times a block
 
@@ -15,7 +17,8 @@ use Rattle.macs_gf.proofs.Xor.{bit_at_xor_product, chosen_zero, digit-lt, digit_
 pub times_x-xor : (u v : ℕ) → times_x (bit_xor u v) ≡ bit_xor (times_x u) (times_x v)
 times_x-xor u v =
     ap (λ (y : ℕ). bit_xor y (bit_xor u v % 2 * reduction)) (xor_shr u v 1)
-    ∙ ap (bit_xor (bit_xor (u / 2) (v / 2))) (ap (λ (y : ℕ). y * reduction) (xor_mod u v 1) ∙ digit_product (u % 2) (v % 2) reduction (omega arith) (omega arith))
+    ∙ ap (bit_xor (bit_xor (u / 2) (v / 2))) (ap (λ (y : ℕ). y * reduction) (xor_mod u v 1)
+    ∙ digit_product (u % 2) (v % 2) reduction (omega arith) (omega arith))
     ∙ xor_middle (u / 2) (v / 2) (u % 2 * reduction) (v % 2 * reduction)
 
 -- x times a block is a block
@@ -62,13 +65,15 @@ linear_power f l zero v h = refl
 linear_power f l (suc i) v h = l.of_shift (times_power i v) (times_power-lt i v h) ∙ ap times_x (linear_power f l i v h)
 
 -- a linear map of a product goes to the second factor
-pub linear_product : (f : ℕ → ℕ) → IsLinear f → (n a v : ℕ) → v < 2 ^ 128 → f (block_product_below a v n) ≡ block_product_below a (f v) n
+pub linear_product : (f : ℕ → ℕ) → IsLinear f → (n a v : ℕ) → v < 2 ^ 128
+    → f (block_product_below a v n) ≡ block_product_below a (f v) n
 unfolding block_product_below
 linear_product f l zero a v h = linear_zero f l
 linear_product f l (suc i) a v h =
     l.of_sum (block_product_below a v i) (block_bit a i * times_power i v)
     ∙ ap (λ (y : ℕ). bit_xor y (f (block_bit a i * times_power i v))) (linear_product f l i a v h)
-    ∙ ap (bit_xor (block_product_below a (f v) i)) (linear_digit f l (block_bit a i) (times_power i v) (bit_at-lt a (127 - i))
+    ∙ ap (bit_xor (block_product_below a (f v) i))
+    (linear_digit f l (block_bit a i) (times_power i v) (bit_at-lt a (127 - i))
     ∙ ap (λ (y : ℕ). block_bit a i * y) (linear_power f l i v h))
 
 -- ---- powers of x, and the product with a fixed first factor, are linear
@@ -90,14 +95,17 @@ pub linear-power : (i : ℕ) → IsLinear (times_power i)
 linear-power i = record { of_sum = times_power-xor i; of_shift = λ v h. times_power-shift i v }
 
 -- the product with a sum on the right
-pub product-xor_right : (n a u v : ℕ) → block_product_below a (bit_xor u v) n ≡ bit_xor (block_product_below a u n) (block_product_below a v n)
+pub product-xor_right : (n a u v : ℕ)
+    → block_product_below a (bit_xor u v) n ≡ bit_xor (block_product_below a u n) (block_product_below a v n)
 unfolding block_product_below
 product-xor_right zero a u v = refl
 product-xor_right (suc i) a u v =
     ap (λ (y : ℕ). bit_xor y (block_bit a i * times_power i (bit_xor u v))) (product-xor_right i a u v)
     ∙ ap (bit_xor (bit_xor (block_product_below a u i) (block_product_below a v i)))
-    (ap (λ (y : ℕ). block_bit a i * y) (times_power-xor i u v) ∙ digit_of_sum (block_bit a i) (times_power i u) (times_power i v) (bit_at-lt a (127 - i)))
-    ∙ xor_middle (block_product_below a u i) (block_product_below a v i) (block_bit a i * times_power i u) (block_bit a i * times_power i v)
+    (ap (λ (y : ℕ). block_bit a i * y) (times_power-xor i u v)
+    ∙ digit_of_sum (block_bit a i) (times_power i u) (times_power i v) (bit_at-lt a (127 - i)))
+    ∙ xor_middle (block_product_below a u i) (block_product_below a v i) (block_bit a i * times_power i u)
+    (block_bit a i * times_power i v)
 
 -- the product with x times a block on the right
 product-shift_right : (n a v : ℕ) → block_product_below a (times_x v) n ≡ times_x (block_product_below a v n)
@@ -106,7 +114,8 @@ product-shift_right zero a v = refl
 product-shift_right (suc i) a v =
     ap (λ (y : ℕ). bit_xor y (block_bit a i * times_power i (times_x v))) (product-shift_right i a v)
     ∙ ap (bit_xor (times_x (block_product_below a v i)))
-    (ap (λ (y : ℕ). block_bit a i * y) (times_power-shift i v) ∙ sym (digit_scaled times_x refl (block_bit a i) (times_power i v) (bit_at-lt a (127 - i))))
+    (ap (λ (y : ℕ). block_bit a i * y) (times_power-shift i v)
+    ∙ sym (digit_scaled times_x refl (block_bit a i) (times_power i v) (bit_at-lt a (127 - i))))
     ∙ sym (times_x-xor (block_product_below a v i) (block_bit a i * times_power i v))
 
 -- the product is linear in its second factor
@@ -165,7 +174,8 @@ unfolding times_power
 power_last v = refl
 
 -- the last bit of a product
-product_last : (a v : ℕ) → block_product a v ≡ bit_xor (block_product_below a v 127) (block_bit a 127 * times_power 127 v)
+product_last : (a v : ℕ)
+    → block_product a v ≡ bit_xor (block_product_below a v 127) (block_bit a 127 * times_power 127 v)
 unfolding block_product_below
 product_last a v = refl
 
@@ -199,13 +209,16 @@ product-one a h = product-one_below 128 0 a refl h ∙ omega arith
 -- ---- linear in the first factor
 
 -- the product with a sum on the left
-pub product-xor_left : (n a b v : ℕ) → block_product_below (bit_xor a b) v n ≡ bit_xor (block_product_below a v n) (block_product_below b v n)
+pub product-xor_left : (n a b v : ℕ)
+    → block_product_below (bit_xor a b) v n ≡ bit_xor (block_product_below a v n) (block_product_below b v n)
 unfolding block_product_below
 product-xor_left zero a b v = refl
 product-xor_left (suc i) a b v =
     ap (λ (y : ℕ). bit_xor y (block_bit (bit_xor a b) i * times_power i v)) (product-xor_left i a b v)
-    ∙ ap (bit_xor (bit_xor (block_product_below a v i) (block_product_below b v i))) (bit_at_xor_product a b (127 - i) (times_power i v))
-    ∙ xor_middle (block_product_below a v i) (block_product_below b v i) (block_bit a i * times_power i v) (block_bit b i * times_power i v)
+    ∙ ap (bit_xor (bit_xor (block_product_below a v i) (block_product_below b v i)))
+    (bit_at_xor_product a b (127 - i) (times_power i v))
+    ∙ xor_middle (block_product_below a v i) (block_product_below b v i) (block_bit a i * times_power i v)
+    (block_bit b i * times_power i v)
 
 -- the product with a bit times a block on the left
 product-digit_left : (d a v : ℕ) → d < 2 → block_product (d * a) v ≡ d * block_product a v
@@ -227,7 +240,8 @@ overflow v h =
     ∙ ap (block_product v) overflow-one ∙ sym (linear_is (block_product reduction) (linear-right reduction) v h)
 
 -- x times a factor, without the bit shifted out
-half_left : (n a v : ℕ) → n < 128 → a < 2 ^ 128 → block_product_below (a / 2) v (suc n) ≡ times_x (block_product_below a v n)
+half_left : (n a v : ℕ) → n < 128 → a < 2 ^ 128
+    → block_product_below (a / 2) v (suc n) ≡ times_x (block_product_below a v n)
 unfolding block_product_below times_power
 half_left zero a v le h =
     let none : bit_at (a / 2) 127 ≡ 0 = bit_at_above (a / 2) 127 127 (omega arith) (omega arith) in
@@ -237,7 +251,8 @@ half_left (suc n) a v le h =
     let bit : block_bit (a / 2) (suc n) ≡ block_bit a n = sym (bit_at-suc a (127 - suc n)) ∙ ap (bit_at a) at in
     ap (λ (y : ℕ). bit_xor y (block_bit (a / 2) (suc n) * times_x (times_power n v))) (half_left n a v (omega arith) h)
     ∙ ap (λ (d : ℕ). bit_xor (times_x (block_product_below a v n)) (d * times_x (times_power n v))) bit
-    ∙ ap (bit_xor (times_x (block_product_below a v n))) (sym (digit_scaled times_x refl (block_bit a n) (times_power n v) (bit_at-lt a (127 - n))))
+    ∙ ap (bit_xor (times_x (block_product_below a v n)))
+    (sym (digit_scaled times_x refl (block_bit a n) (times_power n v) (bit_at-lt a (127 - n))))
     ∙ sym (times_x-xor (block_product_below a v n) (block_bit a n * times_power n v))
 
 -- the product with x times a block on the left
@@ -248,17 +263,21 @@ product-shift_left a v h k =
     let lowest : block_bit a 127 ≡ d = bit_at_lowest a in
     product-xor_left 128 (a / 2) (d * reduction) v
     ∙ ap (λ (y : ℕ). bit_xor y (block_product (d * reduction) v)) (half_left 127 a v (omega arith) h)
-    ∙ ap (bit_xor (times_x (block_product_below a v 127))) (product-digit_left d reduction v small ∙ ap (λ (y : ℕ). d * y) (sym (overflow v k) ∙ power_last v))
-    ∙ ap (λ (y : ℕ). bit_xor (times_x (block_product_below a v 127)) y) (sym (digit_scaled times_x refl d (times_power 127 v) small))
+    ∙ ap (bit_xor (times_x (block_product_below a v 127)))
+    (product-digit_left d reduction v small ∙ ap (λ (y : ℕ). d * y) (sym (overflow v k) ∙ power_last v))
+    ∙ ap (λ (y : ℕ). bit_xor (times_x (block_product_below a v 127)) y)
+    (sym (digit_scaled times_x refl d (times_power 127 v) small))
     ∙ sym (times_x-xor (block_product_below a v 127) (d * times_power 127 v))
-    ∙ ap times_x (ap (λ (e : ℕ). bit_xor (block_product_below a v 127) (e * times_power 127 v)) (sym lowest) ∙ sym (product_last a v))
+    ∙ ap times_x (ap (λ (e : ℕ). bit_xor (block_product_below a v 127) (e * times_power 127 v)) (sym lowest)
+    ∙ sym (product_last a v))
 
 -- the product is linear in its first factor
 pub linear-left : (b : ℕ) → b < 2 ^ 128 → IsLinear (λ a. block_product a b)
 linear-left b k = record { of_sum = λ u v. product-xor_left 128 u v b; of_shift = λ v h. product-shift_left v b h k }
 
 -- the product is associative
-pub product-assoc : (a b c : ℕ) → b < 2 ^ 128 → c < 2 ^ 128 → block_product (block_product a b) c ≡ block_product a (block_product b c)
+pub product-assoc : (a b c : ℕ) → b < 2 ^ 128 → c < 2 ^ 128
+    → block_product (block_product a b) c ≡ block_product a (block_product b c)
 product-assoc a b c h k = linear_product (λ u. block_product u c) (linear-left c k) 128 a b h
 
 -- the product is commutative

@@ -19,7 +19,8 @@ unfolding block_product_below
 product_first a b = refl
 
 -- a bit that is 1 adds the multiple
-pub product_next_one : (a b i : ℕ) → block_bit a i ≡ 1 → block_product_below a b (i + 1) ≡ bit_xor (block_product_below a b i) (times_power i b)
+pub product_next_one : (a b i : ℕ) → block_bit a i ≡ 1
+    → block_product_below a b (i + 1) ≡ bit_xor (block_product_below a b i) (times_power i b)
 unfolding block_product_below
 product_next_one a b i bit = rw (add-one, bit) (chosen_one (block_product_below a b i) (times_power i b))
 

@@ -8,7 +8,8 @@ use Rattle.macs_gf.specs.Polynomial.{division_step, remainder}
 use Rattle.macs_gf.proofs.Xor.{xor_middle, xor_shl, chosen_zero, bit_at_xor_product}
 
 -- a step on a sum
-pub division_step-xor : (m p q n : ℕ) → division_step m (bit_xor p q) n ≡ bit_xor (division_step m p n) (division_step m q n)
+pub division_step-xor : (m p q n : ℕ)
+    → division_step m (bit_xor p q) n ≡ bit_xor (division_step m p n) (division_step m q n)
 division_step-xor m p q n =
     ap (bit_xor (bit_xor p q)) (bit_at_xor_product p q (8 + n) (m * 2 ^ n))
     ∙ xor_middle p q (bit_at p (8 + n) * (m * 2 ^ n)) (bit_at q (8 + n) * (m * 2 ^ n))
@@ -18,7 +19,8 @@ pub remainder-xor : (m p q n : ℕ) → remainder m (bit_xor p q) n ≡ bit_xor 
 unfolding remainder
 remainder-xor m p q zero = refl
 remainder-xor m p q (suc n) =
-    ap (λ (r : ℕ). remainder m r n) (division_step-xor m p q n) ∙ remainder-xor m (division_step m p n) (division_step m q n) n
+    ap (λ (r : ℕ). remainder m r n) (division_step-xor m p q n)
+    ∙ remainder-xor m (division_step m p n) (division_step m q n) n
 
 -- a step on x * p
 division_step-double : (m p n : ℕ) → division_step m (p * 2) (suc n) ≡ division_step m p n * 2
@@ -26,7 +28,8 @@ division_step-double m p n =
     let top : bit_at (p * 2) (8 + suc n) ≡ bit_at p (8 + n) =
     ap (bit_at (p * 2)) (add-suc 8 n) ∙ bit_at-suc (p * 2) (8 + n) ∙ ap (λ (q : ℕ). bit_at q (8 + n)) (shl-shr p 1) in
     let part : bit_at p (8 + n) * (m * 2 ^ suc n) ≡ bit_at p (8 + n) * (m * 2 ^ n) * 2 =
-    rw pow-suc (ap (λ (y : ℕ). bit_at p (8 + n) * y) (sym (mul_assoc m (2 ^ n) 2)) ∙ sym (mul_assoc (bit_at p (8 + n)) (m * 2 ^ n) 2)) in
+    rw pow-suc (ap (λ (y : ℕ). bit_at p (8 + n) * y) (sym (mul_assoc m (2 ^ n) 2))
+    ∙ sym (mul_assoc (bit_at p (8 + n)) (m * 2 ^ n) 2)) in
     ap (λ (d : ℕ). bit_xor (p * 2) (d * (m * 2 ^ suc n))) top ∙ ap (bit_xor (p * 2)) part
     ∙ sym (xor_shl p (bit_at p (8 + n) * (m * 2 ^ n)) 1)
 

@@ -29,9 +29,12 @@ ghash_split h y (b ∷ blocks) k l =
     ghash_split h (absorb h y b) blocks k (product-lt (bit_xor y b) h k) in
     let from_zero : ghash_from h (absorb h 0 b) blocks ≡ bit_xor (block_product (absorb h 0 b) p) rest =
     ghash_split h (absorb h 0 b) blocks k (product-lt (bit_xor 0 b) h k) in
-    let apart : block_product (absorb h y b) p ≡ bit_xor (block_product (block_product y h) p) (block_product (absorb h 0 b) p) =
-    ap (λ (v : ℕ). block_product v p) (product-xor_left 128 y b h) ∙ product-xor_left 128 (block_product y h) (block_product b h) p in
-    let grouped : block_product (block_product y h) p ≡ block_product y (subkey_power h (suc n)) = product-assoc y h p k (key_power-lt h n k) in
+    let apart : block_product (absorb h y b) p
+    ≡ bit_xor (block_product (block_product y h) p) (block_product (absorb h 0 b) p) =
+    ap (λ (v : ℕ). block_product v p) (product-xor_left 128 y b h)
+    ∙ product-xor_left 128 (block_product y h) (block_product b h) p in
+    let grouped : block_product (block_product y h) p ≡ block_product y (subkey_power h (suc n)) =
+    product-assoc y h p k (key_power-lt h n k) in
     from_y ∙ ap (λ (v : ℕ). bit_xor v rest) (apart ∙ ap (λ (v : ℕ). bit_xor v (block_product (absorb h 0 b) p)) grouped)
     ∙ xor_assoc (block_product y (subkey_power h (suc n))) (block_product (absorb h 0 b) p) rest
     ∙ ap (bit_xor (block_product y (subkey_power h (suc n)))) (sym from_zero)

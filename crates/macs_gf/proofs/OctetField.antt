@@ -1,5 +1,6 @@
 -- The product of octets is linear in each factor, commutative and associative, with 1 as its one.
-use Rattle.std.proofs.Common.{◌≡◌, ℕ, zero, suc, ◌+◌, ◌*◌, ◌/◌, ◌%◌, ◌^◌, ◌<◌, map, get_or, bit_xor, refl, sym, ap, ◌∙◌, arith}
+use Rattle.std.proofs.Common.{◌≡◌, ℕ, zero, suc, ◌+◌, ◌*◌, ◌/◌, ◌%◌, ◌^◌, ◌<◌, map, get_or, bit_xor, refl, sym, ap, ◌∙◌}
+use Rattle.std.proofs.Common.{arith}
 use Rattle.std.specs.Int.{bit_at}
 use Rattle.std.specs.List.{range_with_len}
 use Rattle.std.proofs.lemmas.List.FromFn.{get_or-map-range_with_len}
@@ -74,14 +75,16 @@ additive_zero : (f : ℕ → ℕ) → IsAdditive f → f 0 ≡ 0
 additive_zero f k = k.of_sum 0 0 ∙ xor_self (f 0)
 
 -- an additive map of the highest bit and of the rest
-additive_apart : (f : ℕ → ℕ) → IsAdditive f → (n v : ℕ) → v < 2 ^ (1 + n) → f v ≡ bit_xor (v / 2 ^ n * f (2 ^ n)) (f (v % 2 ^ n))
+additive_apart : (f : ℕ → ℕ) → IsAdditive f → (n v : ℕ) → v < 2 ^ (1 + n)
+    → f v ≡ bit_xor (v / 2 ^ n * f (2 ^ n)) (f (v % 2 ^ n))
 additive_apart f k n v small =
     let q : ℕ = v / 2 ^ n in
     let r : ℕ = v % 2 ^ n in
     let digit : q < 2 = shr_below v 1 n small in
     let low : r < 2 ^ n = mod_below v (2 ^ n) (pow_pos n) in
     let apart : v ≡ bit_xor (q * 2 ^ n) r = sym (xor_shifted q n r low ∙ shr_split v n) in
-    ap f apart ∙ k.of_sum (q * 2 ^ n) r ∙ ap (λ (y : ℕ). bit_xor y (f r)) (digit_scaled f (additive_zero f k) q (2 ^ n) digit)
+    ap f apart ∙ k.of_sum (q * 2 ^ n) r
+    ∙ ap (λ (y : ℕ). bit_xor y (f r)) (digit_scaled f (additive_zero f k) q (2 ^ n) digit)
 
 -- so additive maps agree below 2 ^ n where they agree at x^0 to x^(n - 1)
 pub additive_agree : (f g : ℕ → ℕ) → IsAdditive f → IsAdditive g → (n : ℕ) → ((i : ℕ) → i < n → f (2 ^ i) ≡ g (2 ^ i))
@@ -95,7 +98,8 @@ additive_agree f g k l (suc n) h v small =
     let q : ℕ = v / 2 ^ n in
     let r : ℕ = v % 2 ^ n in
     additive_apart f k n v within ∙ ap (λ (y : ℕ). bit_xor (q * y) (f r)) (h n (omega arith))
-    ∙ ap (bit_xor (q * g (2 ^ n))) (additive_agree f g k l n (λ i below. h i (omega arith)) r (mod_below v (2 ^ n) (pow_pos n)))
+    ∙ ap (bit_xor (q * g (2 ^ n)))
+    (additive_agree f g k l n (λ i below. h i (omega arith)) r (mod_below v (2 ^ n) (pow_pos n)))
     ∙ sym (additive_apart g l n v within)
 
 -- ---- the laws at powers of x, by computing them
@@ -118,7 +122,8 @@ unfolding octet_product product_below remainder
 powers-comm = refl
 
 -- each three powers of x
-powers-assoc : map (λ n. octet_product (octet_product (2 ^ (n / 64)) (2 ^ (n / 8 % 8))) (2 ^ (n % 8))) (range_with_len 0 512)
+powers-assoc : map (λ n. octet_product (octet_product (2 ^ (n / 64)) (2 ^ (n / 8 % 8))) (2 ^ (n % 8)))
+    (range_with_len 0 512)
     ≡ map (λ n. octet_product (2 ^ (n / 64)) (octet_product (2 ^ (n / 8 % 8)) (2 ^ (n % 8)))) (range_with_len 0 512)
 unfolding octet_product product_below remainder
 powers-assoc = refl
@@ -128,7 +133,8 @@ power-comm : (i j : ℕ) → i < 8 → j < 8 → octet_product (2 ^ i) (2 ^ j) �
 power-comm i j h k =
     let first : (8 * i + j) / 8 ≡ i = omega arith in
     let last : (8 * i + j) % 8 ≡ j = omega arith in
-    rw (first, last) at (same_at (λ n. octet_product (2 ^ (n / 8)) (2 ^ (n % 8))) (λ n. octet_product (2 ^ (n % 8)) (2 ^ (n / 8))) 64 (8 * i + j) powers-comm (omega arith))
+    rw (first, last) at (same_at (λ n. octet_product (2 ^ (n / 8)) (2 ^ (n % 8)))
+    (λ n. octet_product (2 ^ (n % 8)) (2 ^ (n / 8))) 64 (8 * i + j) powers-comm (omega arith))
 
 -- three powers of x are grouped either way
 power-assoc : (i j k : ℕ) → i < 8 → j < 8 → k < 8
@@ -140,7 +146,8 @@ power-assoc i j k hi hj hk =
     let last : n % 8 ≡ k = omega arith in
     rw (first, second, last) at (same_at
     (λ m. octet_product (octet_product (2 ^ (m / 64)) (2 ^ (m / 8 % 8))) (2 ^ (m % 8)))
-    (λ m. octet_product (2 ^ (m / 64)) (octet_product (2 ^ (m / 8 % 8)) (2 ^ (m % 8)))) 512 n powers-assoc (omega arith))
+    (λ m. octet_product (2 ^ (m / 64)) (octet_product (2 ^ (m / 8 % 8)) (2 ^ (m % 8)))) 512 n powers-assoc
+    (omega arith))
 
 -- ---- the laws
 
@@ -155,7 +162,8 @@ pub octet_product-comm : (a b : ℕ) → a < 2 ^ 8 → b < 2 ^ 8 → octet_produ
 octet_product-comm a b h k =
     additive_agree (λ u. octet_product u b) (λ u. octet_product b u) (additive-left b) (additive-right b) 8
     (λ i below.
-    additive_agree (λ u. octet_product (2 ^ i) u) (λ u. octet_product u (2 ^ i)) (additive-right (2 ^ i)) (additive-left (2 ^ i)) 8
+    additive_agree (λ u. octet_product (2 ^ i) u) (λ u. octet_product u (2 ^ i)) (additive-right (2 ^ i))
+    (additive-left (2 ^ i)) 8
     (λ j within. power-comm i j below within) b k)
     a h
 
@@ -163,9 +171,11 @@ octet_product-comm a b h k =
 assoc_at_powers : (i j c : ℕ) → i < 8 → j < 8 → c < 2 ^ 8
     → octet_product (octet_product (2 ^ i) (2 ^ j)) c ≡ octet_product (2 ^ i) (octet_product (2 ^ j) c)
 assoc_at_powers i j c hi hj hc =
-    additive_agree (λ u. octet_product (octet_product (2 ^ i) (2 ^ j)) u) (λ u. octet_product (2 ^ i) (octet_product (2 ^ j) u))
+    additive_agree (λ u. octet_product (octet_product (2 ^ i) (2 ^ j)) u)
+    (λ u. octet_product (2 ^ i) (octet_product (2 ^ j) u))
     (additive-right (octet_product (2 ^ i) (2 ^ j)))
-    (additive_both (λ u. octet_product (2 ^ i) u) (λ u. octet_product (2 ^ j) u) (additive-right (2 ^ i)) (additive-right (2 ^ j))) 8
+    (additive_both (λ u. octet_product (2 ^ i) u) (λ u. octet_product (2 ^ j) u) (additive-right (2 ^ i))
+    (additive-right (2 ^ j))) 8
     (λ k hk. power-assoc i j k hi hj hk) c hc
 
 -- associative, where the first factor is a power of x

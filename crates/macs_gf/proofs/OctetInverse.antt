@@ -1,5 +1,6 @@
 -- Each octet but 0 has one inverse, which is its power 254.
-use Rattle.std.proofs.Common.{◌≡◌, ℕ, zero, suc, ◌+◌, ◌-◌, ◌^◌, ◌<◌, ◌≤◌, ◌↔◌, Bool, true, eqb, map, get_or, find, replicate, unwrap_or, refl, sym, ap, ◌∙◌, arith, lit<, inl, inr}
+use Rattle.std.proofs.Common.{◌≡◌, ℕ, zero, suc, ◌+◌, ◌-◌, ◌^◌, ◌<◌, ◌≤◌, ◌↔◌, Bool, true, eqb, map, get_or, find}
+use Rattle.std.proofs.Common.{replicate, unwrap_or, refl, sym, ap, ◌∙◌, arith, lit<, inl, inr}
 use Rattle.std.specs.List.{range_with_len}
 use Rattle.std.proofs.lemmas.Bool.{cases_Bool, cases_eq, eq-eqb, eqb-true, false≢true}
 use Rattle.std.proofs.lemmas.List.{get_or-replicate}

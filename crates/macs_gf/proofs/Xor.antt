@@ -38,7 +38,8 @@ chosen_zero p m = rw zero-mul (xor_zero_r p)
 -- a bit of a sum, times m
 pub bit_at_xor_product : (a b i m : ℕ) → bit_at (bit_xor a b) i * m ≡ bit_xor (bit_at a i * m) (bit_at b i * m)
 bit_at_xor_product a b i m =
-    ap (λ (x : ℕ). x * m) (bit_at_xor a b i) ∙ digits_product (bit_at a i) (bit_at b i) m (bit_at-lt a i) (bit_at-lt b i)
+    ap (λ (x : ℕ). x * m) (bit_at_xor a b i)
+    ∙ digits_product (bit_at a i) (bit_at b i) m (bit_at-lt a i) (bit_at-lt b i)
 
 -- the sum of two bits
 xor_of_bits : (x y : ℕ) → x < 2 → y < 2 → bit_xor x y ≡ (x + y) % 2

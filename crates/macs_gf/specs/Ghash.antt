@@ -1,5 +1,6 @@
 -- GHASH (SP 800-38D, 6.4) on blocks as numbers, and the string that GCM hashes (7.1, steps 4 and 5).
-use Rattle.std.specs.Prelude.{ℕ, zero, suc, ◌+◌, ◌-◌, ◌*◌, ◌/◌, ◌%◌, ◌^◌, List, ◌++◌, bit_xor, fold, length, map, replicate, slice_range}
+use Rattle.std.specs.Prelude.{ℕ, zero, suc, ◌+◌, ◌-◌, ◌*◌, ◌/◌, ◌%◌, ◌^◌, List, ◌++◌, bit_xor, fold, length, map}
+use Rattle.std.specs.Prelude.{replicate, slice_range}
 use Rattle.std.specs.Int.{w64, w128, from_be_bytes, to_be_bytes}
 use Rattle.std.specs.List.{range_with_len}
 use Rattle.macs_gf.specs.Gf128.{block_product}

@@ -1,5 +1,5 @@
-//! The field of 2^128 elements (NIST SP 800-38D, 6.3). Bits count from the most significant, so that
-//! bit i of a block, the coefficient of x^i, is the bit 127 - i of its number.
+//! The field of 2^128 elements (NIST SP 800-38D, 6.3). Bits count from the most significant, so
+//! that bit i of a block, the coefficient of x^i, is the bit 127 - i of its number.
 
 ghost use Rattle.std.specs.Prelude.{◌≡◌};
 ghost use Rattle.macs_gf.specs.Gf128.{block_product, times_x};
@@ -7,7 +7,8 @@ ghost use Rattle.macs_gf.specs.Gf128.{block_product, times_x};
 /// R of SP 800-38D, 6.3: the octet E1 and 15 zero octets, the remainder of x^128.
 const REDUCTION: u128 = 0xE1 << 120;
 
-/// The product of x and a block in the field of GHASH: SP 800-38D, 6.3, algorithm 1, step 3: the next V from V.
+/// The product of x and a block in the field of GHASH: SP 800-38D, 6.3, algorithm 1, step 3: the
+/// next V from V.
 pub fn xtime128(a: u128) -> u128
     ensures { result ≡ times_x a }
 {

@@ -15,7 +15,8 @@ pub fn octet_product_is_remainder(a: u8, b: u8)
 /// The product of octets distributes over their sum (FIPS 197, 4.2).
 pub fn octet_product_distributes(a: u8, b: u8, c: u8)
     ensures left { octet_product (bit_xor a b) c ≡ bit_xor (octet_product a c) (octet_product b c) }
-    ensures right { octet_product a (bit_xor b c) ≡ bit_xor (octet_product a b) (octet_product a c) }
+    ensures right { octet_product a (bit_xor b c)
+        ≡ bit_xor (octet_product a b) (octet_product a c) }
 {}
 
 /// The product of octets does not depend on their order.
@@ -47,7 +48,8 @@ pub fn block_product_is_block(a: u128, b: u128)
 /// The product of blocks distributes over their sum.
 pub fn block_product_distributes(a: u128, b: u128, c: u128)
     ensures left { block_product (bit_xor a b) c ≡ bit_xor (block_product a c) (block_product b c) }
-    ensures right { block_product a (bit_xor b c) ≡ bit_xor (block_product a b) (block_product a c) }
+    ensures right { block_product a (bit_xor b c)
+        ≡ bit_xor (block_product a b) (block_product a c) }
 {}
 
 /// The product of blocks does not depend on their order.

@@ -1,5 +1,7 @@
 -- Tables of four bits, from the octets of multiples by powers of x.
-use Rattle.std.proofs.Common.{◌≡◌, ℕ, zero, suc, ◌+◌, ◌-◌, ◌*◌, ◌/◌, ◌%◌, ◌^◌, ◌<◌, ◌≤◌, ◌∙◌, List, [], map, get_or, get_or-take, length, length-take-le, take, replicate, set, inl, inr, bit_or, bit_xor, cond, ap, ap₂, sym, subst, refl, arith, w8, T, ltb, ◌||◌}
+use Rattle.std.proofs.Common.{◌≡◌, ℕ, zero, suc, ◌+◌, ◌-◌, ◌*◌, ◌/◌, ◌%◌, ◌^◌, ◌<◌, ◌≤◌, ◌∙◌, List, [], map, get_or}
+use Rattle.std.proofs.Common.{get_or-take, length, length-take-le, take, replicate, set, inl, inr, bit_or, bit_xor}
+use Rattle.std.proofs.Common.{cond, ap, ap₂, sym, subst, refl, arith, w8, T, ltb, ◌||◌}
 use Rattle.std.specs.Int.{bit_at}
 use Rattle.std.specs.List.{range_with_len}
 use Rattle.std.specs.Simd.Lanes.{Each1, digits_l, number_l, zip2}
@@ -8,7 +10,8 @@ use Rattle.std.proofs.lemmas.List.{get_or-set_other, get_or-set_same, length-set
 use Rattle.std.proofs.lemmas.List.FromFn.{get_or-map-range_with_len}
 use Rattle.std.proofs.lemmas.Nat.{and_mask, pow_pos, xor_mod, xor_shr}
 use Rattle.std.proofs.lemmas.Nat.Bits.{bit_at-lt}
-use Rattle.std.proofs.lemmas.Simd.{Each1-from_get_or, SwzOk, SwzOk-from_Each1, get_or-replicate, get_or-swz_l, get_or-zip2, get_or_narrower, length-replicate, length-zip2, swz_l}
+use Rattle.std.proofs.lemmas.Simd.{Each1-from_get_or, SwzOk, SwzOk-from_Each1, get_or-replicate, get_or-swz_l}
+use Rattle.std.proofs.lemmas.Simd.{get_or-zip2, get_or_narrower, length-replicate, length-zip2, swz_l}
 use mir.Val.{zeroes}
 use native.Mathlib.Nat.{div-eq_of_lt, one-mul, zero-mul}
 use lib.Bits.{or_zero_r, xor_zero_l}
@@ -21,7 +24,8 @@ use Rattle.macs_ghash.specs.declared.filling.TheConstants.{NOWHERE}
 -- ---- an octet of sums
 
 octet-xor : (u v b : ℕ) → octet_from_left (bit_xor u v) b ≡ bit_xor (octet_from_left u b) (octet_from_left v b)
-octet-xor u v b = ap (λ (n : ℕ). n % 256) (xor_shr u v (120 - 8 * b)) ∙ xor_mod (u / 2 ^ (120 - 8 * b)) (v / 2 ^ (120 - 8 * b)) 8
+octet-xor u v b = ap (λ (n : ℕ). n % 256) (xor_shr u v (120 - 8 * b))
+    ∙ xor_mod (u / 2 ^ (120 - 8 * b)) (v / 2 ^ (120 - 8 * b)) 8
 
 zero_shifted : (k : ℕ) → 0 / 2 ^ k ≡ 0
 zero_shifted k = div-eq_of_lt (pow_pos k)
@@ -34,7 +38,9 @@ octet_digit d v b h = digit_scaled (λ v. octet_from_left v b) (octet_none b) d 
 
 -- octet b of a nibble's product from those of the multiples
 pub nibble_octet : (n p b : ℕ)
-    → bit_xor (bit_xor (bit_xor (bit_at n 3 * octet_from_left (times_power 0 p) b) (bit_at n 2 * octet_from_left (times_power 1 p) b)) (bit_at n 1 * octet_from_left (times_power 2 p) b)) (bit_at n 0 * octet_from_left (times_power 3 p) b)
+    → bit_xor (bit_xor (bit_xor (bit_at n 3 * octet_from_left (times_power 0 p) b)
+    (bit_at n 2 * octet_from_left (times_power 1 p) b)) (bit_at n 1 * octet_from_left (times_power 2 p) b))
+    (bit_at n 0 * octet_from_left (times_power 3 p) b)
     ≡ octet_from_left (nibble_product n p) b
 unfolding nibble_product sum_of
 nibble_octet n p b =
@@ -43,7 +49,8 @@ nibble_octet n p b =
     λ k. octet_digit (bit_at n (3 - k)) (times_power k p) b (bit_at-lt n (3 - k)) in
     sym (octet-xor (bit_xor (bit_xor (bit_xor 0 (t 0)) (t 1)) (t 2)) (t 3) b
     ∙ ap₂ bit_xor (octet-xor (bit_xor (bit_xor 0 (t 0)) (t 1)) (t 2) b
-    ∙ ap₂ bit_xor (octet-xor (bit_xor 0 (t 0)) (t 1) b ∙ ap₂ bit_xor (ap (λ (v : ℕ). octet_from_left v b) (xor_zero_l (t 0)) ∙ o 0) (o 1)) (o 2)) (o 3))
+    ∙ ap₂ bit_xor (octet-xor (bit_xor 0 (t 0)) (t 1) b
+    ∙ ap₂ bit_xor (ap (λ (v : ℕ). octet_from_left v b) (xor_zero_l (t 0)) ∙ o 0) (o 1)) (o 2)) (o 3))
 
 -- ---- octets of words
 
@@ -55,10 +62,12 @@ seven_at b h =
     sym (get_or-map-range_with_len (λ b. bit_xor b 7) 0 16 b b 0 h (omega arith)) ∙ ap (λ xs. get_or xs b 0) seven_are
     ∙ get_or-map-range_with_len (λ b. 8 * (b / 8) + (7 - b % 8)) 0 16 b b 0 h (omega arith)
 
-half_octet : (v first second b : ℕ) → first ≡ v / 2 ^ 64 → second ≡ v % 2 ^ 64 → b < 16 → (w : ℕ) → (b / 8 ≡ 0 → w ≡ first) → (b / 8 ≡ 1 → w ≡ second)
+half_octet : (v first second b : ℕ) → first ≡ v / 2 ^ 64 → second ≡ v % 2 ^ 64 → b < 16 → (w : ℕ)
+    → (b / 8 ≡ 0 → w ≡ first) → (b / 8 ≡ 1 → w ≡ second)
     → w / 256 ^ (7 - b % 8) % 256 ≡ octet_from_left v b
 half_octet v first second b ef es h w a z =
-    below_sixteen (λ b. (b / 8 ≡ 0 → w ≡ first) → (b / 8 ≡ 1 → w ≡ second) → w / 256 ^ (7 - b % 8) % 256 ≡ octet_from_left v b)
+    below_sixteen (λ b. (b / 8 ≡ 0 → w ≡ first) → (b / 8 ≡ 1 → w ≡ second)
+    → w / 256 ^ (7 - b % 8) % 256 ≡ octet_from_left v b)
     (λ a z. omega (arith, ef, es, a refl))
     (λ a z. omega (arith, ef, es, a refl))
     (λ a z. omega (arith, ef, es, a refl))
@@ -77,16 +86,20 @@ half_octet v first second b ef es h w a z =
     (λ a z. omega (arith, ef, es, z refl))
     b h a z
 
-pub octet_of_halves : (sixteens : ℕ) (words : List ℕ) (g b v : ℕ) → length words ≡ 2 * sixteens → Each1 (λ x. x < 18446744073709551616) words → g < sixteens → b < 16
+pub octet_of_halves : (sixteens : ℕ) (words : List ℕ) (g b v : ℕ) → length words ≡ 2 * sixteens
+    → Each1 (λ x. x < 18446744073709551616) words → g < sixteens → b < 16
     → get_or words (2 * g) 0 ≡ v / 2 ^ 64 → get_or words (2 * g + 1) 0 ≡ v % 2 ^ 64
-    → octets_in (digits_l 256 (16 * sixteens) (number_l 18446744073709551616 words)) g (bit_xor b 7) ≡ octet_from_left v b
+    → octets_in (digits_l 256 (16 * sixteens) (number_l 18446744073709551616 words)) g (bit_xor b 7)
+    ≡ octet_from_left v b
 octet_of_halves sixteens words g b v len fit h k ef es =
     let i : ℕ = 2 * g + b / 8 in
     let place : 16 * g + bit_xor b 7 ≡ 8 * i + (7 - b % 8) = omega (arith, seven_at b k) in
     ap (λ (m : ℕ). get_or (digits_l 256 (16 * sixteens) (number_l 18446744073709551616 words)) m 0) place
-    ∙ get_or_narrower 18446744073709551616 8 256 (16 * sixteens) words i (7 - b % 8) refl fit (omega arith) (omega arith)
+    ∙ get_or_narrower 18446744073709551616 8 256 (16 * sixteens) words i (7 - b % 8) refl fit (omega arith)
+    (omega arith)
     ∙ half_octet v (get_or words (2 * g) 0) (get_or words (2 * g + 1) 0) b ef es k (get_or words i 0)
-    (λ e. ap (λ (m : ℕ). get_or words m 0) (omega (arith, e))) (λ e. ap (λ (m : ℕ). get_or words m 0) (omega (arith, e)))
+    (λ e. ap (λ (m : ℕ). get_or words m 0) (omega (arith, e)))
+    (λ e. ap (λ (m : ℕ). get_or words m 0) (omega (arith, e)))
 
 -- ---- octets that are chosen
 
@@ -95,19 +108,23 @@ unfoldable pub nowhere : ℕ → ℕ
 nowhere zero = 128
 nowhere (suc d) = 0
 
-nowhere_are : map (λ m. get_or (get_or NOWHERE (m / 32) []) (m % 32) 0) (range_with_len 0 128) ≡ map (λ m. nowhere (bit_at (m % 32 % 16) (3 - m / 32))) (range_with_len 0 128)
+nowhere_are : map (λ m. get_or (get_or NOWHERE (m / 32) []) (m % 32) 0) (range_with_len 0 128)
+    ≡ map (λ m. nowhere (bit_at (m % 32 % 16) (3 - m / 32))) (range_with_len 0 128)
 unfolding nowhere
 nowhere_are = refl
 
-nowhere_at : (k g n : ℕ) → k < 4 → g < 2 → n < 16 → get_or (get_or NOWHERE k []) (16 * g + n) 0 ≡ nowhere (bit_at n (3 - k))
+nowhere_at : (k g n : ℕ) → k < 4 → g < 2 → n < 16
+    → get_or (get_or NOWHERE k []) (16 * g + n) 0 ≡ nowhere (bit_at n (3 - k))
 nowhere_at k g n h l m =
     let i : ℕ = 32 * k + (16 * g + n) in
     let q : i / 32 ≡ k = omega arith in
     let r : i % 32 ≡ 16 * g + n = omega arith in
     let s : i % 32 % 16 ≡ n = omega arith in
     sym (ap₂ (λ (a b : ℕ). get_or (get_or NOWHERE a []) b 0) q r)
-    ∙ sym (get_or-map-range_with_len (λ m. get_or (get_or NOWHERE (m / 32) []) (m % 32) 0) 0 128 i i 0 (omega arith) (omega arith)) ∙ ap (λ xs. get_or xs i 0) nowhere_are
-    ∙ get_or-map-range_with_len (λ m. nowhere (bit_at (m % 32 % 16) (3 - m / 32))) 0 128 i i 0 (omega arith) (omega arith)
+    ∙ sym (get_or-map-range_with_len (λ m. get_or (get_or NOWHERE (m / 32) []) (m % 32) 0) 0 128 i i 0 (omega arith)
+    (omega arith)) ∙ ap (λ xs. get_or xs i 0) nowhere_are
+    ∙ get_or-map-range_with_len (λ m. nowhere (bit_at (m % 32 % 16) (3 - m / 32))) 0 128 i i 0 (omega arith)
+    (omega arith)
     ∙ ap₂ (λ (a b : ℕ). nowhere (bit_at a (3 - b))) s q
 
 nowhere_long : (k : ℕ) → k < 4 → length (get_or NOWHERE k []) ≡ 32
@@ -124,25 +141,35 @@ places_of n place k = zip2 bit_or (replicate (16 * n) place) (take (16 * n) (get
 places_long : (n place k : ℕ) → n ≤ 2 → k < 4 → length (places_of n place k) ≡ 16 * n
 places_long n place k le h =
     let rows : length (get_or NOWHERE k []) ≡ 32 = nowhere_long k h in
-    let width : length (take (16 * n) (get_or NOWHERE k [])) ≡ 16 * n = length-take-le (16 * n) (get_or NOWHERE k []) (omega arith) in
-    length-zip2 bit_or (replicate (16 * n) place) (take (16 * n) (get_or NOWHERE k [])) (length-replicate (16 * n) place ∙ sym width) ∙ length-replicate (16 * n) place
+    let width : length (take (16 * n) (get_or NOWHERE k [])) ≡ 16 * n =
+    length-take-le (16 * n) (get_or NOWHERE k []) (omega arith) in
+    length-zip2 bit_or (replicate (16 * n) place) (take (16 * n) (get_or NOWHERE k []))
+    (length-replicate (16 * n) place ∙ sym width) ∙ length-replicate (16 * n) place
 
-place_at : (n place k g i : ℕ) → n ≤ 2 → k < 4 → g < n → i < 16 → get_or (places_of n place k) (16 * g + i) 0 ≡ bit_or place (nowhere (bit_at i (3 - k)))
+place_at : (n place k g i : ℕ) → n ≤ 2 → k < 4 → g < n → i < 16
+    → get_or (places_of n place k) (16 * g + i) 0 ≡ bit_or place (nowhere (bit_at i (3 - k)))
 place_at n place k g i le h l m =
     let at : ℕ = 16 * g + i in
     let rows : length (get_or NOWHERE k []) ≡ 32 = nowhere_long k h in
-    let width : length (take (16 * n) (get_or NOWHERE k [])) ≡ 16 * n = length-take-le (16 * n) (get_or NOWHERE k []) (omega arith) in
-    get_or-zip2 bit_or (replicate (16 * n) place) (take (16 * n) (get_or NOWHERE k [])) at 0 0 0 (omega (arith, length-replicate {A = ℕ} (16 * n) place)) (omega arith)
-    ∙ ap₂ bit_or (get_or-replicate (16 * n) at place 0 (omega arith)) (get_or-take (16 * n) (get_or NOWHERE k []) at 0 (omega arith) ∙ nowhere_at k g i h (omega arith) m)
+    let width : length (take (16 * n) (get_or NOWHERE k [])) ≡ 16 * n =
+    length-take-le (16 * n) (get_or NOWHERE k []) (omega arith) in
+    get_or-zip2 bit_or (replicate (16 * n) place) (take (16 * n) (get_or NOWHERE k []))
+    at 0 0 0 (omega (arith, length-replicate {A = ℕ} (16 * n) place)) (omega arith)
+    ∙ ap₂ bit_or (get_or-replicate (16 * n) at place 0 (omega arith))
+    (get_or-take (16 * n) (get_or NOWHERE k []) at 0 (omega arith) ∙ nowhere_at k g i h (omega arith) m)
 
 -- it looks at a place or at none
-place_or_none : (place d : ℕ) → place < 16 → d < 2 → T (zeroes 16 w8 (bit_or place (nowhere d)) || ltb (bit_or place (nowhere d)) 16)
+place_or_none : (place d : ℕ) → place < 16 → d < 2
+    → T (zeroes 16 w8 (bit_or place (nowhere d)) || ltb (bit_or place (nowhere d)) 16)
 unfolding nowhere
-place_or_none place zero h l = below_sixteen (λ p. T (zeroes 16 w8 (bit_or p 128) || ltb (bit_or p 128) 16)) tt tt tt tt tt tt tt tt tt tt tt tt tt tt tt tt place h
-place_or_none place (suc zero) h l = below_sixteen (λ p. T (zeroes 16 w8 (bit_or p 0) || ltb (bit_or p 0) 16)) tt tt tt tt tt tt tt tt tt tt tt tt tt tt tt tt place h
+place_or_none place zero h l = below_sixteen (λ p. T (zeroes 16 w8 (bit_or p 128) || ltb (bit_or p 128) 16)) tt tt tt tt
+    tt tt tt tt tt tt tt tt tt tt tt tt place h
+place_or_none place (suc zero) h l = below_sixteen (λ p. T (zeroes 16 w8 (bit_or p 0) || ltb (bit_or p 0) 16)) tt tt tt
+    tt tt tt tt tt tt tt tt tt tt tt tt tt place h
 place_or_none place (suc (suc d)) h l = absurd (omega arith)
 
-pub places_fit : (sixteens octets place k : ℕ) → octets ≡ sixteens * 16 → sixteens ≤ 2 → place < 16 → k < 4 → SwzOk w8 16 octets 0 (places_of sixteens place k)
+pub places_fit : (sixteens octets place k : ℕ) → octets ≡ sixteens * 16 → sixteens ≤ 2 → place < 16 → k < 4
+    → SwzOk w8 16 octets 0 (places_of sixteens place k)
 places_fit sixteens octets place k e le h l =
     let js : List ℕ = places_of sixteens place k in
     let long : length js ≡ 16 * sixteens = places_long sixteens place k le l in
@@ -151,14 +178,18 @@ places_fit sixteens octets place k e le h l =
     (λ m below.
     let whole : 16 * (m / 16) + m % 16 ≡ m = omega arith in
     let is : get_or js m 0 ≡ bit_or place (nowhere (bit_at (m % 16) (3 - k))) =
-    ap (λ (a : ℕ). get_or js a 0) (sym whole) ∙ place_at sixteens place k (m / 16) (m % 16) le l (omega arith) (omega arith) in
-    subst (λ (v : ℕ). T (zeroes 16 w8 v || ltb v 16)) (sym is) (place_or_none place (bit_at (m % 16) (3 - k)) h (bit_at-lt (m % 16) (3 - k)))))
+    ap (λ (a : ℕ). get_or js a 0) (sym whole)
+    ∙ place_at sixteens place k (m / 16) (m % 16) le l (omega arith) (omega arith) in
+    subst (λ (v : ℕ). T (zeroes 16 w8 v || ltb v 16)) (sym is)
+    (place_or_none place (bit_at (m % 16) (3 - k)) h (bit_at-lt (m % 16) (3 - k)))))
 
 -- what it finds there
 found_or_none : (v place d : ℕ) → place < 16 → d < 2 → cond (zeroes 16 w8 (bit_or place (nowhere d))) 0 v ≡ d * v
 unfolding nowhere
-found_or_none v place zero h l = below_sixteen (λ p. cond (zeroes 16 w8 (bit_or p 128)) 0 v ≡ 0) refl refl refl refl refl refl refl refl refl refl refl refl refl refl refl refl place h ∙ sym (zero-mul v)
-found_or_none v place (suc zero) h l = below_sixteen (λ p. cond (zeroes 16 w8 (bit_or p 0)) 0 v ≡ v) refl refl refl refl refl refl refl refl refl refl refl refl refl refl refl refl place h ∙ sym (one-mul v)
+found_or_none v place zero h l = below_sixteen (λ p. cond (zeroes 16 w8 (bit_or p 128)) 0 v ≡ 0) refl refl refl refl
+    refl refl refl refl refl refl refl refl refl refl refl refl place h ∙ sym (zero-mul v)
+found_or_none v place (suc zero) h l = below_sixteen (λ p. cond (zeroes 16 w8 (bit_or p 0)) 0 v ≡ v) refl refl refl refl
+    refl refl refl refl refl refl refl refl refl refl refl refl place h ∙ sym (one-mul v)
 found_or_none v place (suc (suc d)) h l = absurd (omega arith)
 
 place_itself : (place d : ℕ) → d < 2 → (v : ℕ → ℕ) → d * v (bit_or place (nowhere d)) ≡ d * v place
@@ -182,28 +213,41 @@ chosen_at n x place k g i le h l m o =
     ∙ place_itself place d (bit_at-lt i (3 - k)) (λ p. get_or x (16 * g + p) 0)
 
 -- the powers of x of a block, one after another
-pub powers_on : (xs second third fourth : List ℕ) (l : ℕ) → get_or second l 0 ≡ times_x (get_or xs l 0) → get_or third l 0 ≡ times_x (get_or second l 0)
+pub powers_on : (xs second third fourth : List ℕ) (l : ℕ) → get_or second l 0 ≡ times_x (get_or xs l 0)
+    → get_or third l 0 ≡ times_x (get_or second l 0)
     → get_or fourth l 0 ≡ times_x (get_or third l 0)
-    → (get_or xs l 0 ≡ times_power 0 (get_or xs l 0)) × ((get_or second l 0 ≡ times_power 1 (get_or xs l 0)) × ((get_or third l 0 ≡ times_power 2 (get_or xs l 0)) × (get_or fourth l 0 ≡ times_power 3 (get_or xs l 0))))
+    → (get_or xs l 0 ≡ times_power 0 (get_or xs l 0)) × ((get_or second l 0 ≡ times_power 1 (get_or xs l 0))
+    × ((get_or third l 0 ≡ times_power 2 (get_or xs l 0)) × (get_or fourth l 0 ≡ times_power 3 (get_or xs l 0))))
 unfolding times_power
 powers_on xs second third fourth l e f g = (refl, (e, (f ∙ ap times_x e, g ∙ ap times_x (f ∙ ap times_x e))))
 
 -- two words more
-pub two_words : (words : List ℕ) (n g a b : ℕ) → length words ≡ 2 * n → g < n → (P : ℕ → ℕ → Type 0) (Q : ℕ → ℕ → Type 0)
-    → ((k : ℕ) → k < g → P k (get_or words (2 * k) 0)) → ((k : ℕ) → k < g → Q k (get_or words (2 * k + 1) 0)) → P g a → Q g b
+pub two_words : (words : List ℕ) (n g a b : ℕ) → length words ≡ 2 * n → g < n
+    → (P : ℕ → ℕ → Type 0) (Q : ℕ → ℕ → Type 0)
+    → ((k : ℕ) → k < g → P k (get_or words (2 * k) 0)) → ((k : ℕ) → k < g → Q k (get_or words (2 * k + 1) 0))
+    → P g a → Q g b
     → ((k : ℕ) → k < g + 1 → P k (get_or (set (set words (2 * g) a) (2 * g + 1) b) (2 * k) 0))
     × ((k : ℕ) → k < g + 1 → Q k (get_or (set (set words (2 * g) a) (2 * g + 1) b) (2 * k + 1) 0))
 two_words words n g a b len h P Q ps qs p q =
     let once : List ℕ = set words (2 * g) a in
     let size : length once ≡ 2 * n = length-set words (2 * g) a ∙ len in (
       λ k l. elim (cases_lt k g) [
-        | inl lt ↦ rw (get_or-set_other once (2 * g + 1) (2 * k) b 0 (omega arith), get_or-set_other words (2 * g) (2 * k) a 0 (omega arith)) (ps k lt)
+        | inl lt ↦ rw (
+          get_or-set_other once (2 * g + 1) (2 * k) b 0 (omega arith),
+          get_or-set_other words (2 * g) (2 * k) a 0 (omega arith),
+        ) (ps k lt)
         | inr ge ↦
             let same : k ≡ g = omega arith in
-            rw same (rw (get_or-set_other once (2 * g + 1) (2 * g) b 0 (omega arith), get_or-set_same words (2 * g) a 0 (omega arith)) p)
+            rw same (rw (
+              get_or-set_other once (2 * g + 1) (2 * g) b 0 (omega arith),
+              get_or-set_same words (2 * g) a 0 (omega arith),
+            ) p)
       ],
       λ k l. elim (cases_lt k g) [
-        | inl lt ↦ rw (get_or-set_other once (2 * g + 1) (2 * k + 1) b 0 (omega arith), get_or-set_other words (2 * g) (2 * k + 1) a 0 (omega arith)) (qs k lt)
+        | inl lt ↦ rw (
+          get_or-set_other once (2 * g + 1) (2 * k + 1) b 0 (omega arith),
+          get_or-set_other words (2 * g) (2 * k + 1) a 0 (omega arith),
+        ) (qs k lt)
         | inr ge ↦
             let same : k ≡ g = omega arith in
             rw same (rw (get_or-set_same once (2 * g + 1) b 0 (omega arith)) q)
@@ -211,7 +255,8 @@ two_words words n g a b len h P Q ps qs p q =
     )
 
 -- each word is below a bound
-pub set_below : (words : List ℕ) (i v bound : ℕ) → i < length words → v < bound → ((m : ℕ) → get_or words m 0 < bound) → (m : ℕ) → get_or (set words i v) m 0 < bound
+pub set_below : (words : List ℕ) (i v bound : ℕ) → i < length words → v < bound → ((m : ℕ) → get_or words m 0 < bound)
+    → (m : ℕ) → get_or (set words i v) m 0 < bound
 set_below words i v bound within small held m = elim (cases_lt m i) [
   | inl lt ↦ rw (get_or-set_other words i m v 0 (omega arith)) (held m)
   | inr ge ↦ elim (cases_lt i m) [

@@ -1,5 +1,6 @@
 -- Sums moved on octet by octet.
-use Rattle.std.proofs.Common.{◌≡◌, ℕ, zero, suc, ◌+◌, ◌-◌, ◌*◌, ◌/◌, ◌%◌, ◌^◌, ◌<◌, ◌≤◌, ◌∙◌, bit_xor, ap, ap₂, sym, refl, arith}
+use Rattle.std.proofs.Common.{◌≡◌, ℕ, zero, suc, ◌+◌, ◌-◌, ◌*◌, ◌/◌, ◌%◌, ◌^◌, ◌<◌, ◌≤◌, ◌∙◌, bit_xor, ap, ap₂, sym}
+use Rattle.std.proofs.Common.{refl, arith}
 use Rattle.std.proofs.Math.Nat.{add_comm}
 use Rattle.std.proofs.lemmas.Nat.{xor_comm}
 use lib.Bits.{xor_assoc, xor_shifted, xor_zero_l, xor_zero_r}
@@ -12,12 +13,15 @@ use Rattle.macs_ghash.proofs.OctetSums.{placed-xor, placed_none, sum-map, sum_eq
 
 pub block_equal : (f g : ℕ → ℕ) → ((j : ℕ) → j < 16 → f j ≡ g j) → block_of_octets f ≡ block_of_octets g
 unfolding block_of_octets
-block_equal f g h = sum_equal (λ j. octet_placed j (f j)) (λ j. octet_placed j (g j)) 16 (λ j k. ap (octet_placed j) (h j k))
+block_equal f g h =
+    sum_equal (λ j. octet_placed j (f j)) (λ j. octet_placed j (g j)) 16 (λ j k. ap (octet_placed j) (h j k))
 
-pub block_xor : (f g : ℕ → ℕ) → block_of_octets (λ j. bit_xor (f j) (g j)) ≡ bit_xor (block_of_octets f) (block_of_octets g)
+pub block_xor : (f g : ℕ → ℕ)
+    → block_of_octets (λ j. bit_xor (f j) (g j)) ≡ bit_xor (block_of_octets f) (block_of_octets g)
 unfolding block_of_octets
 block_xor f g =
-    sum_equal (λ j. octet_placed j (bit_xor (f j) (g j))) (λ j. bit_xor (octet_placed j (f j)) (octet_placed j (g j))) 16 (λ j k. placed-xor j (f j) (g j))
+    sum_equal (λ j. octet_placed j (bit_xor (f j) (g j))) (λ j. bit_xor (octet_placed j (f j)) (octet_placed j (g j)))
+    16 (λ j k. placed-xor j (f j) (g j))
     ∙ sum_xor (λ j. octet_placed j (f j)) (λ j. octet_placed j (g j)) 16
 
 pub block_none : block_of_octets (λ j. 0) ≡ 0
@@ -44,7 +48,8 @@ unfolding sum_of
 sum_one f = xor_zero_l (f 0)
 
 -- octets after another
-pushed_sum : (x : ℕ) (f : ℕ → ℕ) → block_of_octets (pushed x f) ≡ bit_xor (octet_placed 0 x) (sum_of (λ k. octet_placed (k + 1) (f k)) 15)
+pushed_sum : (x : ℕ) (f : ℕ → ℕ)
+    → block_of_octets (pushed x f) ≡ bit_xor (octet_placed 0 x) (sum_of (λ k. octet_placed (k + 1) (f k)) 15)
 unfolding block_of_octets pushed
 pushed_sum x f =
     sum_split (λ j. octet_placed j (pushed x f j)) 15 1
@@ -55,19 +60,23 @@ pushed_sum x f =
     ap (λ (i : ℕ). octet_placed (k + 1) (pushed x f i)) e))
 
 -- x^8 times a block
-pub block_further : (f : ℕ → ℕ) → times_power 8 (block_of_octets f) ≡ bit_xor (block_of_octets (pushed 0 f)) (times_power 128 (octet_placed 0 (f 15)))
+pub block_further : (f : ℕ → ℕ) → times_power 8 (block_of_octets f)
+    ≡ bit_xor (block_of_octets (pushed 0 f)) (times_power 128 (octet_placed 0 (f 15)))
 unfolding block_of_octets
 block_further f =
     let g : ℕ → ℕ = λ k. octet_placed (k + 1) (f k) in
     sum-map (times_power 8) (times_power-xor 8) (λ j. octet_placed j (f j)) 16
     ∙ sum_equal (λ j. times_power 8 (octet_placed j (f j))) g 16 (λ j h. placed_further j (f j))
     ∙ sum_last g
-    ∙ ap₂ bit_xor (sym (pushed_sum 0 f ∙ ap (λ (v : ℕ). bit_xor v (sum_of g 15)) (placed_none 0) ∙ xor_zero_l (sum_of g 15))) (placed_beyond (f 15))
+    ∙ ap₂ bit_xor (sym (pushed_sum 0 f ∙ ap (λ (v : ℕ). bit_xor v (sum_of g 15)) (placed_none 0)
+    ∙ xor_zero_l (sum_of g 15))) (placed_beyond (f 15))
 
-pushed_front : (x : ℕ) (f : ℕ → ℕ) → block_of_octets (pushed x f) ≡ bit_xor (octet_placed 0 x) (block_of_octets (pushed 0 f))
+pushed_front : (x : ℕ) (f : ℕ → ℕ)
+    → block_of_octets (pushed x f) ≡ bit_xor (octet_placed 0 x) (block_of_octets (pushed 0 f))
 pushed_front x f =
     let s : ℕ = sum_of (λ k. octet_placed (k + 1) (f k)) 15 in
-    pushed_sum x f ∙ ap (bit_xor (octet_placed 0 x)) (sym (pushed_sum 0 f ∙ ap (λ (v : ℕ). bit_xor v s) (placed_none 0) ∙ xor_zero_l s))
+    pushed_sum x f ∙ ap (bit_xor (octet_placed 0 x))
+    (sym (pushed_sum 0 f ∙ ap (λ (v : ℕ). bit_xor v s) (placed_none 0) ∙ xor_zero_l s))
 
 -- what goes beyond the right end goes to the front of what is there
 pub moved_on : (low high : ℕ → ℕ) → high 15 ≡ 0
@@ -88,17 +97,21 @@ moved_on low high none =
     ∙ sym (times_power-xor 8 (block_of_octets low) (t (block_of_octets high)) ∙ ap₂ bit_xor (block_further low) far)
 
 -- octets added to the block
-pub added_on : (low high more : ℕ → ℕ) → with_beyond (λ j. bit_xor (low j) (more j)) high ≡ bit_xor (with_beyond low high) (block_of_octets more)
+pub added_on : (low high more : ℕ → ℕ)
+    → with_beyond (λ j. bit_xor (low j) (more j)) high ≡ bit_xor (with_beyond low high) (block_of_octets more)
 unfolding with_beyond
 added_on low high more =
     let a : ℕ = block_of_octets low in
     let b : ℕ = block_of_octets more in
     let t : ℕ = times_power 128 (block_of_octets high) in
-    ap (λ (v : ℕ). bit_xor v t) (block_xor low more) ∙ xor_assoc a b t ∙ ap (bit_xor a) (xor_comm b t) ∙ sym (xor_assoc a t b)
+    ap (λ (v : ℕ). bit_xor v t) (block_xor low more) ∙ xor_assoc a b t ∙ ap (bit_xor a) (xor_comm b t)
+    ∙ sym (xor_assoc a t b)
 
-pub beyond_equal : (low high low2 high2 : ℕ → ℕ) → ((j : ℕ) → j < 16 → low j ≡ low2 j) → ((j : ℕ) → j < 16 → high j ≡ high2 j) → with_beyond low high ≡ with_beyond low2 high2
+pub beyond_equal : (low high low2 high2 : ℕ → ℕ) → ((j : ℕ) → j < 16 → low j ≡ low2 j)
+    → ((j : ℕ) → j < 16 → high j ≡ high2 j) → with_beyond low high ≡ with_beyond low2 high2
 unfolding with_beyond
-beyond_equal low high low2 high2 f g = ap₂ (λ (a b : ℕ). bit_xor a (times_power 128 b)) (block_equal low low2 f) (block_equal high high2 g)
+beyond_equal low high low2 high2 f g =
+    ap₂ (λ (a b : ℕ). bit_xor a (times_power 128 b)) (block_equal low low2 f) (block_equal high high2 g)
 
 -- ---- x^4 times octets: each in two halves
 
@@ -115,7 +128,8 @@ low_half v =
     let e : v * 16 * 2 ^ 120 ≡ v * 2 ^ 120 * 2 ^ 4 = omega arith in
     ap (times_power 8) e ∙ power-add 4 4 (v * 2 ^ 120 * 2 ^ 4) ∙ ap (times_power 4) (power-exact 4 (v * 2 ^ 120))
 
-placed_halves : (j o : ℕ) → times_power 4 (octet_placed j o) ≡ bit_xor (octet_placed j (o / 16)) (times_power 8 (octet_placed j (o % 16 * 16)))
+placed_halves : (j o : ℕ) → times_power 4 (octet_placed j o)
+    ≡ bit_xor (octet_placed j (o / 16)) (times_power 8 (octet_placed j (o % 16 * 16)))
 unfolding octet_placed
 placed_halves j o =
     let p : ℕ → ℕ = times_power (8 * j) in
@@ -127,19 +141,24 @@ placed_halves j o =
     ∙ times_power-xor (8 * j) (o / 16 * 2 ^ 120) (times_power 8 (o % 16 * 16 * 2 ^ 120))
     ∙ ap (bit_xor (p (o / 16 * 2 ^ 120))) (sym (swapped 8 (o % 16 * 16 * 2 ^ 120)))
 
-pub block_halves : (f : ℕ → ℕ) → times_power 4 (block_of_octets f) ≡ bit_xor (block_of_octets (λ j. f j / 16)) (times_power 8 (block_of_octets (λ j. f j % 16 * 16)))
+pub block_halves : (f : ℕ → ℕ) → times_power 4 (block_of_octets f)
+    ≡ bit_xor (block_of_octets (λ j. f j / 16)) (times_power 8 (block_of_octets (λ j. f j % 16 * 16)))
 unfolding block_of_octets
 block_halves f =
     sum-map (times_power 4) (times_power-xor 4) (λ j. octet_placed j (f j)) 16
-    ∙ sum_equal (λ j. times_power 4 (octet_placed j (f j))) (λ j. bit_xor (octet_placed j (f j / 16)) (times_power 8 (octet_placed j (f j % 16 * 16)))) 16 (λ j h. placed_halves j (f j))
+    ∙ sum_equal (λ j. times_power 4 (octet_placed j (f j))) (λ j. bit_xor (octet_placed j (f j / 16))
+    (times_power 8 (octet_placed j (f j % 16 * 16)))) 16 (λ j h. placed_halves j (f j))
     ∙ sum_xor (λ j. octet_placed j (f j / 16)) (λ j. times_power 8 (octet_placed j (f j % 16 * 16))) 16
-    ∙ ap (bit_xor (sum_of (λ j. octet_placed j (f j / 16)) 16)) (sym (sum-map (times_power 8) (times_power-xor 8) (λ j. octet_placed j (f j % 16 * 16)) 16))
+    ∙ ap (bit_xor (sum_of (λ j. octet_placed j (f j / 16)) 16))
+    (sym (sum-map (times_power 8) (times_power-xor 8) (λ j. octet_placed j (f j % 16 * 16)) 16))
 
 -- ---- one step: the left halves of the blocks' octets give `left`, the right ones `right`
 
 pub one_step : (low high left right : ℕ → ℕ) → high 15 ≡ 0
-    → with_beyond (λ j. bit_xor (pushed 0 (λ i. bit_xor (low i) (right i % 16 * 16)) j) (bit_xor (left j) (right j / 16))) (pushed (bit_xor (low 15) (right 15 % 16 * 16)) high)
-    ≡ bit_xor (times_power 8 (with_beyond low high)) (bit_xor (block_of_octets left) (times_power 4 (block_of_octets right)))
+    → with_beyond (λ j. bit_xor (pushed 0 (λ i. bit_xor (low i) (right i % 16 * 16)) j)
+    (bit_xor (left j) (right j / 16))) (pushed (bit_xor (low 15) (right 15 % 16 * 16)) high)
+    ≡ bit_xor (times_power 8 (with_beyond low high))
+    (bit_xor (block_of_octets left) (times_power 4 (block_of_octets right)))
 one_step low high left right none =
     let up : ℕ → ℕ = λ i. right i % 16 * 16 in
     let down : ℕ → ℕ = λ i. right i / 16 in
@@ -149,7 +168,8 @@ one_step low high left right none =
     let l : ℕ = block_of_octets left in
     let r : ℕ = block_of_octets down in
     added_on (pushed 0 more) (pushed (more 15) high) (λ j. bit_xor (left j) (down j))
-    ∙ ap₂ bit_xor (moved_on more high none ∙ ap (times_power 8) (added_on low high up) ∙ times_power-xor 8 (with_beyond low high) (block_of_octets up)) (block_xor left down)
+    ∙ ap₂ bit_xor (moved_on more high none ∙ ap (times_power 8) (added_on low high up)
+    ∙ times_power-xor 8 (with_beyond low high) (block_of_octets up)) (block_xor left down)
     ∙ xor_assoc w a (bit_xor l r)
     ∙ ap (bit_xor w) (sym (xor_assoc a l r) ∙ ap (λ (v : ℕ). bit_xor v r) (xor_comm a l) ∙ xor_assoc l a r
     ∙ ap (bit_xor l) (xor_comm a r ∙ sym (block_halves right)))

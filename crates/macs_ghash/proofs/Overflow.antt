@@ -42,21 +42,25 @@ unfolding times_power
 power-exact zero a = mul-one a
 power-exact (suc k) a =
     let e : a * 2 ^ suc k ≡ a * 2 ^ k * 2 = rw pow-suc (sym (mul_assoc a (2 ^ k) 2)) in
-    sym (power-inside k (a * 2 ^ suc k)) ∙ ap (λ (y : ℕ). times_power k (times_x y)) e ∙ ap (times_power k) (times_x-double (a * 2 ^ k)) ∙ power-exact k a
+    sym (power-inside k (a * 2 ^ suc k)) ∙ ap (λ (y : ℕ). times_power k (times_x y)) e
+    ∙ ap (times_power k) (times_x-double (a * 2 ^ k)) ∙ power-exact k a
 
 -- a number in its parts above and below bit k
 parts : (k v : ℕ) → v ≡ bit_xor (v / 2 ^ k * 2 ^ k) (v % 2 ^ k)
 parts k v =
     let positive : 0 < 2 ^ k = pow_pos k in
     let low : v % 2 ^ k < 2 ^ k = omega arith in
-    let whole : v ≡ v / 2 ^ k * 2 ^ k + v % 2 ^ k = sym (mod-add-div' v (2 ^ k)) ∙ add_comm (v % 2 ^ k) (v / 2 ^ k * 2 ^ k) in
+    let whole : v ≡ v / 2 ^ k * 2 ^ k + v % 2 ^ k = sym (mod-add-div' v (2 ^ k))
+    ∙ add_comm (v % 2 ^ k) (v / 2 ^ k * 2 ^ k) in
     whole ∙ sym (xor_shifted (v / 2 ^ k) k (v % 2 ^ k) low)
 
 -- a power of x is a shift to the right, and the bits shifted out come back above x^128
-pub power-split : (k j v : ℕ) → k + j ≡ 128 → times_power k v ≡ bit_xor (v / 2 ^ k) (times_power 128 (v % 2 ^ k * 2 ^ j))
+pub power-split : (k j v : ℕ) → k + j ≡ 128
+    → times_power k v ≡ bit_xor (v / 2 ^ k) (times_power 128 (v % 2 ^ k * 2 ^ j))
 power-split k j v e =
     let out : times_power k (v % 2 ^ k) ≡ times_power 128 (v % 2 ^ k * 2 ^ j) =
-    ap (times_power k) (sym (power-exact j (v % 2 ^ k))) ∙ sym (power-add k j (v % 2 ^ k * 2 ^ j)) ∙ ap (λ (n : ℕ). times_power n (v % 2 ^ k * 2 ^ j)) e in
+    ap (times_power k) (sym (power-exact j (v % 2 ^ k))) ∙ sym (power-add k j (v % 2 ^ k * 2 ^ j))
+    ∙ ap (λ (n : ℕ). times_power n (v % 2 ^ k * 2 ^ j)) e in
     ap (times_power k) (parts k v) ∙ times_power-xor k (v / 2 ^ k * 2 ^ k) (v % 2 ^ k)
     ∙ ap₂ bit_xor (power-exact k (v / 2 ^ k)) out
 
@@ -75,7 +79,8 @@ fourfold-linear : IsLinear fourfold
 unfolding fourfold
 fourfold-linear =
     linear-sum (λ v. bit_xor (bit_xor (times_power 0 v) (times_power 1 v)) (times_power 2 v)) (times_power 7)
-    (linear-sum (λ v. bit_xor (times_power 0 v) (times_power 1 v)) (times_power 2) (linear-sum (times_power 0) (times_power 1) (linear-power 0) (linear-power 1)) (linear-power 2))
+    (linear-sum (λ v. bit_xor (times_power 0 v) (times_power 1 v)) (times_power 2)
+    (linear-sum (times_power 0) (times_power 1) (linear-power 0) (linear-power 1)) (linear-power 2))
     (linear-power 7)
 
 at-one : times_power 128 one ≡ fourfold one
@@ -85,7 +90,8 @@ at-one = refl
 -- x^128 is 1 + x + x^2 + x^7
 overflow-fourfold : (v : ℕ) → v < 2 ^ 128 → times_power 128 v ≡ fourfold v
 overflow-fourfold v h =
-    linear_is (times_power 128) (linear-power 128) v h ∙ ap (block_product v) at-one ∙ sym (linear_is fourfold fourfold-linear v h)
+    linear_is (times_power 128) (linear-power 128) v h ∙ ap (block_product v) at-one
+    ∙ sym (linear_is fourfold fourfold-linear v h)
 
 -- a number with its shifts to the right by 1, 2 and 7
 unfoldable pub spread : ℕ → ℕ
@@ -96,7 +102,8 @@ unfolding spread
 spread-xor u v =
     ap₂ bit_xor (ap₂ bit_xor (ap₂ bit_xor refl (xor_shr u v 1) ∙ xor_middle u v (u / 2) (v / 2)) (xor_shr u v 2)
     ∙ xor_middle (bit_xor u (u / 2)) (bit_xor v (v / 2)) (u / 2 ^ 2) (v / 2 ^ 2)) (xor_shr u v 7)
-    ∙ xor_middle (bit_xor (bit_xor u (u / 2)) (u / 2 ^ 2)) (bit_xor (bit_xor v (v / 2)) (v / 2 ^ 2)) (u / 2 ^ 7) (v / 2 ^ 7)
+    ∙ xor_middle (bit_xor (bit_xor u (u / 2)) (u / 2 ^ 2)) (bit_xor (bit_xor v (v / 2)) (v / 2 ^ 2))
+    (u / 2 ^ 7) (v / 2 ^ 7)
 
 -- the bits that the shifts lose
 unfoldable lost : ℕ → ℕ
@@ -123,7 +130,8 @@ lost-top v =
     let c : ℕ = v % 2 ^ 7 in
     let ea : v % 2 * 2 ^ 127 ≡ a * 2 ^ 121 = omega arith in
     let eb : v % 2 ^ 2 * 2 ^ 126 ≡ b * 2 ^ 121 = omega arith in
-    ap (λ (y : ℕ). bit_xor y (c * 2 ^ 121)) (ap₂ bit_xor ea eb ∙ sym (xor_shl a b 121)) ∙ sym (xor_shl (bit_xor a b) c 121)
+    ap (λ (y : ℕ). bit_xor y (c * 2 ^ 121)) (ap₂ bit_xor ea eb ∙ sym (xor_shl a b 121))
+    ∙ sym (xor_shl (bit_xor a b) c 121)
 
 lost-lt : (v : ℕ) → lost v < 2 ^ 128
 unfolding lost
@@ -147,22 +155,27 @@ regrouped a b c d p q r =
     ∙ xor_middle (bit_xor (bit_xor a b) c) (bit_xor p q) d r
 
 -- x^128 times the sum of what is lost
-lost-sum : (v : ℕ) → times_power 128 (lost v) ≡ bit_xor (bit_xor (times_power 128 (v % 2 ^ 1 * 2 ^ 127)) (times_power 128 (v % 2 ^ 2 * 2 ^ 126))) (times_power 128 (v % 2 ^ 7 * 2 ^ 121))
+lost-sum : (v : ℕ) → times_power 128 (lost v) ≡ bit_xor (bit_xor (times_power 128 (v % 2 ^ 1 * 2 ^ 127))
+    (times_power 128 (v % 2 ^ 2 * 2 ^ 126))) (times_power 128 (v % 2 ^ 7 * 2 ^ 121))
 unfolding lost
 lost-sum v =
     times_power-xor 128 (bit_xor (v % 2 * 2 ^ 127) (v % 2 ^ 2 * 2 ^ 126)) (v % 2 ^ 7 * 2 ^ 121)
-    ∙ ap (λ (y : ℕ). bit_xor y (times_power 128 (v % 2 ^ 7 * 2 ^ 121))) (times_power-xor 128 (v % 2 * 2 ^ 127) (v % 2 ^ 2 * 2 ^ 126))
+    ∙ ap (λ (y : ℕ). bit_xor y (times_power 128 (v % 2 ^ 7 * 2 ^ 121)))
+    (times_power-xor 128 (v % 2 * 2 ^ 127) (v % 2 ^ 2 * 2 ^ 126))
 
 pub power-none : (v : ℕ) → times_power 0 v ≡ v
 unfolding times_power
 power-none v = refl
 
 -- 1 + x + x^2 + x^7 by shifts, and x^128 times what they lose
-shifts : (v : ℕ) → fourfold v ≡ bit_xor (spread v) (bit_xor (bit_xor (times_power 128 (v % 2 ^ 1 * 2 ^ 127)) (times_power 128 (v % 2 ^ 2 * 2 ^ 126))) (times_power 128 (v % 2 ^ 7 * 2 ^ 121)))
+shifts : (v : ℕ) → fourfold v ≡ bit_xor (spread v) (bit_xor (bit_xor (times_power 128 (v % 2 ^ 1 * 2 ^ 127))
+    (times_power 128 (v % 2 ^ 2 * 2 ^ 126))) (times_power 128 (v % 2 ^ 7 * 2 ^ 121)))
 unfolding fourfold spread
 shifts v =
-    ap₂ bit_xor (ap₂ bit_xor (ap₂ bit_xor (power-none v) (power-split 1 127 v refl)) (power-split 2 126 v refl)) (power-split 7 121 v refl)
-    ∙ regrouped v (v / 2) (v / 2 ^ 2) (v / 2 ^ 7) (times_power 128 (v % 2 ^ 1 * 2 ^ 127)) (times_power 128 (v % 2 ^ 2 * 2 ^ 126)) (times_power 128 (v % 2 ^ 7 * 2 ^ 121))
+    ap₂ bit_xor (ap₂ bit_xor (ap₂ bit_xor (power-none v) (power-split 1 127 v refl)) (power-split 2 126 v refl))
+    (power-split 7 121 v refl)
+    ∙ regrouped v (v / 2) (v / 2 ^ 2) (v / 2 ^ 7) (times_power 128 (v % 2 ^ 1 * 2 ^ 127))
+    (times_power 128 (v % 2 ^ 2 * 2 ^ 126)) (times_power 128 (v % 2 ^ 7 * 2 ^ 121))
 
 -- x^128 times a block
 overflow-spread : (v : ℕ) → v < 2 ^ 128 → times_power 128 v ≡ spread (bit_xor v (lost v))
@@ -172,17 +185,20 @@ overflow-spread v h =
     ∙ sym (spread-xor v (lost v))
 
 -- the bits lost of a block, as shifts to the left
-lost-shifts : (v : ℕ) → bit_xor (bit_xor (bit_xor v (v * 2 ^ 127 % 2 ^ 128)) (v * 2 ^ 126 % 2 ^ 128)) (v * 2 ^ 121 % 2 ^ 128) ≡ bit_xor v (lost v)
+lost-shifts : (v : ℕ) → bit_xor (bit_xor (bit_xor v (v * 2 ^ 127 % 2 ^ 128)) (v * 2 ^ 126 % 2 ^ 128))
+    (v * 2 ^ 121 % 2 ^ 128) ≡ bit_xor v (lost v)
 unfolding lost
 lost-shifts v =
     let a : v * 2 ^ 127 % 2 ^ 128 ≡ v % 2 * 2 ^ 127 = omega arith in
     let b : v * 2 ^ 126 % 2 ^ 128 ≡ v % 2 ^ 2 * 2 ^ 126 = omega arith in
     let c : v * 2 ^ 121 % 2 ^ 128 ≡ v % 2 ^ 7 * 2 ^ 121 = omega arith in
-    ap₂ (λ (x y : ℕ). bit_xor (bit_xor (bit_xor v x) y) (v * 2 ^ 121 % 2 ^ 128)) a b ∙ ap (bit_xor (bit_xor (bit_xor v (v % 2 * 2 ^ 127)) (v % 2 ^ 2 * 2 ^ 126))) c
+    ap₂ (λ (x y : ℕ). bit_xor (bit_xor (bit_xor v x) y) (v * 2 ^ 121 % 2 ^ 128)) a b
+    ∙ ap (bit_xor (bit_xor (bit_xor v (v % 2 * 2 ^ 127)) (v % 2 ^ 2 * 2 ^ 126))) c
     ∙ ap (λ (y : ℕ). bit_xor y (v % 2 ^ 7 * 2 ^ 121)) (xor_assoc v (v % 2 * 2 ^ 127) (v % 2 ^ 2 * 2 ^ 126))
     ∙ xor_assoc v (bit_xor (v % 2 * 2 ^ 127) (v % 2 ^ 2 * 2 ^ 126)) (v % 2 ^ 7 * 2 ^ 121)
 
 -- x^128 times a block, as the code computes it
 pub overflow-shifts : (v : ℕ) → v < 2 ^ 128
-    → spread (bit_xor (bit_xor (bit_xor v (v * 2 ^ 127 % 2 ^ 128)) (v * 2 ^ 126 % 2 ^ 128)) (v * 2 ^ 121 % 2 ^ 128)) ≡ times_power 128 v
+    → spread (bit_xor (bit_xor (bit_xor v (v * 2 ^ 127 % 2 ^ 128)) (v * 2 ^ 126 % 2 ^ 128)) (v * 2 ^ 121 % 2 ^ 128))
+    ≡ times_power 128 v
 overflow-shifts v h = ap spread (lost-shifts v) ∙ sym (overflow-spread v h)

@@ -1,5 +1,5 @@
--- Products by tables of four bits. A nibble is a polynomial of degree below 4, whose highest bit is the coefficient of x^0, as in
--- the halves of a block's octets.
+-- Products by tables of four bits. A nibble is a polynomial of degree below 4, whose highest bit is the coefficient of
+-- x^0, as in the halves of a block's octets.
 use Rattle.std.specs.Prelude.{◌≡◌, ◌<◌, ℕ, zero, suc, [], length, ◌+◌, ◌-◌, ◌*◌, ◌/◌, ◌%◌, ◌^◌, List, get_or, bit_xor}
 use Rattle.std.specs.Int.{bit_at}
 use Rattle.macs_gf.specs.Gf128.{times_power}
@@ -16,7 +16,8 @@ nibble_product n p = sum_of (λ k. bit_at n (3 - k) * times_power k p) 4
 
 -- the sum of those of four octets that the bits of a nibble choose, the highest bit the first
 abbrev pub chosen_octets : ℕ → ℕ → ℕ → ℕ → ℕ → ℕ
-chosen_octets n a b c d = bit_xor (bit_xor (bit_xor (bit_at n 3 * a) (bit_at n 2 * b)) (bit_at n 1 * c)) (bit_at n 0 * d)
+chosen_octets n a b c d =
+    bit_xor (bit_xor (bit_xor (bit_at n 3 * a) (bit_at n 2 * b)) (bit_at n 1 * c)) (bit_at n 0 * d)
 
 -- octet b of a block, counted from the left
 abbrev pub octet_from_left : ℕ → ℕ → ℕ
@@ -52,20 +53,24 @@ stepped f (suc k) = bit_xor (times_power 8 (stepped f k)) (f (15 - k))
 abbrev pub octets_in : List ℕ → ℕ → ℕ → ℕ
 octets_in octets g j = get_or octets (16 * g + j) 0
 
--- tables of powers: at n in part p of row b, in sixteen g, octet b of the product of the nibble n and power sixteens * p + g
+-- tables of powers: at n in part p of row b, in sixteen g, octet b of the product of the nibble n and power sixteens *
+-- p + g
 pub record AreTables (sixteens parts : ℕ) (powers : ℕ → ℕ) (tables : List (List (List ℕ))) : Type 0 where
   pub small : (l : ℕ) → l < sixteens * parts → powers l < 2 ^ 128
   pub each : (b p g n : ℕ) → b < 16 → p < parts → g < sixteens → n < 16
-      → octets_in (get_or (get_or tables b []) p []) g n ≡ octet_from_left (nibble_product n (powers (sixteens * p + g))) b
+      → octets_in (get_or (get_or tables b []) p []) g n
+      ≡ octet_from_left (nibble_product n (powers (sixteens * p + g))) b
 
 -- octet j of the sum of what row b has at the numbers, part by part, in sixteen g
 abbrev pub row_sum : ℕ → List (List (List ℕ)) → List (List ℕ) → ℕ → ℕ → ℕ → ℕ
-row_sum parts tables at g b j = sum_of (λ p. octets_in (get_or (get_or tables b []) p []) g (octets_in (get_or at p []) g j)) parts
+row_sum parts tables at g b j =
+    sum_of (λ p. octets_in (get_or (get_or tables b []) p []) g (octets_in (get_or at p []) g j)) parts
 
 -- what row b adds: at the left halves of octets, and half an octet further at the right ones
 abbrev pub row_term : ℕ → List (List (List ℕ)) → List (List ℕ) → List (List ℕ) → ℕ → ℕ → ℕ
 row_term parts tables left right g b =
-    bit_xor (block_of_octets (row_sum parts tables left g b)) (times_power 4 (block_of_octets (row_sum parts tables right g b)))
+    bit_xor (block_of_octets (row_sum parts tables left g b))
+    (times_power 4 (block_of_octets (row_sum parts tables right g b)))
 
 -- the powers of a subkey, from the eighth down to the first
 pub record AreEightPowers (key : ℕ) (powers : List ℕ) : Type 0 where

@@ -1,10 +1,12 @@
 //! Tables of four bits, made from the powers of a hash subkey.
 
-ghost use Rattle.std.specs.Prelude.{◌≡◌, ◌<◌, ◌≤◌, ◌+◌, ◌-◌, ◌*◌, ◌/◌, ◌%◌, ◌^◌, ℕ, [], bit_xor, get_or};
+ghost use Rattle.std.specs.Prelude.{◌≡◌, ◌<◌, ◌≤◌, ◌+◌, ◌-◌, ◌*◌, ◌/◌, ◌%◌, ◌^◌, ℕ, [], bit_xor};
+ghost use Rattle.std.specs.Prelude.{get_or};
 ghost use Rattle.std.specs.Int.{bit_at};
 ghost use Rattle.std.specs.List.{All};
 ghost use Rattle.macs_gf.specs.Gf128.{times_power, times_x};
-ghost use Rattle.macs_ghash.specs.Tables.{AreTables, chosen_octets, nibble_product, octet_from_left, octets_in};
+ghost use Rattle.macs_ghash.specs.Tables.{AreTables, chosen_octets, nibble_product};
+ghost use Rattle.macs_ghash.specs.Tables.{octet_from_left, octets_in};
 
 use crate::octets::{OCTETS, SIXTEENS, sum};
 use crate::tables::Part;

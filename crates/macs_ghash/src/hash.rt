@@ -11,13 +11,14 @@ use crate::powers::Powers;
 /// more than they save.
 const MANY: usize = 8 + 20 / SIXTEENS;
 
-/// GHASH (NIST SP 800-38D, 6.4) under a prepared hash subkey, of the additional data and the text, which
-/// is the ciphertext, each padded to whole blocks, and of the block of their lengths (7.1, step 5). Each
-/// has any number of octets below 2^32, also none.
+/// GHASH (NIST SP 800-38D, 6.4) under a prepared hash subkey, of the additional data and the text,
+/// which is the ciphertext, each padded to whole blocks, and of the block of their lengths (7.1,
+/// step 5). Each has any number of octets below 2^32, also none.
 pub fn ghash(powers: &Powers, aad: &[u8], text: &[u8]) -> [u8; 16]
     requires aad { length aad.now < 2 ^ 32 }
     requires text { length text.now < 2 ^ 32 }
-    ensures { result ≡ to_be_bytes w128 (ghash powers.now (blocks_of (hash_input aad.now text.now))) }
+    ensures { result
+        ≡ to_be_bytes w128 (ghash powers.now (blocks_of (hash_input aad.now text.now))) }
 {
     let count = aad.len().div_ceil(16) + text.len().div_ceil(16) + 1;
     let state = if count < MANY {

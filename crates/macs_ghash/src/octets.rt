@@ -1,7 +1,8 @@
 //! Octets side by side in a vector register: sixteen, or twice sixteen, each sixteen by itself.
 #![tactic(auto, using(std::proofs::lemmas::Simd::shifts_fit_splat))]
 
-ghost use Rattle.std.specs.Prelude.{◌≡◌, ◌<◌, ◌*◌, ◌/◌, ◌%◌, ◌^◌, ℕ, bit_or, bit_xor, get_or, length};
+ghost use Rattle.std.specs.Prelude.{◌≡◌, ◌<◌, ◌*◌, ◌/◌, ◌%◌, ◌^◌, ℕ, bit_or, bit_xor, get_or};
+ghost use Rattle.std.specs.Prelude.{length};
 ghost use Rattle.std.specs.List.{All};
 ghost use Rattle.macs_ghash.specs.Tables.{block_of_octets, octets_in, pushed, sum_of};
 

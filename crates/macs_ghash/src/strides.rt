@@ -1,7 +1,8 @@
 //! A string taken in by strides of several blocks, under tables of as many powers of the hash
 //! subkey.
 
-ghost use Rattle.std.specs.Prelude.{◌≡◌, ◌≢◌, ◌+◌, ◌*◌, ◌/◌, ◌^◌, ◌<◌, ◌≤◌, ◌-◌, ℕ, bit_xor, length};
+ghost use Rattle.std.specs.Prelude.{◌≡◌, ◌≢◌, ◌+◌, ◌*◌, ◌/◌, ◌^◌, ◌<◌, ◌≤◌, ◌-◌, ℕ, bit_xor};
+ghost use Rattle.std.specs.Prelude.{length};
 ghost use Rattle.macs_gf.specs.Ghash.{block_at, blocks_of, ghash, hash_input, subkey_power};
 ghost use Rattle.macs_ghash.specs.Tables.{AreTables, octet_from_left, octets_in};
 

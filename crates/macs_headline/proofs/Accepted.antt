@@ -1,10 +1,13 @@
 -- What it says of a command that it is accepted.
-use Rattle.std.proofs.Common.{◌≡◌, ℕ, Bool, true, false, cond, bytes_eq, List, [], ◌∷◌, ◌++◌, Option, Some, None, Ok, is_ok, refl, sym, ◌∙◌}
+use Rattle.std.proofs.Common.{◌≡◌, ℕ, Bool, true, false, cond, bytes_eq, List, [], ◌∷◌, ◌++◌, Option, Some, None, Ok}
+use Rattle.std.proofs.Common.{is_ok, refl, sym, ◌∙◌}
 use Rattle.std.proofs.lemmas.Bool.{false≢true, or_left}
 use Rattle.macs_aes.specs.Keys.{octets_of_key}
 use Rattle.macs_aes.specs.declared.keys.Key.{Key}
 use Rattle.macs_fields.specs.First.{first}
-use Rattle.macs_config.specs.Apply.{Reason, answer_or_refusal, apply, config_after, has_wrong_offset, has_wrong_start, is_slot_taken, is_wrong_end_station, offset_at, offset_or_zero, refusal_of, refusals}
+use Rattle.macs_config.specs.Apply.{Reason, answer_or_refusal, apply, config_after, has_wrong_offset, has_wrong_start}
+use Rattle.macs_config.specs.Apply.{is_slot_taken, is_wrong_end_station, offset_at, offset_or_zero, refusal_of}
+use Rattle.macs_config.specs.Apply.{refusals}
 use Rattle.macs_config.specs.Association.{protection_of}
 use Rattle.macs_config.specs.Config.{Config, Edition, is_spent, rx_fingerprint, tx_fingerprint}
 use Rattle.macs_config.specs.Identity.{Identity}
@@ -30,7 +33,8 @@ no-test [] is = tt
 no-test (row ∷ rows) is = no_test_by row.0 row.1 rows (no-test rows) is
 
 -- it is not refused, and makes this of the configuration
-pub accepted : (edition : Edition) (identity : Identity) (c : Config) (command : Command) (new : Config) → apply edition identity c command ≡ Ok new
+pub accepted : (edition : Edition) (identity : Identity) (c : Config) (command : Command) (new : Config)
+    → apply edition identity c command ≡ Ok new
     → (refusal_of edition identity c command ≡ None) × (new ≡ config_after c command)
 accepted edition identity c command new is =
     let made = applied_by (refusal_of edition identity c command) (config_after c command) new is in
@@ -41,11 +45,14 @@ accepted_by None config is = refl
 accepted_by (Some refusal) config is = absurd (cc)
 
 -- no reason holds to refuse it
-pub no-refusal : (edition : Edition) (identity : Identity) (c : Config) (command : Command) → is_ok (apply edition identity c command) ≡ true
+pub no-refusal : (edition : Edition) (identity : Identity) (c : Config) (command : Command)
+    → is_ok (apply edition identity c command) ≡ true
     → refusal_of edition identity c command ≡ None
-no-refusal edition identity c command is = accepted_by (refusal_of edition identity c command) (config_after c command) is
+no-refusal edition identity c command is =
+    accepted_by (refusal_of edition identity c command) (config_after c command) is
 
-module _ (edition : Edition) (identity : Identity) (c : Config) (command : Command) (is : refusal_of edition identity c command ≡ None) where
+module _ (edition : Edition) (identity : Identity) (c : Config) (command : Command)
+    (is : refusal_of edition identity c command ≡ None) where
   tests : NoTest (refusals edition identity c command)
   tests = no-test (refusals edition identity c command) is
 
@@ -67,18 +74,23 @@ module _ (edition : Edition) (identity : Identity) (c : Config) (command : Comma
 
 -- the transmit association that an install asks for
 abbrev pub tx_of : Key → Bool → ℕ → TxSa
-tx_of key confidential offset = record { key = octets_of_key key; protection = protection_of confidential (offset_or_zero (offset_at offset)) }
+tx_of key confidential offset =
+    record { key = octets_of_key key; protection = protection_of confidential (offset_or_zero (offset_at offset)) }
 
 -- the key of an install was not spent on its side
-pub tx-unspent : (edition : Edition) (identity : Identity) (c : Config) (an : ℕ) (key : Key) (start : ℕ) (confidential : Bool) (offset : ℕ)
-    → refusal_of edition identity c (TxInstall an key start confidential offset) ≡ None → ¬ (is_spent c.spent_tx (tx_fingerprint (octets_of_key key)) ≡ true)
+pub tx-unspent : (edition : Edition) (identity : Identity) (c : Config) (an : ℕ) (key : Key) (start : ℕ)
+    (confidential : Bool) (offset : ℕ)
+    → refusal_of edition identity c (TxInstall an key start confidential offset) ≡ None
+    → ¬ (is_spent c.spent_tx (tx_fingerprint (octets_of_key key)) ≡ true)
 tx-unspent edition identity c an key start confidential offset is here =
     let none : NoTest (refusals edition identity c (TxInstall an key start confidential offset)) =
     no-test (refusals edition identity c (TxInstall an key start confidential offset)) is in
     false≢true (sym none.1.1.1.1.1.1.1.1.1.1.0 ∙ here)
 
-pub rx-unspent : (edition : Edition) (identity : Identity) (c : Config) (sci : List ℕ) (an : ℕ) (key : Key) (start offset : ℕ)
-    → refusal_of edition identity c (RxInstall sci an key start offset) ≡ None → ¬ (is_spent c.spent_rx (rx_fingerprint sci (octets_of_key key)) ≡ true)
+pub rx-unspent : (edition : Edition) (identity : Identity) (c : Config) (sci : List ℕ) (an : ℕ) (key : Key)
+    (start offset : ℕ)
+    → refusal_of edition identity c (RxInstall sci an key start offset) ≡ None
+    → ¬ (is_spent c.spent_rx (rx_fingerprint sci (octets_of_key key)) ≡ true)
 rx-unspent edition identity c sci an key start offset is here =
     let none : NoTest (refusals edition identity c (RxInstall sci an key start offset)) =
     no-test (refusals edition identity c (RxInstall sci an key start offset)) is in
@@ -86,4 +98,5 @@ rx-unspent edition identity c sci an key start offset is here =
 
 -- and is spent then
 pub spent-pushed : (spent : List (List ℕ)) (print : List ℕ) → is_spent (spent ++ print ∷ []) print ≡ true
-spent-pushed spent print = among-behind spent (print ∷ []) print (or_left (bytes_eq print print) false (bytes_eq-itself print))
+spent-pushed spent print =
+    among-behind spent (print ∷ []) print (or_left (bytes_eq print print) false (bytes_eq-itself print))

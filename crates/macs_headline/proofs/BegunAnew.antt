@@ -34,7 +34,8 @@ use Rattle.macs_headline.proofs.Living.{alive}
 
 -- ---- nothing is written
 
-unwritten : (old new : Disk) → Works old new → StandsFromFirst old new → (now new ≡ now old) ⊎ (now new ≡ state_after_sync (now old)) → IsUnwritten old new
+unwritten : (old new : Disk) → Works old new → StandsFromFirst old new
+    → (now new ≡ now old) ⊎ (now new ≡ state_after_sync (now old)) → IsUnwritten old new
 unwritten old new works stands left k from to = elim (cases_lt old.clock k) [
   | inr early ↦ let here : k ≡ old.clock = omega (arith, from, early) in inl (works.past k early ∙ ap old.past here)
   | inl late ↦ elim left [
@@ -43,7 +44,8 @@ unwritten old new works stands left k from to = elim (cases_lt old.clock k) [
   ]
 ]
 
-left_by : (fault : JournalFault) (old new : DiskState) → IsLeftBy fault old new → (new ≡ old) ⊎ (new ≡ state_after_sync old)
+left_by : (fault : JournalFault) (old new : DiskState) → IsLeftBy fault old new
+    → (new ≡ old) ⊎ (new ≡ state_after_sync old)
 left_by TooSmall old new is = inl is
 left_by Failed old new is = is
 left_by fault old new is = inr is
@@ -53,21 +55,27 @@ none_of_two : (old : Disk) → HasFormat (now old).seen Two → HasNoneToMigrate
 none_of_two old two c s to = not-old (now old).seen c s two to.is
 
 -- nor is one in the last generation
-none_at_last : (old : Disk) (c : Content) → HasJournal (now old).seen c → c.head.generation ≡ last_generation → HasNoneToMigrate old
+none_at_last : (old : Disk) (c : Content) → HasJournal (now old).seen c → c.head.generation ≡ last_generation
+    → HasNoneToMigrate old
 none_at_last old c found last other s to =
     to.next (ap (λ (c : Content). c.head.generation) (one_content (now old).seen other c to.is.found found) ∙ last)
 
 -- ---- the journal that is rewritten
 
 -- whatever an image stands for, a journal that is found in it stands for that
-its_meaning : (image : Image) (c : Content) (s : Standing) → HasJournal image c → StandsFor this_edition image s → meaning_of this_edition c ≡ Some s
+its_meaning : (image : Image) (c : Content) (s : Standing) → HasJournal image c → StandsFor this_edition image s
+    → meaning_of this_edition c ≡ Some s
 its_meaning image c s found stands =
-    ap (λ (c : Content). meaning_of this_edition c) (one_content image c stands.content found stands.found) ∙ stands.stands
+    ap (λ (c : Content). meaning_of this_edition c) (one_content image c stands.content found stands.found)
+    ∙ stands.stands
 
-its_standing : (image : Image) (c : Content) (s t : Standing) → IsToMigrate this_edition image c s → StandsFor this_edition image t → s ≡ t
-its_standing image c s t to stands = some_one (meaning_of this_edition c) s t to.is.stands (its_meaning image c t to.is.found stands)
+its_standing : (image : Image) (c : Content) (s t : Standing) → IsToMigrate this_edition image c s
+    → StandsFor this_edition image t → s ≡ t
+its_standing image c s t to stands =
+    some_one (meaning_of this_edition c) s t to.is.stands (its_meaning image c t to.is.found stands)
 
-old_journal : (image : Image) (c : Content) (s : Standing) → HasJournal image c → StandsFor this_edition image s → c.head.format ≡ One
+old_journal : (image : Image) (c : Content) (s : Standing) → HasJournal image c → StandsFor this_edition image s
+    → c.head.format ≡ One
     → IsOld this_edition image c s
 old_journal image c s found stands one = record {
   found = found;
@@ -78,7 +86,8 @@ old_journal image c s found stands one = record {
 begun_anew : (c : Content) (s : Standing) → IsBegunAnew c (compacted c (snapshot s)) s
 begun_anew c s = record { area = refl; generation = refl; format = refl; identity = refl; count = refl; records = refl }
 
-by_migration : (old new : Disk) (c : Content) (s : Standing) → IsMigration old new c s → (image : Image) → LeftSince new old.clock image
+by_migration : (old new : Disk) (c : Content) (s : Standing) → IsMigration old new c s → (image : Image)
+    → LeftSince new old.clock image
     → MayLeave old image ⊎ (HasJournal image c ⊎ ((after : Content) × IsBegunAnew c after s × HasJournal image after))
 by_migration old new c s is image left = elim (is.any_moment.each image left) [
   | inl before ↦ inl before
@@ -119,7 +128,8 @@ module _ {D : Type 0} (disk_of : D → Disk) (sound : (it : D) → IsHonest (dis
     opened_either : (c : Content) (s : Standing) → IsToMigrate this_edition (now old).seen c s → IsMigration old new c s
     opened_either c s to =
         let same : s ≡ standing = its_standing (now old).seen c s standing to read_stands in
-        let made = opening.device.migrated honest c (subst (λ (t : Standing). IsToMigrate this_edition (now old).seen c t) same to) in
+        let made = opening.device.migrated honest c
+        (subst (λ (t : Standing). IsToMigrate this_edition (now old).seen c t) same to) in
         subst (λ (t : Standing). IsMigration old new c t) (sym same) made.0
 
     -- a journal of format one
@@ -132,7 +142,8 @@ module _ {D : Type 0} (disk_of : D → Disk) (sound : (it : D) → IsHonest (dis
       never_last last =
           let quiet = opening.device.unwritten honest (none_at_last old c found last) in
           let same : (now new).seen ≡ (now old).seen = ap (λ (s : DiskState). s.seen) quiet.1 in
-          let two : HasFormat (now new).seen Two = opening.device.format honest (now new).seen (sound (device_in e) honest).fit in
+          let two : HasFormat (now new).seen Two =
+          opening.device.format honest (now new).seen (sound (device_in e) honest).fit in
           not-old (now old).seen c standing (subst (λ (image : Image). HasFormat image Two) same two) is_old
 
       to_migrate : IsToMigrate this_edition (now old).seen c standing
@@ -141,21 +152,26 @@ module _ {D : Type 0} (disk_of : D → Disk) (sound : (it : D) → IsHonest (dis
       running : is_stopped e ≡ false
       running = ap (λ (s : State). s.stopped) (opening.state no_logs)
 
-      left_anew : (image : Image) → MayLeave new image → HasJournal image (compacted c (snapshot standing)) × StandsFor this_edition image standing
+      left_anew : (image : Image) → MayLeave new image
+          → HasJournal image (compacted c (snapshot standing)) × StandsFor this_edition image standing
       left_anew image left = (
-        ready-image (now new) (compacted c (snapshot standing)) (opening.device.migrated honest c to_migrate).1 image left,
+        ready-image (now new) (compacted c (snapshot standing))
+            (opening.device.migrated honest c to_migrate).1 image left,
         stored-image disk_of e.store opening.idle.store ((opening.backed honest).stored running) image left,
       )
 
   -- ---- whatever is answered
 
-  refused_unwritten : (disk left : D) (fault : JournalFault) → IsHonest (disk_of disk) → RefusesDisk disk_of disk left fault
+  refused_unwritten : (disk left : D) (fault : JournalFault) → IsHonest (disk_of disk)
+      → RefusesDisk disk_of disk left fault
       → (fault ≡ Failed → HasNoneToMigrate (disk_of disk)) → IsUnwritten (disk_of disk) (disk_of left)
   refused_unwritten disk left fault was refused none =
       let quiet = refused.unwritten (refused.works.honest ∙ was) none in
-      unwritten (disk_of disk) (disk_of left) refused.works quiet.0.from_first (left_by fault (now (disk_of disk)) (now (disk_of left)) quiet.1)
+      unwritten (disk_of disk) (disk_of left) refused.works quiet.0.from_first
+      (left_by fault (now (disk_of disk)) (now (disk_of left)) quiet.1)
 
-  alike : (disk : D) (result : Result (EndpointValue D) (RecoverRefused D)) → IsHonest (disk_of disk) → IsOpening disk_of disk result
+  alike : (disk : D) (result : Result (EndpointValue D) (RecoverRefused D)) → IsHonest (disk_of disk)
+      → IsOpening disk_of disk result
       → (image : Image) → LeftSince (disk_after_opening disk_of result) (disk_of disk).clock image
       → MayLeave (disk_of disk) image ⊎ StandsAsRead (disk_of disk) image
   alike disk (Ok e) was opening image left =
@@ -163,10 +179,14 @@ module _ {D : Type 0} (disk_of : D → Disk) (sound : (it : D) → IsHonest (dis
   alike disk (Err refused) was opening image left =
       as_read (disk_of disk) image ((opening.refused.any_moment (opening.refused.works.honest ∙ was)).each image left)
 
-  either : (disk : D) (result : Result (EndpointValue D) (RecoverRefused D)) → IsHonest (disk_of disk) → IsOpening disk_of disk result
-      → (c : Content) (s : Standing) → HasJournal (now (disk_of disk)).seen c → StandsFor this_edition (now (disk_of disk)).seen s → c.head.format ≡ One
-      → c.head.generation ≢ last_generation → (image : Image) → LeftSince (disk_after_opening disk_of result) (disk_of disk).clock image
-      → MayLeave (disk_of disk) image ⊎ (HasJournal image c ⊎ ((after : Content) × IsBegunAnew c after s × HasJournal image after))
+  either : (disk : D) (result : Result (EndpointValue D) (RecoverRefused D)) → IsHonest (disk_of disk)
+      → IsOpening disk_of disk result
+      → (c : Content) (s : Standing) → HasJournal (now (disk_of disk)).seen c
+      → StandsFor this_edition (now (disk_of disk)).seen s → c.head.format ≡ One
+      → c.head.generation ≢ last_generation → (image : Image)
+      → LeftSince (disk_after_opening disk_of result) (disk_of disk).clock image
+      → MayLeave (disk_of disk) image
+      ⊎ (HasJournal image c ⊎ ((after : Content) × IsBegunAnew c after s × HasJournal image after))
   either disk (Ok e) was opening c s found stands one next image left =
       let to : IsToMigrate this_edition (now (disk_of disk)).seen c s =
       record { is = old_journal (now (disk_of disk)).seen c s found stands one; next = next } in
@@ -174,9 +194,11 @@ module _ {D : Type 0} (disk_of : D → Disk) (sound : (it : D) → IsHonest (dis
   either disk (Err refused) was opening c s found stands one next image left =
       let to : IsToMigrate this_edition (now (disk_of disk)).seen c s =
       record { is = old_journal (now (disk_of disk)).seen c s found stands one; next = next } in
-      by_migration (disk_of disk) (disk_of refused.disk) c s (opening.refused.migrated (opening.refused.works.honest ∙ was) c s to) image left
+      by_migration (disk_of disk) (disk_of refused.disk) c s
+      (opening.refused.migrated (opening.refused.works.honest ∙ was) c s to) image left
 
-  two_unwritten : (disk : D) (result : Result (EndpointValue D) (RecoverRefused D)) → IsHonest (disk_of disk) → IsOpening disk_of disk result
+  two_unwritten : (disk : D) (result : Result (EndpointValue D) (RecoverRefused D)) → IsHonest (disk_of disk)
+      → IsOpening disk_of disk result
       → HasFormat (now (disk_of disk)).seen Two → IsUnwritten (disk_of disk) (disk_after_opening disk_of result)
   two_unwritten disk (Ok e) was opening two = opened_unwritten disk e was opening (none_of_two (disk_of disk) two)
   two_unwritten disk (Err refused) was opening two =
@@ -200,5 +222,6 @@ module _ {D : Type 0} (disk_of : D → Disk) (sound : (it : D) → IsHonest (dis
     last = λ disk first c was opening found one. never_last disk first was opening c found one;
     formatted = λ old new identity honest is image may. (is.kept honest image may).format;
     stays = λ disk before first last turns history lived.
-        (alive disk_of sound (disk_of disk).sectors history.past disk first turns last (history-covers (disk_of disk) before history) lived).backed.form;
+        (alive disk_of sound (disk_of disk).sectors history.past disk first turns last
+        (history-covers (disk_of disk) before history) lived).backed.form;
   }

@@ -1,5 +1,6 @@
 -- What is found beyond a number stays beyond it: the lists of a life with that number alone.
-use Rattle.std.proofs.Common.{◌≡◌, ◌⊎◌, ◌<◌, ◌≤◌, ◌++◌, inl, inr, ℕ, Ok, Bool, true, false, List, [], ◌∷◌, refl, sym, ◌∙◌, ap, subst, arith}
+use Rattle.std.proofs.Common.{◌≡◌, ◌⊎◌, ◌<◌, ◌≤◌, ◌++◌, inl, inr, ℕ, Ok, Bool, true, false, List, [], ◌∷◌, refl, sym}
+use Rattle.std.proofs.Common.{◌∙◌, ap, subst, arith}
 use Rattle.std.specs.Prelude.{Contains, Option, Some, None, IsSomeAnd}
 use Rattle.std.specs.List.{list_any}
 use Rattle.std.specs.Option.{option_map}
@@ -9,7 +10,9 @@ use Rattle.macs_fields.specs.First.{IsFirst}
 use Rattle.macs_config.specs.Apply.{LongKey, Named, Reason}
 use Rattle.macs_config.specs.declared.command.Command.{Command}
 use Rattle.macs_config.specs.declared.command.Command.TheVariants.{RxInstall, TxInstall}
-use Rattle.macs_config.specs.declared.refusal.Refusal.TheVariants.{ChannelTaken, ChannelsFull, EndStationSci, InUse, KeySpent, NoChannel, OffsetChoice, OwnSci, SlotEmpty, SlotTaken, SpentFull, StartRange}
+use Rattle.macs_config.specs.declared.refusal.Refusal.TheVariants.{ChannelTaken, ChannelsFull, EndStationSci, InUse}
+use Rattle.macs_config.specs.declared.refusal.Refusal.TheVariants.{KeySpent, NoChannel, OffsetChoice, OwnSci, SlotEmpty}
+use Rattle.macs_config.specs.declared.refusal.Refusal.TheVariants.{SlotTaken, SpentFull, StartRange}
 use Rattle.macs_config.specs.Config.{Edition, is_spent, rx_fingerprint, tx_fingerprint}
 use Rattle.macs_config.specs.declared.association.RxSa.{RxSa}
 use Rattle.macs_config.specs.declared.association.TxSa.{TxSa}
@@ -35,7 +38,8 @@ use Rattle.macs_headline.proofs.Effects.{Commanded, Core, Effect, Given, Held, N
 use Rattle.macs_headline.proofs.Given.{IsGiven, IsRxLedger, pair_of}
 use Rattle.macs_headline.proofs.Histories.{fits-restart, sound-opened}
 use Rattle.macs_headline.proofs.Ledger.{some_one}
-use Rattle.macs_headline.proofs.Lists.{contains-cases, contains-first, contains-later, contains-none, none-twice, pairs-none}
+use Rattle.macs_headline.proofs.Lists.{contains-cases, contains-first, contains-later, contains-none, none-twice}
+use Rattle.macs_headline.proofs.Lists.{pairs-none}
 use Rattle.macs_headline.proofs.Numbers.{beyond_rx, beyond_tx, ceiling-is, floor-opening, floor-steps}
 use Rattle.macs_headline.proofs.Reasons.{reasons-are-named}
 use Rattle.macs_headline.proofs.Sent.{IsUsed, key_of}
@@ -55,7 +59,8 @@ record Goes (new : Core) (used : List Use) (given : List Delivery) : Type 0 wher
   has_used : (u : Use) → Contains used u → Contains later_used u
   has_given : (d : Delivery) → Contains given d → Contains later_given d
 
-module _ (edition : Edition) (old new : Core) (used : List Use) (given : List Delivery) (is : IsSound (core_with old used given)) where
+module _ (edition : Edition) (old new : Core) (used : List Use) (given : List Delivery)
+    (is : IsSound (core_with old used given)) where
   -- a call that adds to neither list
   same_lists : Effect edition (core_with old used given) (core_with new used given) → Goes new used given
   same_lists effect = record {
@@ -66,7 +71,8 @@ module _ (edition : Edition) (old new : Core) (used : List Use) (given : List De
     has_given = λ d has. has;
   }
 
-  one_used : (u : Use) → Effect edition (core_with old used given) (core_with new (u ∷ used) given) → Goes new used given
+  one_used : (u : Use) → Effect edition (core_with old used given) (core_with new (u ∷ used) given)
+      → Goes new used given
   one_used more effect = record {
     later_used = more ∷ used;
     later_given = given;
@@ -75,7 +81,8 @@ module _ (edition : Edition) (old new : Core) (used : List Use) (given : List De
     has_given = λ d has. has;
   }
 
-  one_given : (d : Delivery) → Effect edition (core_with old used given) (core_with new used (d ∷ given)) → Goes new used given
+  one_given : (d : Delivery) → Effect edition (core_with old used given) (core_with new used (d ∷ given))
+      → Goes new used given
   one_given more effect = record {
     later_used = used;
     later_given = more ∷ given;
@@ -84,7 +91,8 @@ module _ (edition : Edition) (old new : Core) (used : List Use) (given : List De
     has_given = λ d has. contains-later more given d has;
   }
 
-by_effect : (edition : Edition) (old new : Core) (used : List Use) (given : List Delivery) → Effect edition old new → IsSound (core_with old used given)
+by_effect : (edition : Edition) (old new : Core) (used : List Use) (given : List Delivery) → Effect edition old new
+    → IsSound (core_with old used given)
     → Goes new used given
 by_effect edition old new used given (NoEffect same) is =
     same_lists edition old new used given is (NoEffect (ap (λ (c : Core). core_with c used given) same))
@@ -97,9 +105,11 @@ by_effect edition old new used given (Held sci an n pn is_n same) is =
     same_lists edition old new used given is (Held sci an n pn is_n (ap (λ (c : Core). core_with c used given) same))
 by_effect edition old new used given (Given sci an sa n pn is_sa is_n in_time same) is =
     let d : Delivery = record { sci = sci; key = sa.key; pn = pn; kind = delivery_kind n pn } in
-    one_given edition old new used given is d (Given sci an sa n pn is_sa is_n in_time (ap (λ (c : Core). core_with c used (d ∷ given)) same))
+    one_given edition old new used given is d
+    (Given sci an sa n pn is_sa is_n in_time (ap (λ (c : Core). core_with c used (d ∷ given)) same))
 
-by_steps : (old : State) (exchanges : List Exchange) (new : State) → Steps old exchanges new → (used : List Use) (given : List Delivery)
+by_steps : (old : State) (exchanges : List Exchange) (new : State) → Steps old exchanges new
+    → (used : List Use) (given : List Delivery)
     → IsSound (core_with (core old) used given) → Goes (core new) used given
 by_steps old [] new same used given is = record {
   later_used = used;
@@ -143,7 +153,8 @@ restart_with : (old : State) (found : Standing) (before logs : Logs) → Restart
     → Restart (with_logs old logs) (opened_state found logs)
 restart_with old found before logs (inl up) = inl (resumes_with old found before logs up)
 restart_with old found before logs (inr (c, mid, hand, makes, up)) =
-    let made : Makes (with_logs old logs) c (with_logs mid logs) = (makes.0, makes.1, ap (λ (s : State). with_logs s logs) makes.2) in
+    let made : Makes (with_logs old logs) c (with_logs mid logs) =
+    (makes.0, makes.1, ap (λ (s : State). with_logs s logs) makes.2) in
     inr (c, with_logs mid logs, hand, made, resumes_with mid found before logs up)
 
 -- ---- one number in a list
@@ -166,10 +177,12 @@ under n pn m same low = omega (arith, same, low)
 module _ (found : Standing) (logs : Logs) (is : IsSound (core (opened_state found logs))) where
   -- of the transmit side
   module _ (key : List ℕ) (pn : ℕ) (beyond : IsBeyondTx found key pn) where
-    tx_above : (an : ℕ) (sa : Option TxSa) (k : List ℕ) (m : ℕ) → found.config.tx an ≡ sa → key_of sa ≡ Some k → k ≡ key → found.ceilings.tx an ≡ Some m → pn < m
+    tx_above : (an : ℕ) (sa : Option TxSa) (k : List ℕ) (m : ℕ) → found.config.tx an ≡ sa → key_of sa ≡ Some k → k ≡ key
+        → found.ceilings.tx an ≡ Some m → pn < m
     tx_above an None k m there has same ceiling = absurd (cc)
     tx_above an (Some sa) k m there has same ceiling =
-        below_one (found.ceilings.tx an) m pn ceiling (beyond.below an sa there (some_one (Some sa.key) sa.key k refl has ∙ same))
+        below_one (found.ceilings.tx an) m pn ceiling
+        (beyond.below an sa there (some_one (Some sa.key) sa.key k refl has ∙ same))
 
     begun_tx : IsSound (core_with (core (opened_state found logs)) (use_of key pn ∷ []) logs.given)
     begun_tx = record {
@@ -185,7 +198,8 @@ module _ (found : Standing) (logs : Logs) (is : IsSound (core (opened_state foun
                     under n pn before.0 one.1 (tx_above p (found.config.tx p) k before.0 refl has one.0 before.1),
               );
           logged = λ k n used.
-              subst (λ (k : List ℕ). is_spent found.config.spent_tx (tx_fingerprint k) ≡ true) (sym (only_use key pn k n used).0) beyond.spent;
+              subst (λ (k : List ℕ). is_spent found.config.spent_tx (tx_fingerprint k) ≡ true)
+              (sym (only_use key pn k n used).0) beyond.spent;
           placed = is.tx.ledger.placed;
           once = is.tx.ledger.once;
         };
@@ -196,14 +210,17 @@ module _ (found : Standing) (logs : Logs) (is : IsSound (core (opened_state foun
 
   -- and of the receive side
   module _ (sci key : List ℕ) (pn : ℕ) (beyond : IsBeyondRx found sci key pn) where
-    only_entry : (k : List ℕ × List ℕ) (n : ℕ) → IsGiven (entry sci key pn ∷ []) k n → (k.0 ≡ sci) × (k.1 ≡ key) × (n ≡ pn)
+    only_entry : (k : List ℕ × List ℕ) (n : ℕ) → IsGiven (entry sci key pn ∷ []) k n
+        → (k.0 ≡ sci) × (k.1 ≡ key) × (n ≡ pn)
     only_entry k n (kind, has) =
         elim (contains-cases (entry sci key pn) [] (record { sci = k.0; key = k.1; pn = n; kind = kind }) has) [
-          | inl same ↦ (ap (λ (d : Delivery). d.sci) same, ap (λ (d : Delivery). d.key) same, ap (λ (d : Delivery). d.pn) same)
+          | inl same ↦
+              (ap (λ (d : Delivery). d.sci) same, ap (λ (d : Delivery). d.key) same, ap (λ (d : Delivery). d.pn) same)
           | inr later ↦ absurd (contains-none _ later)
         ]
 
-    rx_above : (at : List ℕ) (an : ℕ) (sa : Option RxSa) (k : List ℕ × List ℕ) (m : ℕ) → found.config.rx at an ≡ sa → pair_of at sa ≡ Some k → k.0 ≡ sci → k.1 ≡ key
+    rx_above : (at : List ℕ) (an : ℕ) (sa : Option RxSa) (k : List ℕ × List ℕ) (m : ℕ) → found.config.rx at an ≡ sa
+        → pair_of at sa ≡ Some k → k.0 ≡ sci → k.1 ≡ key
         → found.ceilings.rx at an ≡ Some m → pn < m
     rx_above at an None k m there has same_sci same_key ceiling = absurd (cc)
     rx_above at an (Some sa) k m there has same_sci same_key ceiling =
@@ -211,7 +228,8 @@ module _ (found : Standing) (logs : Logs) (is : IsSound (core (opened_state foun
         let one : pair ≡ k = some_one (Some pair) pair k refl has in
         let here : at ≡ sci = ap (λ (q : List ℕ × List ℕ). q.0) one ∙ same_sci in
         below_one (found.ceilings.rx sci an) m pn (ap (λ (x : List ℕ). found.ceilings.rx x an) (sym here) ∙ ceiling)
-        (beyond.below an sa (ap (λ (x : List ℕ). found.config.rx x an) (sym here) ∙ there) (ap (λ (q : List ℕ × List ℕ). q.1) one ∙ same_key))
+        (beyond.below an sa (ap (λ (x : List ℕ). found.config.rx x an) (sym here) ∙ there)
+        (ap (λ (q : List ℕ × List ℕ). q.1) one ∙ same_key))
 
     begun_rx : IsSound (core_with (core (opened_state found logs)) logs.used (entry sci key pn ∷ []))
     begun_rx = record {
@@ -241,7 +259,8 @@ in_order : (lowest pn : ℕ) (kind : Kind) → IsInTime lowest pn kind → kind 
 in_order lowest pn kind (inl (below, late)) ok = let both : AsOk ≡ Delayed = sym ok ∙ late in absurd (cc)
 in_order lowest pn kind (inr (over, is)) ok = over
 
-not_late : (s new : State) (frame out : List ℕ) (kind : Kind) (d : IsVerifiedDelivery s frame kind out new) → (kind ≡ AsOk) ⊎ (s.config.replay.on ≡ true)
+not_late : (s new : State) (frame out : List ℕ) (kind : Kind) (d : IsVerifiedDelivery s frame kind out new)
+    → (kind ≡ AsOk) ⊎ (s.config.replay.on ≡ true)
     → d.numbers.lowest ≤ (tag_of frame).pn
 not_late s new frame out kind d (inl ok) = in_order d.numbers.lowest (tag_of frame).pn kind d.in_time ok
 not_late s new frame out kind d (inr on) = d.guarded on
@@ -251,8 +270,10 @@ module _ (sectors : ℕ) (s : State) (m : Moment sectors s) where
   before = logs_of m.past
 
   -- what is found of a life that ends there, where these lists go with it
-  restarted : (logs : Logs) (cut : Option Call) (edition : Edition) (image : Image) (found : Standing) → IsSound (core_with (core s) logs.used logs.given)
-      → Fits edition sectors image (state_at_end s cut) → StandingIs edition sectors image (Ok found) → IsSound (core (opened_state found logs))
+  restarted : (logs : Logs) (cut : Option Call) (edition : Edition) (image : Image) (found : Standing)
+      → IsSound (core_with (core s) logs.used logs.given)
+      → Fits edition sectors image (state_at_end s cut) → StandingIs edition sectors image (Ok found)
+      → IsSound (core (opened_state found logs))
   restarted logs cut edition image found is fits is_found =
       let end = state_at_end s cut in
       let sound : IsSound (core (with_logs end logs)) =
@@ -266,14 +287,16 @@ module _ (sectors : ℕ) (s : State) (m : Moment sectors s) where
         by_steps (opened_state m.life.found before) m.exchanges s m.life.steps (use_of key pn ∷ []) before.given
         (begun_tx m.life.found before (sound-opened sectors s m) key pn beyond)
 
-    written_above : (new : State) (plain out : List ℕ) (number : ℕ) (f : IsStandardFrame s plain number out new) → f.sa.key ≡ key → pn < number
+    written_above : (new : State) (plain out : List ℕ) (number : ℕ) (f : IsStandardFrame s plain number out new)
+        → f.sa.key ≡ key → pn < number
     written_above new plain out number f same =
         let here = sent_so.sound.tx.ledger.below f.an key (ap key_of f.association ∙ ap Some same) in
         let low : pn < here.0 = here.2 pn (sent_so.has_used (use_of key pn) (contains-first (use_of key pn) [])) in
         let is_m : here.0 ≡ number = some_one (s.next f.an) here.0 number here.1 f.number in
         omega (arith, low, is_m)
 
-    found_tx : (cut : Option Call) (edition : Edition) (image : Image) (found : Standing) → Fits edition sectors image (state_at_end s cut)
+    found_tx : (cut : Option Call) (edition : Edition) (image : Image) (found : Standing)
+        → Fits edition sectors image (state_at_end s cut)
         → StandingIs edition sectors image (Ok found) → IsBeyondTx found key pn
     found_tx cut edition image found fits is =
         let logs : Logs = record { used = sent_so.later_used; given = sent_so.later_given } in
@@ -298,32 +321,38 @@ module _ (sectors : ℕ) (s : State) (m : Moment sectors s) where
         (λ i. record { sci = sym same_sci i; key = sym same_key i; pn = pn; kind = AsOk }) in
         (AsOk, subst (Contains (entry sci key pn ∷ [])) same (contains-first (entry sci key pn) []))
 
-    delivered_above : (new : State) (frame out : List ℕ) (kind : Kind) (d : IsVerifiedDelivery s frame kind out new) → d.sci ≡ sci → d.sa.key ≡ key
+    delivered_above : (new : State) (frame out : List ℕ) (kind : Kind) (d : IsVerifiedDelivery s frame kind out new)
+        → d.sci ≡ sci → d.sa.key ≡ key
         → (kind ≡ AsOk) ⊎ (s.config.replay.on ≡ true) → pn < (tag_of frame).pn
     delivered_above new frame out kind d same_sci same_key why =
         let here = lowest_above.below (d.sci, (tag_of frame).an) (d.sci, d.sa.key) (ap (pair_of d.sci) d.association) in
         let low : pn < here.0 = here.2 pn (is_given d.sci d.sa.key same_sci same_key) in
         let is_m : here.0 ≡ d.numbers.lowest =
-        some_one (option_map (λ (n : Numbers). n.lowest) (s.numbers d.sci (tag_of frame).an)) here.0 d.numbers.lowest here.1
+        some_one (option_map (λ (n : Numbers). n.lowest) (s.numbers d.sci (tag_of frame).an)) here.0
+        d.numbers.lowest here.1
         (ap (option_map (λ (n : Numbers). n.lowest)) d.are_numbers) in
         let over : d.numbers.lowest ≤ (tag_of frame).pn = not_late s new frame out kind d why in
         omega (arith, low, is_m, over)
 
-    found_rx : (cut : Option Call) (edition : Edition) (image : Image) (found : Standing) → Fits edition sectors image (state_at_end s cut)
+    found_rx : (cut : Option Call) (edition : Edition) (image : Image) (found : Standing)
+        → Fits edition sectors image (state_at_end s cut)
         → StandingIs edition sectors image (Ok found) → IsBeyondRx found sci key pn
     found_rx cut edition image found fits is =
         let logs : Logs = record { used = given_so.later_used; given = given_so.later_given } in
         let was = is_given sci key refl refl in
-        beyond_rx found logs (restarted logs cut edition image found given_so.sound fits is) sci key pn (was.0, given_so.has_given _ was.1)
+        beyond_rx found logs (restarted logs cut edition image found given_so.sound fits is) sci key pn
+        (was.0, given_so.has_given _ was.1)
 
 -- ---- the key is spent
 
 -- one that holds is passed by nothing
-passed : {R : Type 0} (Holds : R → Type 0) (test : R → Bool) (front : List R) (r f : R) (rest : List R) → IsFirst Holds (front ++ r ∷ rest) f → Holds r
+passed : {R : Type 0} (Holds : R → Type 0) (test : R → Bool) (front : List R) (r f : R) (rest : List R)
+    → IsFirst Holds (front ++ r ∷ rest) f → Holds r
     → test f ≡ true → list_any test (front ++ r ∷ []) ≡ true
 passed Holds test [] r f rest (inl here) holds is = or_left (test r) false (ap test (sym here.1) ∙ is)
 passed Holds test [] r f rest (inr later) holds is = absurd (later.0 holds)
-passed Holds test (x ∷ front) r f rest (inl here) holds is = or_left (test x) (list_any test (front ++ r ∷ [])) (ap test (sym here.1) ∙ is)
+passed Holds test (x ∷ front) r f rest (inl here) holds is =
+    or_left (test x) (list_any test (front ++ r ∷ [])) (ap test (sym here.1) ∙ is)
 passed Holds test (x ∷ front) r f rest (inr later) holds is =
     or_right (test x) (list_any test (front ++ r ∷ [])) (passed Holds test front r f rest later.1 holds is)
 
@@ -334,14 +363,17 @@ is_full reason = false
 -- the reasons before that of a spent key
 abbrev reasons_before : List Reason
 reasons_before =
-    Named StartRange ∷ Named OffsetChoice ∷ Named OwnSci ∷ Named EndStationSci ∷ Named NoChannel ∷ Named ChannelTaken ∷ Named ChannelsFull ∷ Named SlotTaken
+    Named StartRange ∷ Named OffsetChoice ∷ Named OwnSci ∷ Named EndStationSci ∷ Named NoChannel ∷ Named ChannelTaken
+    ∷ Named ChannelsFull ∷ Named SlotTaken
     ∷ Named SlotEmpty ∷ Named InUse ∷ []
 
 -- where a key is spent there is room
-never_full : (s : State) (c : Command) → IsReasonOf s.edition s.identity s.config c (Named KeySpent) → ¬ (refusal_at s c ≡ Some (Named SpentFull))
+never_full : (s : State) (c : Command) → IsReasonOf s.edition s.identity s.config c (Named KeySpent)
+    → ¬ (refusal_at s c ≡ Some (Named SpentFull))
 never_full s c spent is =
     let found = reasons-are-named.first s.edition s.identity s.config c (Named SpentFull) is in
-    false≢true (passed (IsReasonOf s.edition s.identity s.config c) is_full reasons_before (Named KeySpent) (Named SpentFull)
+    false≢true
+    (passed (IsReasonOf s.edition s.identity s.config c) is_full reasons_before (Named KeySpent) (Named SpentFull)
     (Named SpentFull ∷ LongKey ∷ []) found spent refl)
 
 spent_tx : (sectors : ℕ) (s : State) (m : Moment sectors s) (key : List ℕ) (pn : ℕ) → IsBeyondTx m.life.found key pn
@@ -350,7 +382,8 @@ spent_tx sectors s m key pn beyond =
     let so = sent_so sectors s m key pn beyond in
     so.sound.tx.ledger.logged key pn (so.has_used (use_of key pn) (contains-first (use_of key pn) []))
 
-spent_rx : (sectors : ℕ) (s : State) (m : Moment sectors s) (sci key : List ℕ) (pn : ℕ) → IsBeyondRx m.life.found sci key pn
+spent_rx : (sectors : ℕ) (s : State) (m : Moment sectors s) (sci key : List ℕ) (pn : ℕ)
+    → IsBeyondRx m.life.found sci key pn
     → is_spent s.config.spent_rx (rx_fingerprint sci key) ≡ true
 spent_rx sectors s m sci key pn beyond =
     let so = given_so sectors s m sci key pn beyond in
@@ -358,8 +391,10 @@ spent_rx sectors s m sci key pn beyond =
 
 pub sent-stays-beyond : (sectors : ℕ) → SentStaysBeyond sectors
 sent-stays-beyond sectors = record {
-  written = λ s new m key pn beyond plain out number f same. written_above sectors s m key pn beyond new plain out number f same;
-  found_later = λ s m key pn beyond cut edition image found fits is. found_tx sectors s m key pn beyond cut edition image found fits is;
+  written = λ s new m key pn beyond plain out number f same.
+      written_above sectors s m key pn beyond new plain out number f same;
+  found_later = λ s m key pn beyond cut edition image found fits is.
+      found_tx sectors s m key pn beyond cut edition image found fits is;
   spent = λ s m key pn beyond an start offset confidential.
       never_full s (TxInstall an key start confidential offset) (spent_tx sectors s m (octets_of_key key) pn beyond);
 }
@@ -368,7 +403,8 @@ pub delivered-stays-beyond : (sectors : ℕ) → DeliveredStaysBeyond sectors
 delivered-stays-beyond sectors = record {
   delivered = λ s new m sci key pn beyond frame out kind d same_sci same_key why.
       delivered_above sectors s m sci key pn beyond new frame out kind d same_sci same_key why;
-  found_later = λ s m sci key pn beyond cut edition image found fits is. found_rx sectors s m sci key pn beyond cut edition image found fits is;
+  found_later = λ s m sci key pn beyond cut edition image found fits is.
+      found_rx sectors s m sci key pn beyond cut edition image found fits is;
   spent = λ s m sci key pn beyond an start offset.
       never_full s (RxInstall sci an key start offset) (spent_rx sectors s m sci (octets_of_key key) pn beyond);
 }

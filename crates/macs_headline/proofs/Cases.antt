@@ -17,14 +17,16 @@ open_ones (Advanced (Err step.Disk)) leaves = inr refl
 open_ones reply leaves = absurd leaves
 
 smaller : (reply : Reply) → TellsEdition reply → (reply ≡ Ran (Err (ran.Refused ChannelsFull))) ⊎ ((reply ≡ RefusedLong)
-    ⊎ ((ticket : ℕ) × ((reply ≡ Advanced (Ok (Done ticket (Err (ran.Refused ChannelsFull))))) ⊎ (reply ≡ AdvancedLong ticket))))
+    ⊎ ((ticket : ℕ)
+    × ((reply ≡ Advanced (Ok (Done ticket (Err (ran.Refused ChannelsFull))))) ⊎ (reply ≡ AdvancedLong ticket))))
 smaller (Ran (Err (ran.Refused ChannelsFull))) tells = inl refl
 smaller RefusedLong tells = inr (inl refl)
 smaller (Advanced (Ok (Done ticket (Err (ran.Refused ChannelsFull))))) tells = inr (inr (ticket, inl refl))
 smaller (AdvancedLong ticket) tells = inr (inr (ticket, inr refl))
 smaller reply tells = absurd tells
 
-told_step : (result : Result Progress StepFault) → result ≢ Err step.Stopped → ((ticket : ℕ) → result ≢ Ok (Done ticket (Ok tt)))
+told_step : (result : Result Progress StepFault) → result ≢ Err step.Stopped
+    → ((ticket : ℕ) → result ≢ Ok (Done ticket (Ok tt)))
     → IsToldWhole Advances (Advanced result)
 told_step (Ok (Done ticket (Ok done))) running other = other ticket refl
 told_step result running other = running
@@ -49,6 +51,7 @@ cases-are = record {
   used = λ logs key pn among. among;
   given = λ logs d among. (d.kind, among);
   one_but_hand = λ a b same hand. (λ i. record (same i) { in_hand = hand i });
-  one_but_numbers = λ a b same next numbers logs. (λ i. record (same i) { next = next i; numbers = numbers i; logs = logs i });
+  one_but_numbers =
+      λ a b same next numbers logs. (λ i. record (same i) { next = next i; numbers = numbers i; logs = logs i });
   queued = λ waiting ticket command. refl;
 }

@@ -1,5 +1,6 @@
 -- What each command makes of the configuration, and what it leaves alone.
-use Rattle.std.proofs.Common.{◌≡◌, ◌⊎◌, ◌&&◌, ◌||◌, ◌==◌, inl, inr, ℕ, Bool, true, false, cond, not, List, [], ◌∷◌, Option, Some, None, is_none, bytes_eq, filter, refl, sym, ◌∙◌, ap, subst}
+use Rattle.std.proofs.Common.{◌≡◌, ◌⊎◌, ◌&&◌, ◌||◌, ◌==◌, inl, inr, ℕ, Bool, true, false, cond, not, List, [], ◌∷◌}
+use Rattle.std.proofs.Common.{Option, Some, None, is_none, bytes_eq, filter, refl, sym, ◌∙◌, ap, subst}
 use Rattle.std.specs.Prelude.{Contains, IsSomeAnd}
 use Rattle.std.proofs.lemmas.Bool.{eqb-true, false≢true, not-false, or_left, or_parts, or_right}
 use Rattle.macs_aes.specs.Keys.{octets_of_key}
@@ -13,9 +14,12 @@ use Rattle.macs_config.specs.Config.{Config, Edition, is_among}
 use Rattle.macs_config.specs.Identity.{Identity}
 use Rattle.macs_config.specs.declared.association.RxSa.{RxSa}
 use Rattle.macs_config.specs.declared.command.Command.{Command}
-use Rattle.macs_config.specs.declared.command.Command.TheVariants.{RxAdd, RxDrop, RxInstall, RxRemove, SetReplay, SetSciMode, SetValidate, TxInstall, TxRemove, TxUse}
+use Rattle.macs_config.specs.declared.command.Command.TheVariants.{RxAdd, RxDrop, RxInstall, RxRemove, SetReplay}
+use Rattle.macs_config.specs.declared.command.Command.TheVariants.{SetSciMode, SetValidate, TxInstall, TxRemove, TxUse}
 use Rattle.macs_config.proofs.Channels.{among-filter, among-put_among, bytes_eq-itself, not_among-filter, same_octets}
-use Rattle.macs_headline.specs.Changing.{ChangesAsNamed, CommandsChange, IsDone, IsFirstConfiguration, IsOnChannel, IsOnEncoding, IsOnMode, IsOnReplay, IsOnRx, IsOnTx, IsOnValidate, IsRxAsked, IsTxAsked, PrintsAre}
+use Rattle.macs_headline.specs.Changing.{ChangesAsNamed, CommandsChange, IsDone, IsFirstConfiguration, IsOnChannel}
+use Rattle.macs_headline.specs.Changing.{IsOnEncoding, IsOnMode, IsOnReplay, IsOnRx, IsOnTx, IsOnValidate, IsRxAsked}
+use Rattle.macs_headline.specs.Changing.{IsTxAsked, PrintsAre}
 use Rattle.macs_headline.proofs.Accepted.{accepted, right-offset, tx_of}
 use Rattle.macs_headline.proofs.Lists.{contains-cases, contains-first, contains-later, contains-none}
 use Rattle.macs_headline.proofs.Places.{put-that, put-this, put_at-that, put_at-this, put_rx-that, put_rx-this}
@@ -36,9 +40,11 @@ is-first-configuration = record {
 
 -- ---- offsets
 
-offset_by : (offset : ℕ) (zero thirty fifty : Bool) → (offset == 0) ≡ zero → (offset == 30) ≡ thirty → (offset == 50) ≡ fifty
+offset_by : (offset : ℕ) (zero thirty fifty : Bool) → (offset == 0) ≡ zero → (offset == 30) ≡ thirty
+    → (offset == 50) ≡ fifty
     → is_none (cond zero (Some Zero) (cond thirty (Some Thirty) (cond fifty (Some Fifty) None))) ≡ false
-    → octets_of (offset_or_zero (cond zero (Some Zero) (cond thirty (Some Thirty) (cond fifty (Some Fifty) None)))) ≡ offset
+    → octets_of
+    (offset_or_zero (cond zero (Some Zero) (cond thirty (Some Thirty) (cond fifty (Some Fifty) None)))) ≡ offset
 offset_by offset true thirty fifty e0 e30 e50 some = sym (eqb-true offset 0 e0)
 offset_by offset false true fifty e0 e30 e50 some = sym (eqb-true offset 30 e30)
 offset_by offset false false true e0 e30 e50 some = sym (eqb-true offset 50 e50)
@@ -47,13 +53,15 @@ offset_by offset false false false e0 e30 e50 some = absurd (false≢true (sym s
 offset_is : (offset : ℕ) → is_none (offset_at offset) ≡ false → octets_of (offset_or_zero (offset_at offset)) ≡ offset
 offset_is offset some = offset_by offset (offset == 0) (offset == 30) (offset == 50) refl refl refl some
 
-protected_from : (confidential : Bool) (offset : ℕ) → (is_none (offset_at offset) || (not confidential && not (offset == 0))) ≡ false
+protected_from : (confidential : Bool) (offset : ℕ)
+    → (is_none (offset_at offset) || (not confidential && not (offset == 0))) ≡ false
     → octets_of (offset_of (protection_of confidential (offset_or_zero (offset_at offset)))) ≡ offset
 protected_from true offset test = offset_is offset (or_parts (is_none (offset_at offset)) false test).0
 protected_from false offset test =
     sym (eqb-true offset 0 (not-false (offset == 0) (or_parts (is_none (offset_at offset)) (not (offset == 0)) test).1))
 
-confidential_is : (confidential : Bool) (offset : Offset) → is_confidential (protection_of confidential offset) ≡ confidential
+confidential_is : (confidential : Bool) (offset : Offset)
+    → is_confidential (protection_of confidential offset) ≡ confidential
 confidential_is true offset = refl
 confidential_is false offset = refl
 
@@ -67,20 +75,24 @@ unequal : (a b : List ℕ) → (a ≡ b → ⊥) → bytes_eq a b ≡ false
 unequal a b apart = unequal_by a b (bytes_eq a b) refl apart
 
 -- a channel other than the one that is dropped stays, or is not there
-filtered : (channels : List (List ℕ)) (at sci : List ℕ) (among : Bool) → is_among channels sci ≡ among → bytes_eq sci at ≡ false
+filtered : (channels : List (List ℕ)) (at sci : List ℕ) (among : Bool) → is_among channels sci ≡ among
+    → bytes_eq sci at ≡ false
     → is_among (filter (λ other. not (bytes_eq other at)) channels) sci ≡ is_among channels sci
-filtered channels at sci true is apart = among-filter (λ other. not (bytes_eq other at)) sci channels (ap not apart) is ∙ sym is
+filtered channels at sci true is apart =
+    among-filter (λ other. not (bytes_eq other at)) sci channels (ap not apart) is ∙ sym is
 filtered channels at sci false is apart = not_among-filter (λ other. not (bytes_eq other at)) sci channels is ∙ sym is
 
 dropped_by : (sci item : List ℕ) (items : List (List ℕ)) (same : Bool) → bytes_eq item sci ≡ same
     → is_among (filter (λ other. not (bytes_eq other sci)) items) sci ≡ false
-    → is_among (cond (not same) (item ∷ filter (λ other. not (bytes_eq other sci)) items) (filter (λ other. not (bytes_eq other sci)) items)) sci ≡ false
+    → is_among (cond (not same) (item ∷ filter (λ other. not (bytes_eq other sci)) items)
+    (filter (λ other. not (bytes_eq other sci)) items)) sci ≡ false
 dropped_by sci item items true is later = later
 dropped_by sci item items false is later =
     ap (λ (b : Bool). b || is_among (filter (λ other. not (bytes_eq other sci)) items) sci) is ∙ later
 
 -- the one that is dropped is no longer there
-dropped : (sci : List ℕ) (items : List (List ℕ)) → is_among (filter (λ other. not (bytes_eq other sci)) items) sci ≡ false
+dropped : (sci : List ℕ) (items : List (List ℕ))
+    → is_among (filter (λ other. not (bytes_eq other sci)) items) sci ≡ false
 dropped sci [] = refl
 dropped sci (item ∷ items) = dropped_by sci item items (bytes_eq item sci) refl (dropped sci items)
 
@@ -99,19 +111,25 @@ module _ (edition : Edition) (identity : Identity) (old : Config) where
   is_done (SetReplay on window) ok = (refl, refl)
   is_done (SetSciMode mode) ok = refl
   is_done (TxInstall an key start confidential offset) ok =
-      some_with (IsTxAsked key confidential offset) ((config_after old (TxInstall an key start confidential offset)).tx an) (tx_of key confidential offset)
+      some_with (IsTxAsked key confidential offset)
+      ((config_after old (TxInstall an key start confidential offset)).tx an) (tx_of key confidential offset)
       (put-this old.tx an an (Some (tx_of key confidential offset)) refl) (
         refl,
         confidential_is confidential (offset_or_zero (offset_at offset)),
-        protected_from confidential offset (right-offset edition identity old (TxInstall an key start confidential offset) ok),
+        protected_from confidential offset
+            (right-offset edition identity old (TxInstall an key start confidential offset) ok),
       )
   is_done (TxUse an) ok = refl
   is_done (TxRemove an) ok = put-this old.tx an an None refl
-  is_done (RxAdd sci) ok = among-put_among sci old.channels sci ∙ ap (λ (b : Bool). b || is_among old.channels sci) (bytes_eq-itself sci)
-  is_done (RxDrop sci) ok =
-      (dropped sci old.channels, λ an. ap (λ (f : ℕ → Option RxSa). f an) (put_at-this old.rx sci sci (λ (an : ℕ). None) refl))
+  is_done (RxAdd sci) ok = among-put_among sci old.channels sci
+      ∙ ap (λ (b : Bool). b || is_among old.channels sci) (bytes_eq-itself sci)
+  is_done (RxDrop sci) ok = (
+    dropped sci old.channels,
+    λ an. ap (λ (f : ℕ → Option RxSa). f an) (put_at-this old.rx sci sci (λ (an : ℕ). None) refl),
+  )
   is_done (RxInstall sci an key start offset) ok =
-      some_with (IsRxAsked key offset) ((config_after old (RxInstall sci an key start offset)).rx sci an) (rx_of key offset)
+      some_with (IsRxAsked key offset) ((config_after old (RxInstall sci an key start offset)).rx sci an)
+      (rx_of key offset)
       (put_rx-this old.rx sci an sci an (Some (rx_of key offset)) refl refl)
       (refl, offset_is offset (right-offset edition identity old (RxInstall sci an key start offset) ok))
   is_done (RxRemove sci an) ok = put_rx-this old.rx sci an sci an None refl refl
@@ -141,7 +159,8 @@ module _ (old : Config) where
   tx_stays (TxRemove at) an other = put-that old.tx at an None (λ same. other (sym same))
   tx_stays c an other = refl
 
-  channels_stay : (c : Command) (sci : List ℕ) → ¬ IsOnChannel c sci → is_among (config_after old c).channels sci ≡ is_among old.channels sci
+  channels_stay : (c : Command) (sci : List ℕ) → ¬ IsOnChannel c sci
+      → is_among (config_after old c).channels sci ≡ is_among old.channels sci
   channels_stay (RxAdd at) sci other =
       among-put_among at old.channels sci ∙ ap (λ (b : Bool). b || is_among old.channels sci) (unequal at sci other)
   channels_stay (RxDrop at) sci other =
@@ -153,7 +172,8 @@ module _ (old : Config) where
       ap (λ (f : ℕ → Option RxSa). f an) (put_at-that old.rx at sci (λ (an : ℕ). None) (λ same. other (sym same)))
   rx_stays (RxInstall at number key start offset) sci an other =
       put_rx-that old.rx at number sci an (Some (rx_of key offset)) (λ is same. other (sym is, sym same))
-  rx_stays (RxRemove at number) sci an other = put_rx-that old.rx at number sci an None (λ is same. other (sym is, sym same))
+  rx_stays (RxRemove at number) sci an other =
+      put_rx-that old.rx at number sci an None (λ is same. other (sym is, sym same))
   rx_stays c sci an other = refl
 
 pub commands-change : CommandsChange
@@ -186,7 +206,8 @@ among_to (x ∷ xs) item is = elim (or_cases (bytes_eq x item) (is_among xs item
 among_from : (items : List (List ℕ)) (item : List ℕ) → Contains items item → is_among items item ≡ true
 among_from [] item has = absurd (contains-none item has)
 among_from (x ∷ xs) item has = elim (contains-cases x xs item has) [
-  | inl here ↦ or_left (bytes_eq x item) (is_among xs item) (subst (λ (y : List ℕ). bytes_eq y item ≡ true) here (bytes_eq-itself item))
+  | inl here ↦ or_left (bytes_eq x item) (is_among xs item)
+      (subst (λ (y : List ℕ). bytes_eq y item ≡ true) here (bytes_eq-itself item))
   | inr later ↦ or_right (bytes_eq x item) (is_among xs item) (among_from xs item later)
 ]
 

@@ -1,5 +1,6 @@
 -- Work on what is under way at the end of a life began in a call that may begin it, and it is accepted.
-use Rattle.std.proofs.Common.{◌≡◌, ◌⊎◌, ◌&&◌, inl, inr, ℕ, Bool, true, false, cond, not, is_ok, List, [], ◌∷◌, Option, Some, None, Result, Ok, Err, refl, sym, ◌∙◌, ap, subst}
+use Rattle.std.proofs.Common.{◌≡◌, ◌⊎◌, ◌&&◌, inl, inr, ℕ, Bool, true, false, cond, not, is_ok, List, [], ◌∷◌, Option}
+use Rattle.std.proofs.Common.{Some, None, Result, Ok, Err, refl, sym, ◌∙◌, ap, subst}
 use Rattle.std.proofs.lemmas.Bool.{false≢true}
 use Rattle.macs_config.specs.Apply.{apply}
 use Rattle.macs_config.specs.declared.command.Command.{Command}
@@ -20,8 +21,11 @@ use Rattle.macs_endpoint.specs.declared.fault.SubmitFault.TheVariants as submit
 use Rattle.macs_endpoint.specs.declared.progress.Step.{Step as Progress}
 use Rattle.macs_endpoint.specs.declared.progress.Step.TheVariants.{Done, Worked}
 use Rattle.macs_endpoint.specs.declared.queue.Waiting.{Waiting}
-use Rattle.macs_endpoint.specs.State.{Advanced, AdvancedLong, Advances, Call, Commands, Protected, Protects, Ran, Received, Receives, Refilled, Refills, RefusedLong, Reply, State, Submits, Submitted, state_with_in_hand}
-use Rattle.macs_endpoint.specs.Step.{AdvanceStep, CommandStep, Ends, Exchange, ProtectStep, ReceiveStep, RefillStep, RunningStep, Step, Steps, SubmitStep, TakesUp}
+use Rattle.macs_endpoint.specs.State.{Advanced, AdvancedLong, Advances, Call, Commands, Protected, Protects, Ran}
+use Rattle.macs_endpoint.specs.State.{Received, Receives, Refilled, Refills, RefusedLong, Reply, State, Submits}
+use Rattle.macs_endpoint.specs.State.{Submitted, state_with_in_hand}
+use Rattle.macs_endpoint.specs.Step.{AdvanceStep, CommandStep, Ends, Exchange, ProtectStep, ReceiveStep, RefillStep}
+use Rattle.macs_endpoint.specs.Step.{RunningStep, Step, Steps, SubmitStep, TakesUp}
 use Rattle.macs_headline.specs.CommandInHand.{CutsChangeNone, InHandWasBegun, MayBegin, WasBegun}
 use Rattle.macs_headline.specs.Commands.{waiting_at_end}
 use Rattle.macs_headline.specs.History.{logs_of, state_at_end}
@@ -49,60 +53,77 @@ one_in_hand old c why d hand = subst (λ (c : Command). refusal_at old c ≡ Non
 same_state : (old new : State) → new ≡ old → IsAccepted old → IsAccepted new
 same_state old new is was = subst (λ (s : State). IsAccepted s) (sym is) was
 
-by_command : (old : State) (c : Command) (result : Result (Unit {0}) CommandFault) (new : State) → CommandStep old c result new → IsAccepted old → IsAccepted new
+by_command : (old : State) (c : Command) (result : Result (Unit {0}) CommandFault) (new : State)
+    → CommandStep old c result new → IsAccepted old → IsAccepted new
 by_command old c (Ok done) new (none, makes) was = none_in_hand new (ap (λ (s : State). s.in_hand) makes.2)
 by_command old c (Err ran.Stopped) new h was = absurd h
-by_command old c (Err ran.Disk) new (none, accepts, is) was = subst (λ (s : State). IsAccepted s) (sym is) (one_in_hand old c (no-refusal old.edition old.identity old.config c accepts))
+by_command old c (Err ran.Disk) new (none, accepts, is) was = subst (λ (s : State). IsAccepted s) (sym is)
+    (one_in_hand old c (no-refusal old.edition old.identity old.config c accepts))
 by_command old c (Err ran.Busy) new (some, is) was = same_state old new is was
 by_command old c (Err (ran.Refused refusal)) new (none, why, is) was = same_state old new is was
 by_command old c (Err ran.GenerationsSpent) new (none, accepts, is) was = same_state old new is was
 
-by_refill : (old : State) (result : Result (Unit {0}) RefillFault) (new : State) → RefillStep old result new → IsAccepted old → IsAccepted new
+by_refill : (old : State) (result : Result (Unit {0}) RefillFault) (new : State) → RefillStep old result new
+    → IsAccepted old → IsAccepted new
 by_refill old (Ok done) new (none, is) was = same_state old new is was
 by_refill old (Err refill.Stopped) new h was = absurd h
 by_refill old (Err refill.Disk) new (none, is) was = subst (λ (s : State). IsAccepted s) (sym is) was
 by_refill old (Err refill.Busy) new (some, is) was = same_state old new is was
 by_refill old (Err refill.GenerationsSpent) new (none, is) was = same_state old new is was
 
-by_submit : (old : State) (c : Command) (result : Result ℕ SubmitFault) (new : State) → SubmitStep old c result new → IsAccepted old → IsAccepted new
+by_submit : (old : State) (c : Command) (result : Result ℕ SubmitFault) (new : State) → SubmitStep old c result new
+    → IsAccepted old → IsAccepted new
 by_submit old c (Ok ticket) new (few, left, is_ticket, is) was = subst (λ (s : State). IsAccepted s) (sym is) was
 by_submit old c (Err submit.QueueFull) new (many, is) was = same_state old new is was
 by_submit old c (Err submit.TicketsSpent) new (few, spent, is) was = same_state old new is was
 by_submit old c (Err submit.Stopped) new h was = absurd h
 
 taken_up : (old new : State) → TakesUp old new → IsAccepted new
-taken_up old new (first, rest, waiting, idle, accepts, is) = subst (λ (s : State). IsAccepted s) (sym is) (one_in_hand old first.command (no-refusal old.edition old.identity old.config first.command accepts))
+taken_up old new (first, rest, waiting, idle, accepts, is) = subst (λ (s : State). IsAccepted s) (sym is)
+    (one_in_hand old first.command (no-refusal old.edition old.identity old.config first.command accepts))
 
-by_end : (old : State) (first : Waiting) (rest : List Waiting) (result : Result (Unit {0}) CommandFault) (new : State) → Ends old first rest result new
+by_end : (old : State) (first : Waiting) (rest : List Waiting) (result : Result (Unit {0}) CommandFault) (new : State)
+    → Ends old first rest result new
     → IsAccepted new
 by_end old first rest (Ok done) new makes = none_in_hand new (ap (λ (s : State). s.in_hand) makes.2)
-by_end old first rest (Err (ran.Refused refusal)) new (idle, why, is) = none_in_hand new (ap (λ (s : State). s.in_hand) is)
-by_end old first rest (Err ran.GenerationsSpent) new (idle, accepts, is) = none_in_hand new (ap (λ (s : State). s.in_hand) is)
+by_end old first rest (Err (ran.Refused refusal)) new (idle, why, is) =
+    none_in_hand new (ap (λ (s : State). s.in_hand) is)
+by_end old first rest (Err ran.GenerationsSpent) new (idle, accepts, is) =
+    none_in_hand new (ap (λ (s : State). s.in_hand) is)
 by_end old first rest (Err fault) new h = absurd h
 
-by_advance : (old : State) (result : Result Progress StepFault) (new : State) → AdvanceStep old result new → IsAccepted old → IsAccepted new
+by_advance : (old : State) (result : Result Progress StepFault) (new : State) → AdvanceStep old result new
+    → IsAccepted old → IsAccepted new
 by_advance old (Ok Worked) new (inl is) was = same_state old new is was
 by_advance old (Ok Worked) new (inr takes) was = taken_up old new takes
-by_advance old (Ok (Done ticket result)) new (first, rest, waiting, is_ticket, ends) was = by_end old first rest result new ends
+by_advance old (Ok (Done ticket result)) new (first, rest, waiting, is_ticket, ends) was =
+    by_end old first rest result new ends
 by_advance old (Err advance.Disk) new (inl is) was = subst (λ (s : State). IsAccepted s) (sym is) was
-by_advance old (Err advance.Disk) new (inr (mid, takes, is)) was = subst (λ (s : State). IsAccepted s) (sym is) (taken_up old mid takes)
+by_advance old (Err advance.Disk) new (inr (mid, takes, is)) was =
+    subst (λ (s : State). IsAccepted s) (sym is) (taken_up old mid takes)
 by_advance old (Err advance.Stopped) new h was = absurd h
 by_advance old result new is was = same_state old new is was
 
-by_protect : (old : State) (plain : List ℕ) (result : Result ℕ ProtectFault) (out : List ℕ) (new : State) → ProtectStep old plain result out new
+by_protect : (old : State) (plain : List ℕ) (result : Result ℕ ProtectFault) (out : List ℕ) (new : State)
+    → ProtectStep old plain result out new
     → IsAccepted old → IsAccepted new
-by_protect old plain (Ok pn) out new (none, (o, is_o, is_pn, is_out, is)) was = subst (λ (s : State). IsAccepted s) (sym is) was
+by_protect old plain (Ok pn) out new (none, (o, is_o, is_pn, is_out, is)) was =
+    subst (λ (s : State). IsAccepted s) (sym is) was
 by_protect old plain (Err (protect.Tx fault)) out new (why, empty, is) was = same_state old new is was
 by_protect old plain (Err protect.Stopped) out new h was = absurd h
 
-by_receive : (old : State) (frame : List ℕ) (result : Result Verdict Stopped) (out : List ℕ) (new : State) → ReceiveStep old frame result out new
+by_receive : (old : State) (frame : List ℕ) (result : Result Verdict Stopped) (out : List ℕ) (new : State)
+    → ReceiveStep old frame result out new
     → IsAccepted old → IsAccepted new
 by_receive old frame (Ok verdict) out new (inl (step, is_first, is_verdict, is_out, is)) was = same_state old new is was
-by_receive old frame (Ok verdict) out new (inr (a, there, inl (is_verdict, above, is_out, is))) was = subst (λ (s : State). IsAccepted s) (sym is) was
-by_receive old frame (Ok verdict) out new (inr (a, there, inr (is_verdict, is_out, is))) was = subst (λ (s : State). IsAccepted s) (sym is) was
+by_receive old frame (Ok verdict) out new (inr (a, there, inl (is_verdict, above, is_out, is))) was =
+    subst (λ (s : State). IsAccepted s) (sym is) was
+by_receive old frame (Ok verdict) out new (inr (a, there, inr (is_verdict, is_out, is))) was =
+    subst (λ (s : State). IsAccepted s) (sym is) was
 by_receive old frame (Err stopped) out new h was = absurd h
 
-by_call : (old : State) (call : Call) (reply : Reply) (new : State) → RunningStep old call reply new → IsAccepted old → IsAccepted new
+by_call : (old : State) (call : Call) (reply : Reply) (new : State) → RunningStep old call reply new → IsAccepted old
+    → IsAccepted new
 by_call old (Commands c) (Ran result) new h was = by_command old c result new h was
 by_call old Refills (Refilled result) new h was = by_refill old result new h was
 by_call old (Submits c) (Submitted result) new h was = by_submit old c result new h was
@@ -110,16 +131,20 @@ by_call old Advances (Advanced result) new h was = by_advance old result new h w
 by_call old (Protects plain) (Protected result out) new h was = by_protect old plain result out new h was
 by_call old (Receives frame) (Received result out) new h was = by_receive old frame result out new h was
 by_call old (Commands c) RefusedLong new (none, why, is) was = same_state old new is was
-by_call old Advances (AdvancedLong ticket) new (first, rest, waiting, is_ticket, (idle, why, is)) was = none_in_hand new (ap (λ (s : State). s.in_hand) is)
+by_call old Advances (AdvancedLong ticket) new (first, rest, waiting, is_ticket, (idle, why, is)) was =
+    none_in_hand new (ap (λ (s : State). s.in_hand) is)
 by_call old call reply new h was = absurd h
 
-by_step : (old : State) (call : Call) (reply : Reply) (new : State) → Step old call reply new → IsAccepted old → IsAccepted new
+by_step : (old : State) (call : Call) (reply : Reply) (new : State) → Step old call reply new → IsAccepted old
+    → IsAccepted new
 by_step old call reply new (inl (stopped, answer, is)) was = same_state old new is was
 by_step old call reply new (inr (running, h)) was = by_call old call reply new h was
 
-by_steps : (old : State) (exchanges : List Exchange) (new : State) → Steps old exchanges new → IsAccepted old → IsAccepted new
+by_steps : (old : State) (exchanges : List Exchange) (new : State) → Steps old exchanges new → IsAccepted old
+    → IsAccepted new
 by_steps old [] new is was = same_state old new is was
-by_steps old (e ∷ exchanges) new (mid, step, steps) was = by_steps mid exchanges new steps (by_step old e.call e.reply mid step was)
+by_steps old (e ∷ exchanges) new (mid, step, steps) was =
+    by_steps mid exchanges new steps (by_step old e.call e.reply mid step was)
 
 -- ---- the end of a life
 
@@ -131,18 +156,21 @@ not_left : (x y : Bool) → (not x && y) ≡ true → x ≡ false
 not_left true y is = absurd (false≢true is)
 not_left false y is = refl
 
-module _ (exchanges : List Exchange) (s : State) (waits : s.waiting ≡ waiting_at_end exchanges) (accepted : IsAccepted s) where
+module _ (exchanges : List Exchange) (s : State) (waits : s.waiting ≡ waiting_at_end exchanges)
+    (accepted : IsAccepted s) where
   -- under way after the last answer
   by_answers : (cut : Option Call) (c : Command) → s.in_hand ≡ Some c → WasBegun exchanges s cut c
   by_answers cut c is = record { begun = inl is; accepted = accepted c is }
 
   -- or taken in the call that is cut short
-  either_hand : (test : Bool) (d c : Command) → (cond test (state_with_in_hand s d) s).in_hand ≡ Some c → (s.in_hand ≡ Some c) ⊎ ((test ≡ true) × (d ≡ c))
+  either_hand : (test : Bool) (d c : Command) → (cond test (state_with_in_hand s d) s).in_hand ≡ Some c
+      → (s.in_hand ≡ Some c) ⊎ ((test ≡ true) × (d ≡ c))
   either_hand true d c is = inr (refl, some_one (Some d) d c refl is)
   either_hand false d c is = inl is
 
   taken : (cut : Option Call) (d c : Command) → MayBegin cut (waiting_at_end exchanges) d
-      → (cond (not s.stopped && is_ok (apply s.edition s.identity s.config d)) (state_with_in_hand s d) s).in_hand ≡ Some c → WasBegun exchanges s cut c
+      → (cond (not s.stopped && is_ok (apply s.edition s.identity s.config d)) (state_with_in_hand s d) s).in_hand
+      ≡ Some c → WasBegun exchanges s cut c
   taken cut d c may is = elim (either_hand (not s.stopped && is_ok (apply s.edition s.identity s.config d)) d c is) [
     | inl hand ↦ by_answers cut c hand
     | inr one ↦
@@ -152,13 +180,16 @@ module _ (exchanges : List Exchange) (s : State) (waits : s.waiting ≡ waiting_
         (record { begun = inr (running, may); accepted = no-refusal s.edition s.identity s.config d accepts })
   ]
 
-  alone : (d : Command) (waiting : List Waiting) (c : Command) → s.waiting ≡ waiting → (state_taking_alone s d waiting).in_hand ≡ Some c
+  alone : (d : Command) (waiting : List Waiting) (c : Command) → s.waiting ≡ waiting
+      → (state_taking_alone s d waiting).in_hand ≡ Some c
       → WasBegun exchanges s (Some (Commands d)) c
   alone d [] c none is =
-      taken (Some (Commands d)) d c (subst (λ (waiting : List Waiting). MayBegin (Some (Commands d)) waiting d) (sym none ∙ waits) refl) is
+      taken (Some (Commands d)) d c
+      (subst (λ (waiting : List Waiting). MayBegin (Some (Commands d)) waiting d) (sym none ∙ waits) refl) is
   alone d (first ∷ rest) c some is = by_answers (Some (Commands d)) c is
 
-  first_one : (in_hand : Option Command) (waiting : List Waiting) (c : Command) → s.waiting ≡ waiting → (state_taking_first s in_hand waiting).in_hand ≡ Some c
+  first_one : (in_hand : Option Command) (waiting : List Waiting) (c : Command) → s.waiting ≡ waiting
+      → (state_taking_first s in_hand waiting).in_hand ≡ Some c
       → WasBegun exchanges s (Some Advances) c
   first_one None [] c none is = by_answers (Some Advances) c is
   first_one None (first ∷ rest) c waiting is =
@@ -188,13 +219,16 @@ either_but_hand true x y s is other = is
 either_but_hand false x y s is other = other
 
 taking_but_hand : (s : State) (c : Command) → state_but_hand (state_taking s c) ≡ state_but_hand s
-taking_but_hand s c = either_but_hand (not s.stopped && is_ok (apply s.edition s.identity s.config c)) (state_with_in_hand s c) s s refl refl
+taking_but_hand s c = either_but_hand (not s.stopped && is_ok (apply s.edition s.identity s.config c))
+    (state_with_in_hand s c) s s refl refl
 
-alone_but_hand : (s : State) (c : Command) (waiting : List Waiting) → state_but_hand (state_taking_alone s c waiting) ≡ state_but_hand s
+alone_but_hand : (s : State) (c : Command) (waiting : List Waiting)
+    → state_but_hand (state_taking_alone s c waiting) ≡ state_but_hand s
 alone_but_hand s c [] = taking_but_hand s c
 alone_but_hand s c (first ∷ rest) = refl
 
-first_but_hand : (s : State) (in_hand : Option Command) (waiting : List Waiting) → state_but_hand (state_taking_first s in_hand waiting) ≡ state_but_hand s
+first_but_hand : (s : State) (in_hand : Option Command) (waiting : List Waiting)
+    → state_but_hand (state_taking_first s in_hand waiting) ≡ state_but_hand s
 first_but_hand s None [] = refl
 first_but_hand s None (first ∷ rest) = taking_but_hand s first.command
 first_but_hand s (Some c) waiting = refl

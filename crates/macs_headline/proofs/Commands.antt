@@ -1,5 +1,6 @@
 -- The headline on commands: what an opening finds of them.
-use Rattle.std.proofs.Common.{◌≡◌, inl, inr, ℕ, refl, sym, ◌∙◌, ap, subst, List, [], ◌∷◌, ◌++◌, ◌==◌, if◌then◌else◌, Bool, cond, Result, Ok, Err, append-nil}
+use Rattle.std.proofs.Common.{◌≡◌, inl, inr, ℕ, refl, sym, ◌∙◌, ap, subst, List, [], ◌∷◌, ◌++◌, ◌==◌, if◌then◌else◌}
+use Rattle.std.proofs.Common.{Bool, cond, Result, Ok, Err, append-nil}
 use Rattle.std.specs.Prelude.{Option}
 use Rattle.std.specs.Option.{option_to_list}
 use Rattle.std.proofs.lemmas.Bool.{eq-eqb}
@@ -25,9 +26,14 @@ use Rattle.macs_endpoint.specs.declared.progress.Step.{Step as Progress}
 use Rattle.macs_endpoint.specs.declared.progress.Step.TheVariants.{Done, Worked}
 use Rattle.macs_endpoint.specs.declared.queue.Waiting.{Waiting}
 use Rattle.macs_endpoint.specs.Restart.{Restart, opened_state}
-use Rattle.macs_endpoint.specs.State.{Advanced, AdvancedLong, Advances, Call, Commands, Protected, Protects, Ran, Received, Receives, Refilled, Refills, RefusedLong, Reply, State, Submits, Submitted}
-use Rattle.macs_endpoint.specs.Step.{AdvanceStep, CommandStep, Ends, RefusesFirst, Exchange, IsStopped, ProtectStep, ReceiveStep, RefillStep, RunningStep, Step, Steps, SubmitStep, TakesUp}
-use Rattle.macs_headline.specs.Commands.{CommandsKept, CommandsMake, FindsPrefix, acknowledged_by, acknowledged_commands, acknowledged_from, waiting_after, waiting_from, without_first}
+use Rattle.macs_endpoint.specs.State.{Advanced, AdvancedLong, Advances, Call, Commands, Protected, Protects, Ran}
+use Rattle.macs_endpoint.specs.State.{Received, Receives, Refilled, Refills, RefusedLong, Reply, State, Submits}
+use Rattle.macs_endpoint.specs.State.{Submitted}
+use Rattle.macs_endpoint.specs.Step.{AdvanceStep, CommandStep, Ends, RefusesFirst, Exchange, IsStopped, ProtectStep}
+use Rattle.macs_endpoint.specs.Step.{ReceiveStep, RefillStep, RunningStep, Step, Steps, SubmitStep, TakesUp}
+use Rattle.macs_headline.specs.Commands.{CommandsKept, CommandsMake, FindsPrefix, acknowledged_by}
+use Rattle.macs_headline.specs.Commands.{acknowledged_commands, acknowledged_from, waiting_after, waiting_from}
+use Rattle.macs_headline.specs.Commands.{without_first}
 use Rattle.macs_headline.specs.History.{logs_of, state_at_end}
 use Rattle.macs_headline.proofs.Effects.{Core}
 use Rattle.macs_headline.proofs.Sound.{end-core, end-edition}
@@ -36,7 +42,8 @@ use Rattle.macs_headline.proofs.Histories.{fits-restart}
 -- ---- the commands of a life
 
 -- commands, and then more
-made_on : (edition : Edition) (identity : Identity) (a b c : Config) (xs ys : List Command) → CommandsMake edition identity a xs b
+made_on : (edition : Edition) (identity : Identity) (a b c : Config) (xs ys : List Command)
+    → CommandsMake edition identity a xs b
     → CommandsMake edition identity b ys c → CommandsMake edition identity a (xs ++ ys) c
 made_on edition identity a b c [] ys one two = subst (λ (a : Config). CommandsMake edition identity a ys c) one two
 made_on edition identity a b c (x ∷ xs) ys one two = (one.0, one.1, made_on edition identity one.0 b c xs ys one.2 two)
@@ -71,9 +78,11 @@ unchanged old new is = like old new (same_state old new is)
 
 -- those that a call with this answer acknowledges, and those that wait after it
 abbrev IsMadeByCall : State → State → Call → Reply → Type 0
-IsMadeByCall old new call reply = IsMadeBy old new (acknowledged_by old.waiting call reply) (waiting_after old.waiting call reply)
+IsMadeByCall old new call reply =
+    IsMadeBy old new (acknowledged_by old.waiting call reply) (waiting_after old.waiting call reply)
 
-by_command : (old : State) (c : Command) (result : Result (Unit {0}) CommandFault) (new : State) → CommandStep old c result new
+by_command : (old : State) (c : Command) (result : Result (Unit {0}) CommandFault) (new : State)
+    → CommandStep old c result new
     → IsMadeByCall old new (Commands c) (Ran result)
 by_command old c (Ok done) new (none, h) = record {
   edition = ap (λ (s : State). s.edition) h.2;
@@ -90,7 +99,8 @@ by_command old c (Err fault) new h = record {
   waiting = ap (λ (s : State). s.waiting) h.2;
 }
 
-by_refill : (old : State) (result : Result (Unit {0}) RefillFault) (new : State) → RefillStep old result new → IsMadeByCall old new Refills (Refilled result)
+by_refill : (old : State) (result : Result (Unit {0}) RefillFault) (new : State) → RefillStep old result new
+    → IsMadeByCall old new Refills (Refilled result)
 by_refill old (Ok done) new (none, is) = unchanged old new is
 by_refill old (Err refill.Stopped) new h = absurd h
 by_refill old (Err fault) new (none, is) = record {
@@ -126,14 +136,17 @@ chosen : {X : Type 0} (n m : ℕ) (x y : X) → n ≡ m → (if n == m then x el
 chosen n m x y same = ap (λ (b : Bool). cond b x y) (eq-eqb n m same)
 
 -- the first one is done with, of those that wait
-by_end : (old : State) (first : Waiting) (rest : List Waiting) (ticket : ℕ) (result : Result (Unit {0}) CommandFault) (new : State) → ticket ≡ first.ticket
+by_end : (old : State) (first : Waiting) (rest : List Waiting) (ticket : ℕ) (result : Result (Unit {0}) CommandFault)
+    (new : State) → ticket ≡ first.ticket
     → Ends old first rest result new
-    → IsMadeBy old new (acknowledged_by (first ∷ rest) Advances (Advanced (Ok (Done ticket result)))) (without_first ticket (first ∷ rest))
+    → IsMadeBy old new (acknowledged_by (first ∷ rest) Advances (Advanced (Ok (Done ticket result))))
+    (without_first ticket (first ∷ rest))
 by_end old first rest ticket (Ok done) new is_ticket h = record {
   edition = ap (λ (s : State). s.edition) h.2;
   identity = ap (λ (s : State). s.identity) h.2;
   made = subst (λ (commands : List Command). CommandsMake old.edition old.identity old.config commands new.config)
-      (sym (chosen first.ticket ticket (first.command ∷ []) [] (sym is_ticket))) (h.0, h.1, ap (λ (s : State). s.config) h.2);
+      (sym (chosen first.ticket ticket (first.command ∷ []) [] (sym is_ticket)))
+      (h.0, h.1, ap (λ (s : State). s.config) h.2);
   waiting = ap (λ (s : State). s.waiting) h.2 ∙ sym (chosen first.ticket ticket rest (first ∷ rest) (sym is_ticket));
 }
 by_end old first rest ticket (Err (ran.Refused refusal)) new is_ticket (idle, why, is) = record {
@@ -151,7 +164,8 @@ by_end old first rest ticket (Err ran.GenerationsSpent) new is_ticket (idle, acc
 by_end old first rest ticket (Err fault) new is_ticket h = absurd h
 
 -- so is one whose key is too long, and none takes effect
-by_long : (old : State) (first : Waiting) (rest : List Waiting) (ticket : ℕ) (new : State) → ticket ≡ first.ticket → RefusesFirst old first rest new
+by_long : (old : State) (first : Waiting) (rest : List Waiting) (ticket : ℕ) (new : State) → ticket ≡ first.ticket
+    → RefusesFirst old first rest new
     → IsMadeBy old new [] (without_first ticket (first ∷ rest))
 by_long old first rest ticket new is_ticket (idle, why, is) = record {
   edition = ap (λ (s : State). s.edition) is;
@@ -165,7 +179,8 @@ by_advance : (old : State) (result : Result Progress StepFault) (new : State) �
 by_advance old (Ok Worked) new (inl is) = unchanged old new is
 by_advance old (Ok Worked) new (inr takes) = like old new (taken_up old new takes)
 by_advance old (Ok (Done ticket result)) new (first, rest, waiting, is_ticket, ends) =
-    subst (λ (w : List Waiting). IsMadeBy old new (acknowledged_by w Advances (Advanced (Ok (Done ticket result)))) (without_first ticket w)) (sym waiting)
+    subst (λ (w : List Waiting). IsMadeBy old new (acknowledged_by w Advances (Advanced (Ok (Done ticket result))))
+    (without_first ticket w)) (sym waiting)
     (by_end old first rest ticket result new is_ticket ends)
 by_advance old (Err advance.Disk) new (inl is) = record {
   edition = ap (λ (s : State). s.edition) is;
@@ -184,7 +199,8 @@ by_advance old (Err advance.Disk) new (inr (mid, takes, is)) =
 by_advance old (Err advance.Stopped) new h = absurd h
 by_advance old result new is = unchanged old new is
 
-by_protect : (old : State) (plain : List ℕ) (result : Result ℕ ProtectFault) (out : List ℕ) (new : State) → ProtectStep old plain result out new
+by_protect : (old : State) (plain : List ℕ) (result : Result ℕ ProtectFault) (out : List ℕ) (new : State)
+    → ProtectStep old plain result out new
     → IsMadeByCall old new (Protects plain) (Protected result out)
 by_protect old plain (Ok pn) out new (none, (o, is_o, is_pn, is_out, is)) = record {
   edition = ap (λ (s : State). s.edition) is;
@@ -195,7 +211,8 @@ by_protect old plain (Ok pn) out new (none, (o, is_o, is_pn, is_out, is)) = reco
 by_protect old plain (Err (protect.Tx fault)) out new (why, empty, is) = unchanged old new is
 by_protect old plain (Err protect.Stopped) out new h = absurd h
 
-by_receive : (old : State) (frame : List ℕ) (result : Result Verdict Stopped) (out : List ℕ) (new : State) → ReceiveStep old frame result out new
+by_receive : (old : State) (frame : List ℕ) (result : Result Verdict Stopped) (out : List ℕ) (new : State)
+    → ReceiveStep old frame result out new
     → IsMadeByCall old new (Receives frame) (Received result out)
 by_receive old frame (Ok verdict) out new (inl (step, is_first, is_verdict, is_out, is)) = unchanged old new is
 by_receive old frame (Ok verdict) out new (inr (a, there, inl (is_verdict, above, is_out, is))) = record {
@@ -212,7 +229,8 @@ by_receive old frame (Ok verdict) out new (inr (a, there, inr (is_verdict, is_ou
 }
 by_receive old frame (Err stopped) out new h = absurd h
 
-by_call : (old : State) (call : Call) (reply : Reply) (new : State) → RunningStep old call reply new → IsMadeByCall old new call reply
+by_call : (old : State) (call : Call) (reply : Reply) (new : State) → RunningStep old call reply new
+    → IsMadeByCall old new call reply
 by_call old (Commands c) (Ran result) new h = by_command old c result new h
 by_call old Refills (Refilled result) new h = by_refill old result new h
 by_call old (Submits c) (Submitted result) new h = by_submit old c result new h
@@ -221,28 +239,33 @@ by_call old (Protects plain) (Protected result out) new h = by_protect old plain
 by_call old (Receives frame) (Received result out) new h = by_receive old frame result out new h
 by_call old (Commands c) RefusedLong new (none, why, is) = unchanged old new is
 by_call old Advances (AdvancedLong ticket) new (first, rest, waiting, is_ticket, ends) =
-    subst (λ (w : List Waiting). IsMadeBy old new [] (without_first ticket w)) (sym waiting) (by_long old first rest ticket new is_ticket ends)
+    subst (λ (w : List Waiting). IsMadeBy old new [] (without_first ticket w)) (sym waiting)
+    (by_long old first rest ticket new is_ticket ends)
 by_call old call reply new h = absurd h
 
-by_stopped : (old : State) (call : Call) (reply : Reply) (new : State) → IsStopped call reply → new ≡ old → IsMadeByCall old new call reply
+by_stopped : (old : State) (call : Call) (reply : Reply) (new : State) → IsStopped call reply → new ≡ old
+    → IsMadeByCall old new call reply
 by_stopped old (Commands c) (Ran (Ok done)) new h is = absurd h
 by_stopped old (Submits c) (Submitted (Ok ticket)) new h is = absurd h
 by_stopped old Advances (Advanced (Ok progress)) new h is = absurd h
 by_stopped old Advances (AdvancedLong ticket) new h is = absurd h
 by_stopped old call reply new h is = unchanged old new is
 
-by_step : (old : State) (call : Call) (reply : Reply) (new : State) → Step old call reply new → IsMadeByCall old new call reply
+by_step : (old : State) (call : Call) (reply : Reply) (new : State) → Step old call reply new
+    → IsMadeByCall old new call reply
 by_step old call reply new (inl (stopped, answer, is)) = by_stopped old call reply new answer is
 by_step old call reply new (inr (running, h)) = by_call old call reply new h
 
 -- the commands that wait after these calls
-pub waits-from : (waiting : List Waiting) (old : State) (exchanges : List Exchange) (new : State) → old.waiting ≡ waiting → Steps old exchanges new
+pub waits-from : (waiting : List Waiting) (old : State) (exchanges : List Exchange) (new : State)
+    → old.waiting ≡ waiting → Steps old exchanges new
     → new.waiting ≡ waiting_from waiting exchanges
 waits-from waiting old [] new same steps = ap (λ (s : State). s.waiting) steps ∙ same
 waits-from waiting old (e ∷ es) new same steps =
     let mid = steps.0 in
     waits-from (waiting_after waiting e.call e.reply) mid es new
-    ((by_step old e.call e.reply mid steps.1).waiting ∙ ap (λ (w : List Waiting). waiting_after w e.call e.reply) same) steps.2
+    ((by_step old e.call e.reply mid steps.1).waiting
+    ∙ ap (λ (w : List Waiting). waiting_after w e.call e.reply) same) steps.2
 
 -- these commands lead from a state to a state, whatever waits there
 record IsLedBy (old new : State) (commands : List Command) : Type 0 where
@@ -251,7 +274,8 @@ record IsLedBy (old new : State) (commands : List Command) : Type 0 where
   made : CommandsMake old.edition old.identity old.config commands new.config
 
 -- those of a life, at whose beginning these wait
-by_steps : (waiting : List Waiting) (old : State) (exchanges : List Exchange) (new : State) → old.waiting ≡ waiting → Steps old exchanges new
+by_steps : (waiting : List Waiting) (old : State) (exchanges : List Exchange) (new : State) → old.waiting ≡ waiting
+    → Steps old exchanges new
     → IsLedBy old new (acknowledged_from waiting exchanges)
 by_steps waiting old [] new same steps = record {
   edition = ap (λ (s : State). s.edition) steps;
@@ -261,21 +285,26 @@ by_steps waiting old [] new same steps = record {
 by_steps waiting old (e ∷ es) new same steps =
     let mid = steps.0 in
     let one : IsMadeBy old mid (acknowledged_by waiting e.call e.reply) (waiting_after waiting e.call e.reply) =
-    subst (λ (w : List Waiting). IsMadeBy old mid (acknowledged_by w e.call e.reply) (waiting_after w e.call e.reply)) same
+    subst (λ (w : List Waiting).
+    IsMadeBy old mid (acknowledged_by w e.call e.reply) (waiting_after w e.call e.reply)) same
     (by_step old e.call e.reply mid steps.1) in
     let two = by_steps (waiting_after waiting e.call e.reply) mid es new one.waiting steps.2 in
     let more = acknowledged_from (waiting_after waiting e.call e.reply) es in
-    let same_edition = subst (λ (edition : Edition). CommandsMake edition mid.identity mid.config more new.config) one.edition two.made in
-    let same_both = subst (λ (identity : Identity). CommandsMake old.edition identity mid.config more new.config) one.identity same_edition in
+    let same_edition = subst (λ (edition : Edition). CommandsMake edition mid.identity mid.config more new.config)
+    one.edition two.made in
+    let same_both = subst (λ (identity : Identity). CommandsMake old.edition identity mid.config more new.config)
+    one.identity same_edition in
     record {
       edition = two.edition ∙ one.edition;
       identity = two.identity ∙ one.identity;
-      made = made_on old.edition old.identity old.config mid.config new.config (acknowledged_by waiting e.call e.reply) more one.made same_both;
+      made = made_on old.edition old.identity old.config mid.config new.config (acknowledged_by waiting e.call e.reply)
+          more one.made same_both;
     }
 
 -- ---- what is found
 
-finds : (before after : Standing) (exchanges : List Exchange) (end : State) → end.edition ≡ before.edition → end.identity ≡ before.identity
+finds : (before after : Standing) (exchanges : List Exchange) (end : State) → end.edition ≡ before.edition
+    → end.identity ≡ before.identity
     → CommandsMake before.edition before.identity before.config (acknowledged_commands exchanges) end.config
     → Restart end (opened_state after end.logs) → FindsPrefix before exchanges end.in_hand after
 finds before after exchanges end edition identity made (inl up) = record {
@@ -283,7 +312,8 @@ finds before after exchanges end edition identity made (inl up) = record {
   kept = acknowledged_commands exchanges;
   acknowledged = ([], append-nil (acknowledged_commands exchanges));
   accepted = (option_to_list end.in_hand, refl);
-  made = subst (CommandsMake before.edition before.identity before.config (acknowledged_commands exchanges)) (sym up.config) made;
+  made = subst (CommandsMake before.edition before.identity before.config (acknowledged_commands exchanges))
+      (sym up.config) made;
 }
 finds before after exchanges end edition identity made (inr (c, mid, hand, makes, up)) =
     let done = acknowledged_commands exchanges in
@@ -307,5 +337,6 @@ commands-kept sectors last m cut later image after fits is_after =
     let config : end.config ≡ last.config = ap (λ (c : Core). c.config) (end-core last cut) in
     let identity : end.identity ≡ last.identity = ap (λ (c : Core). c.identity) (end-core last cut) in
     finds found after m.exchanges end (end-edition last cut ∙ done.edition) (identity ∙ done.identity)
-    (subst (CommandsMake found.edition found.identity found.config (acknowledged_commands m.exchanges)) (sym config) done.made)
+    (subst (CommandsMake found.edition found.identity found.config (acknowledged_commands m.exchanges))
+    (sym config) done.made)
     (fits-restart later sectors image end after fits is_after)

@@ -1,5 +1,7 @@
--- What a power loss inside a call leaves: the state before it, with its command under way where work on it may have begun.
-use Rattle.std.proofs.Common.{◌≡◌, ◌⊎◌, ◌&&◌, inl, inr, ℕ, Bool, true, false, cond, not, List, [], ◌∷◌, Option, Some, None, Result, Ok, Err, is_ok, refl, sym, ◌∙◌, ap, subst, arith}
+-- What a power loss inside a call leaves: the state before it, with its command under way where work on it may have
+-- begun.
+use Rattle.std.proofs.Common.{◌≡◌, ◌⊎◌, ◌&&◌, inl, inr, ℕ, Bool, true, false, cond, not, List, [], ◌∷◌, Option, Some}
+use Rattle.std.proofs.Common.{None, Result, Ok, Err, is_ok, refl, sym, ◌∙◌, ap, subst, arith}
 use Rattle.macs_config.specs.Apply.{apply}
 use Rattle.macs_config.specs.Config.{Config, Edition, this_edition}
 use Rattle.macs_config.specs.declared.command.Command.{Command}
@@ -18,10 +20,15 @@ use Rattle.macs_endpoint.specs.declared.queue.Waiting.{Waiting}
 use Rattle.macs_endpoint.specs.Calls.{IsCall}
 use Rattle.macs_endpoint.specs.Limits.{IsStill}
 use Rattle.macs_endpoint.specs.Queue.{first_command}
-use Rattle.macs_endpoint.specs.Restart.{Fits, Resumes, opened_state, state_during, state_taking, state_taking_alone, state_taking_first}
-use Rattle.macs_endpoint.specs.State.{Advanced, AdvancedLong, Advances, Call, Commands, Logs, NoneWait, Protected, Protects, Ran, Received, Receives, Refilled, Refills, RefusedLong, Reply, State, Submits, Submitted, state_after_fault, state_with_in_hand}
-use Rattle.macs_endpoint.specs.Step.{AdvanceStep, CommandStep, Ends, RefillStep, Step, TakesUp, state_after_command, state_without_first}
-use Rattle.macs_endpoint.specs.Value.{EndpointValue, IsAtRest, IsBacked, IsKeeping, IsReserving, IsSoundEndpoint, disk_in, state_of}
+use Rattle.macs_endpoint.specs.Restart.{Fits, Resumes, opened_state, state_during, state_taking, state_taking_alone}
+use Rattle.macs_endpoint.specs.Restart.{state_taking_first}
+use Rattle.macs_endpoint.specs.State.{Advanced, AdvancedLong, Advances, Call, Commands, Logs, NoneWait, Protected}
+use Rattle.macs_endpoint.specs.State.{Protects, Ran, Received, Receives, Refilled, Refills, RefusedLong, Reply, State}
+use Rattle.macs_endpoint.specs.State.{Submits, Submitted, state_after_fault, state_with_in_hand}
+use Rattle.macs_endpoint.specs.Step.{AdvanceStep, CommandStep, Ends, RefillStep, Step, TakesUp, state_after_command}
+use Rattle.macs_endpoint.specs.Step.{state_without_first}
+use Rattle.macs_endpoint.specs.Value.{EndpointValue, IsAtRest, IsBacked, IsKeeping, IsReserving, IsSoundEndpoint}
+use Rattle.macs_endpoint.specs.Value.{disk_in, state_of}
 
 -- ---- what is under way
 
@@ -64,7 +71,8 @@ record IsAlike (a b : State) : Type 0 where
 
 resumes_alike : (a b new : State) → IsAlike a b → Resumes a new → Resumes b new
 resumes_alike a b new alike up =
-    let part : State = record a { stopped = b.stopped; in_hand = b.in_hand; waiting = b.waiting; tickets = b.tickets } in
+    let part : State =
+    record a { stopped = b.stopped; in_hand = b.in_hand; waiting = b.waiting; tickets = b.tickets } in
     let same : part ≡ b =
     (λ i. record {
       edition = alike.edition i;
@@ -94,51 +102,61 @@ resumes_alike a b new alike up =
 
 all_alike : (a : State) (stopped : Bool) (in_hand : Option Command) (waiting : List Waiting)
     → IsAlike a (record a { stopped = stopped; in_hand = in_hand; waiting = waiting })
-all_alike a stopped in_hand waiting = record { edition = refl; identity = refl; config = refl; next = refl; numbers = refl; logs = refl }
+all_alike a stopped in_hand waiting =
+    record { edition = refl; identity = refl; config = refl; next = refl; numbers = refl; logs = refl }
 
 module _ (edition : Edition) (sectors : ℕ) (image : Image) where
   abbrev FitsHere : State → Type 0
   FitsHere s = Fits edition sectors image s
 
   -- nothing was under way before a command
-  fits_holding : (s : State) (command : Command) → s.in_hand ≡ None → FitsHere s → FitsHere (state_with_in_hand s command)
+  fits_holding : (s : State) (command : Command) → s.in_hand ≡ None → FitsHere s
+      → FitsHere (state_with_in_hand s command)
   fits_holding s command idle fits = record {
     found = fits.found;
     is_found = fits.is_found;
     restart = elim fits.restart [
-      | inl up ↦ inl (resumes_alike s (state_with_in_hand s command) (opened_state fits.found s.logs) (all_alike s s.stopped (Some command) s.waiting) up)
+      | inl up ↦ inl (resumes_alike s (state_with_in_hand s command) (opened_state fits.found s.logs)
+          (all_alike s s.stopped (Some command) s.waiting) up)
       | inr made ↦ absurd (none_in_hand made.0 (sym idle ∙ made.2))
     ];
   }
 
-  held_or_not : (P : State → Type 0) (stopped accepts : Bool) (x y : State) → (stopped ≡ false → P x) → P y → P (cond (not stopped && accepts) x y)
+  held_or_not : (P : State → Type 0) (stopped accepts : Bool) (x y : State) → (stopped ≡ false → P x) → P y
+      → P (cond (not stopped && accepts) x y)
   held_or_not P true accepts x y this other = other
   held_or_not P false true x y this other = this refl
   held_or_not P false false x y this other = other
 
-  held_surely : (P : State → Type 0) (stopped accepts : Bool) (x y : State) → stopped ≡ false → accepts ≡ true → P x → P (cond (not stopped && accepts) x y)
+  held_surely : (P : State → Type 0) (stopped accepts : Bool) (x y : State) → stopped ≡ false → accepts ≡ true → P x
+      → P (cond (not stopped && accepts) x y)
   held_surely P true accepts x y running accepted this = absurd (cc)
   held_surely P false true x y running accepted this = this
   held_surely P false false x y running accepted this = absurd (cc)
 
   -- a command that is accepted is taken
-  taken : (s : State) (c : Command) → s.stopped ≡ false → is_ok (apply s.edition s.identity s.config c) ≡ true → FitsHere (state_with_in_hand s c)
+  taken : (s : State) (c : Command) → s.stopped ≡ false → is_ok (apply s.edition s.identity s.config c) ≡ true
+      → FitsHere (state_with_in_hand s c)
       → FitsHere (state_taking s c)
   taken s c running accepted fits =
-      held_surely FitsHere s.stopped (is_ok (apply s.edition s.identity s.config c)) (state_with_in_hand s c) s running accepted fits
+      held_surely FitsHere s.stopped (is_ok (apply s.edition s.identity s.config c)) (state_with_in_hand s c) s running
+      accepted fits
 
   -- before the call
-  fits_taking : (s : State) (c : Command) → (s.stopped ≡ false → s.in_hand ≡ None) → FitsHere s → FitsHere (state_taking s c)
+  fits_taking : (s : State) (c : Command) → (s.stopped ≡ false → s.in_hand ≡ None) → FitsHere s
+      → FitsHere (state_taking s c)
   fits_taking s c idle fits =
       held_or_not FitsHere s.stopped (is_ok (apply s.edition s.identity s.config c)) (state_with_in_hand s c) s
       (λ running. fits_holding s c (idle running) fits) fits
 
-  fits_alone : (s : State) (c : Command) (waiting : List Waiting) → (s.stopped ≡ false → waiting ≡ [] → s.in_hand ≡ None) → FitsHere s
+  fits_alone : (s : State) (c : Command) (waiting : List Waiting)
+      → (s.stopped ≡ false → waiting ≡ [] → s.in_hand ≡ None) → FitsHere s
       → FitsHere (state_taking_alone s c waiting)
   fits_alone s c [] idle fits = fits_taking s c (λ running. idle running refl) fits
   fits_alone s c (first ∷ rest) idle fits = fits
 
-  fits_first : (s : State) (in_hand : Option Command) (waiting : List Waiting) → s.in_hand ≡ in_hand → FitsHere s → FitsHere (state_taking_first s in_hand waiting)
+  fits_first : (s : State) (in_hand : Option Command) (waiting : List Waiting) → s.in_hand ≡ in_hand → FitsHere s
+      → FitsHere (state_taking_first s in_hand waiting)
   fits_first s None [] is fits = fits
   fits_first s None (first ∷ rest) is fits = fits_taking s first.command (λ running. is) fits
   fits_first s (Some c) waiting is fits = fits
@@ -152,11 +170,13 @@ module _ (edition : Edition) (sectors : ℕ) (image : Image) where
   fits_during s (Receives frame) settled fits = fits
 
   -- while none waits
-  during_alone : (s : State) (c : Command) → NoneWait s → FitsHere (state_taking s c) → FitsHere (state_during s (Commands c))
+  during_alone : (s : State) (c : Command) → NoneWait s → FitsHere (state_taking s c)
+      → FitsHere (state_during s (Commands c))
   during_alone s c none fits = subst (λ (w : List Waiting). FitsHere (state_taking_alone s c w)) (sym none) fits
 
   -- while none is under way
-  during_first : (s : State) (first : Waiting) (rest : List Waiting) → s.waiting ≡ first ∷ rest → s.in_hand ≡ None → FitsHere (state_taking s first.command)
+  during_first : (s : State) (first : Waiting) (rest : List Waiting) → s.waiting ≡ first ∷ rest → s.in_hand ≡ None
+      → FitsHere (state_taking s first.command)
       → FitsHere (state_during s Advances)
   during_first s first rest waiting idle fits =
       subst (λ (w : List Waiting). FitsHere (state_taking_first s s.in_hand w)) (sym waiting)
@@ -164,7 +184,8 @@ module _ (edition : Edition) (sectors : ℕ) (image : Image) where
 
   -- while one is
   during_held : (s : State) (c : Command) → s.in_hand ≡ Some c → FitsHere s → FitsHere (state_during s Advances)
-  during_held s c hand fits = subst (λ (h : Option Command). FitsHere (state_taking_first s h s.waiting)) (sym hand) fits
+  during_held s c hand fits =
+      subst (λ (h : Option Command). FitsHere (state_taking_first s h s.waiting)) (sym hand) fits
 
   -- whether it is stopped is forgotten
   pub fits_running : (s : State) → FitsHere (state_after_fault s) → FitsHere s
@@ -172,7 +193,8 @@ module _ (edition : Edition) (sectors : ℕ) (image : Image) where
     found = fits.found;
     is_found = fits.is_found;
     restart = elim fits.restart [
-      | inl up ↦ inl (resumes_alike (state_after_fault s) s (opened_state fits.found s.logs) (all_alike (state_after_fault s) s.stopped s.in_hand s.waiting) up)
+      | inl up ↦ inl (resumes_alike (state_after_fault s) s (opened_state fits.found s.logs)
+          (all_alike (state_after_fault s) s.stopped s.in_hand s.waiting) up)
       | inr made ↦
           let command = made.0 in
           let makes = made.3 in
@@ -183,13 +205,15 @@ module _ (edition : Edition) (sectors : ℕ) (image : Image) where
             state_after_command s command makes.0,
             made.2,
             (makes.0, makes.1, refl),
-            resumes_alike later (state_after_command s command makes.0) (opened_state fits.found s.logs) (all_alike later s.stopped None s.waiting) up,
+            resumes_alike later (state_after_command s command makes.0) (opened_state fits.found s.logs)
+                (all_alike later s.stopped None s.waiting) up,
           )
     ];
   }
 
   -- the command under way was done, whatever waits then
-  fits_done : (s : State) (rest : List Waiting) (c : Command) (config : Config) → s.in_hand ≡ Some c → apply s.edition s.identity s.config c ≡ Ok config
+  fits_done : (s : State) (rest : List Waiting) (c : Command) (config : Config) → s.in_hand ≡ Some c
+      → apply s.edition s.identity s.config c ≡ Ok config
       → FitsHere (state_after_command (record s { waiting = rest }) c config) → FitsHere s
   fits_done s rest c config hand ok fits =
       let later = state_after_command (record s { waiting = rest }) c config in
@@ -217,47 +241,62 @@ module _ (edition : Edition) (sectors : ℕ) (image : Image) where
         found = fits.found;
         is_found = fits.is_found;
         restart = elim fits.restart [
-          | inl up ↦ inl (resumes_alike later s (opened_state fits.found s.logs) (all_alike later s.stopped s.in_hand s.waiting) up)
+          | inl up ↦ inl (resumes_alike later s (opened_state fits.found s.logs)
+              (all_alike later s.stopped s.in_hand s.waiting) up)
           | inr made ↦ absurd (none_in_hand made.0 made.2)
         ];
       }
 
   -- ---- what fits the state after a call fits the one while it is under way
 
-  by_command : (old : State) (c : Command) (result : Result (Unit {0}) CommandFault) (new : State) → old.stopped ≡ false → IsSettled old
+  by_command : (old : State) (c : Command) (result : Result (Unit {0}) CommandFault) (new : State) → old.stopped ≡ false
+      → IsSettled old
       → CommandStep old c result new → FitsHere new → FitsHere (state_during old (Commands c))
   by_command old c (Ok done) new running settled (none, (config, ok, is)) fits =
       during_alone old c none
-      (taken old c running (ap is_ok ok) (fits_done (state_with_in_hand old c) old.waiting c config refl ok (subst FitsHere is fits)))
+      (taken old c running (ap is_ok ok)
+      (fits_done (state_with_in_hand old c) old.waiting c config refl ok (subst FitsHere is fits)))
   by_command old c (Err ran.Stopped) new running settled h fits = absurd h
   by_command old c (Err ran.Disk) new running settled (none, accepts, is) fits =
-      during_alone old c none (taken old c running accepts (fits_running (state_with_in_hand old c) (subst FitsHere is fits)))
-  by_command old c (Err ran.Busy) new running settled (some, is) fits = fits_during old (Commands c) settled (subst FitsHere is fits)
-  by_command old c (Err fault) new running settled h fits = fits_during old (Commands c) settled (subst FitsHere h.2 fits)
+      during_alone old c none
+      (taken old c running accepts (fits_running (state_with_in_hand old c) (subst FitsHere is fits)))
+  by_command old c (Err ran.Busy) new running settled (some, is) fits =
+      fits_during old (Commands c) settled (subst FitsHere is fits)
+  by_command old c (Err fault) new running settled h fits =
+      fits_during old (Commands c) settled (subst FitsHere h.2 fits)
 
-  by_refill : (old : State) (result : Result (Unit {0}) RefillFault) (new : State) → RefillStep old result new → FitsHere new → FitsHere old
+  by_refill : (old : State) (result : Result (Unit {0}) RefillFault) (new : State) → RefillStep old result new
+      → FitsHere new → FitsHere old
   by_refill old (Ok done) new (none, is) fits = subst FitsHere is fits
   by_refill old (Err refill.Stopped) new h fits = absurd h
   by_refill old (Err refill.Disk) new (none, is) fits = fits_running old (subst FitsHere is fits)
   by_refill old (Err fault) new (none, is) fits = subst FitsHere is fits
 
-  by_taking : (old new : State) → old.stopped ≡ false → TakesUp old new → FitsHere new → FitsHere (state_during old Advances)
+  by_taking : (old new : State) → old.stopped ≡ false → TakesUp old new → FitsHere new
+      → FitsHere (state_during old Advances)
   by_taking old new running (first, rest, waiting, idle, accepts, is) fits =
       during_first old first rest waiting idle (taken old first.command running accepts (subst FitsHere is fits))
 
   -- the first one that waits took effect, under way before or not
-  by_done : (old : State) (first : Waiting) (rest : List Waiting) (config : Config) (in_hand : Option Command) → old.stopped ≡ false → IsSettled old
-      → old.waiting ≡ first ∷ rest → old.in_hand ≡ in_hand → apply old.edition old.identity old.config first.command ≡ Ok config
-      → FitsHere (state_after_command (state_without_first old rest) first.command config) → FitsHere (state_during old Advances)
+  by_done : (old : State) (first : Waiting) (rest : List Waiting) (config : Config) (in_hand : Option Command)
+      → old.stopped ≡ false → IsSettled old
+      → old.waiting ≡ first ∷ rest → old.in_hand ≡ in_hand
+      → apply old.edition old.identity old.config first.command ≡ Ok config
+      → FitsHere (state_after_command (state_without_first old rest) first.command config)
+      → FitsHere (state_during old Advances)
   by_done old first rest config None running settled waiting hand ok fits =
       during_first old first rest waiting hand
-      (taken old first.command running (ap is_ok ok) (fits_done (state_with_in_hand old first.command) rest first.command config refl ok fits))
+      (taken old first.command running (ap is_ok ok)
+      (fits_done (state_with_in_hand old first.command) rest first.command config refl ok fits))
   by_done old first rest config (Some c) running settled waiting hand ok fits =
-      let its : old.in_hand ≡ Some first.command = hand ∙ sym (settled.first running c hand) ∙ ap first_command waiting in
+      let its : old.in_hand ≡ Some first.command = hand ∙ sym (settled.first running c hand)
+      ∙ ap first_command waiting in
       during_held old first.command its (fits_done old rest first.command config its ok fits)
 
-  by_end : (old : State) (first : Waiting) (rest : List Waiting) (result : Result (Unit {0}) CommandFault) (new : State) → old.stopped ≡ false → IsSettled old
-      → old.waiting ≡ first ∷ rest → Ends old first rest result new → FitsHere new → FitsHere (state_during old Advances)
+  by_end : (old : State) (first : Waiting) (rest : List Waiting) (result : Result (Unit {0}) CommandFault) (new : State)
+      → old.stopped ≡ false → IsSettled old
+      → old.waiting ≡ first ∷ rest → Ends old first rest result new → FitsHere new
+      → FitsHere (state_during old Advances)
   by_end old first rest (Ok done) new running settled waiting (config, ok, is) fits =
       by_done old first rest config old.in_hand running settled waiting refl ok (subst FitsHere is fits)
   by_end old first rest (Err (ran.Refused refusal)) new running settled waiting (idle, why, is) fits =
@@ -266,34 +305,46 @@ module _ (edition : Edition) (sectors : ℕ) (image : Image) where
       fits_during old Advances settled (fits_refused old rest (subst FitsHere is fits))
   by_end old first rest (Err fault) new running settled waiting h fits = absurd h
 
-  by_advance : (old : State) (result : Result Progress StepFault) (new : State) → old.stopped ≡ false → IsSettled old → AdvanceStep old result new → FitsHere new
+  by_advance : (old : State) (result : Result Progress StepFault) (new : State) → old.stopped ≡ false → IsSettled old
+      → AdvanceStep old result new → FitsHere new
       → FitsHere (state_during old Advances)
-  by_advance old (Ok Worked) new running settled (inl is) fits = fits_during old Advances settled (subst FitsHere is fits)
+  by_advance old (Ok Worked) new running settled (inl is) fits =
+      fits_during old Advances settled (subst FitsHere is fits)
   by_advance old (Ok Worked) new running settled (inr takes) fits = by_taking old new running takes fits
   by_advance old (Ok (Done ticket result)) new running settled (first, rest, waiting, is_ticket, ends) fits =
       by_end old first rest result new running settled waiting ends fits
-  by_advance old (Err advance.Disk) new running settled (inl is) fits = fits_during old Advances settled (fits_running old (subst FitsHere is fits))
+  by_advance old (Err advance.Disk) new running settled (inl is) fits =
+      fits_during old Advances settled (fits_running old (subst FitsHere is fits))
   by_advance old (Err advance.Disk) new running settled (inr (mid, takes, is)) fits =
       by_taking old mid running takes (fits_running mid (subst FitsHere is fits))
   by_advance old (Err advance.Stopped) new running settled h fits = absurd h
   by_advance old result new running settled is fits = fits_during old Advances settled (subst FitsHere is fits)
 
-  pub during-command : (old : State) (c : Command) (reply : Reply) (new : State) → IsSettled old → Step old (Commands c) reply new → FitsHere new
+  pub during-command : (old : State) (c : Command) (reply : Reply) (new : State) → IsSettled old
+      → Step old (Commands c) reply new → FitsHere new
       → FitsHere (state_during old (Commands c))
-  during-command old c reply new settled (inl (stopped, answer, is)) fits = fits_during old (Commands c) settled (subst FitsHere is fits)
-  during-command old c (Ran result) new settled (inr (running, h)) fits = by_command old c result new running settled h fits
-  during-command old c RefusedLong new settled (inr (running, (none, why, is))) fits = fits_during old (Commands c) settled (subst FitsHere is fits)
+  during-command old c reply new settled (inl (stopped, answer, is)) fits =
+      fits_during old (Commands c) settled (subst FitsHere is fits)
+  during-command old c (Ran result) new settled (inr (running, h)) fits =
+      by_command old c result new running settled h fits
+  during-command old c RefusedLong new settled (inr (running, (none, why, is))) fits =
+      fits_during old (Commands c) settled (subst FitsHere is fits)
   during-command old c reply new settled (inr (running, h)) fits = absurd h
 
-  pub during-refill : (old : State) (reply : Reply) (new : State) → Step old Refills reply new → FitsHere new → FitsHere old
+  pub during-refill : (old : State) (reply : Reply) (new : State) → Step old Refills reply new → FitsHere new
+      → FitsHere old
   during-refill old reply new (inl (stopped, answer, is)) fits = subst FitsHere is fits
   during-refill old (Refilled result) new (inr (running, h)) fits = by_refill old result new h fits
   during-refill old reply new (inr (running, h)) fits = absurd h
 
-  pub during-step : (old : State) (reply : Reply) (new : State) → IsSettled old → Step old Advances reply new → FitsHere new → FitsHere (state_during old Advances)
-  during-step old reply new settled (inl (stopped, answer, is)) fits = fits_during old Advances settled (subst FitsHere is fits)
-  during-step old (Advanced result) new settled (inr (running, h)) fits = by_advance old result new running settled h fits
-  during-step old (AdvancedLong ticket) new settled (inr (running, (first, rest, waiting, is_ticket, (idle, why, is)))) fits =
+  pub during-step : (old : State) (reply : Reply) (new : State) → IsSettled old → Step old Advances reply new
+      → FitsHere new → FitsHere (state_during old Advances)
+  during-step old reply new settled (inl (stopped, answer, is)) fits =
+      fits_during old Advances settled (subst FitsHere is fits)
+  during-step old (Advanced result) new settled (inr (running, h)) fits =
+      by_advance old result new running settled h fits
+  during-step old (AdvancedLong ticket) new settled
+      (inr (running, (first, rest, waiting, is_ticket, (idle, why, is)))) fits =
       fits_during old Advances settled (fits_refused old rest (subst FitsHere is fits))
   during-step old reply new settled (inr (running, h)) fits = absurd h
 
@@ -307,57 +358,68 @@ still_left a b image same left =
     subst (λ (k : ℕ). IsImage (a.past k) image) at_now at_a.3
 
 submits_still : {D : Type 0} (old new : EndpointValue D) (logs later : Logs) (c : Command) (reply : Reply)
-    → Step (state_of old logs) (Submits c) reply (state_of new later) → IsStill old (Submits c) reply new → new.store ≡ old.store
+    → Step (state_of old logs) (Submits c) reply (state_of new later) → IsStill old (Submits c) reply new
+    → new.store ≡ old.store
 submits_still old new logs later c (Submitted result) step still = still
 submits_still old new logs later c reply (inl h) still = absurd h.1
 submits_still old new logs later c reply (inr h) still = absurd h.1
 
 protects_still : {D : Type 0} (old new : EndpointValue D) (logs later : Logs) (plain : List ℕ) (reply : Reply)
-    → Step (state_of old logs) (Protects plain) reply (state_of new later) → IsStill old (Protects plain) reply new → new.store ≡ old.store
+    → Step (state_of old logs) (Protects plain) reply (state_of new later) → IsStill old (Protects plain) reply new
+    → new.store ≡ old.store
 protects_still old new logs later plain (Protected result out) step still = still
 protects_still old new logs later plain reply (inl h) still = absurd h.1
 protects_still old new logs later plain reply (inr h) still = absurd h.1
 
 receives_still : {D : Type 0} (old new : EndpointValue D) (logs later : Logs) (frame : List ℕ) (reply : Reply)
-    → Step (state_of old logs) (Receives frame) reply (state_of new later) → IsStill old (Receives frame) reply new → new.store ≡ old.store
+    → Step (state_of old logs) (Receives frame) reply (state_of new later) → IsStill old (Receives frame) reply new
+    → new.store ≡ old.store
 receives_still old new logs later frame (Received result out) step still = still
 receives_still old new logs later frame reply (inl h) still = absurd h.1
 receives_still old new logs later frame reply (inr h) still = absurd h.1
 
-module _ {D : Type 0} (disk_of : D → Disk) (last after : EndpointValue D) (logs : Logs) (reply : Reply) (sound : IsSoundEndpoint last)
+module _ {D : Type 0} (disk_of : D → Disk) (last after : EndpointValue D) (logs : Logs) (reply : Reply)
+    (sound : IsSoundEndpoint last)
     (honest : IsHonest (disk_in disk_of last)) (backed : IsBacked disk_of last) where
   -- what a power loss at some moment of a call leaves
-  pub cut-call : (call : Call) → IsCall disk_of last call reply after → (image : Image) → LeftSince (disk_in disk_of after) (disk_in disk_of last).clock image
+  pub cut-call : (call : Call) → IsCall disk_of last call reply after → (image : Image)
+      → LeftSince (disk_in disk_of after) (disk_in disk_of last).clock image
       → Fits this_edition (disk_in disk_of last).sectors image (state_during (state_of last logs) call)
   cut-call (Commands c) is image left =
       let step = is.behaves.step logs in
       elim (((is.survives (is.device.works.honest ∙ honest) backed).any_moment logs step.0).each image left) [
         | inl before ↦ before
-        | inr later ↦ during-command this_edition (disk_in disk_of last).sectors image (state_of last logs) c reply (state_of after step.0)
+        | inr later ↦ during-command this_edition (disk_in disk_of last).sectors image (state_of last logs) c reply
+            (state_of after step.0)
             (by_work last logs sound.work) step.1 later
       ]
   cut-call Refills is image left =
       let step = is.behaves.step logs in
       elim (((is.survives (is.device.works.honest ∙ honest) backed).any_moment logs step.0).each image left) [
         | inl before ↦ before
-        | inr later ↦ during-refill this_edition (disk_in disk_of last).sectors image (state_of last logs) reply (state_of after step.0) step.1 later
+        | inr later ↦ during-refill this_edition (disk_in disk_of last).sectors image (state_of last logs) reply
+            (state_of after step.0) step.1 later
       ]
   cut-call (Submits c) is image left =
       let step = is.behaves.step logs in
       let same = submits_still last after logs step.0 c reply step.1 is.behaves.still in
-      backed.fits logs image (still_left (disk_in disk_of last) (disk_in disk_of after) image (ap (λ (s : store.StoreValue D). store.disk_in disk_of s) (sym same)) left)
+      backed.fits logs image (still_left (disk_in disk_of last) (disk_in disk_of after) image
+      (ap (λ (s : store.StoreValue D). store.disk_in disk_of s) (sym same)) left)
   cut-call Advances is image left =
       let step = is.behaves.step logs in
       elim (((is.survives (is.device.works.honest ∙ honest) backed).any_moment logs step.0).each image left) [
         | inl before ↦ before
         | inr later ↦
-            during-step this_edition (disk_in disk_of last).sectors image (state_of last logs) reply (state_of after step.0) (by_work last logs sound.work) step.1 later
+            during-step this_edition (disk_in disk_of last).sectors image (state_of last logs) reply
+            (state_of after step.0) (by_work last logs sound.work) step.1 later
       ]
   cut-call (Protects plain) is image left =
       let step = is.behaves.step logs in
       let same = protects_still last after logs step.0 plain reply step.1 is.behaves.still in
-      backed.fits logs image (still_left (disk_in disk_of last) (disk_in disk_of after) image (ap (λ (s : store.StoreValue D). store.disk_in disk_of s) (sym same)) left)
+      backed.fits logs image (still_left (disk_in disk_of last) (disk_in disk_of after) image
+      (ap (λ (s : store.StoreValue D). store.disk_in disk_of s) (sym same)) left)
   cut-call (Receives frame) is image left =
       let step = is.behaves.step logs in
       let same = receives_still last after logs step.0 frame reply step.1 is.behaves.still in
-      backed.fits logs image (still_left (disk_in disk_of last) (disk_in disk_of after) image (ap (λ (s : store.StoreValue D). store.disk_in disk_of s) (sym same)) left)
+      backed.fits logs image (still_left (disk_in disk_of last) (disk_in disk_of after) image
+      (ap (λ (s : store.StoreValue D). store.disk_in disk_of s) (sym same)) left)

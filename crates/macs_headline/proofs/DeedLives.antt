@@ -1,12 +1,14 @@
 -- Which lives the deeds of a chain make, deed by deed.
-use Rattle.std.proofs.Common.{◌≡◌, ◌⊎◌, inl, inr, List, [], ◌∷◌, map, Contains, Result, Ok, Err, refl, sym, ap, is_ok, false, true}
+use Rattle.std.proofs.Common.{◌≡◌, ◌⊎◌, inl, inr, List, [], ◌∷◌, map, Contains, Result, Ok, Err, refl, sym, ap, is_ok}
+use Rattle.std.proofs.Common.{false, true}
 use Rattle.macs_config.specs.Config.{this_edition}
 use Rattle.macs_config.specs.Identity.{Identity}
 use Rattle.macs_disk.specs.Disk.{Disk}
 use Rattle.macs_disk.specs.States.{Image}
 use Rattle.macs_endpoint.specs.Lives.{exchange_of}
 use Rattle.macs_headline.specs.Binding.{IsLifeOf, IsTold}
-use Rattle.macs_headline.specs.Deeds.{Deed, Formatting, FormattingCut, Living, OpeningCut, PassingOn, Refusing, lives_of_deed}
+use Rattle.macs_headline.specs.Deeds.{Deed, Formatting, FormattingCut, Living, OpeningCut, PassingOn, Refusing}
+use Rattle.macs_headline.specs.Deeds.{lives_of_deed}
 use Rattle.macs_headline.specs.DeedLives.{DeedsMakeLives}
 use Rattle.macs_headline.specs.History.{Formats, Life, Refuses, Serves}
 
@@ -26,12 +28,16 @@ module _ {D : Type 0} where
 
   -- and that it is reported
   abbrev IsMade : List Life → Deed D → Type 0
-  IsMade lives deed = ((seen : Image) → lives_of_deed seen deed ≡ []) ⊎ ((seen : Image) × (life : Life) × (lives_of_deed seen deed ≡ life ∷ []) × Contains lives life)
+  IsMade lives deed = ((seen : Image) → lives_of_deed seen deed ≡ [])
+      ⊎ ((seen : Image) × (life : Life) × (lives_of_deed seen deed ≡ life ∷ []) × Contains lives life)
 
   told : (lives : List Life) (deed : Deed D) → IsTold lives deed → IsMade lives deed
-  told lives (Formatting identity (Ok done)) is = inr (no_octets, Formats this_edition identity true, refl, is.formatted identity refl)
-  told lives (Formatting identity (Err fault)) is = inr (no_octets, Formats this_edition identity false, refl, is.not_formatted identity fault refl)
-  told lives (FormattingCut identity) is = inr (no_octets, Formats this_edition identity false, refl, is.format_cut identity refl)
+  told lives (Formatting identity (Ok done)) is =
+      inr (no_octets, Formats this_edition identity true, refl, is.formatted identity refl)
+  told lives (Formatting identity (Err fault)) is =
+      inr (no_octets, Formats this_edition identity false, refl, is.not_formatted identity fault refl)
+  told lives (FormattingCut identity) is =
+      inr (no_octets, Formats this_edition identity false, refl, is.format_cut identity refl)
   told lives (Refusing fault) is =
       let there = is.refused fault refl in
       inr (there.0, Refuses this_edition there.0 fault, refl, there.1)

@@ -1,10 +1,13 @@
 -- Disks in files, as histories have them.
-use Rattle.std.proofs.Common.{◌≡◌, ◌<◌, ◌+◌, ◌*◌, ◌-◌, ◌⊎◌, inl, inr, ℕ, true, get_or, replicate, refl, ap, ◌∙◌, arith, le_refl, subst, sym}
+use Rattle.std.proofs.Common.{◌≡◌, ◌<◌, ◌+◌, ◌*◌, ◌-◌, ◌⊎◌, inl, inr, ℕ, true, get_or, replicate, refl, ap, ◌∙◌, arith}
+use Rattle.std.proofs.Common.{le_refl, subst, sym}
 use Rattle.std.proofs.lemmas.Bool.{and_parts}
 use Rattle.macs_disk.specs.Disk.{Disk, IsHonest, MayLeave}
-use Rattle.macs_disk.specs.FileDisks.{IsBlank, IsFoundAs, IsLeftAsShown, IsOpened, disk_in_file, file_lengthened, image_in_file, is_ready, keeps_disk, state_in_file}
+use Rattle.macs_disk.specs.FileDisks.{IsBlank, IsFoundAs, IsLeftAsShown, IsOpened, disk_in_file, file_lengthened}
+use Rattle.macs_disk.specs.FileDisks.{image_in_file, is_ready, keeps_disk, state_in_file}
 use Rattle.macs_disk.specs.FileEvidence.{keeps}
-use Rattle.macs_disk.specs.Files.{Behaves, FileState, HasNothingNew, IsFileImage, file_after_sync, file_after_write, file_claimed, file_in_doubt, file_settled}
+use Rattle.macs_disk.specs.Files.{Behaves, FileState, HasNothingNew, IsFileImage, file_after_sync, file_after_write}
+use Rattle.macs_disk.specs.Files.{file_claimed, file_in_doubt, file_settled}
 use Rattle.macs_disk.specs.Layouts.{place, suits}
 use Rattle.macs_disk.specs.States.{Image, IsImage, settled_state, zero_sector}
 use Rattle.macs_disk.specs.declared.layout.Layout.{Layout}
@@ -16,11 +19,15 @@ use Rattle.macs_headline.specs.Binding.{IsNewDisk}
 use Rattle.macs_headline.specs.Endings.{LosesPower}
 use Rattle.macs_headline.proofs.Built.{closed-gate}
 
-pub blank-file-is-new : (old new : FileState) (layout : Layout) (disk : Disk) → IsBlank old new layout disk → suits layout old.block ≡ true → IsNewDisk disk
+pub blank-file-is-new : (old new : FileState) (layout : Layout) (disk : Disk) → IsBlank old new layout disk
+    → suits layout old.block ≡ true → IsNewDisk disk
 blank-file-is-new old new layout disk blank suited = record {
   honest = blank.honest suited;
   large = let all = blank.sectors in omega (arith, all);
-  closed = λ image left. (closed-gate image 0 0 (zero image left 1 (omega arith)), closed-gate image 1 0 (zero image left 515 (omega arith)));
+  closed = λ image left. (
+    closed-gate image 0 0 (zero image left 1 (omega arith)),
+    closed-gate image 1 0 (zero image left 515 (omega arith)),
+  );
 } where
   zero : (image : Image) → MayLeave disk image → (i : ℕ) → i < 1028 → image i ≡ zero_sector
   zero image left i within = left.kept i (blank.clean i) ∙ blank.durable i ∙ blank.zeros i within
@@ -31,7 +38,8 @@ no-place Packed = refl
 no-place Spaced = refl
 
 -- a settled file that is made no longer
-as-settled : (layout : Layout) (file settled : FileState) (octets : ℕ → ℕ) → settled ≡ file_claimed (file_settled file octets)
+as-settled : (layout : Layout) (file settled : FileState) (octets : ℕ → ℕ)
+    → settled ≡ file_claimed (file_settled file octets)
     → state_in_file layout (file_lengthened settled (place layout 0)) ≡ settled_state (image_in_file layout octets)
 unfolding state_in_file
 as-settled layout file settled octets is =
@@ -40,14 +48,17 @@ as-settled layout file settled octets is =
     ∙ ap (λ (f : FileState). state_in_file layout (file_after_sync f)) is
 
 -- the file of an honest disk is on a device whose blocks suit its layout
-pub left-suited : {F : Type 0} (file : F → FileState) (it : FileDisk F) → IsLeftAsShown file it → Behaves (file it.file) → IsHonest (disk_in_file file it)
+pub left-suited : {F : Type 0} (file : F → FileState) (it : FileDisk F) → IsLeftAsShown file it → Behaves (file it.file)
+    → IsHonest (disk_in_file file it)
     → suits it.layout (file it.file).block ≡ true
 left-suited file it left behaves honest = same (left behaves) where
   suited : suits it.layout (file it.shown.value).block ≡ true
   suited = (keeps it.layout (file it.shown.value)
-      (and_parts (keeps_disk it.layout (file it.shown.value)) (is_ready it.layout it.sectors (file (get_or it.past.items 0 it.shown).value)) honest).0).suited
+      (and_parts (keeps_disk it.layout (file it.shown.value))
+      (is_ready it.layout it.sectors (file (get_or it.past.items 0 it.shown).value)) honest).0).suited
 
-  same : (file it.file ≡ file it.shown.value) ⊎ (file it.file ≡ file_in_doubt (file it.shown.value)) → suits it.layout (file it.file).block ≡ true
+  same : (file it.file ≡ file it.shown.value) ⊎ (file it.file ≡ file_in_doubt (file it.shown.value))
+      → suits it.layout (file it.file).block ≡ true
   same (inl is) = ap (λ (f : FileState). suits it.layout f.block) is ∙ suited
   same (inr is) = ap (λ (f : FileState). suits it.layout f.block) is ∙ suited
 
@@ -62,22 +73,30 @@ opened-as left file layout old new suited honest may nothing sectors opened =
         old.clock,
         le_refl old.clock,
         le_refl old.clock,
-        may (image_in_file layout octets) (file-image layout left octets suited (nothing.images octets opened.settles.1)),
+        may (image_in_file layout octets)
+            (file-image layout left octets suited (nothing.images octets opened.settles.1)),
       );
-      alike = record { sectors = sectors; honest = opened.honest (ap (suits layout) nothing.block ∙ suited) ∙ sym honest };
+      alike =
+          record { sectors = sectors; honest = opened.honest (ap (suits layout) nothing.block ∙ suited) ∙ sym honest };
       settled = opened.state ∙ as-settled layout file opened.settled octets opened.settles.3;
     }
 
-pub opened-again : (left file : FileState) (layout again : Layout) (old new : Disk) → IsFoundAs layout old.sectors left → suits layout left.block ≡ true → IsHonest old
+pub opened-again : (left file : FileState) (layout again : Layout) (old new : Disk) → IsFoundAs layout old.sectors left
+    → suits layout left.block ≡ true → IsHonest old
     → ((image : Image) → IsImage (state_in_file layout left) image → MayLeave old image)
     → HasNothingNew left file → IsOpened file 0 again new → (again ≡ layout) × LosesPower old old.clock new
 opened-again left file layout again old new found suited honest may nothing opened =
-    let is = found-opened layout again old.sectors left file new found suited nothing opened in
-    (is.0, opened-as left file layout old new suited honest may nothing is.1 (subst (λ (l : Layout). IsOpened file 0 l new) is.0 opened))
+    let is = found-opened layout again old.sectors left file new found suited nothing opened in (
+      is.0,
+      opened-as left file layout old new suited honest may nothing is.1
+          (subst (λ (l : Layout). IsOpened file 0 l new) is.0 opened),
+    )
 
 -- a file that was let go of
-pub let-go : (left file : FileState) → file.block ≡ left.block → file.size ≡ left.size → file.is_size_durable ≡ left.is_size_durable
-    → ((p : ℕ) → file.durable p ≡ left.durable p) → ((n : ℕ) → file.pending n ≡ left.pending n) → HasNothingNew left file
+pub let-go : (left file : FileState) → file.block ≡ left.block → file.size ≡ left.size
+    → file.is_size_durable ≡ left.is_size_durable
+    → ((p : ℕ) → file.durable p ≡ left.durable p) → ((n : ℕ) → file.pending n ≡ left.pending n)
+    → HasNothingNew left file
 let-go left file block size durable_size durable pending =
     record { block = block; size = λ was. (size, durable_size ∙ was); images = each } where
       each : (octets : ℕ → ℕ) → IsFileImage file octets → IsFileImage left octets

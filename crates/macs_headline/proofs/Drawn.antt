@@ -1,5 +1,6 @@
 -- What is to be drawn from words in conclusions.
-use Rattle.std.proofs.Common.{◌≡◌, ◌≢◌, ◌⊎◌, ◌+◌, ◌-◌, ◌++◌, inl, inr, ℕ, suc, ◌==◌, Bool, true, false, cond, List, [], ◌∷◌, length, Ok, refl, sym, ◌∙◌, ap, subst, arith}
+use Rattle.std.proofs.Common.{◌≡◌, ◌≢◌, ◌⊎◌, ◌+◌, ◌-◌, ◌++◌, inl, inr, ℕ, suc, ◌==◌, Bool, true, false, cond, List, []}
+use Rattle.std.proofs.Common.{◌∷◌, length, Ok, refl, sym, ◌∙◌, ap, subst, arith}
 use Rattle.std.specs.Prelude.{AllPairs, max, Contains, Option, Some, None}
 use Rattle.std.specs.List.{range_with_len}
 use Rattle.std.specs.Option.{option_and_then, option_map}
@@ -14,12 +15,14 @@ use Rattle.macs_rxsc.specs.Receive.{NotVerified, Numbers, RxStepHolds, channel_o
 use Rattle.macs_rxsc.specs.declared.verdict.Kind.{Kind}
 use Rattle.macs_endpoint.specs.Queue.{first_command}
 use Rattle.macs_endpoint.specs.Restart.{Restart, Resumes}
-use Rattle.macs_endpoint.specs.State.{Advanced, AdvancedLong, Advances, Call, Commands, Delivery, Logs, Receives, Reply, State, Submits, Submitted, Use, rx_side}
+use Rattle.macs_endpoint.specs.State.{Advanced, AdvancedLong, Advances, Call, Commands, Delivery, Logs, Receives, Reply}
+use Rattle.macs_endpoint.specs.State.{State, Submits, Submitted, Use, rx_side}
 use Rattle.macs_endpoint.specs.Step.{Exchange}
 use Rattle.macs_endpoint.specs.declared.progress.Step.TheVariants.{Done}
 use Rattle.macs_endpoint.specs.declared.queue.Waiting.{Waiting}
 use Rattle.macs_headline.specs.CommandInHand.{MayBegin, WasBegun}
-use Rattle.macs_headline.specs.Commands.{IsPrefix, WasHandedIn, accepted_commands, failing, waiting_after, waiting_at_end, waiting_from, without_first}
+use Rattle.macs_headline.specs.Commands.{IsPrefix, WasHandedIn, accepted_commands, failing, waiting_after}
+use Rattle.macs_headline.specs.Commands.{waiting_at_end, waiting_from, without_first}
 use Rattle.macs_headline.specs.Configurations.{LivesMake}
 use Rattle.macs_headline.specs.Deliveries.{IsOtherDelivery}
 use Rattle.macs_headline.specs.Drawn.{LifeWords, LogWords, MomentsAreExact, NumberWords}
@@ -32,7 +35,8 @@ use Rattle.macs_headline.specs.Received.{IsSeenBy}
 use Rattle.macs_headline.specs.Refused.{refusal_at}
 use Rattle.macs_headline.specs.Tickets.{AreInOrder}
 use Rattle.macs_headline.proofs.Ledger.{some_one}
-use Rattle.macs_headline.proofs.Lists.{contains-cases, contains-either, contains-first, contains-later, contains-none, contains-rear, not-twice}
+use Rattle.macs_headline.proofs.Lists.{contains-cases, contains-either, contains-first, contains-later, contains-none}
+use Rattle.macs_headline.proofs.Lists.{contains-rear, not-twice}
 use Rattle.macs_headline.proofs.LookUps.{none-some}
 
 -- ---- logs
@@ -41,19 +45,23 @@ used_in : (old new : Logs) → AreHeldIn old new → (u : Use) → Contains old.
 used_in old new is u has = subst (λ (l : List Use). Contains l u) is.used (contains-rear is.used_since old.used u has)
 
 given_in : (old new : Logs) → AreHeldIn old new → (d : Delivery) → Contains old.given d → Contains new.given d
-given_in old new is d has = subst (λ (l : List Delivery). Contains l d) is.given (contains-rear is.given_since old.given d has)
+given_in old new is d has =
+    subst (λ (l : List Delivery). Contains l d) is.given (contains-rear is.given_since old.given d has)
 
 -- those without the first
-pairs_later : (u : Use) (us : List Use) → AllPairs {X = Use} (λ a b. a ≢ b) (u ∷ us) → AllPairs {X = Use} (λ a b. a ≢ b) us
+pairs_later : (u : Use) (us : List Use) → AllPairs {X = Use} (λ a b. a ≢ b) (u ∷ us)
+    → AllPairs {X = Use} (λ a b. a ≢ b) us
 pairs_later u us pairs i j d before within = pairs (suc i) (suc j) d (omega (arith, before)) (omega (arith, within))
 
 twice : (front between behind : List Use) (u : Use) → ¬ HasNoneTwice (front ++ u ∷ (between ++ u ∷ behind))
 twice [] between behind u pairs =
     not-twice u (between ++ u ∷ behind) pairs (contains-rear between (u ∷ behind) u (contains-first u behind))
-twice (first ∷ front) between behind u pairs = twice front between behind u (pairs_later first (front ++ u ∷ (between ++ u ∷ behind)) pairs)
+twice (first ∷ front) between behind u pairs =
+    twice front between behind u (pairs_later first (front ++ u ∷ (between ++ u ∷ behind)) pairs)
 
 module _ (sectors : ℕ) where
-  frame_logged : (lives : List Life) (logs : Logs) (plain out key : List ℕ) (pn number : ℕ) (o : IsOtherFrame sectors lives logs plain pn out key number)
+  frame_logged : (lives : List Life) (logs : Logs) (plain out key : List ℕ) (pn number : ℕ)
+      (o : IsOtherFrame sectors lives logs plain pn out key number)
       → Contains logs.used (record { key = o.frame.sa.key; pn = pn })
   frame_logged lives logs plain out key pn number o =
       let u : Use = record { key = o.frame.sa.key; pn = pn } in
@@ -62,9 +70,11 @@ module _ (sectors : ℕ) where
 
   delivery_logged : (lives : List Life) (logs : Logs) (frame out sci key : List ℕ) (kind : Kind) (pn : ℕ)
       (o : IsOtherDelivery sectors lives logs frame kind out sci key pn)
-      → Contains logs.given (record { sci = o.delivery.sci; key = o.delivery.sa.key; pn = (tag_of frame).pn; kind = kind })
+      → Contains logs.given
+      (record { sci = o.delivery.sci; key = o.delivery.sa.key; pn = (tag_of frame).pn; kind = kind })
   delivery_logged lives logs frame out sci key kind pn o =
-      let d : Delivery = record { sci = o.delivery.sci; key = o.delivery.sa.key; pn = (tag_of frame).pn; kind = kind } in
+      let d : Delivery =
+      record { sci = o.delivery.sci; key = o.delivery.sa.key; pn = (tag_of frame).pn; kind = kind } in
       given_in o.answered.after.logs logs o.answered.held d
       (subst (λ (l : List Delivery). Contains l d) (sym o.delivery.logged) (contains-first d o.answered.at.logs.given))
 
@@ -76,9 +86,11 @@ module _ (sectors : ℕ) where
       (subst (Contains w.answered.after.logs.used) same
       (subst (λ (l : List Use). Contains l v) (sym w.frame.logged) (contains-first v w.answered.at.logs.used)))
 
-  delivered_logged : (lives : List Life) (logs : Logs) (d : Delivery) → WasDelivered sectors lives logs d → Contains logs.given d
+  delivered_logged : (lives : List Life) (logs : Logs) (d : Delivery) → WasDelivered sectors lives logs d
+      → Contains logs.given d
   delivered_logged lives logs d w =
-      let e : Delivery = record { sci = w.delivery.sci; key = w.delivery.sa.key; pn = (tag_of w.frame).pn; kind = d.kind } in
+      let e : Delivery =
+      record { sci = w.delivery.sci; key = w.delivery.sa.key; pn = (tag_of w.frame).pn; kind = d.kind } in
       let same : e ≡ d = (λ i. record { sci = w.sci i; key = w.key i; pn = w.number i; kind = d.kind }) in
       given_in w.answered.after.logs logs w.answered.held d
       (subst (Contains w.answered.after.logs.given) same
@@ -86,31 +98,47 @@ module _ (sectors : ℕ) where
 
   pub log-words : LogWords sectors
   log-words = record {
-    held = λ old new is. (used_in old new is, given_in old new is, (is.used_since, is.used), (is.given_since, is.given));
+    held =
+        λ old new is. (used_in old new is, given_in old new is, (is.used_since, is.used), (is.given_since, is.given));
     twice = twice;
     frame = frame_logged;
     delivery = delivery_logged;
     written = λ lives logs u w. (written_logged lives logs u w, w.plain, w.out, w.answered, w.frame, w.key);
-    delivered = λ lives logs d w.
-        (delivered_logged lives logs d w, w.is_verified, w.frame, w.out, w.answered, w.delivery, w.sci, w.key, w.number);
-    each_written = λ lives logs u are among. let w = are.written u among in (w.plain, w.out, w.answered, w.frame, w.key);
+    delivered = λ lives logs d w. (
+      delivered_logged lives logs d w,
+      w.is_verified,
+      w.frame,
+      w.out,
+      w.answered,
+      w.delivery,
+      w.sci,
+      w.key,
+      w.number,
+    );
+    each_written = λ lives logs u are among. let w = are.written u among in
+        (w.plain, w.out, w.answered, w.frame, w.key);
     each_delivered = λ lives logs d are among.
-        let w = are.delivered d among in (w.is_verified, w.frame, w.out, w.answered, w.delivery, w.sci, w.key, w.number);
+        let w = are.delivered d among in
+        (w.is_verified, w.frame, w.out, w.answered, w.delivery, w.sci, w.key, w.number);
     answered = λ lives e logs was. (was.there, was.step, was.held, was.among);
   }
 
 -- ---- numbers
 
-in_order : (last : ℕ) (tickets : List ℕ) → AreInOrder last tickets → tickets ≡ range_with_len (last + 1) (length tickets)
+in_order : (last : ℕ) (tickets : List ℕ) → AreInOrder last tickets
+    → tickets ≡ range_with_len (last + 1) (length tickets)
 in_order last [] is = refl
 in_order last (ticket ∷ tickets) (is, later) =
-    (λ i. is i ∷ in_order ticket tickets later i) ∙ ap (λ (n : ℕ). (last + 1) ∷ range_with_len (n + 1) (length tickets)) is
+    (λ i. is i ∷ in_order ticket tickets later i)
+    ∙ ap (λ (n : ℕ). (last + 1) ∷ range_with_len (n + 1) (length tickets)) is
 
-moved_to : (block : ℕ) (old new : Numbers) → IsMoved block old new → new ≡ record { next = new.next; lowest = new.next; seen = None }
+moved_to : (block : ℕ) (old new : Numbers) → IsMoved block old new
+    → new ≡ record { next = new.next; lowest = new.next; seen = None }
 moved_to block old new is = λ i. record { next = new.next; lowest = is.level i; seen = is.fresh i }
 
 seen_by : (s : State) (call : Call) (sci : List ℕ) (an pn : ℕ) → IsSeenBy s call sci an pn
-    → (frame : List ℕ) × (call ≡ Receives frame) × (channel_of (rx_side s) frame ≡ Some sci) × ((tag_of frame).an ≡ an) × ((tag_of frame).pn ≡ pn)
+    → (frame : List ℕ) × (call ≡ Receives frame) × (channel_of (rx_side s) frame ≡ Some sci)
+    × ((tag_of frame).an ≡ an) × ((tag_of frame).pn ≡ pn)
     × (¬ RxStepHolds (rx_side s) frame NotVerified)
 seen_by s call sci an pn is = (
   is.frame,
@@ -136,17 +164,20 @@ number-words = record {
   windows = λ window n is. is;
   widened = λ window n. refl;
   replayed = λ old new on window sci an n set is.
-      set sci an ∙ ap (λ (o : Option Numbers). option_map (λ (m : Numbers). record m { lowest = max m.lowest (m.next - window) }) o) is;
+      set sci an ∙ ap (λ (o : Option Numbers).
+      option_map (λ (m : Numbers). record m { lowest = max m.lowest (m.next - window) }) o) is;
   seen = seen_by;
 }
 
 -- ---- lives
 
-resumed : (old new : State) → Resumes old new → (new.logs ≡ old.logs) × (new.stopped ≡ false) × (new.in_hand ≡ None) × (new.waiting ≡ [])
+resumed : (old new : State) → Resumes old new
+    → (new.logs ≡ old.logs) × (new.stopped ≡ false) × (new.in_hand ≡ None) × (new.waiting ≡ [])
     × (new.tickets ≡ 0)
 resumed old new is = (is.logs, is.running, is.idle, is.waiting, is.tickets)
 
-restarted : (old new : State) → Restart old new → (new.logs ≡ old.logs) × (new.stopped ≡ false) × (new.in_hand ≡ None) × (new.waiting ≡ [])
+restarted : (old new : State) → Restart old new
+    → (new.logs ≡ old.logs) × (new.stopped ≡ false) × (new.in_hand ≡ None) × (new.waiting ≡ [])
     × (new.tickets ≡ 0)
 restarted old new (inl up) = resumed old new up
 restarted old new (inr (c, mid, hand, makes, up)) =
@@ -156,15 +187,18 @@ restarted old new (inr (c, mid, hand, makes, up)) =
 abbrev submitting : Command → ℕ → Exchange
 submitting c ticket = record { call = Submits c; reply = Submitted (Ok ticket) }
 
-left_by : (b : Bool) (first : Waiting) (rest : List Waiting) (w : Waiting) → Contains (cond b rest (first ∷ rest)) w → Contains (first ∷ rest) w
+left_by : (b : Bool) (first : Waiting) (rest : List Waiting) (w : Waiting) → Contains (cond b rest (first ∷ rest)) w
+    → Contains (first ∷ rest) w
 left_by true first rest w has = contains-later first rest w has
 left_by false first rest w has = has
 
-left_waits : (ticket : ℕ) (waiting : List Waiting) (w : Waiting) → Contains (without_first ticket waiting) w → Contains waiting w
+left_waits : (ticket : ℕ) (waiting : List Waiting) (w : Waiting) → Contains (without_first ticket waiting) w
+    → Contains waiting w
 left_waits ticket [] w has = has
 left_waits ticket (first ∷ rest) w has = left_by (first.ticket == ticket) first rest w has
 
-waits_by : (waiting : List Waiting) (call : Call) (reply : Reply) (w : Waiting) → Contains (waiting_after waiting call reply) w
+waits_by : (waiting : List Waiting) (call : Call) (reply : Reply) (w : Waiting)
+    → Contains (waiting_after waiting call reply) w
     → Contains waiting w ⊎ ((ticket : ℕ) × (call ≡ Submits w.command) × (reply ≡ Submitted (Ok ticket)))
 waits_by waiting (Submits c) (Submitted (Ok ticket)) w has =
     let last : Waiting = record { ticket = ticket; command = c } in
@@ -180,7 +214,8 @@ waits_by waiting Advances (AdvancedLong ticket) w has = inl (left_waits ticket w
 waits_by waiting call reply w has = inl has
 
 -- each that waits after these calls waited at first, or was given its ticket by one of them
-waits_from : (waiting : List Waiting) (exchanges : List Exchange) (w : Waiting) → Contains (waiting_from waiting exchanges) w
+waits_from : (waiting : List Waiting) (exchanges : List Exchange) (w : Waiting)
+    → Contains (waiting_from waiting exchanges) w
     → Contains waiting w ⊎ ((ticket : ℕ) × Contains exchanges (submitting w.command ticket))
 waits_from waiting [] w has = inl has
 waits_from waiting (e ∷ exchanges) w has = elim (waits_from (waiting_after waiting e.call e.reply) exchanges w has) [
@@ -193,12 +228,14 @@ waits_from waiting (e ∷ exchanges) w has = elim (waits_from (waiting_after wai
   | inr later ↦ inr (later.0, contains-later e exchanges (submitting w.command later.0) later.1)
 ]
 
-first_waits : (waiting : List Waiting) (c : Command) → first_command waiting ≡ Some c → (w : Waiting) × Contains waiting w × (w.command ≡ c)
+first_waits : (waiting : List Waiting) (c : Command) → first_command waiting ≡ Some c
+    → (w : Waiting) × Contains waiting w × (w.command ≡ c)
 first_waits [] c is = absurd (none-some c is)
 first_waits (w ∷ waiting) c is = (w, contains-first w waiting, some_one (Some w.command) w.command c refl is)
 
 handed_in : (exchanges : List Exchange) (cut : Option Call) (command : Command) → WasHandedIn exchanges cut command
-    → ((ticket : ℕ) × Contains exchanges (submitting command ticket)) ⊎ (Contains exchanges (failing command) ⊎ (cut ≡ Some (Commands command)))
+    → ((ticket : ℕ) × Contains exchanges (submitting command ticket))
+    ⊎ (Contains exchanges (failing command) ⊎ (cut ≡ Some (Commands command)))
 handed_in exchanges cut command (inl first) =
     let w = first_waits (waiting_at_end exchanges) command first in
     elim (waits_from [] exchanges w.0 w.1) [
@@ -207,8 +244,10 @@ handed_in exchanges cut command (inl first) =
     ]
 handed_in exchanges cut command (inr (none, why)) = inr why
 
-begun : (exchanges : List Exchange) (last : State) (cut : Option Call) (command : Command) → WasBegun exchanges last cut command
-    → (refusal_at last command ≡ None) × (last.in_hand ≢ Some command → (last.stopped ≡ false) × MayBegin cut (waiting_at_end exchanges) command)
+begun : (exchanges : List Exchange) (last : State) (cut : Option Call) (command : Command)
+    → WasBegun exchanges last cut command
+    → (refusal_at last command ≡ None)
+    × (last.in_hand ≢ Some command → (last.stopped ≡ false) × MayBegin cut (waiting_at_end exchanges) command)
 begun exchanges last cut command is = (
   is.accepted,
   λ other. elim is.begun [
@@ -218,11 +257,13 @@ begun exchanges last cut command is = (
 )
 
 others : (sectors : ℕ) (identity : Identity) (old new : Config) (life : Life) (rest : List Life)
-    → ((edition : Edition) (image : Image) (exchanges : List Exchange) (cut : Option Call) → life ≢ Serves edition image exchanges cut)
+    → ((edition : Edition) (image : Image) (exchanges : List Exchange) (cut : Option Call)
+    → life ≢ Serves edition image exchanges cut)
     → LivesMake sectors identity old (life ∷ rest) new → LivesMake sectors identity old rest new
 others sectors identity old new (Formats edition given is_ok) rest none makes = makes
 others sectors identity old new (Refuses edition image fault) rest none makes = makes
-others sectors identity old new (Serves edition image exchanges cut) rest none makes = absurd (none edition image exchanges cut refl)
+others sectors identity old new (Serves edition image exchanges cut) rest none makes =
+    absurd (none edition image exchanges cut refl)
 
 unformatted : (lives : List Life) → AreUnformatted lives → (life : Life) → Contains lives life
     → ((edition : Edition) × (identity : Identity) × (life ≡ Formats edition identity false))
@@ -230,7 +271,8 @@ unformatted : (lives : List Life) → AreUnformatted lives → (life : Life) →
 unformatted lives are (Formats edition identity true) among = absurd (are.no_format edition identity among)
 unformatted lives are (Formats edition identity false) among = inl (edition, identity, refl)
 unformatted lives are (Refuses edition image fault) among = inr (edition, image, fault, refl)
-unformatted lives are (Serves edition image exchanges cut) among = absurd (are.no_opening edition image exchanges cut among)
+unformatted lives are (Serves edition image exchanges cut) among =
+    absurd (are.no_opening edition image exchanges cut among)
 
 pub life-words : (sectors : ℕ) → LifeWords sectors
 life-words sectors = record {

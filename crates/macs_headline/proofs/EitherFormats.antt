@@ -1,5 +1,7 @@
--- A content is found in either format, where the head says so; and a journal of format one that starts over means what it meant.
-use Rattle.std.proofs.Common.{◌≡◌, ◌≢◌, ◌+◌, ℕ, List, [], length, take, drop, Option, Some, refl, sym, ◌∙◌, ap, subst, arith}
+-- A content is found in either format, where the head says so; and a journal of format one that starts over means what
+-- it meant.
+use Rattle.std.proofs.Common.{◌≡◌, ◌≢◌, ◌+◌, ℕ, List, [], length, take, drop, Option, Some, refl, sym, ◌∙◌, ap, subst}
+use Rattle.std.proofs.Common.{arith}
 use Rattle.std.specs.Prelude.{Contains}
 use Rattle.std.specs.Option.{option_and_then}
 use Rattle.std.proofs.lemmas.List.{drop_all, take_all}
@@ -36,7 +38,8 @@ ranged head format is = record {
 }
 
 -- the format does not say which other areas are past
-past_too : (image : Image) (area : ℕ) (head : Head) (format : Format) → IsPast image area head → IsPast image area (record head { format = format })
+past_too : (image : Image) (area : ℕ) (head : Head) (format : Format) → IsPast image area head
+    → IsPast image area (record head { format = format })
 past_too image area head format past opens =
     let e : HasEarlier image area head = past opens in
     record { past = e.past; is = e.is; earlier = e.earlier; same = e.same }
@@ -56,12 +59,17 @@ either-format image c format finds =
         area = stands.area;
         head = record {
           open_gate = gate-but image now at same c.area 0 (gates 0) stands.head.open_gate;
-          is = record { range = ranged c.head format stands.head.is.range; octets = sym (put-same image at at octets refl) };
+          is = record {
+            range = ranged c.head format stands.head.is.range;
+            octets =
+                sym (put-same image at at octets refl);
+          };
         };
         snapshot = stands.snapshot;
         few = stands.few;
         opened = λ j from lt. gate-but image now at same c.area (j + 1) (gates (j + 1)) (stands.opened j from lt);
-        closed = λ j from lt opens. stands.closed j from lt (gate-but-back image now at same c.area (j + 1) (gates (j + 1)) opens);
+        closed = λ j from lt opens.
+            stands.closed j from lt (gate-but-back image now at same c.area (j + 1) (gates (j + 1)) opens);
         bodies = λ j r is. body-but image now at same c.area j r (bodies j) (stands.bodies j r is);
       };
       past = past_too now (other_area c.area) c.head format
@@ -70,8 +78,10 @@ either-format image c format finds =
 
 -- ---- a journal of format one that starts over
 
-pub anew-one : (edition : Edition) (c : Content) (s : Standing) (records : List Record) → ((r : Record) → Contains records r → ¬ HasLongKey r)
-    → meaning_of edition c ≡ Some s → snapshot_of edition s.identity records ≡ Some s → meaning_of edition (content_in One (compacted c records)) ≡ Some s
+pub anew-one : (edition : Edition) (c : Content) (s : Standing) (records : List Record)
+    → ((r : Record) → Contains records r → ¬ HasLongKey r)
+    → meaning_of edition c ≡ Some s → snapshot_of edition s.identity records ≡ Some s
+    → meaning_of edition (content_in One (compacted c records)) ≡ Some s
 anew-one edition c s records short is stands =
     let whole : take (length records) records ≡ records = take_all (length records) records (omega arith) in
     let none : drop (length records) records ≡ [] = drop_all (length records) records (omega arith) in

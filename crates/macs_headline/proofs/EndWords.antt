@@ -17,22 +17,28 @@ begins_in_none e (Some Advances) c no_step no_command may = no_step refl
 begins_in_none e cut c no_step no_command may = absurd may
 
 -- nor where a ceiling is being raised, or is to be
-none_raised : {D : Type 0} (e : EndpointValue D) (raise : Raise) (c : Command) → (e.reserving ≡ Some raise) ⊎ (next_piece e ≡ Some (ToRaise raise))
+none_raised : {D : Type 0} (e : EndpointValue D) (raise : Raise) (c : Command)
+    → (e.reserving ≡ Some raise) ⊎ (next_piece e ≡ Some (ToRaise raise))
     → ¬ MayHaveBegun e (Some Advances) c
 none_raised e raise c (inl is) may = let one : None ≡ Some raise = sym may.begun.1 ∙ is in absurd (cc)
-none_raised e raise c (inr is) may = let one : Some (ToKeep may.begun.2) ≡ Some (ToRaise raise) = sym may.begun.3 ∙ is in absurd (cc)
+none_raised e raise c (inr is) may = let one : Some (ToKeep may.begun.2) ≡ Some (ToRaise raise) = sym may.begun.3
+    ∙ is in absurd (cc)
 
 -- nor in one that is stopped
-none_stopped : {D : Type 0} (e : EndpointValue D) (cut : Option Call) (c : Command) → is_stopped e ≡ true → ¬ MayHaveBegun e cut c
+none_stopped : {D : Type 0} (e : EndpointValue D) (cut : Option Call) (c : Command) → is_stopped e ≡ true
+    → ¬ MayHaveBegun e cut c
 none_stopped e cut c stopped may = absurd (false≢true (sym may.running ∙ stopped))
 
 pub end-words : {D : Type 0} → EndWords D
 end-words = record {
-  command = λ e logs c is running none accepted. is.begun c (record { running = running; accepted = accepted; begun = (none, refl) });
+  command = λ e logs c is running none accepted.
+      is.begun c (record { running = running; accepted = accepted; begun = (none, refl) });
   step = λ e logs first is running none idle next accepted.
-      is.begun first.command (record { running = running; accepted = accepted; begun = (none, idle, first, next, refl) });
+      is.begun first.command
+      (record { running = running; accepted = accepted; begun = (none, idle, first, next, refl) });
   unbegun = λ e logs cut is. is.unbegun;
-  other_calls = λ e logs cut is no_step no_command. is.unbegun (λ c may. begins_in_none e cut c no_step no_command may.begun);
+  other_calls =
+      λ e logs cut is no_step no_command. is.unbegun (λ c may. begins_in_none e cut c no_step no_command may.begun);
   busy = λ e logs c is waits. is.unbegun (λ given may. waits may.begun.0);
   raising = λ e logs raise is raised. is.unbegun (λ c. none_raised e raise c raised);
   stopped = λ e logs cut is stopped. is.unbegun (λ c. none_stopped e cut c stopped);

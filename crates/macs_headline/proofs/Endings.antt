@@ -1,10 +1,14 @@
 -- Each way in which a program may end passes the medium of its disk on.
-use Rattle.std.proofs.Common.{◌≡◌, ◌&&◌, not, cond, ℕ, Bool, true, false, List, Result, Ok, Err, refl, sym, ◌∙◌, ap, subst, arith, le_refl}
+use Rattle.std.proofs.Common.{◌≡◌, ◌&&◌, not, cond, ℕ, Bool, true, false, List, Result, Ok, Err, refl, sym, ◌∙◌, ap}
+use Rattle.std.proofs.Common.{subst, arith, le_refl}
 use Rattle.macs_disk.specs.Disk.{Disk, IsDeviceCall, IsHonest, now}
 use Rattle.macs_disk.specs.States.{DiskState, Image, IsImage, IsSector, IsSound}
 use Rattle.macs_disk.specs.declared.disk.DeviceFault.{DeviceFault}
 use Rattle.macs_headline.specs.Deeds.{IsPassedOn}
-use Rattle.macs_headline.specs.Endings.{DroppedPassOn, EndsAreEarlier, ImagesAreWhole, KillingsPassOn, LossesSettle, PassedOnAgain, PowerLossesPassOn, ReadsPassOn, SyncsPassOn, TheseAreAlike, TheseAreImages, TheseArePassedOn, WritesBackAsSyncs, WrittenBackPassOn, state_written_back}
+use Rattle.macs_headline.specs.Endings.{DroppedPassOn, EndsAreEarlier, ImagesAreWhole, KillingsPassOn, LossesSettle}
+use Rattle.macs_headline.specs.Endings.{PassedOnAgain, PowerLossesPassOn, ReadsPassOn, SyncsPassOn, TheseAreAlike}
+use Rattle.macs_headline.specs.Endings.{TheseAreImages, TheseArePassedOn, WritesBackAsSyncs, WrittenBackPassOn}
+use Rattle.macs_headline.specs.Endings.{state_written_back}
 use Rattle.macs_headline.proofs.Losses.{settled-passed}
 
 pub these-are-alike : TheseAreAlike
@@ -21,7 +25,8 @@ these-are-passed-on ran new since moment from to alike images = record {
 }
 
 pub power-losses-pass-on : PowerLossesPassOn
-power-losses-pass-on old new since lost = settled-passed old new since lost.image lost.left lost.alike.sectors lost.alike.honest lost.settled
+power-losses-pass-on old new since lost =
+    settled-passed old new since lost.image lost.left lost.alike.sectors lost.alike.honest lost.settled
 
 pub killings-pass-on : KillingsPassOn
 killings-pass-on old new since moment from to alike same = record {
@@ -34,7 +39,8 @@ killings-pass-on old new since moment from to alike same = record {
 }
 
 pub dropped-pass-on : DroppedPassOn
-dropped-pass-on old new alike same = killings-pass-on old new old.clock old.clock (le_refl old.clock) (le_refl old.clock) alike same
+dropped-pass-on old new alike same =
+    killings-pass-on old new old.clock old.clock (le_refl old.clock) (le_refl old.clock) alike same
 
 pub ends-are-earlier : EndsAreEarlier
 ends-are-earlier old ran new since works passed from later within = record {
@@ -43,7 +49,8 @@ ends-are-earlier old ran new since works passed from later within = record {
   within = within;
   sectors = passed.sectors ∙ works.sectors;
   honest = passed.honest ∙ works.honest;
-  images = λ image here. subst (λ (s : DiskState). IsImage s image) (works.past passed.moment within) (passed.images image here);
+  images = λ image here.
+      subst (λ (s : DiskState). IsImage s image) (works.past passed.moment within) (passed.images image here);
 }
 
 pub passed-on-again : PassedOnAgain
@@ -68,17 +75,21 @@ kept_sector false true seen durable octets fit kept is = kept refl ∙ fit refl
 kept_sector false false seen durable octets fit kept is = kept refl
 kept_sector true written seen durable octets fit kept is = absurd (cc)
 
-whole_sector : (pending written : Bool) (seen durable octets : List ℕ) → IsSector seen → (pending && not written ≡ false → octets ≡ cond written seen durable)
+whole_sector : (pending written : Bool) (seen durable octets : List ℕ) → IsSector seen
+    → (pending && not written ≡ false → octets ≡ cond written seen durable)
     → (pending && not written ≡ true → IsSector octets) → pending ≡ true → IsSector octets
 whole_sector true true seen durable octets sector kept whole is = subst IsSector (sym (kept refl)) sector
 whole_sector true false seen durable octets sector kept whole is = whole refl
 whole_sector false written seen durable octets sector kept whole is = absurd (cc)
 
 -- it can leave what the state before could leave
-written_image : (state : DiskState) (written : ℕ → Bool) (image : Image) → IsSound state → IsImage (state_written_back written state) image → IsImage state image
+written_image : (state : DiskState) (written : ℕ → Bool) (image : Image) → IsSound state
+    → IsImage (state_written_back written state) image → IsImage state image
 written_image state written image sound left = record {
-  kept = λ i. kept_sector (state.pending i) (written i) (state.seen i) (state.durable i) (image i) (sound.fit.kept i) (left.kept i);
-  whole = λ i. whole_sector (state.pending i) (written i) (state.seen i) (state.durable i) (image i) (sound.seen i) (left.kept i) (left.whole i);
+  kept = λ i. kept_sector (state.pending i) (written i) (state.seen i) (state.durable i) (image i) (sound.fit.kept i)
+      (left.kept i);
+  whole = λ i. whole_sector (state.pending i) (written i) (state.seen i) (state.durable i) (image i) (sound.seen i)
+      (left.kept i) (left.whole i);
 }
 
 and_none : (b : Bool) → (b && not true) ≡ false
@@ -113,14 +124,17 @@ module _ {D : Type 0} (disk_of : D → Disk) (sound : (it : D) → IsHonest (dis
         within = le_refl (disk_of old).clock;
         sectors = alike.sectors;
         honest = alike.honest;
-        images = λ image left. written_image now_old written image (sound old honest) (subst (λ (s : DiskState). IsImage s image) same left);
+        images = λ image left. written_image now_old written image (sound old honest)
+            (subst (λ (s : DiskState). IsImage s image) same left);
       }
 
   -- a call that changes nothing
-  same_state : (old new : D) (result : Result (Unit {0}) DeviceFault) → IsDeviceCall (disk_of old) (disk_of new) result → now (disk_of new) ≡ now (disk_of old)
+  same_state : (old new : D) (result : Result (Unit {0}) DeviceFault) → IsDeviceCall (disk_of old) (disk_of new) result
+      → now (disk_of new) ≡ now (disk_of old)
       → IsPassedOn (disk_of old) (disk_of old).clock (disk_of new)
   same_state old new result call same =
-      dropped-pass-on (disk_of old) (disk_of new) (record { sectors = call.work.works.sectors; honest = call.work.works.honest }) same
+      dropped-pass-on (disk_of old) (disk_of new)
+      (record { sectors = call.work.works.sectors; honest = call.work.works.honest }) same
 
   pub reads-pass-on : ReadsPassOn disk_of
   reads-pass-on old new at into result honest call reads = same_state old new result call reads.same
@@ -128,7 +142,8 @@ module _ {D : Type 0} (disk_of : D → Disk) (sound : (it : D) → IsHonest (dis
   pub syncs-pass-on : SyncsPassOn disk_of
   syncs-pass-on old new (Ok done) honest call syncs =
       let clock = (disk_of old).clock in
-      settled-passed (disk_of old) (disk_of new) clock (now (disk_of old)).seen (clock, le_refl clock, le_refl clock, (sound old honest).fit)
+      settled-passed (disk_of old) (disk_of new) clock (now (disk_of old)).seen
+      (clock, le_refl clock, le_refl clock, (sound old honest).fit)
       call.work.works.sectors call.work.works.honest syncs.ok
   syncs-pass-on old new (Err fault) honest call syncs = same_state old new (Err fault) call syncs.err
 

@@ -1,5 +1,7 @@
 -- What is to be drawn of the endpoint's contracts on openings, ceilings, refills, commands, turns, counters and events.
-use Rattle.std.proofs.Common.{◌≡◌, ◌≢◌, ◌<◌, ◌≤◌, ◌⊎◌, ◌+◌, ◌-◌, ◌*◌, ◌++◌, ◌==◌, inl, inr, ℕ, zero, suc, Bool, true, false, cond, List, [], ◌∷◌, length, Option, Some, None, Result, Ok, Err, refl, sym, ◌∙◌, ap, subst, arith, le_refl}
+use Rattle.std.proofs.Common.{◌≡◌, ◌≢◌, ◌<◌, ◌≤◌, ◌⊎◌, ◌+◌, ◌-◌, ◌*◌, ◌++◌, ◌==◌, inl, inr, ℕ, zero, suc, Bool, true}
+use Rattle.std.proofs.Common.{false, cond, List, [], ◌∷◌, length, Option, Some, None, Result, Ok, Err, refl, sym, ◌∙◌}
+use Rattle.std.proofs.Common.{ap, subst, arith, le_refl}
 use Rattle.std.specs.Option.{option_map}
 use Rattle.std.proofs.lemmas.Bool.{cases_eq, ne_eqb}
 use Rattle.macs_config.specs.Numbers.{block_beyond, one_more}
@@ -25,16 +27,19 @@ use Rattle.macs_rxsc.specs.declared.verdict.Verdict.TheVariants.{Delivered, Disc
 use Rattle.macs_store.specs.Keeps.{generation_with_change, most_with_change, slots_with_change}
 use Rattle.macs_store.specs.Snapshot.{snapshot}
 use Rattle.macs_store.specs.Standing.{Standing}
-use Rattle.macs_store.specs.Value.{IsIdle, StoreValue, calls_left, calls_with, generation, generation_then, generation_with, slots_then, slots_with, standing_in, used_slots}
+use Rattle.macs_store.specs.Value.{IsIdle, StoreValue, calls_left, calls_with, generation, generation_then}
+use Rattle.macs_store.specs.Value.{generation_with, slots_then, slots_with, standing_in, used_slots}
 use Rattle.macs_store.specs.Value as store
 use Rattle.macs_endpoint.specs.Advancing.{turn_after_refill}
 use Rattle.macs_endpoint.specs.Calls.{IsCall}
-use Rattle.macs_endpoint.specs.Ceilings.{IsRefilled, Raise, Raises, either_raise, first_raise, standing_with_raise, standing_with_reserved}
+use Rattle.macs_endpoint.specs.Ceilings.{IsRefilled, Raise, Raises, either_raise, first_raise, standing_with_raise}
+use Rattle.macs_endpoint.specs.Ceilings.{standing_with_reserved}
 use Rattle.macs_endpoint.specs.KeptCommands.{KeepsCommand}
 use Rattle.macs_endpoint.specs.Lives.{FitsLife, LeavesLife, Transition}
 use Rattle.macs_endpoint.specs.Serving.{EndsAs, is_halt}
 use Rattle.macs_endpoint.specs.RefillCosts.{Spends, generation_in_raises, most_in_raises, reserved_in, slots_in_raises}
-use Rattle.macs_endpoint.specs.State.{Advanced, Commands, Protected, Protects, Ran, Received, Receives, Refilled, Refills, Reply, Submitted, no_logs, rx_side, tx_side}
+use Rattle.macs_endpoint.specs.State.{Advanced, Commands, Protected, Protects, Ran, Received, Receives, Refilled}
+use Rattle.macs_endpoint.specs.State.{Refills, Reply, Submitted, no_logs, rx_side, tx_side}
 use Rattle.macs_endpoint.specs.Value.{EndpointValue, disk_in, state_of}
 use Rattle.macs_endpoint.specs.declared.event.ServeEnd.TheVariants.{Halted}
 use Rattle.macs_endpoint.specs.declared.fault.CommandFault.TheVariants as ran
@@ -58,17 +63,21 @@ openings-count disk_of = record {
   large = λ disk first is. is.device.large;
   small = λ disk refused is fewer. let told = is.refused.small.1 fewer in (told, is.refused.untouched told);
   only_small = λ disk refused is told. is.refused.small.0 told;
-  format_small = λ old new identity result is fewer. let told = is.device.small.1 fewer in (told, is.device.untouched told);
+  format_small = λ old new identity result is fewer. let told = is.device.small.1 fewer in
+      (told, is.device.untouched told);
 }
 
 -- ---- ceilings
 
-none_raised : (t : TxSide) (r : RxSide) (old new : Standing) (raises : List Raise) → Raises t r old raises new → first_raise old t r ≡ None → new ≡ old
+none_raised : (t : TxSide) (r : RxSide) (old new : Standing) (raises : List Raise) → Raises t r old raises new
+    → first_raise old t r ≡ None → new ≡ old
 none_raised t r old new [] is none = is
 none_raised t r old new (raise ∷ raises) is none = absurd (none-some raise (sym none ∙ is.0))
 
-one_raised : (t : TxSide) (r : RxSide) (old new : Standing) (next : Option Raise) (raise : Raise) (raises : List Raise) → Raises t r old raises new
-    → first_raise new t r ≡ next → first_raise old t r ≡ Some raise → (new ≡ old) ⊎ IsRefilled t r (standing_with_raise old raise) new next
+one_raised : (t : TxSide) (r : RxSide) (old new : Standing) (next : Option Raise) (raise : Raise) (raises : List Raise)
+    → Raises t r old raises new
+    → first_raise new t r ≡ next → first_raise old t r ≡ Some raise
+    → (new ≡ old) ⊎ IsRefilled t r (standing_with_raise old raise) new next
 one_raised t r old new next raise [] is then first = inl is
 one_raised t r old new next raise (one ∷ raises) is then first =
     let same : one ≡ raise = some_one (first_raise old t r) one raise is.0 first in
@@ -83,7 +92,8 @@ reserved_none : (s : Standing) (reserving : Option Raise) → reserving ≡ None
 reserved_none s None is = refl
 reserved_none s (Some raise) is = absurd (none-some raise (sym is))
 
-reserved_some : (s : Standing) (reserving : Option Raise) (raise : Raise) → reserving ≡ Some raise → standing_with_reserved s reserving ≡ standing_with_raise s raise
+reserved_some : (s : Standing) (reserving : Option Raise) (raise : Raise) → reserving ≡ Some raise
+    → standing_with_reserved s reserving ≡ standing_with_raise s raise
 reserved_some s reserving raise is = ap (standing_with_reserved s) is
 
 -- ---- slots and device calls
@@ -104,11 +114,13 @@ rises : (used number : ℕ) (s : Standing) (raises : List Raise) → number ≤ 
 rises used number s [] = le_refl number
 rises used number s (raise ∷ raises) =
     let one = rises_by (used == 256) number in
-    let more = rises (slots_with_change used s) (generation_with_change used number) (standing_with_raise s raise) raises in
+    let more =
+    rises (slots_with_change used s) (generation_with_change used number) (standing_with_raise s raise) raises in
     omega (arith, one, more)
 
 -- one change of a journal that does not start over
-one_slot : (b : Bool) (used : ℕ) (s : Standing) → b ≡ false → (cond b (length (snapshot s) + 1) (used + 1) ≡ used + 1) × (cond b (523 + length (snapshot s)) 4 ≡ 4)
+one_slot : (b : Bool) (used : ℕ) (s : Standing) → b ≡ false
+    → (cond b (length (snapshot s) + 1) (used + 1) ≡ used + 1) × (cond b (523 + length (snapshot s)) 4 ≡ 4)
 one_slot true used s is = absurd (cc)
 one_slot false used s is = (refl, refl)
 
@@ -127,12 +139,14 @@ raised_so used number s [] same = (omega arith, omega arith)
 raised_so used number s (raise ∷ raises) same = elim (at_end used) [
   | inl all ↦
       let anew = anew_generation (used == 256) number all in
-      let more = rises (slots_with_change used s) (generation_with_change used number) (standing_with_raise s raise) raises in
+      let more =
+      rises (slots_with_change used s) (generation_with_change used number) (standing_with_raise s raise) raises in
       absurd (omega (arith, anew, more, same))
   | inr some ↦
       let one = one_slot (used == 256) used s some in
       let stays = same_generation (used == 256) number some in
-      let later = raised_so (slots_with_change used s) (generation_with_change used number) (standing_with_raise s raise) raises (same ∙ sym stays) in
+      let later = raised_so (slots_with_change used s) (generation_with_change used number)
+      (standing_with_raise s raise) raises (same ∙ sym stays) in
       let slot = one.0 in
       let calls = one.1 in
       let slots = later.0 in
@@ -150,27 +164,31 @@ module _ {D : Type 0} (disk_of : D → Disk) where
   idle_generation : (s : StoreValue D) → IsIdle s → generation_then s ≡ generation s
   idle_generation s idle = ap (generation_with s) idle
 
-  refill_calls : (old : EndpointValue D) (new : StoreValue D) → Spends disk_of old (Ok tt) new → IsIdle old.store → generation new ≡ generation old.store
+  refill_calls : (old : EndpointValue D) (new : StoreValue D) → Spends disk_of old (Ok tt) new → IsIdle old.store
+      → generation new ≡ generation old.store
       → (store.disk_in disk_of new).clock ≤ (disk_in disk_of old).clock + 4 * (used_slots new - used_slots old.store)
   refill_calls old new (raises, has) idle same =
       let calls = idle_calls old.store idle in
       let slots = idle_slots old.store idle in
       let number = idle_generation old.store idle in
-      let so = raised_so (slots_then old.store) (generation_then old.store) (reserved_in old) raises (sym has.generation ∙ same ∙ sym number) in
+      let so = raised_so (slots_then old.store) (generation_then old.store) (reserved_in old) raises
+      (sym has.generation ∙ same ∙ sym number) in
       let used = has.slots in
       let most = has.most in
       let each = so.0 in
       let few = so.1 in
       omega (arith, calls, slots, used, most, each, few)
 
-  command_calls : (old new : EndpointValue D) (command : Command) → KeepsCommand disk_of old command (Ok tt) new → IsIdle old.store → used_slots old.store < 256
+  command_calls : (old new : EndpointValue D) (command : Command) → KeepsCommand disk_of old command (Ok tt) new
+      → IsIdle old.store → used_slots old.store < 256
       → (used_slots new.store ≡ used_slots old.store + 1) × (generation new.store ≡ generation old.store)
       × ((disk_in disk_of new).clock ≤ (disk_in disk_of old).clock + 4)
   command_calls old new command keeps idle fewer =
       let calls = idle_calls old.store idle in
       let slots = idle_slots old.store idle in
       let number = idle_generation old.store idle in
-      let none : (slots_then old.store == 256) ≡ false = ne_eqb (slots_then old.store) 256 (λ full. omega (arith, full, slots, fewer)) in
+      let none : (slots_then old.store == 256) ≡ false =
+      ne_eqb (slots_then old.store) 256 (λ full. omega (arith, full, slots, fewer)) in
       let one = one_slot (slots_then old.store == 256) (slots_then old.store) (reserved_in old) none in
       let slot = one.0 in
       let four = one.1 in
@@ -181,13 +199,16 @@ module _ {D : Type 0} (disk_of : D → Disk) where
       )
 
   -- a reservation that fails where none is under way
-  refill_fault : (old new : EndpointValue D) → IsCall disk_of old Refills (Refilled (Err refill.Disk)) new → old.reserving ≡ None
-      → (raise : Raise) × IsRefilled (tx_side (state_of old no_logs)) (rx_side (state_of old no_logs)) (standing_in old.store) (standing_in new.store) (Some raise)
+  refill_fault : (old new : EndpointValue D) → IsCall disk_of old Refills (Refilled (Err refill.Disk)) new
+      → old.reserving ≡ None
+      → (raise : Raise) × IsRefilled (tx_side (state_of old no_logs)) (rx_side (state_of old no_logs))
+      (standing_in old.store) (standing_in new.store) (Some raise)
   refill_fault old new call none = elim call.behaves.ceilings [
     | inl in_hand ↦ absurd (none-some in_hand.0 (sym none ∙ in_hand.1))
     | inr behind ↦ (
       behind.0,
-      subst (λ (s : Standing). IsRefilled (tx_side (state_of old no_logs)) (rx_side (state_of old no_logs)) s (standing_in new.store) (Some behind.0))
+      subst (λ (s : Standing). IsRefilled (tx_side (state_of old no_logs)) (rx_side (state_of old no_logs)) s
+          (standing_in new.store) (Some behind.0))
           (reserved_none (standing_in old.store) old.reserving none) behind.1,
     )
   ]
@@ -232,18 +253,22 @@ module _ {D : Type 0} (disk_of : D → Disk) where
     none = λ t r old new next is none. none_raised t r old new is.raises is.raised none;
     one = λ t r old new next raise is first. one_raised t r old new next raise is.raises is.raised is.is_next first;
     then = λ t r old new next is. is.is_next;
-    first = λ t r s an is. ap (λ (need : Option ℕ). either_raise need (rx.first_need_of r s.ceilings.rx s.identity.rx_block)) is;
+    first = λ t r s an is.
+        ap (λ (need : Option ℕ). either_raise need (rx.first_need_of r s.ceilings.rx s.identity.rx_block)) is;
     raised = λ s an ceiling is.
         put-here s.ceilings.tx an (option_map (λ from. block_beyond from s.identity.tx_block) (s.ceilings.tx an))
         ∙ ap (option_map (λ from. block_beyond from s.identity.tx_block)) is;
     raised_beyond = λ s need.
         ap (λ (f : ℕ → Option ℕ). f need.an)
-        (put_at-here s.ceilings.rx need.sci (put (s.ceilings.rx need.sci) need.an (Some (block_beyond need.pn s.identity.rx_block))))
+        (put_at-here s.ceilings.rx need.sci
+        (put (s.ceilings.rx need.sci) need.an (Some (block_beyond need.pn s.identity.rx_block))))
         ∙ put-here (s.ceilings.rx need.sci) need.an (Some (block_beyond need.pn s.identity.rx_block));
     turn = λ old new command call. call.behaves.turn;
     turn_left = λ old new raise call is. call.behaves.turn ∙ ap (turn_after_refill old.turn) is;
-    spent = λ old new command call none. call.behaves.ceilings ∙ reserved_none (standing_in old.store) old.reserving none;
-    spent_behind = λ old new command raise call is. call.behaves.ceilings ∙ reserved_some (standing_in old.store) old.reserving raise is;
+    spent = λ old new command call none. call.behaves.ceilings
+        ∙ reserved_none (standing_in old.store) old.reserving none;
+    spent_behind = λ old new command raise call is. call.behaves.ceilings
+        ∙ reserved_some (standing_in old.store) old.reserving raise is;
     fault = refill_fault;
     refilled = refilled;
     refilled_behind = refilled_behind;
@@ -254,7 +279,8 @@ module _ {D : Type 0} (disk_of : D → Disk) where
 
 -- ---- counters
 
-fault_counted : (at : TxFault) (c : TxCounters) → fault_count at (counters_after_fault at c) ≡ one_more (fault_count at c)
+fault_counted : (at : TxFault) (c : TxCounters)
+    → fault_count at (counters_after_fault at c) ≡ one_more (fault_count at c)
 fault_counted tx.Runt c = refl
 fault_counted tx.TooLong c = refl
 fault_counted tx.ForeignSource c = refl
@@ -262,7 +288,8 @@ fault_counted tx.NoEncodingSa c = refl
 fault_counted tx.Exhausted c = refl
 fault_counted tx.NoNumber c = refl
 
-verdict_counted : (verdict : Verdict) (c : RxCounters) → verdict ≢ HeldBack → count_of verdict (counters_after_verdict verdict c) ≡ one_more (count_of verdict c)
+verdict_counted : (verdict : Verdict) (c : RxCounters) → verdict ≢ HeldBack
+    → count_of verdict (counters_after_verdict verdict c) ≡ one_more (count_of verdict c)
 verdict_counted (Delivered kind.Ok) c other = refl
 verdict_counted (Delivered kind.Delayed) c other = refl
 verdict_counted (Delivered kind.Invalid) c other = refl
@@ -283,7 +310,8 @@ verdict_counted HeldBack c other = absurd (other refl)
 pub calls-are-counted : {D : Type 0} (disk_of : D → Disk) → CallsAreCounted disk_of
 calls-are-counted disk_of = record {
   sent = λ old new plain out pn call. call.behaves.tx_counters;
-  refused = λ old new plain out at call. ap (fault_count at) call.behaves.tx_counters ∙ fault_counted at (txsc.counters_of old.tx);
+  refused = λ old new plain out at call. ap (fault_count at) call.behaves.tx_counters
+      ∙ fault_counted at (txsc.counters_of old.tx);
   received = λ old new frame out verdict call other.
       ap (count_of verdict) call.behaves.rx_counters ∙ verdict_counted verdict (rxsc.counters_of old.rx) other;
   held = λ old new frame out call. call.behaves.rx_counters;
@@ -297,7 +325,8 @@ module _ {D : Type 0} (disk_of : D → Disk) where
   left_since final e [] leaves = leaves
   left_since final e (turn ∷ turns) leaves = leaves.0
 
-  halted_last : (replies : List Reply) → EndsAs replies Halted → (before : List Reply) × (reply : Reply) × (before ++ reply ∷ [] ≡ replies) × (is_halt reply ≡ true)
+  halted_last : (replies : List Reply) → EndsAs replies Halted
+      → (before : List Reply) × (reply : Reply) × (before ++ reply ∷ [] ≡ replies) × (is_halt reply ≡ true)
   halted_last [] ends = absurd ends
   halted_last (reply ∷ []) ends = ([], reply, refl, ends)
   halted_last (reply ∷ next ∷ replies) ends =

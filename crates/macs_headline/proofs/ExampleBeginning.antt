@@ -1,5 +1,6 @@
 -- The disk on which the journal of the first edition starts over, in an opening of this one that is cut short.
-use Rattle.std.proofs.Common.{◌≡◌, ◌≢◌, ◌<◌, ◌≤◌, ◌-◌, inl, inr, ℕ, zero, suc, true, false, List, ◌∷◌, take, refl, sym, ◌∙◌, ap, subst, arith}
+use Rattle.std.proofs.Common.{◌≡◌, ◌≢◌, ◌<◌, ◌≤◌, ◌-◌, inl, inr, ℕ, zero, suc, true, false, List, ◌∷◌, take, refl, sym}
+use Rattle.std.proofs.Common.{◌∙◌, ap, subst, arith}
 use Rattle.std.specs.Prelude.{slice_get}
 use Rattle.std.specs.List.{AllByRecursion}
 use Rattle.macs_disk.specs.Disk.{Works}
@@ -13,8 +14,10 @@ use Rattle.macs_journal.specs.Rewriting.{IsNoBody, IsSettled}
 use Rattle.macs_journal.specs.Stages.{AreBodiesWritten, IsBodyOf, IsCleared}
 use Rattle.macs_journal.specs.Value.{IsHolding}
 use Rattle.macs_journal.specs.Work.{IsSpared}
-use Rattle.macs_headline.specs.ExampleCuts.{Write, body_writes, compaction_states, disk_through, place_behind, state_after_writes, writes_anew}
-use Rattle.macs_headline.specs.ExampleMigration.{beginning_disk, beginning_in_hand, migrated_content, used_content, used_image, used_records}
+use Rattle.macs_headline.specs.ExampleCuts.{Write, body_writes, compaction_states, disk_through, place_behind}
+use Rattle.macs_headline.specs.ExampleCuts.{state_after_writes, writes_anew}
+use Rattle.macs_headline.specs.ExampleMigration.{beginning_disk, beginning_in_hand, migrated_content, used_content}
+use Rattle.macs_headline.specs.ExampleMigration.{used_image, used_records}
 use Rattle.macs_headline.specs.Images.{image_with_area}
 use Rattle.macs_headline.proofs.Built.{area-body, area-head}
 use Rattle.macs_headline.proofs.ExampleCuts.{bodies_seen, each_at, first_apart, some_of, writes_apart, writes_durable}
@@ -48,7 +51,8 @@ last_is = ap (λ (ws : List Write). state_after_writes (settled_state used_image
 
 seen_is : (moment 261).seen ≡ image_with_area used_image 1 head (take 2 used_records)
 unfolding state_after_writes image_with_area
-seen_is = ap (λ (s : DiskState). s.seen) last_is ∙ bodies_seen (take 2 used_records) (state_after_write (settled_state used_image) (head_body 1) (head_sector_of head)) 1 0
+seen_is = ap (λ (s : DiskState). s.seen) last_is ∙ bodies_seen (take 2 used_records)
+    (state_after_write (settled_state used_image) (head_body 1) (head_sector_of head)) 1 0
 
 none_open : (upto count : ℕ) → HasOpenGates used_image 1 upto count → count ≡ 0
 unfolding HasOpenGates
@@ -57,15 +61,18 @@ none_open (suc upto) count (inl (opens, more)) = absurd (closed_used upto opens)
 none_open (suc upto) count (inr (shut, has)) = none_open upto count has
 
 on : (from to : ℕ) → from ≤ to → Works (disk_through moment from) (disk_through moment to)
-on from to le = record { later = le; past = λ k lt. refl; failures = omega arith; worn = λ is. is; sectors = refl; honest = refl }
+on from to le =
+    record { later = le; past = λ k lt. refl; failures = omega arith; worn = λ is. is; sectors = refl; honest = refl }
 
 -- a sector is spared from one moment to another, if it is as it was at each moment between
-spared : (from to i : ℕ) → ((k : ℕ) → from ≤ k → k ≤ to → ((moment k).seen i ≡ used_image i) × ((moment k).pending i ≡ false)) → from ≤ to
+spared : (from to i : ℕ)
+    → ((k : ℕ) → from ≤ k → k ≤ to → ((moment k).seen i ≡ used_image i) × ((moment k).pending i ≡ false)) → from ≤ to
     → IsSpared (disk_through moment from) (disk_through moment to) i
 spared from to i same le = record {
   reads = λ k low high. (same k low high).0 ∙ sym (same from (omega arith) le).0;
   leaves = λ k low high octets may. record {
-    kept = λ clean. may.kept (same k low high).1 ∙ ap (λ (d : Image). d i) (durable_at k) ∙ sym (ap (λ (d : Image). d i) (durable_at from));
+    kept = λ clean. may.kept (same k low high).1 ∙ ap (λ (d : Image). d i) (durable_at k)
+        ∙ sym (ap (λ (d : Image). d i) (durable_at from));
     whole = λ pending. let both : true ≡ false = sym pending ∙ (same from (omega arith) le).1 in absurd (cc);
   };
 } where
@@ -75,11 +82,17 @@ spared from to i same le = record {
 cleared : IsCleared (disk_through moment 0) (disk_through moment 258) 1
 cleared = record {
   works = on 0 258 (omega arith);
-  calls = λ opened has. let none = none_open gates opened (subst (λ (s : DiskState). HasOpenGates s.seen 1 gates opened) (early 0 (omega arith)) has) in omega (arith, none);
+  calls = λ opened has. let none = none_open gates opened
+      (subst (λ (s : DiskState). HasOpenGates s.seen 1 gates opened) (early 0 (omega arith)) has) in
+      omega (arith, none);
   settled = subst IsSettled (sym (early 258 (omega arith))) (record { clean = λ i. refl; fresh = λ i. refl });
-  closed = λ k low lt opens. absurd (closed_used k (subst (λ (s : DiskState). IsGateOpen s.seen 1 k) (early 0 (omega arith)) opens));
+  closed = λ k low lt opens.
+      absurd (closed_used k (subst (λ (s : DiskState). IsGateOpen s.seen 1 k) (early 0 (omega arith)) opens));
   shut = λ k lt opens. closed_used k (subst (λ (s : DiskState). IsGateOpen s.seen 1 k) (early 258 (omega arith)) opens);
-  spared = λ i apart. spared 0 258 i (λ k low high. (ap (λ (s : DiskState). s.seen i) (early k high), ap (λ (s : DiskState). s.pending i) (early k high))) (omega arith);
+  spared = λ i apart. spared 0 258 i (λ k low high. (
+    ap (λ (s : DiskState). s.seen i) (early k high),
+    ap (λ (s : DiskState). s.pending i) (early k high),
+  )) (omega arith);
 }
 
 -- a sector that is none of the three is none of those that were written until then
@@ -92,9 +105,12 @@ untouched : (i : ℕ) → i ≢ head_body 1 → IsNoBody 1 2 i → (k : ℕ) →
 untouched i apart none k low high =
     let n = k - 258 in
     let is : take n (writes_anew used_content used_records) ≡ take n three_writes =
-    some_of n (omega (arith, low, high)) (writes_anew used_content used_records) ∙ ap (λ (ws : List Write). take n ws) writes_are in
-    subst (λ (ws : List Write). ((state_after_writes (settled_state used_image) ws).seen i ≡ used_image i) × ((state_after_writes (settled_state used_image) ws).pending i ≡ false))
-    (sym is) (writes_apart (take n three_writes) (settled_state used_image) i (first_apart (λ (w : Write). i ≢ w.at) n three_writes (three_apart i apart none)))
+    some_of n (omega (arith, low, high)) (writes_anew used_content used_records)
+    ∙ ap (λ (ws : List Write). take n ws) writes_are in
+    subst (λ (ws : List Write). ((state_after_writes (settled_state used_image) ws).seen i ≡ used_image i)
+    × ((state_after_writes (settled_state used_image) ws).pending i ≡ false))
+    (sym is) (writes_apart (take n three_writes) (settled_state used_image) i
+    (first_apart (λ (w : Write). i ≢ w.at) n three_writes (three_apart i apart none)))
 
 -- the bodies of the first two records
 first_two : (slot : ℕ) → slot < 2 → slice_get (take 2 used_records) slot ≡ slice_get used_records slot
@@ -105,7 +121,8 @@ first_two (suc (suc n)) lt = absurd (omega (arith, lt))
 body_is : (slot : ℕ) → slot < 2 → IsBodyOf used_records slot ((moment 261).seen (slot_body 1 slot))
 body_is slot lt r is = record {
   range = each_at used_records slot r used_ranges is;
-  octets = sym (ap (λ (seen : Image). seen (slot_body 1 slot)) seen_is ∙ area-body used_image 1 head (take 2 used_records) slot r (first_two slot lt ∙ is));
+  octets = sym (ap (λ (seen : Image). seen (slot_body 1 slot)) seen_is
+      ∙ area-body used_image 1 head (take 2 used_records) slot r (first_two slot lt ∙ is));
 }
 
 bodies_written : AreBodiesWritten (disk_through moment 0) beginning_disk 1 head used_records 2
@@ -116,19 +133,22 @@ bodies_written = record {
   calls = refl;
   head_is = record {
     range = next_range;
-    octets = sym (ap (λ (seen : Image). seen (head_body 1)) seen_is ∙ area-head used_image 1 head (take 2 used_records));
+    octets =
+        sym (ap (λ (seen : Image). seen (head_body 1)) seen_is ∙ area-head used_image 1 head (take 2 used_records));
   };
   bodies = body_is;
   others = λ i apart none. spared 258 261 i (untouched i apart none) (omega arith);
 }
 
-pub beginning-holds : IsHolding beginning_disk (place_behind used_content) beginning_in_hand used_content migrated_content
+pub beginning-holds : IsHolding beginning_disk (place_behind used_content) beginning_in_hand used_content
+    migrated_content
 beginning-holds = record {
   at = record { area = refl; head = refl; free = refl };
   holds = record {
     began = disk_through moment 0;
     records = used_records;
-    ready = subst (λ (s : DiskState). IsReady s used_content) (sym (early 0 (omega arith))) (record { clean = λ i. refl; fresh = λ i. refl; finds = used_found });
+    ready = subst (λ (s : DiskState). IsReady s used_content) (sym (early 0 (omega arith)))
+        (record { clean = λ i. refl; fresh = λ i. refl; finds = used_found });
     becomes = refl;
     next = refl;
     few = omega arith;

@@ -1,5 +1,7 @@
 -- The disks of the example hold the work in which its lives are cut short, and what a power loss leaves of it.
-use Rattle.std.proofs.Common.{◌≡◌, ◌≢◌, ◌<◌, ◌≤◌, ◌+◌, ◌-◌, ◌==◌, ◌^◌, ◌&&◌, inl, inr, ℕ, zero, suc, Bool, true, false, cond, List, [], ◌∷◌, ◌++◌, length, take, replicate, get_or, Some, refl, sym, ◌∙◌, ap, subst, arith}
+use Rattle.std.proofs.Common.{◌≡◌, ◌≢◌, ◌<◌, ◌≤◌, ◌+◌, ◌-◌, ◌==◌, ◌^◌, ◌&&◌, inl, inr, ℕ, zero, suc, Bool, true, false}
+use Rattle.std.proofs.Common.{cond, List, [], ◌∷◌, ◌++◌, length, take, replicate, get_or, Some, refl, sym, ◌∙◌, ap}
+use Rattle.std.proofs.Common.{subst, arith}
 use Rattle.std.specs.Prelude.{All, nat_lt, slice_get}
 use Rattle.std.specs.List.{AllByRecursion}
 use Rattle.std.specs.Int.{to_be_bytes, w32, w64}
@@ -28,13 +30,19 @@ use Rattle.macs_journal.proofs.Appends.{finds-but-body}
 use Rattle.macs_store.specs.Snapshot.{settings_record}
 use Rattle.macs_headline.specs.Deeds.{IsPassedOn}
 use Rattle.macs_headline.specs.Example.{own_sa}
-use Rattle.macs_headline.specs.ExampleCuts.{IsOneCall, IsRun, Write, append_in_hand, append_states, body_writes, compacting_disk, compaction_in_hand, compaction_states, disk_through, killed_disk, place_behind, state_after_writes, torn_image, widening_disk, working_disk, writes_anew}
-use Rattle.macs_headline.specs.ExampleDisk.{anew_content, checked, cut_image, ended_content, narrow_content, narrow_image, full_content, full_image, full_snapshot, last_content, last_image, served_content, served_image, widened}
+use Rattle.macs_headline.specs.ExampleCuts.{IsOneCall, IsRun, Write, append_in_hand, append_states, body_writes}
+use Rattle.macs_headline.specs.ExampleCuts.{compacting_disk, compaction_in_hand, compaction_states, disk_through}
+use Rattle.macs_headline.specs.ExampleCuts.{killed_disk, place_behind, state_after_writes, torn_image, widening_disk}
+use Rattle.macs_headline.specs.ExampleCuts.{working_disk, writes_anew}
+use Rattle.macs_headline.specs.ExampleDisk.{anew_content, checked, cut_image, ended_content, narrow_content}
+use Rattle.macs_headline.specs.ExampleDisk.{narrow_image, full_content, full_image, full_snapshot, last_content}
+use Rattle.macs_headline.specs.ExampleDisk.{last_image, served_content, served_image, widened}
 use Rattle.macs_headline.specs.ExampleStanding.{served_config}
 use Rattle.macs_headline.specs.Images.{image_with_area, image_with_bodies, image_with_next_body, image_with_record}
 use Rattle.macs_headline.proofs.Built.{area-body, area-head, closed-gate}
 use Rattle.macs_headline.proofs.ExampleImages.{far-full, narrow-found, full-found, last-found, last-size, snapshot-size}
-use Rattle.macs_headline.proofs.ExampleRecords.{IsOctet, head-range, six_records, snapshot-is, snapshot-ranges, widened-range, word-range}
+use Rattle.macs_headline.proofs.ExampleRecords.{IsOctet, head-range, six_records, snapshot-is, snapshot-ranges}
+use Rattle.macs_headline.proofs.ExampleRecords.{widened-range, word-range}
 
 -- ---- sectors
 
@@ -57,7 +65,8 @@ small_octets (x ∷ xs) is =
 -- octets, and zeros after them
 padded_range : (front : List ℕ) → All IsOctet front → All IsOctet (padded_sector front)
 padded_range front range =
-    All-append IsOctet front (replicate (512 - length front) 0) range (All-replicate IsOctet (512 - length front) 0 (omega arith))
+    All-append IsOctet front (replicate (512 - length front) 0) range
+    (All-replicate IsOctet (512 - length front) 0 (omega arith))
 
 octet_at : (xs : List ℕ) → All IsOctet xs → (i : ℕ) → get_or xs i 0 < 2 ^ 8
 octet_at xs range i = elim (cases_lt i (length xs)) [
@@ -68,19 +77,22 @@ octet_at xs range i = elim (cases_lt i (length xs)) [
 pub record_sector : (r : Record) → IsRecord r → small (front_of r) ≡ true → IsSector (sector_of r)
 record_sector r range is = record {
   size = sector_length r range;
-  octets = octet_at (sector_of r) (padded_range (front_of r) (All-from_recursion IsOctet (front_of r) (small_octets (front_of r) is)));
+  octets = octet_at (sector_of r)
+      (padded_range (front_of r) (All-from_recursion IsOctet (front_of r) (small_octets (front_of r) is)));
 }
 
 -- ---- an append
 
-module _ (image : Image) (c : Content) (r : Record) (room : length c.records < slots) (range : IsRecord r) (finds : HasJournal image c) where
+module _ (image : Image) (c : Content) (r : Record) (room : length c.records < slots) (range : IsRecord r)
+    (finds : HasJournal image c) where
   -- the body is durable
   staged : IsBodyDurable (settled_state (image_with_next_body image c r)) c (sector_of r)
   staged = record {
     ready = record {
       clean = λ i. refl;
       fresh = λ i. refl;
-      finds = finds-but-body image (image_with_next_body image c r) c room (λ i apart. put-other image (free_body c) i (sector_of r) apart) finds;
+      finds = finds-but-body image (image_with_next_body image c r) c room
+          (λ i apart. put-other image (free_body c) i (sector_of r) apart) finds;
     };
     body = put-same image (free_body c) (free_body c) (sector_of r) refl;
   }
@@ -109,16 +121,23 @@ gate_whole true x y whole is = whole
 gate_whole false x y whole is = absurd (cc)
 
 open_sector : IsSector open_gate
-open_sector = record { size = refl; octets = octet_at open_gate (padded_range open_mark (All-from_recursion IsOctet open_mark (small_octets open_mark refl))) }
+open_sector = record {
+  size = refl;
+  octets =
+      octet_at open_gate (padded_range open_mark (All-from_recursion IsOctet open_mark (small_octets open_mark refl)));
+}
 
-append_left : (image : Image) (c : Content) (r : Record) → IsImage (append_states image c r 3) (image_with_record image c r)
+append_left : (image : Image) (c : Content) (r : Record)
+    → IsImage (append_states image c r 3) (image_with_record image c r)
 append_left image c r = record {
   kept = λ i clean. gate_left (i == free_gate c) open_gate (image_with_next_body image c r i) clean;
   whole = λ i pending. gate_whole (i == free_gate c) open_gate (image_with_next_body image c r i) open_sector pending;
 }
 
-pub widening-holds : IsHolding widening_disk (place_behind narrow_content) (append_in_hand widened) narrow_content served_content
-widening-holds = append-holds narrow_image narrow_content widened (omega arith) widened-range narrow-found (append_states narrow_image narrow_content widened) 3 refl
+pub widening-holds : IsHolding widening_disk (place_behind narrow_content) (append_in_hand widened) narrow_content
+    served_content
+widening-holds = append-holds narrow_image narrow_content widened (omega arith) widened-range narrow-found
+    (append_states narrow_image narrow_content widened) 3 refl
 
 pub left-open : MayLeave widening_disk served_image
 left-open = append_left narrow_image narrow_content widened
@@ -128,15 +147,25 @@ left-open = append_left narrow_image narrow_content widened
 last_room : length last_content.records < slots
 last_room = omega (arith, last-size)
 
-pub working-holds : IsHolding working_disk (place_behind last_content) (append_in_hand checked) last_content ended_content
-working-holds = append-holds last_image last_content checked last_room tt last-found (append_states last_image last_content checked) 3 refl
+pub working-holds : IsHolding working_disk (place_behind last_content) (append_in_hand checked) last_content
+    ended_content
+working-holds = append-holds last_image last_content checked last_room tt last-found
+    (append_states last_image last_content checked) 3 refl
 
 -- the next disk holds the same
 pub killed-holds : IsHolding killed_disk (place_behind last_content) (append_in_hand checked) last_content ended_content
 killed-holds = append-holds last_image last_content checked last_room tt last-found (λ k. now working_disk) 0 refl
 
 pub killed-passed : IsPassedOn working_disk working_disk.clock killed_disk
-killed-passed = record { moment = 3; later = omega arith; within = omega arith; sectors = refl; honest = refl; images = λ image left. left }
+killed-passed = record {
+  moment = 3;
+  later = omega arith;
+  within = omega arith;
+  sectors = refl;
+  honest = refl;
+  images =
+      λ image left. left;
+}
 
 pub gate-pending : (now killed_disk).pending (free_gate last_content) ≡ true
 gate-pending = put-same (λ _. false) (free_gate last_content) (free_gate last_content) true refl
@@ -163,7 +192,8 @@ pub bodies_seen : (rs : List Record) (s : DiskState) (area place : ℕ)
     → (state_after_writes s (body_writes area place rs)).seen ≡ image_with_bodies s.seen area place rs
 unfolding state_after_writes body_writes image_with_bodies
 bodies_seen [] s area place = refl
-bodies_seen (r ∷ rs) s area place = bodies_seen rs (state_after_write s (slot_body area place) (sector_of r)) area (place + 1)
+bodies_seen (r ∷ rs) s area place =
+    bodies_seen rs (state_after_write s (slot_body area place) (sector_of r)) area (place + 1)
 
 -- ---- a compaction that is cut short
 
@@ -200,28 +230,33 @@ last_is = ap (λ (ws : List Write). state_after_writes (settled_state full_image
 
 seen_is : (moment 261).seen ≡ cut_image 2
 unfolding state_after_writes image_with_area
-seen_is = ap (λ (s : DiskState). s.seen) last_is ∙ bodies_seen (take 2 full_snapshot) (state_after_write (settled_state full_image) (head_body 1) (head_sector_of head)) 1 0
+seen_is = ap (λ (s : DiskState). s.seen) last_is ∙ bodies_seen (take 2 full_snapshot)
+    (state_after_write (settled_state full_image) (head_body 1) (head_sector_of head)) 1 0
 
 -- no gate of the other area is open
 all_closed : (k : ℕ) → k < gates → ¬ IsGateOpen full_image 1 k
 all_closed k lt = closed-gate full_image 1 k (far-full (gate 1 k) (omega arith))
 
-none_open : (upto count : ℕ) → ((k : ℕ) → k < upto → ¬ IsGateOpen full_image 1 k) → HasOpenGates full_image 1 upto count → count ≡ 0
+none_open : (upto count : ℕ) → ((k : ℕ) → k < upto → ¬ IsGateOpen full_image 1 k)
+    → HasOpenGates full_image 1 upto count → count ≡ 0
 unfolding HasOpenGates
 none_open zero count closed has = has
 none_open (suc upto) count closed (inl (opens, more)) = absurd (closed upto (omega arith) opens)
 none_open (suc upto) count closed (inr (shut, has)) = none_open upto count (λ k lt. closed k (omega (arith, lt))) has
 
 on : (from to : ℕ) → from ≤ to → Works (disk_through moment from) (disk_through moment to)
-on from to le = record { later = le; past = λ k lt. refl; failures = omega arith; worn = λ is. is; sectors = refl; honest = refl }
+on from to le =
+    record { later = le; past = λ k lt. refl; failures = omega arith; worn = λ is. is; sectors = refl; honest = refl }
 
 -- a sector is spared from one moment to another, if it is as it was at each moment between
-spared : (from to i : ℕ) → ((k : ℕ) → from ≤ k → k ≤ to → ((moment k).seen i ≡ full_image i) × ((moment k).pending i ≡ false)) → from ≤ to
+spared : (from to i : ℕ)
+    → ((k : ℕ) → from ≤ k → k ≤ to → ((moment k).seen i ≡ full_image i) × ((moment k).pending i ≡ false)) → from ≤ to
     → IsSpared (disk_through moment from) (disk_through moment to) i
 spared from to i same le = record {
   reads = λ k low high. (same k low high).0 ∙ sym (same from (omega arith) le).0;
   leaves = λ k low high octets may. record {
-    kept = λ clean. may.kept (same k low high).1 ∙ ap (λ (d : Image). d i) (durable_at k) ∙ sym (ap (λ (d : Image). d i) (durable_at from));
+    kept = λ clean. may.kept (same k low high).1 ∙ ap (λ (d : Image). d i) (durable_at k)
+        ∙ sym (ap (λ (d : Image). d i) (durable_at from));
     whole = λ pending. let both : true ≡ false = sym pending ∙ (same from (omega arith) le).1 in absurd (cc);
   };
 } where
@@ -231,11 +266,18 @@ spared from to i same le = record {
 cleared : IsCleared (disk_through moment 0) (disk_through moment 258) 1
 cleared = record {
   works = on 0 258 (omega arith);
-  calls = λ opened has. let none = none_open gates opened all_closed (subst (λ (s : DiskState). HasOpenGates s.seen 1 gates opened) (early 0 (omega arith)) has) in omega (arith, none);
+  calls = λ opened has. let none = none_open gates opened all_closed
+      (subst (λ (s : DiskState). HasOpenGates s.seen 1 gates opened) (early 0 (omega arith)) has) in
+      omega (arith, none);
   settled = subst IsSettled (sym (early 258 (omega arith))) (record { clean = λ i. refl; fresh = λ i. refl });
-  closed = λ k low lt opens. absurd (all_closed k lt (subst (λ (s : DiskState). IsGateOpen s.seen 1 k) (early 0 (omega arith)) opens));
-  shut = λ k lt opens. all_closed k lt (subst (λ (s : DiskState). IsGateOpen s.seen 1 k) (early 258 (omega arith)) opens);
-  spared = λ i apart. spared 0 258 i (λ k low high. (ap (λ (s : DiskState). s.seen i) (early k high), ap (λ (s : DiskState). s.pending i) (early k high))) (omega arith);
+  closed = λ k low lt opens.
+      absurd (all_closed k lt (subst (λ (s : DiskState). IsGateOpen s.seen 1 k) (early 0 (omega arith)) opens));
+  shut =
+      λ k lt opens. all_closed k lt (subst (λ (s : DiskState). IsGateOpen s.seen 1 k) (early 258 (omega arith)) opens);
+  spared = λ i apart. spared 0 258 i (λ k low high. (
+    ap (λ (s : DiskState). s.seen i) (early k high),
+    ap (λ (s : DiskState). s.pending i) (early k high),
+  )) (omega arith);
 }
 
 -- a sector that is none of the three is none of those that were written until then
@@ -247,7 +289,8 @@ first_apart P (suc n) (w ∷ ws) all = (all.0, first_apart P n ws all.1)
 three_apart : (i : ℕ) → i ≢ head_body 1 → IsNoBody 1 2 i → AllByRecursion (λ (w : Write). i ≢ w.at) three_writes
 unfolding body_writes
 three_apart i apart none =
-    subst (λ (rs : List Record). AllByRecursion (λ (w : Write). i ≢ w.at) (head_write ∷ body_writes 1 0 rs)) (sym two_records)
+    subst (λ (rs : List Record). AllByRecursion (λ (w : Write). i ≢ w.at) (head_write ∷ body_writes 1 0 rs))
+    (sym two_records)
     (apart, (none 0 (omega arith), (none 1 (omega arith), tt)))
 
 -- how many of the first three writes were made, some calls after the sync
@@ -267,9 +310,12 @@ untouched : (i : ℕ) → i ≢ head_body 1 → IsNoBody 1 2 i → (k : ℕ) →
 untouched i apart none k low high =
     let n = k - 258 in
     let is : take n (writes_anew full_content full_snapshot) ≡ take n three_writes =
-    some_of n (omega (arith, low, high)) (writes_anew full_content full_snapshot) ∙ ap (λ (ws : List Write). take n ws) writes_are in
-    subst (λ (ws : List Write). ((state_after_writes (settled_state full_image) ws).seen i ≡ full_image i) × ((state_after_writes (settled_state full_image) ws).pending i ≡ false))
-    (sym is) (writes_apart (take n three_writes) (settled_state full_image) i (first_apart (λ (w : Write). i ≢ w.at) n three_writes (three_apart i apart none)))
+    some_of n (omega (arith, low, high)) (writes_anew full_content full_snapshot)
+    ∙ ap (λ (ws : List Write). take n ws) writes_are in
+    subst (λ (ws : List Write). ((state_after_writes (settled_state full_image) ws).seen i ≡ full_image i)
+    × ((state_after_writes (settled_state full_image) ws).pending i ≡ false))
+    (sym is) (writes_apart (take n three_writes) (settled_state full_image) i
+    (first_apart (λ (w : Write). i ≢ w.at) n three_writes (three_apart i apart none)))
 
 -- the bodies of the first two records
 first_two : (slot : ℕ) → slot < 2 → slice_get (take 2 full_snapshot) slot ≡ slice_get full_snapshot slot
@@ -277,7 +323,8 @@ first_two zero lt = subst (λ (rs : List Record). slice_get (take 2 rs) 0 ≡ sl
 first_two (suc zero) lt = subst (λ (rs : List Record). slice_get (take 2 rs) 1 ≡ slice_get rs 1) (sym snapshot-is) refl
 first_two (suc (suc n)) lt = absurd (omega (arith, lt))
 
-pub each_at : (rs : List Record) (j : ℕ) (r : Record) → AllByRecursion IsRecord rs → slice_get rs j ≡ Some r → IsRecord r
+pub each_at : (rs : List Record) (j : ℕ) (r : Record) → AllByRecursion IsRecord rs → slice_get rs j ≡ Some r
+    → IsRecord r
 each_at [] j r are is = absurd (cc)
 each_at (x ∷ rs) zero r are is = let same : x ≡ r = cc in subst IsRecord same are.0
 each_at (x ∷ rs) (suc j) r are is = each_at rs j r are.1 is
@@ -296,7 +343,8 @@ next_range = record {
 body_is : (slot : ℕ) → slot < 2 → IsBodyOf full_snapshot slot ((moment 261).seen (slot_body 1 slot))
 body_is slot lt r is = record {
   range = each_at full_snapshot slot r (subst (AllByRecursion IsRecord) (sym snapshot-is) snapshot-ranges) is;
-  octets = sym (ap (λ (seen : Image). seen (slot_body 1 slot)) seen_is ∙ area-body full_image 1 head (take 2 full_snapshot) slot r (first_two slot lt ∙ is));
+  octets = sym (ap (λ (seen : Image). seen (slot_body 1 slot)) seen_is
+      ∙ area-body full_image 1 head (take 2 full_snapshot) slot r (first_two slot lt ∙ is));
 }
 
 bodies_written : AreBodiesWritten (disk_through moment 0) compacting_disk 1 head full_snapshot 2
@@ -307,19 +355,22 @@ bodies_written = record {
   calls = refl;
   head_is = record {
     range = next_range;
-    octets = sym (ap (λ (seen : Image). seen (head_body 1)) seen_is ∙ area-head full_image 1 head (take 2 full_snapshot));
+    octets =
+        sym (ap (λ (seen : Image). seen (head_body 1)) seen_is ∙ area-head full_image 1 head (take 2 full_snapshot));
   };
   bodies = body_is;
   others = λ i apart none. spared 258 261 i (untouched i apart none) (omega arith);
 }
 
-pub compacting-holds : IsHolding compacting_disk (place_behind full_content) compaction_in_hand full_content anew_content
+pub compacting-holds : IsHolding compacting_disk (place_behind full_content) compaction_in_hand full_content
+    anew_content
 compacting-holds = record {
   at = record { area = refl; head = refl; free = refl };
   holds = record {
     began = disk_through moment 0;
     records = full_snapshot;
-    ready = subst (λ (s : DiskState). IsReady s full_content) (sym (early 0 (omega arith))) (record { clean = λ i. refl; fresh = λ i. refl; finds = full-found });
+    ready = subst (λ (s : DiskState). IsReady s full_content) (sym (early 0 (omega arith)))
+        (record { clean = λ i. refl; fresh = λ i. refl; finds = full-found });
     becomes = refl;
     next = refl;
     few = omega (arith, snapshot-size);
@@ -331,8 +382,10 @@ compacting-holds = record {
 -- ---- what a power loss leaves of it
 
 double_range : (x : ℕ) → All IsOctet (to_be_bytes w64 x)
-double_range x = All-from_recursion IsOctet (to_be_bytes w64 x)
-    (omega arith, (omega arith, (omega arith, (omega arith, (omega arith, (omega arith, (omega arith, (omega arith, tt))))))))
+double_range x = All-from_recursion IsOctet (to_be_bytes w64 x) (
+  omega arith,
+  (omega arith, (omega arith, (omega arith, (omega arith, (omega arith, (omega arith, (omega arith, tt))))))),
+)
 
 head_octets_range : (h : Head) → IsHead h → All IsOctet (head_octets h)
 head_octets_range h is =
@@ -346,13 +399,18 @@ head_octets_range h is =
     let identity = All-append IsOctet sci (tx ++ rx) is.sci.each blocks in
     let counted = All-append IsOctet count (sci ++ (tx ++ rx)) (word-range h.count) identity in
     let generated = All-append IsOctet generation (count ++ (sci ++ (tx ++ rx))) (double_range h.generation) counted in
-    let versioned = All-append IsOctet version (generation ++ (count ++ (sci ++ (tx ++ rx)))) (word-range (version_of h.format)) generated in
+    let versioned = All-append IsOctet version (generation ++ (count ++ (sci ++ (tx ++ rx))))
+    (word-range (version_of h.format)) generated in
     All-append IsOctet head_mark (version ++ (generation ++ (count ++ (sci ++ (tx ++ rx)))))
     (All-from_recursion IsOctet head_mark (small_octets head_mark refl)) versioned
 
 -- a head is a sector
 pub head-sector : (h : Head) → IsHead h → IsSector (head_sector_of h)
-head-sector h is = record { size = head_sector_length h is; octets = octet_at (head_sector_of h) (padded_range (head_octets h) (head_octets_range h is)) }
+head-sector h is = record {
+  size = head_sector_length h is;
+  octets =
+      octet_at (head_sector_of h) (padded_range (head_octets h) (head_octets_range h is));
+}
 
 head_whole : IsSector (head_sector_of head)
 head_whole = head-sector head next_range
@@ -364,46 +422,57 @@ own_whole : IsSector (sector_of (kept.TxSa 0 own_sa 13))
 own_whole = record_sector (kept.TxSa 0 own_sa 13) snapshot-ranges.1.0 refl
 
 -- what is pending at one of three places is any of these, and the rest is durable
-pub torn_kept : (a b c : Bool) (x y z w : List ℕ) → cond c true (cond b true (cond a true false)) ≡ false → cond c z (cond b y (cond a x w)) ≡ w
+pub torn_kept : (a b c : Bool) (x y z w : List ℕ) → cond c true (cond b true (cond a true false)) ≡ false
+    → cond c z (cond b y (cond a x w)) ≡ w
 torn_kept a b true x y z w is = absurd (cc)
 torn_kept a true false x y z w is = absurd (cc)
 torn_kept true false false x y z w is = absurd (cc)
 torn_kept false false false x y z w is = refl
 
-pub torn_whole : (a b c : Bool) (x y z w : List ℕ) → IsSector x → IsSector y → IsSector z → cond c true (cond b true (cond a true false)) ≡ true
+pub torn_whole : (a b c : Bool) (x y z w : List ℕ) → IsSector x → IsSector y → IsSector z
+    → cond c true (cond b true (cond a true false)) ≡ true
     → IsSector (cond c z (cond b y (cond a x w)))
 torn_whole a b true x y z w is_x is_y is_z is = is_z
 torn_whole a true false x y z w is_x is_y is_z is = is_y
 torn_whole true false false x y z w is_x is_y is_z is = is_x
 torn_whole false false false x y z w is_x is_y is_z is = absurd (cc)
 
-module _ (one first second : List ℕ) (is_one : IsSector one) (is_first : IsSector first) (is_second : IsSector second) where
-  by_six : IsImage (state_after_writes (settled_state full_image) (head_write ∷ body_writes 1 0 (take 2 six_records))) (torn_image one first second)
+module _ (one first second : List ℕ) (is_one : IsSector one) (is_first : IsSector first)
+    (is_second : IsSector second) where
+  by_six : IsImage (state_after_writes (settled_state full_image) (head_write ∷ body_writes 1 0 (take 2 six_records)))
+      (torn_image one first second)
   unfolding state_after_writes body_writes
   by_six = record {
-    kept = λ i clean. torn_kept (i == head_body 1) (i == slot_body 1 0) (i == slot_body 1 1) one first second (full_image i) clean;
-    whole = λ i pending. torn_whole (i == head_body 1) (i == slot_body 1 0) (i == slot_body 1 1) one first second (full_image i) is_one is_first is_second pending;
+    kept = λ i clean.
+        torn_kept (i == head_body 1) (i == slot_body 1 0) (i == slot_body 1 1) one first second (full_image i) clean;
+    whole = λ i pending. torn_whole (i == head_body 1) (i == slot_body 1 0) (i == slot_body 1 1) one first second
+        (full_image i) is_one is_first is_second pending;
   }
 
   pub torn-left : MayLeave compacting_disk (torn_image one first second)
   torn-left =
       subst (λ (s : DiskState). IsImage s (torn_image one first second)) (sym last_is)
-      (subst (λ (rs : List Record). IsImage (state_after_writes (settled_state full_image) (head_write ∷ body_writes 1 0 rs)) (torn_image one first second))
+      (subst (λ (rs : List Record). IsImage (state_after_writes (settled_state full_image)
+      (head_write ∷ body_writes 1 0 rs)) (torn_image one first second))
       (sym two_records) by_six)
 
 -- the octets that were written among them
-cut_is_torn : cut_image 2 ≡ torn_image (head_sector_of head) (sector_of (settings_record served_config)) (sector_of (kept.TxSa 0 own_sa 13))
+cut_is_torn : cut_image 2
+    ≡ torn_image (head_sector_of head) (sector_of (settings_record served_config)) (sector_of (kept.TxSa 0 own_sa 13))
 unfolding image_with_area image_with_bodies
-cut_is_torn = ap (λ (rs : List Record). image_with_bodies (put_sector full_image (head_body 1) (head_sector_of head)) 1 0 rs) two_records
+cut_is_torn = ap (λ (rs : List Record).
+    image_with_bodies (put_sector full_image (head_body 1) (head_sector_of head)) 1 0 rs) two_records
 
 pub cut-left : MayLeave compacting_disk (cut_image 2)
 cut-left =
     subst (MayLeave compacting_disk) (sym cut_is_torn)
-    (torn-left (head_sector_of head) (sector_of (settings_record served_config)) (sector_of (kept.TxSa 0 own_sa 13)) head_whole settings_whole own_whole)
+    (torn-left (head_sector_of head) (sector_of (settings_record served_config)) (sector_of (kept.TxSa 0 own_sa 13))
+    head_whole settings_whole own_whole)
 
 -- ---- call by call
 
-append_calls : (image : Image) (c : Content) (r : Record) (k : ℕ) → k < 3 → IsOneCall (append_states image c r k) (append_states image c r (suc k))
+append_calls : (image : Image) (c : Content) (r : Record) (k : ℕ) → k < 3
+    → IsOneCall (append_states image c r k) (append_states image c r (suc k))
 append_calls image c r zero within = inl (free_body c, sector_of r, refl)
 append_calls image c r (suc zero) within = inr refl
 append_calls image c r (suc (suc zero)) within = inl (free_gate c, open_gate, refl)

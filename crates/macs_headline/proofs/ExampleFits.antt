@@ -12,8 +12,11 @@ use Rattle.macs_headline.specs.Example.{check_only, example_identity, example_se
 use Rattle.macs_headline.specs.ExampleDisk.{cut_image, ended_content, last_content, last_image, new_image, served_image}
 use Rattle.macs_headline.specs.ExampleStanding.{checked_standing, full_standing, last_standing, served_config}
 use Rattle.macs_headline.specs.History.{formatted_state}
-use Rattle.macs_headline.proofs.ExampleImages.{checked-is, cut-is, last-found, last-is, new-is, served-is, served_standing}
-use Rattle.macs_headline.proofs.ExampleStates.{after_delay, after_delivery, after_hold, before_frame, first_end, first_followed, fourth_end, fourth_followed, s0, s12, s13, s14, second_end, t0, t2, third_end, u0, v0}
+use Rattle.macs_headline.proofs.ExampleImages.{checked-is, cut-is, last-found, last-is, new-is, served-is}
+use Rattle.macs_headline.proofs.ExampleImages.{served_standing}
+use Rattle.macs_headline.proofs.ExampleStates.{after_delay, after_delivery, after_hold, before_frame, first_end}
+use Rattle.macs_headline.proofs.ExampleStates.{first_followed, fourth_end, fourth_followed, s0, s12, s13, s14}
+use Rattle.macs_headline.proofs.ExampleStates.{second_end, t0, t2, third_end, u0, v0}
 use Rattle.macs_headline.proofs.Formats.{new-fits}
 use Rattle.macs_headline.proofs.Places.{cases_place, put_rx, put_rx-that}
 
@@ -26,7 +29,8 @@ fits-new = new-fits example_sectors new_image example_identity new-is
 rx_none : (old new : Option Numbers) → old ≡ None → new ≡ None → RxRises 4 old new
 rx_none old new is js = subst (λ (o : Option Numbers). RxRises 4 o new) (sym is) js
 
-pub away : {X : Type 0} (f : List ℕ → ℕ → Option X) (x : Option X) (sci : List ℕ) (an : ℕ) → (sci ≡ peer_sci → an ≡ 0 → ⊥) → put_rx f peer_sci 0 x sci an ≡ f sci an
+pub away : {X : Type 0} (f : List ℕ → ℕ → Option X) (x : Option X) (sci : List ℕ) (an : ℕ)
+    → (sci ≡ peer_sci → an ≡ 0 → ⊥) → put_rx f peer_sci 0 x sci an ≡ f sci an
 away f x sci an apart = put_rx-that f peer_sci 0 sci an x apart
 
 -- what holds of the peer's association, and of those that have no numbers, holds of all
@@ -43,7 +47,8 @@ rx_all old new here none sci an = elim (cases_place sci an peer_sci 0) [
 -- ---- after the first life
 
 tx_first : (own : Bool)
-    → TxRises 4 (cond own (Some 7) (cond own (Some 6) (cond own (Some 5) (cond own (Some 4) (cond own (Some 3) (cond own (Some 2) (cond own (Some 1) None)))))))
+    → TxRises 4 (cond own (Some 7) (cond own (Some 6)
+    (cond own (Some 5) (cond own (Some 4) (cond own (Some 3) (cond own (Some 2) (cond own (Some 1) None)))))))
     (cond own (Some 9) (cond own (Some 5) None))
 tx_first true = (9, refl, omega arith, omega arith, omega arith)
 tx_first false = refl
@@ -65,9 +70,12 @@ fits-served = record {
       next = λ an. tx_first (an == 0);
       numbers = rx_all first_followed.numbers t0.numbers (9, refl, omega arith, omega arith) (λ sci an apart. (
         ap (option_map (numbers_under_window 3))
-            (away s14.numbers (Some (numbers_after_delivery 1 after_delivery 5)) sci an apart ∙ away s13.numbers (Some after_delivery) sci an apart
-            ∙ away s12.numbers (Some after_hold) sci an apart ∙ ap (option_map (numbers_under_window 1)) (away s0.numbers (Some before_frame) sci an apart)),
-        ap (option_map first_numbers) (away (put_rx no_ceilings.rx peer_sci 0 (Some 1)) (Some 9) sci an apart ∙ away no_ceilings.rx (Some 1) sci an apart),
+            (away s14.numbers (Some (numbers_after_delivery 1 after_delivery 5)) sci an apart
+            ∙ away s13.numbers (Some after_delivery) sci an apart
+            ∙ away s12.numbers (Some after_hold) sci an apart
+            ∙ ap (option_map (numbers_under_window 1)) (away s0.numbers (Some before_frame) sci an apart)),
+        ap (option_map first_numbers) (away (put_rx no_ceilings.rx peer_sci 0 (Some 1)) (Some 9) sci an apart
+            ∙ away no_ceilings.rx (Some 1) sci an apart),
       ));
       logs = refl;
       running = refl;
@@ -80,7 +88,8 @@ fits-served = record {
 
 -- ---- after the second life
 
-tx_second : (own : Bool) → TxRises 4 (cond own (Some 10) (cond own (Some 9) (cond own (Some 5) None))) (cond own (Some 13) None)
+tx_second : (own : Bool)
+    → TxRises 4 (cond own (Some 10) (cond own (Some 9) (cond own (Some 5) None))) (cond own (Some 13) None)
 tx_second true = (13, refl, omega arith, omega arith, omega arith)
 tx_second false = refl
 
@@ -96,8 +105,10 @@ fits-cut = record {
     next = λ an. tx_second (an == 0);
     numbers = rx_all second_end.numbers u0.numbers (9, refl, omega arith, omega arith) (λ sci an apart. (
       ap (option_map (numbers_under_window 3))
-          (away t2.numbers (Some after_delay) sci an apart ∙ ap (option_map (numbers_under_window 3)) (ap (option_map first_numbers)
-          (away (put_rx no_ceilings.rx peer_sci 0 (Some 1)) (Some 9) sci an apart ∙ away no_ceilings.rx (Some 1) sci an apart))),
+          (away t2.numbers (Some after_delay) sci an apart
+          ∙ ap (option_map (numbers_under_window 3)) (ap (option_map first_numbers)
+          (away (put_rx no_ceilings.rx peer_sci 0 (Some 1)) (Some 9) sci an apart
+          ∙ away no_ceilings.rx (Some 1) sci an apart))),
       ap (option_map first_numbers) (away no_ceilings.rx (Some 9) sci an apart),
     ));
     logs = refl;
@@ -143,7 +154,8 @@ tx_fourth true = (17, refl, omega arith, omega arith, omega arith)
 tx_fourth false = refl
 
 -- whether its gate counts or not
-pub fits-killed : (image : Image) → HasEitherJournal last_content ended_content image → Fits this_edition example_sectors image fourth_end
+pub fits-killed : (image : Image) → HasEitherJournal last_content ended_content image
+    → Fits this_edition example_sectors image fourth_end
 fits-killed image (inl found) = record {
   found = last_standing this_edition;
   is_found = last-is image found;

@@ -1,5 +1,6 @@
 -- The example is a history.
-use Rattle.std.proofs.Common.{◌≡◌, ◌<◌, ◌≤◌, ◌^◌, inl, inr, ℕ, zero, suc, Bool, true, false, cond, List, [], ◌∷◌, ◌++◌, drop, take, replicate, Option, Some, None, Err, refl, subst, arith}
+use Rattle.std.proofs.Common.{◌≡◌, ◌<◌, ◌≤◌, ◌^◌, inl, inr, ℕ, zero, suc, Bool, true, false, cond, List, [], ◌∷◌, ◌++◌}
+use Rattle.std.proofs.Common.{drop, take, replicate, Option, Some, None, Err, refl, subst, arith}
 use Rattle.std.specs.Prelude.{All}
 use Rattle.std.specs.List.{AllByRecursion}
 use Rattle.std.proofs.lemmas.List.Elements.{All-replicate}
@@ -16,22 +17,35 @@ use Rattle.macs_store.proofs.LargerEditions.{larger-finds}
 use Rattle.macs_endpoint.specs.Calls.{IsInRange}
 use Rattle.macs_endpoint.specs.State.{Commands, State, rx_side}
 use Rattle.macs_endpoint.specs.Step.{Exchange, Step, Steps}
-use Rattle.macs_headline.specs.Example.{add_peer, check_only, example_identity, example_plain, example_sectors, guard, install_own_again, install_peer_again, later_edition, own_key, own_sa, peer_frame, peer_key, peer_sa, peer_sci, remove_peer, stay_strict, widen}
+use Rattle.macs_headline.specs.Example.{add_peer, check_only, example_identity, example_plain, example_sectors, guard}
+use Rattle.macs_headline.specs.Example.{install_own_again, install_peer_again, later_edition, own_key, own_sa}
+use Rattle.macs_headline.specs.Example.{peer_frame, peer_key, peer_sa, peer_sci, remove_peer, stay_strict, widen}
 use Rattle.macs_headline.specs.ExampleCuts.{append_in_hand, killed_disk, place_behind}
-use Rattle.macs_headline.specs.ExampleDisk.{checked, cut_image, ended_content, ended_image, last_content, last_image, new_image, served_image}
+use Rattle.macs_headline.specs.ExampleDisk.{checked, cut_image, ended_content, ended_image, last_content, last_image}
+use Rattle.macs_headline.specs.ExampleDisk.{new_image, served_image}
 use Rattle.macs_headline.specs.ExampleStanding.{checked_standing, full_standing, last_standing, served_config}
-use Rattle.macs_headline.specs.ExampleLives.{IsWorkedHistory, early_lives, example_lives, first_exchanges, fourth_exchanges, last_exchanges, obeyed, second_exchanges, third_exchanges}
+use Rattle.macs_headline.specs.ExampleLives.{IsWorkedHistory, early_lives, example_lives, first_exchanges}
+use Rattle.macs_headline.specs.ExampleLives.{fourth_exchanges, last_exchanges, obeyed, second_exchanges}
+use Rattle.macs_headline.specs.ExampleLives.{third_exchanges}
 use Rattle.macs_headline.specs.Binding.{HasHistory}
 use Rattle.macs_headline.specs.History.{Blank, Formatted, IsHistory, IsLifeSoFar, formatted_state}
 use Rattle.macs_headline.proofs.Chains.{lead-on}
 use Rattle.macs_headline.proofs.Older.{larger-fits, older}
 use Rattle.macs_headline.proofs.Lists.{each-same}
-use Rattle.macs_headline.proofs.ExampleCuts.{compacting-holds, cut-left, gate-pending, killed-holds, killed-passed, left-open, torn-left, widening-holds, widening-run, working-holds, working-run}
+use Rattle.macs_headline.proofs.ExampleCuts.{compacting-holds, cut-left, gate-pending, killed-holds, killed-passed}
+use Rattle.macs_headline.proofs.ExampleCuts.{left-open, torn-left, widening-holds, widening-run, working-holds}
+use Rattle.macs_headline.proofs.ExampleCuts.{working-run}
 use Rattle.macs_headline.proofs.ExampleFits.{fits-cut, fits-killed, fits-last, fits-new, fits-served}
 use Rattle.macs_headline.proofs.ExampleFrames.{arrival, peer-arrives, peer-late}
-use Rattle.macs_headline.proofs.ExampleImages.{checked-is, cut-is, cut-stands, ended-found, full-slots, larger, last-found, last-is, new-generation, new-is, served-is, served-is-config, served_standing, unfinished-is}
+use Rattle.macs_headline.proofs.ExampleImages.{checked-is, cut-is, cut-stands, ended-found, full-slots, larger}
+use Rattle.macs_headline.proofs.ExampleImages.{last-found, last-is, new-generation, new-is, served-is, served-is-config}
+use Rattle.macs_headline.proofs.ExampleImages.{served_standing, unfinished-is}
 use Rattle.macs_headline.proofs.ExampleRecords.{key-range, long-key-range, peer-range}
-use Rattle.macs_headline.proofs.ExampleStates.{after_delay, after_delivery, after_hold, before_frame, c1, c2, c3, c4, c5, first_end, fourth_end, last_config, last_state, late_numbers, outgoing, s0, s1, s2, s3, s4, s5, s6, s7, s8, s9, s10, s11, s12, s13, s14, s15, s16, s17, second_end, t0, t1, t2, t3, t4, third_end, u0, u1, u2, unguarded_config, v0, v1, waits, x0, x1}
+use Rattle.macs_headline.proofs.ExampleStates.{after_delay, after_delivery, after_hold, before_frame, c1, c2, c3, c4}
+use Rattle.macs_headline.proofs.ExampleStates.{c5, first_end, fourth_end, last_config, last_state, late_numbers}
+use Rattle.macs_headline.proofs.ExampleStates.{outgoing, s0, s1, s2, s3, s4, s5, s6, s7, s8, s9, s10, s11, s12, s13}
+use Rattle.macs_headline.proofs.ExampleStates.{s14, s15, s16, s17, second_end, t0, t1, t2, t3, t4, third_end, u0, u1}
+use Rattle.macs_headline.proofs.ExampleStates.{u2, unguarded_config, v0, v1, waits, x0, x1}
 
 -- the same call, with the same answer, that changes nothing
 pub same_steps : (n : ℕ) (s : State) (e : Exchange) → Step s e.call e.reply s → Steps s (replicate n e) s
@@ -39,7 +53,8 @@ same_steps zero s e step = refl
 same_steps (suc n) s e step = (s, step, same_steps n s e step)
 
 -- steps, and then more
-pub steps_on : (old mid new : State) (xs ys : List Exchange) → Steps old xs mid → Steps mid ys new → Steps old (xs ++ ys) new
+pub steps_on : (old mid new : State) (xs ys : List Exchange) → Steps old xs mid → Steps mid ys new
+    → Steps old (xs ++ ys) new
 steps_on old mid new [] ys one two = subst (λ (s : State). Steps s ys new) one two
 steps_on old mid new (x ∷ xs) ys one two = (one.0, one.1, steps_on one.0 mid new xs ys one.2 two)
 
@@ -139,16 +154,40 @@ receiving_steps = (
     inr (refl, (refl, (c5, refl, refl))),
     (
       s13,
-      inr (refl, inr (arrival before_frame, peer-arrives (rx_side s12) before_frame refl refl refl (λ on late. omega (arith, late)), inl (refl, omega arith, refl, refl))),
+      inr (
+        refl,
+        inr (
+          arrival before_frame,
+          peer-arrives (rx_side s12) before_frame refl refl refl
+              (λ on late. omega (arith, late)),
+          inl (refl, omega arith, refl, refl),
+        ),
+      ),
       (
         s13,
         inr (refl, (refl, refl)),
         (
           s14,
-          inr (refl, inr (arrival after_hold, peer-arrives (rx_side s13) after_hold refl refl refl (λ on late. omega (arith, late)), inr (refl, refl, refl))),
+          inr (
+            refl,
+            inr (
+              arrival after_hold,
+              peer-arrives (rx_side s13) after_hold refl refl refl
+                  (λ on late. omega (arith, late)),
+              inr (refl, refl, refl),
+            ),
+          ),
           (
             s15,
-            inr (refl, inr (arrival after_delivery, peer-arrives (rx_side s14) after_delivery refl refl refl (λ on late. omega (arith, late)), inr (refl, refl, refl))),
+            inr (
+              refl,
+              inr (
+                arrival after_delivery,
+                peer-arrives (rx_side s14) after_delivery refl refl refl
+                    (λ on late. omega (arith, late)),
+                inr (refl, refl, refl),
+              ),
+            ),
             refl,
           ),
         ),
@@ -190,18 +229,21 @@ first_steps =
     widening_steps)))
 
 -- A key that is spent is refused.
-pub refused_by : (b : Bool) (rest : Option Reason) (answer : Config) → b ≡ true → answer_or_refusal (cond b (Some (Named KeySpent)) rest) answer ≡ Err (Named KeySpent)
+pub refused_by : (b : Bool) (rest : Option Reason) (answer : Config) → b ≡ true
+    → answer_or_refusal (cond b (Some (Named KeySpent)) rest) answer ≡ Err (Named KeySpent)
 refused_by true rest answer is = refl
 refused_by false rest answer is = absurd (cc)
 
 own_spent : apply this_edition example_identity served_config install_own_again ≡ Err (Named KeySpent)
 own_spent =
-    refused_by (is_spent served_config.spent_tx (tx_fingerprint own_key)) None (config_after served_config install_own_again)
+    refused_by (is_spent served_config.spent_tx (tx_fingerprint own_key)) None
+    (config_after served_config install_own_again)
     (served-is-config.tx_spent 0 own_sa (omega arith) refl)
 
 peer_spent : apply this_edition example_identity served_config install_peer_again ≡ Err (Named KeySpent)
 peer_spent =
-    refused_by (is_spent served_config.spent_rx (rx_fingerprint peer_sci peer_key)) None (config_after served_config install_peer_again)
+    refused_by (is_spent served_config.spent_rx (rx_fingerprint peer_sci peer_key)) None
+    (config_after served_config install_peer_again)
     (served-is-config.rx_spent peer_sci 0 peer_sa (omega arith) refl)
 
 -- A frame goes out, and three commands are refused.
@@ -236,19 +278,33 @@ refused_steps = (
 delayed_steps : Steps t1 (take 5 (drop 6 second_exchanges)) t4
 delayed_steps = (
   t1,
-  inr (refl, inl (BelowLowest, peer-late (rx_side t1) late_numbers refl refl refl refl (omega arith), refl, refl, refl)),
+  inr (
+    refl,
+    inl (BelowLowest, peer-late (rx_side t1) late_numbers refl refl refl refl (omega arith), refl, refl, refl),
+  ),
   (
     t2,
     inr (refl, (refl, (unguarded_config, refl, refl))),
     (
       t3,
-      inr (refl, inr (arrival late_numbers, peer-arrives (rx_side t2) late_numbers refl refl refl (λ on late. absurd (cc)), inr (refl, refl, refl))),
+      inr (
+        refl,
+        inr (
+          arrival late_numbers,
+          peer-arrives (rx_side t2) late_numbers refl refl refl (λ on late. absurd (cc)),
+          inr (refl, refl, refl),
+        ),
+      ),
       (
         t4,
         inr (refl, (refl, (config_after unguarded_config guard, refl, refl))),
         (
           t4,
-          inr (refl, inl (BelowLowest, peer-late (rx_side t4) after_delay refl refl refl refl (omega arith), refl, refl, refl)),
+          inr (
+            refl,
+            inl
+                (BelowLowest, peer-late (rx_side t4) after_delay refl refl refl refl (omega arith), refl, refl, refl),
+          ),
           refl,
         ),
       ),
@@ -374,21 +430,45 @@ module _ (peer : All (λ octet. octet < 2 ^ 8) (peer_frame 5)) where
 
   second_range : AreInRange second_exchanges
   second_range =
-      range_on (take 6 second_exchanges) (drop 6 second_exchanges)
-      (plain_range, (tt, (plain_range, (omega arith, (install_own_range 1 (omega arith), (install_peer_range 1 (omega arith), tt))))))
-      (peer, (omega arith, (peer, (omega arith, (peer, each-same (λ (e : Exchange). IsInRange e.call) 244 (obeyed stay_strict) tt)))))
+      range_on (take 6 second_exchanges) (drop 6 second_exchanges) (
+        plain_range,
+        (
+          tt,
+          (plain_range, (omega arith, (install_own_range 1 (omega arith), (install_peer_range 1 (omega arith), tt)))),
+        ),
+      ) (
+        peer,
+        (
+          omega arith,
+          (peer, (omega arith, (peer, each-same (λ (e : Exchange). IsInRange e.call) 244 (obeyed stay_strict) tt))),
+        ),
+      )
 
   third_range : AreInRange third_exchanges
   third_range = ((peer-range, omega arith), (plain_range, (tt, (plain_range, (tt, (plain_range, tt))))))
 
-  first_life : IsLifeSoFar example_sectors (Formatted (formatted_state this_edition example_identity)) this_edition new_image first_exchanges first_end
-  first_life = record { fits = fits-new; found = new_standing this_edition example_identity; is_found = new-is; in_range = first_range; steps = first_steps }
+  first_life : IsLifeSoFar example_sectors (Formatted (formatted_state this_edition example_identity)) this_edition
+      new_image first_exchanges first_end
+  first_life = record {
+    fits = fits-new;
+    found = new_standing this_edition example_identity;
+    is_found = new-is;
+    in_range = first_range;
+    steps = first_steps;
+  }
 
   second_life : IsLifeSoFar example_sectors (Formatted first_end) this_edition served_image second_exchanges t4
-  second_life = record { fits = fits-served; found = served_standing; is_found = served-is; in_range = second_range; steps = second_steps }
+  second_life = record {
+    fits = fits-served;
+    found = served_standing;
+    is_found = served-is;
+    in_range = second_range;
+    steps = second_steps;
+  }
 
   third_life : IsLifeSoFar example_sectors (Formatted second_end) this_edition (cut_image 2) third_exchanges third_end
-  third_life = record { fits = fits-cut; found = full_standing; is_found = cut-is; in_range = third_range; steps = third_steps }
+  third_life =
+      record { fits = fits-cut; found = full_standing; is_found = cut-is; in_range = third_range; steps = third_steps }
 
   fourth_life : IsLifeSoFar example_sectors (Formatted third_end) this_edition last_image fourth_exchanges fourth_end
   fourth_life = record {
@@ -401,9 +481,11 @@ module _ (peer : All (λ octet. octet < 2 ^ 8) (peer_frame 5)) where
 
   last_life : IsLifeSoFar example_sectors (Formatted fourth_end) later_edition ended_image last_exchanges last_state
   last_life = record {
-    fits = larger-fits this_edition later_edition larger example_sectors ended_image fourth_end (fits-killed ended_image (inr ended-found));
+    fits = larger-fits this_edition later_edition larger example_sectors ended_image fourth_end
+        (fits-killed ended_image (inr ended-found));
     found = checked_standing later_edition;
-    is_found = larger-finds this_edition later_edition larger example_sectors ended_image (checked_standing this_edition) (checked-is ended_image ended-found);
+    is_found = larger-finds this_edition later_edition larger example_sectors ended_image
+        (checked_standing this_edition) (checked-is ended_image ended-found);
     in_range = (plain_range, (tt, (plain_range, (omega arith, tt))));
     steps = last_steps;
   }
@@ -454,13 +536,15 @@ module _ (peer : All (λ octet. octet < 2 ^ 8) (peer_frame 5)) where
     past = Formatted fourth_end;
     history = early;
     images = λ image left. fits-killed image
-        (holding-image killed_disk (place_behind last_content) (append_in_hand checked) last_content ended_content killed-holds image left);
+        (holding-image killed_disk (place_behind last_content) (append_in_hand checked) last_content ended_content
+        killed-holds image left);
   }
 
   pub is-worked-history : IsWorkedHistory
   is-worked-history = record {
     last = last_state;
-    history = lead-on example_sectors early_lives (drop 9 example_lives) (Blank []) (Formatted fourth_end) (Formatted last_state) early
+    history = lead-on example_sectors early_lives (drop 9 example_lives) (Blank []) (Formatted fourth_end)
+        (Formatted last_state) early
         (Formatted last_state, (last_state, last_life, tt, refl), refl);
     used = refl;
     given = refl;
@@ -482,5 +566,6 @@ module _ (peer : All (λ octet. octet < 2 ^ 8) (peer_frame 5)) where
     later = (larger, λ up_to. let few : 64 ≤ 32 = up_to.channels in omega (arith, few));
     older = older this_edition later_edition larger killed_disk early_lives early_disk;
     found_without = last-is last_image last-found;
-    finds = larger-finds this_edition later_edition larger example_sectors ended_image (checked_standing this_edition) (checked-is ended_image ended-found);
+    finds = larger-finds this_edition later_edition larger example_sectors ended_image (checked_standing this_edition)
+        (checked-is ended_image ended-found);
   }

@@ -1,10 +1,13 @@
 -- What the images of the example stand for.
-use Rattle.std.proofs.Common.{◌≡◌, ◌≤◌, ◌+◌, ◌==◌, ℕ, Bool, true, false, cond, List, [], ◌∷◌, ◌++◌, length, take, min, replicate, bytes_eq, Option, Some, None, is_some, Ok, Err, refl, sym, ◌∙◌, ap, subst, arith, length-take}
+use Rattle.std.proofs.Common.{◌≡◌, ◌≤◌, ◌+◌, ◌==◌, ℕ, Bool, true, false, cond, List, [], ◌∷◌, ◌++◌, length, take, min}
+use Rattle.std.proofs.Common.{replicate, bytes_eq, Option, Some, None, is_some, Ok, Err, refl, sym, ◌∙◌, ap, subst}
+use Rattle.std.proofs.Common.{arith, length-take}
 use Rattle.std.specs.List.{AllByRecursion}
 use Rattle.std.proofs.Math.Path.{fun_ext}
 use Rattle.std.proofs.lemmas.List.{length-replicate}
 use Rattle.macs_config.specs.Apply.{apply, config_after}
-use Rattle.macs_config.specs.Config.{Config, Edition, IsConfig, IsUpTo, are_distinct, default, max_spent, spent_of, this_edition}
+use Rattle.macs_config.specs.Config.{Config, Edition, IsConfig, IsUpTo, are_distinct, default, max_spent, spent_of}
+use Rattle.macs_config.specs.Config.{this_edition}
 use Rattle.macs_config.specs.Tables.{put, put_at}
 use Rattle.macs_config.specs.declared.command.Command.{Command}
 use Rattle.macs_config.specs.declared.command.Role.{Role}
@@ -28,35 +31,46 @@ use Rattle.macs_journal.specs.declared.fault.JournalFault.TheVariants.{NotFormat
 use Rattle.macs_store.specs.Found.{StandingIs, StandsFor}
 use Rattle.macs_store.specs.Replay.{meaning_of, snapshot_of}
 use Rattle.macs_store.specs.Snapshot.{snapshot}
-use Rattle.macs_store.specs.Standing.{IsStanding, Standing, ceilings_with_rx, ceilings_with_tx, new_standing, no_ceilings}
+use Rattle.macs_store.specs.Standing.{IsStanding, Standing, ceilings_with_rx, ceilings_with_tx, new_standing}
+use Rattle.macs_store.specs.Standing.{no_ceilings}
 use Rattle.macs_store.proofs.Snapshots.{snapshot-stands}
-use Rattle.macs_headline.specs.Example.{add_peer, example_identity, example_sectors, install_own, install_peer, later_edition, narrow, own_sa, peer_sa, peer_sci, remove_peer, use_own, widen}
-use Rattle.macs_headline.specs.ExampleDisk.{anew_content, anew_image, checked, cut_image, ended_content, ended_image, narrow_content, narrow_image, first_records, full_content, full_image, full_snapshot, last_content, last_image, new_content, new_image, second_records, served_content, served_image, third_records, widened}
+use Rattle.macs_headline.specs.Example.{add_peer, example_identity, example_sectors, install_own, install_peer}
+use Rattle.macs_headline.specs.Example.{later_edition, narrow, own_sa, peer_sa, peer_sci, remove_peer, use_own, widen}
+use Rattle.macs_headline.specs.ExampleDisk.{anew_content, anew_image, checked, cut_image, ended_content, ended_image}
+use Rattle.macs_headline.specs.ExampleDisk.{narrow_content, narrow_image, first_records, full_content, full_image}
+use Rattle.macs_headline.specs.ExampleDisk.{full_snapshot, last_content, last_image, new_content, new_image}
+use Rattle.macs_headline.specs.ExampleDisk.{second_records, served_content, served_image, third_records, widened}
 use Rattle.macs_headline.specs.ExampleStanding.{checked_standing, full_standing, last_standing, served_config}
 use Rattle.macs_headline.specs.Images.{blank_image, image_while_formatted, image_with_next_body}
-use Rattle.macs_headline.proofs.Built.{area-other, closed-gate, opened-found, opened-other, record-found, records-found, records-other}
+use Rattle.macs_headline.proofs.Built.{area-other, closed-gate, opened-found, opened-other, record-found, records-found}
+use Rattle.macs_headline.proofs.Built.{records-other}
 use Rattle.macs_headline.proofs.BuiltAnew.{anew-found, meaning-anew, meaning-more, same-again, written-found}
-use Rattle.macs_headline.proofs.ExampleRecords.{first-ranges, head-range, second-ranges, snapshot-is, snapshot-ranges, third-ranges, widened-range}
+use Rattle.macs_headline.proofs.ExampleRecords.{first-ranges, head-range, second-ranges, snapshot-is, snapshot-ranges}
+use Rattle.macs_headline.proofs.ExampleRecords.{third-ranges, widened-range}
 use Rattle.macs_headline.proofs.Places.{put-that, put_rx, put_rx-that}
 
 -- ---- formatted
 
 far_new : (i : ℕ) → 514 ≤ i → new_image i ≡ zero_sector
-far_new i far = opened-other blank_image 0 (first_head example_identity) (default_settings ∷ []) i (omega (arith, far)) (omega (arith, far)) (λ j lt. omega (arith, far, lt))
+far_new i far = opened-other blank_image 0 (first_head example_identity) (default_settings ∷ []) i (omega (arith, far))
+    (omega (arith, far)) (λ j lt. omega (arith, far, lt))
 
 pub unfinished-is : StandingIs this_edition example_sectors (image_while_formatted example_identity) (Err NotFormatted)
 unfinished-is =
     let written = area-other blank_image 0 (first_head example_identity) (default_settings ∷ []) in (
       omega arith,
       (
-        closed-gate (image_while_formatted example_identity) 0 0 (written (gate 0 0) (omega arith) (λ j lt. omega arith)),
-        closed-gate (image_while_formatted example_identity) 1 0 (written (gate 1 0) (omega arith) (λ j lt. omega (arith, lt))),
+        closed-gate (image_while_formatted example_identity) 0 0
+            (written (gate 0 0) (omega arith) (λ j lt. omega arith)),
+        closed-gate (image_while_formatted example_identity) 1 0
+            (written (gate 1 0) (omega arith) (λ j lt. omega (arith, lt))),
       ),
     )
 
 new_found : HasJournal new_image new_content
 new_found =
-    opened-found blank_image 0 (first_head example_identity) (default_settings ∷ []) (omega arith) head-range refl (omega arith) ((omega arith, tt), tt)
+    opened-found blank_image 0 (first_head example_identity) (default_settings ∷ []) (omega arith) head-range refl
+    (omega arith) ((omega arith, tt), tt)
     (λ j lt. closed-gate blank_image 0 (j + 1) refl)
     (λ opens. absurd (closed-gate new_image 1 0 (far_new (gate 1 0) (omega arith)) opens))
 
@@ -77,7 +91,8 @@ served_standing = record {
   edition = this_edition;
   identity = example_identity;
   config = served_config;
-  ceilings = ceilings_with_rx (ceilings_with_rx (ceilings_with_tx (ceilings_with_tx no_ceilings 0 (Some 5)) 0 (Some 9)) peer_sci 0 (Some 1)) peer_sci 0 (Some 9);
+  ceilings = ceilings_with_rx (ceilings_with_rx (ceilings_with_tx (ceilings_with_tx no_ceilings 0 (Some 5)) 0 (Some 9))
+      peer_sci 0 (Some 1)) peer_sci 0 (Some 9);
 }
 
 served_meaning : meaning_of this_edition served_content ≡ Some served_standing
@@ -92,7 +107,8 @@ repeated : length (replicate 244 (kept.SetValidate served_config.validate)) ≡ 
 repeated = length-replicate 244 (kept.SetValidate served_config.validate)
 
 pub full-found : HasJournal full_image full_content
-full-found = records-found second_records served_image served_content (omega (arith, repeated)) second-ranges served_found
+full-found =
+    records-found second_records served_image served_content (omega (arith, repeated)) second-ranges served_found
 
 pub full-slots : length full_content.records ≡ slots
 full-slots = refl
@@ -100,7 +116,8 @@ full-slots = refl
 pub far-full : (i : ℕ) → 514 ≤ i → full_image i ≡ zero_sector
 far-full i far =
     records-other second_records served_image served_content i (omega (arith, repeated)) far
-    ∙ put-other (image_with_next_body narrow_image narrow_content widened) (free_gate narrow_content) i open_gate (omega (arith, far))
+    ∙ put-other (image_with_next_body narrow_image narrow_content widened) (free_gate narrow_content) i open_gate
+    (omega (arith, far))
     ∙ put-other narrow_image (free_body narrow_content) i (sector_of widened) (omega (arith, far))
     ∙ records-other first_records new_image new_content i (omega arith) far ∙ far_new i far
 
@@ -117,8 +134,10 @@ served_tx = put_twice no_ceilings.tx 0 (Some 5) (Some 9)
 
 pub served_rx : served_standing.ceilings.rx ≡ put_rx no_ceilings.rx peer_sci 0 (Some 9)
 served_rx =
-    put_at-twice no_ceilings.rx peer_sci (put (no_ceilings.rx peer_sci) 0 (Some 1)) (put (put (no_ceilings.rx peer_sci) 0 (Some 1)) 0 (Some 9))
-    ∙ ap (λ (f : ℕ → Option ℕ). put_at no_ceilings.rx peer_sci f) (put_twice (no_ceilings.rx peer_sci) 0 (Some 1) (Some 9))
+    put_at-twice no_ceilings.rx peer_sci (put (no_ceilings.rx peer_sci) 0 (Some 1))
+    (put (put (no_ceilings.rx peer_sci) 0 (Some 1)) 0 (Some 9))
+    ∙ ap (λ (f : ℕ → Option ℕ). put_at no_ceilings.rx peer_sci f)
+    (put_twice (no_ceilings.rx peer_sci) 0 (Some 1) (Some 9))
 
 -- what the first record of the second life leaves
 abbrev raised_standing : Standing
@@ -129,12 +148,17 @@ raised_is = λ i. record {
   edition = this_edition;
   identity = example_identity;
   config = served_config;
-  ceilings = record { tx = (ap (λ (f : ℕ → Option ℕ). put f 0 (Some 13)) served_tx ∙ put_twice no_ceilings.tx 0 (Some 9) (Some 13)) i; rx = served_rx i };
+  ceilings = record {
+    tx = (ap (λ (f : ℕ → Option ℕ). put f 0 (Some 13)) served_tx
+        ∙ put_twice no_ceilings.tx 0 (Some 9) (Some 13)) i;
+    rx = served_rx i;
+  };
 }
 
 full_meaning : meaning_of this_edition full_content ≡ Some full_standing
 full_meaning =
-    meaning-more this_edition second_records served_content served_standing full_standing (omega arith) refl served_meaning
+    meaning-more this_edition second_records served_content served_standing full_standing (omega arith) refl
+    served_meaning
     (same-again 244 (kept.SetValidate served_config.validate) raised_standing refl ∙ ap Some raised_is)
 
 -- ---- while the journal starts over
@@ -145,7 +169,8 @@ snapshot-size = ap length snapshot-is
 cut_found : (count : ℕ) → HasJournal (cut_image count) full_content
 cut_found count =
     let size : length (take count full_snapshot) ≡ min count (length full_snapshot) = length-take count full_snapshot in
-    written-found full_image full_content full-found 1 refl (next_head full_content.head (length full_snapshot)) (take count full_snapshot)
+    written-found full_image full_content full-found 1 refl (next_head full_content.head (length full_snapshot))
+    (take count full_snapshot)
     (omega (arith, size, snapshot-size)) (closed-gate full_image 1 0 (far-full (gate 1 0) (omega arith)))
 
 pub cut-stands : (count : ℕ) → StandsFor this_edition (cut_image count) full_standing
@@ -157,7 +182,8 @@ cut-is = (omega arith, cut-stands 2)
 cut_gates : (k : ℕ) → k ≤ slots → ¬ IsGateOpen (cut_image 2) 1 k
 cut_gates k le =
     closed-gate (cut_image 2) 1 k
-    (area-other full_image 1 (next_head full_content.head (length full_snapshot)) (take 2 full_snapshot) (gate 1 k) (omega arith) (λ j lt. omega arith)
+    (area-other full_image 1 (next_head full_content.head (length full_snapshot)) (take 2 full_snapshot) (gate 1 k)
+    (omega arith) (λ j lt. omega arith)
     ∙ far-full (gate 1 k) (omega arith))
 
 anew_head : IsHead (next_head full_content.head (length full_snapshot))
@@ -203,7 +229,8 @@ default_config = record {
 }
 
 -- a command of the first life, which is accepted
-next_config : (old new : Config) (command : Command) → apply this_edition example_identity old command ≡ Ok new → IsConfig this_edition example_identity old
+next_config : (old new : Config) (command : Command) → apply this_edition example_identity old command ≡ Ok new
+    → IsConfig this_edition example_identity old
     → IsConfig this_edition example_identity new
 next_config old new command done is = apply-keeps this_edition example_identity old new command is done
 
@@ -216,17 +243,20 @@ served-is-config =
     let c5 = config_after c4 narrow in
     next_config c5 served_config widen refl
     (next_config c4 c5 narrow refl
-    (next_config c3 c4 install_peer refl (next_config c2 c3 add_peer refl (next_config c1 c2 use_own refl (next_config default c1 install_own refl default_config)))))
+    (next_config c3 c4 install_peer refl (next_config c2 c3 add_peer refl
+    (next_config c1 c2 use_own refl (next_config default c1 install_own refl default_config)))))
 
 -- the standing when the area was full, to an edition
 abbrev pub full_to : Edition → Standing
 full_to edition = record full_standing { edition = edition }
 
-pub both_some : {A B : Type 0} (b : Bool) (x : A) (y : B) → is_some (cond b (Some x) None) ≡ is_some (cond b (Some y) None)
+pub both_some : {A B : Type 0} (b : Bool) (x : A) (y : B)
+    → is_some (cond b (Some x) None) ≡ is_some (cond b (Some y) None)
 both_some true x y = refl
 both_some false x y = refl
 
-pub both_at : {A B : Type 0} (b : Bool) (f g : ℕ → Option A) (h k : ℕ → Option B) → ((i : ℕ) → is_some (f i) ≡ is_some (h i)) → ((i : ℕ) → is_some (g i) ≡ is_some (k i))
+pub both_at : {A B : Type 0} (b : Bool) (f g : ℕ → Option A) (h k : ℕ → Option B)
+    → ((i : ℕ) → is_some (f i) ≡ is_some (h i)) → ((i : ℕ) → is_some (g i) ≡ is_some (k i))
     → (i : ℕ) → is_some (cond b f g i) ≡ is_some (cond b h k i)
 both_at true f g h k here there = here
 both_at false f g h k here there = there
@@ -234,7 +264,8 @@ both_at false f g h k here there = there
 full_stands : (edition : Edition) → IsStanding (full_to edition)
 full_stands edition = record {
   tx = λ an. both_some (an == 0) 13 own_sa;
-  rx = λ sci. both_at (bytes_eq sci peer_sci) (put (λ an. None) 0 (Some 9)) (λ an. None) (put (λ an. None) 0 (Some peer_sa)) (λ an. None)
+  rx = λ sci. both_at (bytes_eq sci peer_sci) (put (λ an. None) 0 (Some 9)) (λ an. None)
+      (put (λ an. None) 0 (Some peer_sa)) (λ an. None)
       (λ an. both_some (an == 0) 9 peer_sa) (λ an. refl);
 }
 
@@ -242,17 +273,21 @@ same_snapshot : (edition : Edition) → snapshot (full_to edition) ≡ full_snap
 unfolding snapshot
 same_snapshot edition = refl
 
-snapshot_meaning : (edition : Edition) → IsConfig edition example_identity served_config → snapshot_of edition example_identity full_snapshot ≡ Some (full_to edition)
+snapshot_meaning : (edition : Edition) → IsConfig edition example_identity served_config
+    → snapshot_of edition example_identity full_snapshot ≡ Some (full_to edition)
 snapshot_meaning edition is =
-    subst (λ (rs : List Record). snapshot_of edition example_identity rs ≡ Some (full_to edition)) (same_snapshot edition)
+    subst (λ (rs : List Record). snapshot_of edition example_identity rs ≡ Some (full_to edition))
+    (same_snapshot edition)
     (snapshot-stands (full_to edition) is (full_stands edition)
     (λ an above. put-that (λ an. None) 0 an (Some own_sa) (omega (arith, above)))
-    (λ sci an above. put_rx-that (λ sci an. None) peer_sci 0 sci an (Some peer_sa) (λ same here. omega (arith, above, here))))
+    (λ sci an above.
+    put_rx-that (λ sci an. None) peer_sci 0 sci an (Some peer_sa) (λ same here. omega (arith, above, here))))
 
 -- ---- at last
 
 pub last-found : HasJournal last_image last_content
-last-found = records-found third_records anew_image anew_content (omega (arith, snapshot-size)) third-ranges new-generation
+last-found =
+    records-found third_records anew_image anew_content (omega (arith, snapshot-size)) third-ranges new-generation
 
 pub last-size : length last_content.records ≡ 8
 last-size = ap (λ (rs : List Record). length (rs ++ third_records)) snapshot-is
@@ -274,7 +309,8 @@ ended_is edition =
     let none : ℕ → Option ℕ = λ an. None in
     let no_rx : put_rx (put_rx no_ceilings.rx peer_sci 0 (Some 9)) peer_sci 0 None ≡ no_ceilings.rx =
     put_at-twice no_ceilings.rx peer_sci (put none 0 (Some 9)) (put (put none 0 (Some 9)) 0 None)
-    ∙ put_at-same no_ceilings.rx peer_sci (put (put none 0 (Some 9)) 0 None) (sym (put_twice none 0 (Some 9) None ∙ put-same none 0 None refl)) in
+    ∙ put_at-same no_ceilings.rx peer_sci (put (put none 0 (Some 9)) 0 None)
+    (sym (put_twice none 0 (Some 9) None ∙ put-same none 0 None refl)) in
     λ i. record {
       edition = edition;
       identity = example_identity;
@@ -286,22 +322,29 @@ last_meaning : (edition : Edition) → edition.format_two ≡ true → IsConfig 
     → meaning_of edition last_content ≡ Some (last_standing edition)
 last_meaning edition takes_two is =
     meaning-more edition third_records anew_content (full_to edition) (last_standing edition) (omega arith) refl
-    (meaning-anew edition full_content full_snapshot (full_to edition) takes_two (snapshot_meaning edition is)) (ap Some (ended_is edition))
+    (meaning-anew edition full_content full_snapshot (full_to edition) takes_two (snapshot_meaning edition is))
+    (ap Some (ended_is edition))
 
 pub larger : IsUpTo this_edition later_edition
 larger = record { channels = omega arith; long_keys = λ is. refl; format_two = λ is. refl }
 
 -- what images stand for that hold that journal, or the one with a record more
-pub last-is : (image : Image) → HasJournal image last_content → StandingIs this_edition example_sectors image (Ok (last_standing this_edition))
-last-is image found = (omega arith, record { content = last_content; found = found; stands = last_meaning this_edition refl served-is-config })
+pub last-is : (image : Image) → HasJournal image last_content
+    → StandingIs this_edition example_sectors image (Ok (last_standing this_edition))
+last-is image found = (
+  omega arith,
+  record { content = last_content; found = found; stands = last_meaning this_edition refl served-is-config },
+)
 
-pub checked-is : (image : Image) → HasJournal image ended_content → StandingIs this_edition example_sectors image (Ok (checked_standing this_edition))
+pub checked-is : (image : Image) → HasJournal image ended_content
+    → StandingIs this_edition example_sectors image (Ok (checked_standing this_edition))
 checked-is image found = (
   omega arith,
   record {
     content = ended_content;
     found = found;
-    stands = meaning-more this_edition (checked ∷ []) last_content (last_standing this_edition) (checked_standing this_edition)
+    stands = meaning-more this_edition (checked ∷ []) last_content (last_standing this_edition)
+        (checked_standing this_edition)
         (let count : last_content.head.count ≡ 6 = snapshot-size in omega (arith, count, last-size)) refl
         (last_meaning this_edition refl served-is-config) refl;
   },

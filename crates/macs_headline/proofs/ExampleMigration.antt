@@ -1,5 +1,7 @@
 -- A disk that the first edition of the program formatted, and what an opening makes of it.
-use Rattle.std.proofs.Common.{◌≡◌, ◌≢◌, ◌≤◌, ◌<◌, ◌^◌, ◌+◌, ◌-◌, ◌==◌, ◌++◌, ◌∙◌, inl, inr, ℕ, Bool, true, false, cond, List, replicate, [], ◌∷◌, length, take, bytes_eq, Option, Some, None, Ok, Err, refl, sym, ap, subst, arith}
+use Rattle.std.proofs.Common.{◌≡◌, ◌≢◌, ◌≤◌, ◌<◌, ◌^◌, ◌+◌, ◌-◌, ◌==◌, ◌++◌, ◌∙◌, inl, inr, ℕ, Bool, true, false, cond}
+use Rattle.std.proofs.Common.{List, replicate, [], ◌∷◌, length, take, bytes_eq, Option, Some, None, Ok, Err, refl, sym}
+use Rattle.std.proofs.Common.{ap, subst, arith}
 use Rattle.std.specs.Prelude.{All}
 use Rattle.std.specs.List.{AllByRecursion}
 use Rattle.std.specs.Option.{option_map}
@@ -8,7 +10,8 @@ use Rattle.std.proofs.lemmas.List.{length-replicate}
 use Rattle.std.proofs.lemmas.List.Elements.{All-from_recursion, All-replicate}
 use Rattle.macs_fields.specs.Fields.{IsOctets}
 use Rattle.macs_config.specs.Apply.{Named, apply, config_after}
-use Rattle.macs_config.specs.Config.{Config, Edition, IsConfig, IsUpTo, default, first_edition, is_spent, rx_fingerprint, this_edition, tx_fingerprint}
+use Rattle.macs_config.specs.Config.{Config, Edition, IsConfig, IsUpTo, default, first_edition, is_spent}
+use Rattle.macs_config.specs.Config.{rx_fingerprint, this_edition, tx_fingerprint}
 use Rattle.macs_config.specs.Tables.{put}
 use Rattle.macs_config.specs.declared.command.Command.{Command}
 use Rattle.macs_config.specs.declared.command.Role.TheVariants.{Receive, Transmit}
@@ -40,15 +43,28 @@ use Rattle.macs_store.proofs.Snapshots.{snapshot-stands}
 use Rattle.macs_endpoint.specs.Restart.{Fits, Resumes, TxRises, opened_state}
 use Rattle.macs_endpoint.specs.Calls.{IsInRange}
 use Rattle.macs_endpoint.specs.State.{Commands, RefusedLong, State, rx_side, state_with_in_hand}
-use Rattle.macs_endpoint.specs.Step.{Exchange, Step, Steps, state_after_command, state_after_delivery, state_after_frame, state_after_hold}
+use Rattle.macs_endpoint.specs.Step.{Exchange, Step, Steps, state_after_command, state_after_delivery}
+use Rattle.macs_endpoint.specs.Step.{state_after_frame, state_after_hold}
 use Rattle.macs_headline.specs.Binding.{HasHistory}
-use Rattle.macs_headline.specs.Example.{add_peer, example_identity, example_plain, example_sectors, install_own, install_own_again, install_peer, install_peer_again, own_key, own_sa, peer_frame, peer_key, peer_sa, peer_sci, stay_strict, use_own}
+use Rattle.macs_headline.specs.Example.{add_peer, example_identity, example_plain, example_sectors, install_own}
+use Rattle.macs_headline.specs.Example.{install_own_again, install_peer, install_peer_again, own_key, own_sa}
+use Rattle.macs_headline.specs.Example.{peer_frame, peer_key, peer_sa, peer_sci, stay_strict, use_own}
 use Rattle.macs_headline.specs.ExampleCuts.{body_writes, place_behind, state_after_writes}
 use Rattle.macs_headline.specs.ExampleLives.{obeyed}
-use Rattle.macs_headline.specs.ExampleMigration.{IsOldDisk, IsWorkedMigration, again_content, again_exchanges, again_image, beginning_disk, beginning_in_hand, begun_image, closed_image, filled_content, filled_image, filled_records, filled_snapshot, filled_standing, front_exchanges, install_long, later_lives, long_config, long_content, long_exchanges, long_image, long_records, long_standing, migrated_content, migrated_image, old_content, old_exchanges, old_head, old_image, old_lives, old_records, spent_exchanges, used_config, used_content, used_image, used_records, used_standing}
+use Rattle.macs_headline.specs.ExampleMigration.{IsOldDisk, IsWorkedMigration, again_content, again_exchanges}
+use Rattle.macs_headline.specs.ExampleMigration.{again_image, beginning_disk, beginning_in_hand, begun_image}
+use Rattle.macs_headline.specs.ExampleMigration.{closed_image, filled_content, filled_image, filled_records}
+use Rattle.macs_headline.specs.ExampleMigration.{filled_snapshot, filled_standing, front_exchanges, install_long}
+use Rattle.macs_headline.specs.ExampleMigration.{later_lives, long_config, long_content, long_exchanges, long_image}
+use Rattle.macs_headline.specs.ExampleMigration.{long_records, long_standing, migrated_content, migrated_image}
+use Rattle.macs_headline.specs.ExampleMigration.{old_content, old_exchanges, old_head, old_image, old_lives}
+use Rattle.macs_headline.specs.ExampleMigration.{old_records, spent_exchanges, used_config, used_content, used_image}
+use Rattle.macs_headline.specs.ExampleMigration.{used_records, used_standing}
 use Rattle.macs_headline.specs.History.{Blank, Formats, Formatted, IsHistory, IsLifeSoFar, Leads, formatted_state}
-use Rattle.macs_headline.specs.Images.{blank_image, image_with_area, image_with_bodies, image_with_next_body, image_with_record, image_with_records}
-use Rattle.macs_headline.proofs.Built.{area-other, closed-gate, opened-found, opened-other, records-found, records-other}
+use Rattle.macs_headline.specs.Images.{blank_image, image_with_area, image_with_bodies, image_with_next_body}
+use Rattle.macs_headline.specs.Images.{image_with_record, image_with_records}
+use Rattle.macs_headline.proofs.Built.{area-other, closed-gate, opened-found, opened-other, records-found}
+use Rattle.macs_headline.proofs.Built.{records-other}
 use Rattle.macs_headline.proofs.BuiltAnew.{anew-found, meaning-anew, meaning-more, same-again, written-found}
 use Rattle.macs_headline.proofs.Chains.{settled-disks}
 use Rattle.macs_headline.proofs.ExampleCuts.{head-sector, record_sector, torn_kept, torn_whole}
@@ -56,7 +72,8 @@ use Rattle.macs_headline.proofs.ExampleFits.{away, rx_all}
 use Rattle.macs_headline.proofs.ExampleFrames.{arrival, peer-arrives}
 use Rattle.macs_headline.proofs.ExampleHistory.{range_on, refused_by, same_steps, steps_on}
 use Rattle.macs_headline.proofs.ExampleImages.{both_at, both_some, default_config, put_twice, served_rx, served_tx}
-use Rattle.macs_headline.proofs.ExampleRecords.{head-range, key-range, long-key-range, peer-range, print_range, snapshot-ranges}
+use Rattle.macs_headline.proofs.ExampleRecords.{head-range, key-range, long-key-range, peer-range, print_range}
+use Rattle.macs_headline.proofs.ExampleRecords.{snapshot-ranges}
 use Rattle.macs_headline.proofs.ExampleStates.{outgoing}
 use Rattle.macs_headline.proofs.Lists.{each-same}
 use Rattle.macs_headline.proofs.Older.{older}
@@ -97,7 +114,14 @@ used_ranges = (
   (omega arith, omega arith),
   (
     (omega arith, inl (key-range 1 (omega arith)), (omega arith, omega arith)),
-    ((omega arith, omega arith, All-from_recursion (IsOctets 32) (tx_fingerprint own_key ∷ []) (print_range own_key, tt)), tt),
+    (
+      (
+        omega arith,
+        omega arith,
+        All-from_recursion (IsOctets 32) (tx_fingerprint own_key ∷ []) (print_range own_key, tt),
+      ),
+      tt,
+    ),
   ),
 )
 
@@ -115,14 +139,16 @@ long_ranges = (
 
 far_old : (i : ℕ) → 514 ≤ i → old_image i ≡ zero_sector
 far_old i far =
-    opened-other blank_image 0 old_head (default_settings ∷ []) i (omega (arith, far)) (omega (arith, far)) (λ j lt. omega (arith, far, lt))
+    opened-other blank_image 0 old_head (default_settings ∷ []) i (omega (arith, far)) (omega (arith, far))
+    (λ j lt. omega (arith, far, lt))
 
 closed_old : (k : ℕ) → ¬ IsGateOpen old_image 1 k
 closed_old k = closed-gate old_image 1 k (far_old (gate 1 k) (omega arith))
 
 old_found : HasJournal old_image old_content
 old_found =
-    opened-found blank_image 0 old_head (default_settings ∷ []) (omega arith) old_range refl (omega arith) settings_range
+    opened-found blank_image 0 old_head (default_settings ∷ []) (omega arith) old_range refl (omega arith)
+    settings_range
     (λ j lt. closed-gate blank_image 0 (j + 1) refl) (λ opens. absurd (closed_old 0 opens))
 
 pub used_found : HasJournal used_image used_content
@@ -135,7 +161,8 @@ pub closed_used : (k : ℕ) → ¬ IsGateOpen used_image 1 k
 closed_used k = closed-gate used_image 1 k (far_used (gate 1 k) (omega arith))
 
 begun_found : HasJournal begun_image used_content
-begun_found = written-found used_image used_content used_found 1 refl (next_head used_content.head 3) (take 2 used_records) (omega arith) (closed_used 0)
+begun_found = written-found used_image used_content used_found 1 refl (next_head used_content.head 3)
+    (take 2 used_records) (omega arith) (closed_used 0)
 
 -- three sectors are pending, and a power loss may leave in each what was written
 left_begun : MayLeave beginning_disk begun_image
@@ -146,19 +173,24 @@ left_begun =
     let head = next_head used_content.head 3 in
     record {
       kept = λ i clean.
-          torn_kept (i == head_body 1) (i == slot_body 1 0) (i == slot_body 1 1) (head_sector_of head) (sector_of settings) (sector_of own) (used_image i) clean;
+          torn_kept (i == head_body 1) (i == slot_body 1 0) (i == slot_body 1 1) (head_sector_of head)
+          (sector_of settings) (sector_of own) (used_image i) clean;
       whole = λ i pending.
-          torn_whole (i == head_body 1) (i == slot_body 1 0) (i == slot_body 1 1) (head_sector_of head) (sector_of settings) (sector_of own) (used_image i)
-          (head-sector head next_range) (record_sector settings used_ranges.0 refl) (record_sector own used_ranges.1.0 refl) pending;
+          torn_whole (i == head_body 1) (i == slot_body 1 0) (i == slot_body 1 1) (head_sector_of head)
+          (sector_of settings) (sector_of own) (used_image i)
+          (head-sector head next_range) (record_sector settings used_ranges.0 refl)
+          (record_sector own used_ranges.1.0 refl) pending;
     }
 
 begun_closed : (k : ℕ) → k ≤ slots → ¬ IsGateOpen begun_image 1 k
 begun_closed k le =
     closed-gate begun_image 1 k
-    (area-other used_image 1 (next_head used_content.head 3) (take 2 used_records) (gate 1 k) (omega arith) (λ j lt. omega arith) ∙ far_used (gate 1 k) (omega arith))
+    (area-other used_image 1 (next_head used_content.head 3) (take 2 used_records) (gate 1 k) (omega arith)
+    (λ j lt. omega arith) ∙ far_used (gate 1 k) (omega arith))
 
 migrated_found : HasJournal migrated_image migrated_content
-migrated_found = anew-found begun_image used_content begun_found 1 refl used_records next_range (omega arith) used_ranges begun_closed
+migrated_found = anew-found begun_image used_content begun_found 1 refl used_records next_range (omega arith)
+    used_ranges begun_closed
 
 long_found : HasJournal long_image long_content
 long_found = records-found long_records migrated_image migrated_content (omega arith) long_ranges migrated_found
@@ -175,7 +207,8 @@ filled_found : HasJournal filled_image filled_content
 filled_found = records-found filled_records long_image long_content (omega (arith, repeated)) filled_ranges long_found
 
 -- sectors in front of the area are not written
-records_before : (rs : List Record) (image : Image) (c : Content) (i : ℕ) → i < head_body c.area → image_with_records image c rs i ≡ image i
+records_before : (rs : List Record) (image : Image) (c : Content) (i : ℕ) → i < head_body c.area
+    → image_with_records image c rs i ≡ image i
 unfolding image_with_records
 records_before [] image c i front = refl
 records_before (r ∷ rs) image c i front =
@@ -193,7 +226,8 @@ used_gate k no_two no_three =
     let c = content_with_record old_content first in
     put-other (image_with_next_body mid c second) (free_gate c) (gate 0 k) open_gate (omega (arith, no_three))
     ∙ put-other mid (free_body c) (gate 0 k) (sector_of second) (omega arith)
-    ∙ put-other (image_with_next_body old_image old_content first) (free_gate old_content) (gate 0 k) open_gate (omega (arith, no_two))
+    ∙ put-other (image_with_next_body old_image old_content first) (free_gate old_content) (gate 0 k) open_gate
+    (omega (arith, no_two))
     ∙ put-other old_image (free_body old_content) (gate 0 k) (sector_of first) (omega arith)
 
 -- what the later lives wrote is in the second area
@@ -201,13 +235,16 @@ filled_front : (i : ℕ) → i < 514 → filled_image i ≡ used_image i
 filled_front i front =
     records_before filled_records long_image long_content i (omega (arith, front))
     ∙ records_before long_records migrated_image migrated_content i (omega (arith, front))
-    ∙ opened-other begun_image 1 (next_head used_content.head 3) used_records i (omega (arith, front)) (omega (arith, front)) (λ j lt. omega (arith, front))
-    ∙ area-other used_image 1 (next_head used_content.head 3) (take 2 used_records) i (omega (arith, front)) (λ j lt. omega (arith, front))
+    ∙ opened-other begun_image 1 (next_head used_content.head 3) used_records i (omega (arith, front))
+    (omega (arith, front)) (λ j lt. omega (arith, front))
+    ∙ area-other used_image 1 (next_head used_content.head 3) (take 2 used_records) i (omega (arith, front))
+    (λ j lt. omega (arith, front))
 
 filled_gate : (k : ℕ) → k ≤ slots → k ≢ 0 → k ≢ 2 → k ≢ 3 → filled_image (gate 0 k) ≡ zero_sector
 filled_gate k le no_zero no_two no_three =
     filled_front (gate 0 k) (omega (arith, le)) ∙ used_gate k no_two no_three
-    ∙ opened-other blank_image 0 old_head (default_settings ∷ []) (gate 0 k) (omega arith) (omega (arith, no_zero)) (λ j lt. omega arith)
+    ∙ opened-other blank_image 0 old_head (default_settings ∷ []) (gate 0 k) (omega arith) (omega (arith, no_zero))
+    (λ j lt. omega arith)
 
 gate_zero : closed_gate ≡ zero_sector
 unfolding zero_sector
@@ -227,12 +264,14 @@ closed_other i no_zero no_two no_three =
 
 closed_first : closed_image (gate 0 0) ≡ zero_sector
 closed_first =
-    put-other two_closed (gate 0 3) (gate 0 0) closed_gate (omega arith) ∙ put-other one_closed (gate 0 2) (gate 0 0) closed_gate (omega arith)
+    put-other two_closed (gate 0 3) (gate 0 0) closed_gate (omega arith)
+    ∙ put-other one_closed (gate 0 2) (gate 0 0) closed_gate (omega arith)
     ∙ put-same filled_image (gate 0 0) (gate 0 0) closed_gate refl ∙ gate_zero
 
 closed_second : closed_image (gate 0 2) ≡ zero_sector
 closed_second =
-    put-other two_closed (gate 0 3) (gate 0 2) closed_gate (omega arith) ∙ put-same one_closed (gate 0 2) (gate 0 2) closed_gate refl ∙ gate_zero
+    put-other two_closed (gate 0 3) (gate 0 2) closed_gate (omega arith)
+    ∙ put-same one_closed (gate 0 2) (gate 0 2) closed_gate refl ∙ gate_zero
 
 closed_third : closed_image (gate 0 3) ≡ zero_sector
 closed_third = put-same two_closed (gate 0 3) (gate 0 3) closed_gate refl ∙ gate_zero
@@ -245,7 +284,8 @@ closed_each k le = elim (cases_eq k 0) [
     | inr no_two ↦ elim (cases_eq k 3) [
       | inl at_three ↦ ap (λ (n : ℕ). closed_image (gate 0 n)) at_three ∙ closed_third
       | inr no_three ↦
-          closed_other (gate 0 k) (omega (arith, no_zero)) (omega (arith, no_two)) (omega (arith, no_three)) ∙ filled_gate k le no_zero no_two no_three
+          closed_other (gate 0 k) (omega (arith, no_zero)) (omega (arith, no_two)) (omega (arith, no_three))
+          ∙ filled_gate k le no_zero no_two no_three
     ]
   ]
 ]
@@ -309,7 +349,8 @@ used_this : meaning_of this_edition used_content ≡ Some (used_standing this_ed
 used_this = refl
 
 -- a command that is accepted
-next_config : (old new : Config) (command : Command) → apply this_edition example_identity old command ≡ Ok new → IsConfig this_edition example_identity old
+next_config : (old new : Config) (command : Command) → apply this_edition example_identity old command ≡ Ok new
+    → IsConfig this_edition example_identity old
     → IsConfig this_edition example_identity new
 next_config old new command done is = apply-keeps this_edition example_identity old new command is done
 
@@ -332,16 +373,19 @@ snapshot_is = refl
 
 snapshot_meaning : snapshot_of this_edition example_identity used_records ≡ Some (used_standing this_edition)
 snapshot_meaning =
-    subst (λ (rs : List Record). snapshot_of this_edition example_identity rs ≡ Some (used_standing this_edition)) snapshot_is
+    subst (λ (rs : List Record). snapshot_of this_edition example_identity rs
+    ≡ Some (used_standing this_edition)) snapshot_is
     (snapshot-stands (used_standing this_edition) used_is_config used_stands
     (λ an above. put-that (λ an. None) 0 an (Some own_sa) (omega (arith, above))) (λ sci an above. refl))
 
 migrated_meaning : meaning_of this_edition migrated_content ≡ Some (used_standing this_edition)
-migrated_meaning = meaning-anew this_edition used_content used_records (used_standing this_edition) refl snapshot_meaning
+migrated_meaning =
+    meaning-anew this_edition used_content used_records (used_standing this_edition) refl snapshot_meaning
 
 long_meaning : meaning_of this_edition long_content ≡ Some long_standing
 long_meaning =
-    meaning-more this_edition long_records migrated_content (used_standing this_edition) long_standing (omega arith) refl migrated_meaning refl
+    meaning-more this_edition long_records migrated_content (used_standing this_edition) long_standing (omega arith)
+    refl migrated_meaning refl
 
 -- one ceiling in the place of two
 abbrev raised_standing : Standing
@@ -352,7 +396,11 @@ raised_is = λ i. record {
   edition = this_edition;
   identity = example_identity;
   config = long_config;
-  ceilings = record { tx = (ap (λ (f : ℕ → Option ℕ). put f 0 (Some 13)) served_tx ∙ put_twice no_ceilings.tx 0 (Some 9) (Some 13)) i; rx = served_rx i };
+  ceilings = record {
+    tx = (ap (λ (f : ℕ → Option ℕ). put f 0 (Some 13)) served_tx
+        ∙ put_twice no_ceilings.tx 0 (Some 9) (Some 13)) i;
+    rx = served_rx i;
+  };
 }
 
 filled_meaning : meaning_of this_edition filled_content ≡ Some filled_standing
@@ -363,7 +411,8 @@ filled_meaning =
 filled_stands : IsStanding filled_standing
 filled_stands = record {
   tx = λ an. both_some (an == 0) 13 own_sa;
-  rx = λ sci. both_at (bytes_eq sci peer_sci) (put (λ an. None) 0 (Some 9)) (λ an. None) (put (λ an. None) 0 (Some peer_sa)) (λ an. None)
+  rx = λ sci. both_at (bytes_eq sci peer_sci) (put (λ an. None) 0 (Some 9)) (λ an. None)
+      (put (λ an. None) 0 (Some peer_sa)) (λ an. None)
       (λ an. both_some (an == 0) 9 peer_sa) (λ an. refl);
 }
 
@@ -372,7 +421,8 @@ again_meaning =
     meaning-anew this_edition filled_content filled_snapshot filled_standing refl
     (snapshot-stands filled_standing long_is_config filled_stands
     (λ an above. put-that (λ an. None) 0 an (Some own_sa) (omega (arith, above)))
-    (λ sci an above. put_rx-that (λ sci an. None) peer_sci 0 sci an (Some peer_sa) (λ same here. omega (arith, above, here))))
+    (λ sci an above.
+    put_rx-that (λ sci an. None) peer_sci 0 sci an (Some peer_sa) (λ same here. omega (arith, above, here))))
 
 used_is : IsToMigrate this_edition used_image used_content (used_standing this_edition)
 used_is = record {
@@ -389,7 +439,8 @@ used_alike = record {
 
 -- ---- the life of the first edition
 
-formatted_life : Leads example_sectors (Blank []) (Formats first_edition example_identity true) (Formatted (formatted_state first_edition example_identity))
+formatted_life : Leads example_sectors (Blank []) (Formats first_edition example_identity true)
+    (Formatted (formatted_state first_edition example_identity))
 formatted_life = refl
 
 -- the state after the `format`
@@ -470,7 +521,8 @@ tx_old true = (5, refl, omega arith, omega arith, omega arith)
 tx_old false = refl
 
 -- an edition resumes what that life left
-old_resumed : (edition : Edition) → IsUpTo first_edition edition → Resumes old_end (opened_state (used_standing edition) old_end.logs)
+old_resumed : (edition : Edition) → IsUpTo first_edition edition
+    → Resumes old_end (opened_state (used_standing edition) old_end.logs)
 old_resumed edition up_to = record {
   edition = up_to;
   identity = refl;
@@ -503,7 +555,8 @@ old_history disk is =
     let size = is.size in
     let large : least_sectors ≤ disk.sectors = omega (arith, size) in
     settled-disks first_edition disk old_lives (Formatted old_end) used_image is.honest is.settled
-    (past, formatted_life, (Formatted old_end, (old_end, old_life disk.sectors large, tt, refl), refl)) (used_fits disk.sectors large)
+    (past, formatted_life, (Formatted old_end, (old_end, old_life disk.sectors large, tt, refl), refl))
+    (used_fits disk.sectors large)
 
 -- ---- the lives of this edition
 
@@ -574,13 +627,29 @@ long_steps = (
         inr (refl, (refl, (long_config, refl, refl))),
         (
           a4,
-          inr (refl, inr (arrival before_frame, peer-arrives (rx_side a3) before_frame refl refl refl (λ on late. omega (arith, late)), inl (refl, omega arith, refl, refl))),
+          inr (
+            refl,
+            inr (
+              arrival before_frame,
+              peer-arrives (rx_side a3) before_frame refl refl refl
+                  (λ on late. omega (arith, late)),
+              inl (refl, omega arith, refl, refl),
+            ),
+          ),
           (
             a4,
             inr (refl, (refl, refl)),
             (
               long_end,
-              inr (refl, inr (arrival after_hold, peer-arrives (rx_side a4) after_hold refl refl refl (λ on late. omega (arith, late)), inr (refl, refl, refl))),
+              inr (
+                refl,
+                inr (
+                  arrival after_hold,
+                  peer-arrives (rx_side a4) after_hold refl refl refl
+                      (λ on late. omega (arith, late)),
+                  inr (refl, refl, refl),
+                ),
+              ),
               refl,
             ),
           ),
@@ -592,12 +661,14 @@ long_steps = (
 
 own_spent : apply this_edition example_identity long_config install_own_again ≡ Err (Named KeySpent)
 own_spent =
-    refused_by (is_spent long_config.spent_tx (tx_fingerprint own_key)) None (config_after long_config install_own_again)
+    refused_by (is_spent long_config.spent_tx (tx_fingerprint own_key)) None
+    (config_after long_config install_own_again)
     (long_is_config.tx_spent 0 own_sa (omega arith) refl)
 
 peer_spent : apply this_edition example_identity long_config install_peer_again ≡ Err (Named KeySpent)
 peer_spent =
-    refused_by (is_spent long_config.spent_rx (rx_fingerprint peer_sci peer_key)) None (config_after long_config install_peer_again)
+    refused_by (is_spent long_config.spent_rx (rx_fingerprint peer_sci peer_key)) None
+    (config_after long_config install_peer_again)
     (long_is_config.rx_spent peer_sci 0 peer_sa (omega arith) refl)
 
 front_steps : Steps b0 front_exchanges spent_end
@@ -622,7 +693,8 @@ front_steps = (
 spent_steps : Steps b0 spent_exchanges spent_end
 spent_steps =
     steps_on b0 spent_end spent_end front_exchanges (replicate 248 (obeyed stay_strict)) front_steps
-    (same_steps 248 spent_end (obeyed stay_strict) (inr (refl, (refl, (config_after long_config stay_strict, refl, refl)))))
+    (same_steps 248 spent_end (obeyed stay_strict)
+    (inr (refl, (refl, (config_after long_config stay_strict, refl, refl)))))
 
 again_steps : Steps c0 again_exchanges last_end
 again_steps = (
@@ -635,15 +707,22 @@ again_steps = (
   ),
 )
 
-tx_long : (own : Bool) → TxRises 4 (cond own (Some 6) (cond own (Some 5) None)) (cond own (Some 9) (cond own (Some 5) None))
+tx_long : (own : Bool)
+    → TxRises 4 (cond own (Some 6) (cond own (Some 5) None)) (cond own (Some 9) (cond own (Some 5) None))
 tx_long true = (9, refl, omega arith, omega arith, omega arith)
 tx_long false = refl
 
 fits_begun : Fits this_edition example_sectors begun_image old_end
-fits_begun = record { found = used_standing this_edition; is_found = begun_is; restart = inl (old_resumed this_edition up_to_this) }
+fits_begun = record {
+  found = used_standing this_edition;
+  is_found = begun_is;
+  restart =
+      inl (old_resumed this_edition up_to_this);
+}
 
 -- while the journal starts over a power loss leaves the one or the other
-fits_either : (image : Image) → HasEitherJournal used_content migrated_content image → Fits this_edition example_sectors image old_end
+fits_either : (image : Image) → HasEitherJournal used_content migrated_content image
+    → Fits this_edition example_sectors image old_end
 fits_either image (inl found) = record {
   found = used_standing this_edition;
   is_found = (omega arith, record { content = used_content; found = found; stands = used_this });
@@ -660,9 +739,14 @@ beginning_history : IsHolding beginning_disk (place_behind used_content) beginni
 beginning_history beginning = record {
   honest = refl;
   past = Formatted old_end;
-  history = (Formatted made, formatted_life, (Formatted old_end, (old_end, old_life example_sectors (omega arith), tt, refl), refl));
+  history = (
+    Formatted made,
+    formatted_life,
+    (Formatted old_end, (old_end, old_life example_sectors (omega arith), tt, refl), refl),
+  );
   images = λ image left. fits_either image
-      (holding-image beginning_disk (place_behind used_content) beginning_in_hand used_content migrated_content beginning image left);
+      (holding-image beginning_disk (place_behind used_content) beginning_in_hand used_content migrated_content
+      beginning image left);
 }
 
 fits_long : Fits this_edition example_sectors long_image long_end
@@ -675,8 +759,10 @@ fits_long = record {
     config = refl;
     next = λ an. tx_long (an == 0);
     numbers = rx_all long_end.numbers b0.numbers (9, refl, omega arith, omega arith) (λ sci an apart. (
-      away a4.numbers (Some after_delivery) sci an apart ∙ away a3.numbers (Some after_hold) sci an apart ∙ away a2.numbers (Some before_frame) sci an apart,
-      ap (option_map first_numbers) (away (put_rx no_ceilings.rx peer_sci 0 (Some 1)) (Some 9) sci an apart ∙ away no_ceilings.rx (Some 1) sci an apart),
+      away a4.numbers (Some after_delivery) sci an apart ∙ away a3.numbers (Some after_hold) sci an apart
+          ∙ away a2.numbers (Some before_frame) sci an apart,
+      ap (option_map first_numbers) (away (put_rx no_ceilings.rx peer_sci 0 (Some 1)) (Some 9) sci an apart
+          ∙ away no_ceilings.rx (Some 1) sci an apart),
     ));
     logs = refl;
     running = refl;
@@ -686,7 +772,8 @@ fits_long = record {
   });
 }
 
-tx_filled : (own : Bool) → TxRises 4 (cond own (Some 10) (cond own (Some 9) (cond own (Some 5) None))) (cond own (Some 13) None)
+tx_filled : (own : Bool)
+    → TxRises 4 (cond own (Some 10) (cond own (Some 9) (cond own (Some 5) None))) (cond own (Some 13) None)
 tx_filled true = (13, refl, omega arith, omega arith, omega arith)
 tx_filled false = refl
 
@@ -704,7 +791,8 @@ fits_again = record {
     config = refl;
     next = λ an. tx_filled (an == 0);
     numbers = rx_all filled_end.numbers c0.numbers (9, refl, omega arith, omega arith) (λ sci an apart. (
-      ap (option_map first_numbers) (away (put_rx no_ceilings.rx peer_sci 0 (Some 1)) (Some 9) sci an apart ∙ away no_ceilings.rx (Some 1) sci an apart),
+      ap (option_map first_numbers) (away (put_rx no_ceilings.rx peer_sci 0 (Some 1)) (Some 9) sci an apart
+          ∙ away no_ceilings.rx (Some 1) sci an apart),
       ap (option_map first_numbers) (away no_ceilings.rx (Some 9) sci an apart),
     ));
     logs = refl;
@@ -723,7 +811,22 @@ module _ (peer : All (λ octet. octet < 2 ^ 8) (peer_frame 5)) where
     is_found = begun_is;
     in_range = (
       tt,
-      (plain_range, (peer-range, ((peer-range, omega arith, inr (long-key-range 2 (omega arith)), omega arith, omega arith), (peer, (tt, (peer, tt)))))),
+      (
+        plain_range,
+        (
+          peer-range,
+          (
+            (
+              peer-range,
+              omega arith,
+              inr (long-key-range 2 (omega arith)),
+              omega arith,
+              omega arith,
+            ),
+            (peer, (tt, (peer, tt))),
+          ),
+        ),
+      ),
     );
     steps = long_steps;
   }
@@ -735,7 +838,10 @@ module _ (peer : All (λ octet. octet < 2 ^ 8) (peer_frame 5)) where
     is_found = long_is;
     in_range = range_on front_exchanges (replicate 248 (obeyed stay_strict)) (
       (omega arith, inl (key-range 1 (omega arith)), omega arith, omega arith),
-      ((peer-range, omega arith, inr (long-key-range 2 (omega arith)), omega arith, omega arith), (tt, (plain_range, tt))),
+      (
+        (peer-range, omega arith, inr (long-key-range 2 (omega arith)), omega arith, omega arith),
+        (tt, (plain_range, tt)),
+      ),
     )
         (each-same (λ (e : Exchange). IsInRange e.call) 248 (obeyed stay_strict) tt);
     steps = spent_steps;
@@ -773,7 +879,8 @@ module _ (peer : All (λ octet. octet < 2 ^ 8) (peer_frame 5)) where
     ),
   )
 
-  pub is-worked-migration : IsHolding beginning_disk (place_behind used_content) beginning_in_hand used_content migrated_content → IsWorkedMigration
+  pub is-worked-migration : IsHolding beginning_disk (place_behind used_content) beginning_in_hand used_content
+      migrated_content → IsWorkedMigration
   is-worked-migration beginning = record {
     as_old = λ disk honest size settled. record { honest = honest; size = size; settled = settled };
     formatted = old_history;
@@ -783,7 +890,8 @@ module _ (peer : All (λ octet. octet < 2 ^ 8) (peer_frame 5)) where
     cut_short = beginning_history beginning;
     left_begun = left_begun;
     begun = begun_found;
-    anew = subst (λ (records : List Record). HasJournal migrated_image (compacted used_content records)) (sym snapshot_is) migrated_found;
+    anew = subst (λ (records : List Record). HasJournal migrated_image (compacted used_content records))
+        (sym snapshot_is) migrated_found;
     moved = (refl, refl, migrated_found);
     alike = used_alike;
     stood = long_is;

@@ -46,12 +46,14 @@ pub long-key-range : (x : ℕ) → IsOctet x → IsOctets 32 (replicate 32 x)
 long-key-range x lt = record { size = refl; each = All-replicate IsOctet 32 x lt }
 
 pub word-range : (x : ℕ) → All IsOctet (to_be_bytes w32 x)
-word-range x = All-from_recursion IsOctet (to_be_bytes w32 x) (omega arith, (omega arith, (omega arith, (omega arith, tt))))
+word-range x =
+    All-from_recursion IsOctet (to_be_bytes w32 x) (omega arith, (omega arith, (omega arith, (omega arith, tt))))
 
 digest_range : (h : List ℕ) (n : ℕ) → All IsOctet (digest_bytes h n)
 unfolding digest_bytes
 digest_range h zero = All-nil IsOctet
-digest_range h (suc n) = All-append IsOctet (digest_bytes h n) (to_be_bytes w32 (slice_index h n)) (digest_range h n) (word-range (slice_index h n))
+digest_range h (suc n) = All-append IsOctet (digest_bytes h n) (to_be_bytes w32 (slice_index h n)) (digest_range h n)
+    (word-range (slice_index h n))
 
 -- a fingerprint has 32 octets
 pub print_range : (octets : List ℕ) → IsOctets 32 (sha256 octets)
@@ -95,7 +97,10 @@ pub widened-range : IsRecord widened
 widened-range = omega arith
 
 pub second-ranges : AllByRecursion IsRecord second_records
-second-ranges = ((omega arith, (omega arith, omega arith)), (omega arith, (omega arith, each-same IsRecord 244 (kept.SetValidate Strict) tt)))
+second-ranges = (
+  (omega arith, (omega arith, omega arith)),
+  (omega arith, (omega arith, each-same IsRecord 244 (kept.SetValidate Strict) tt)),
+)
 
 pub third-ranges : AllByRecursion IsRecord third_records
 third-ranges = ((peer-range, omega arith), ((omega arith, (omega arith, omega arith)), tt))
@@ -127,8 +132,19 @@ snapshot-ranges = (
       (
         (peer-range, omega arith, inr (long-key-range 2 (omega arith)), (omega arith, omega arith)),
         (
-          (omega arith, omega arith, All-from_recursion (IsOctets 32) (tx_fingerprint own_key ∷ []) (print_range own_key, tt)),
-          ((omega arith, omega arith, All-from_recursion (IsOctets 32) (rx_fingerprint peer_sci peer_key ∷ []) (print_range _, tt)), tt),
+          (
+            omega arith,
+            omega arith,
+            All-from_recursion (IsOctets 32) (tx_fingerprint own_key ∷ []) (print_range own_key, tt),
+          ),
+          (
+            (
+              omega arith,
+              omega arith,
+              All-from_recursion (IsOctets 32) (rx_fingerprint peer_sci peer_key ∷ []) (print_range _, tt),
+            ),
+            tt,
+          ),
         ),
       ),
     ),

@@ -8,9 +8,11 @@ use Rattle.macs_rxsc.specs.Receive.{Numbers, first_numbers, numbers_after_delive
 use Rattle.macs_store.specs.Standing.{new_standing}
 use Rattle.macs_endpoint.specs.Restart.{opened_state}
 use Rattle.macs_endpoint.specs.State.{State, no_logs, state_after_fault, state_with_in_hand}
-use Rattle.macs_endpoint.specs.Step.{state_after_command, state_after_delivery, state_after_frame, state_after_hold, state_with_waiting, state_without_first}
+use Rattle.macs_endpoint.specs.Step.{state_after_command, state_after_delivery, state_after_frame, state_after_hold}
+use Rattle.macs_endpoint.specs.Step.{state_with_waiting, state_without_first}
 use Rattle.macs_endpoint.specs.declared.queue.Waiting.{Waiting}
-use Rattle.macs_headline.specs.Example.{add_peer, check_only, example_identity, install_own, guard, install_peer, later_edition, narrow, own_sa, remove_peer, unguard, use_own, widen}
+use Rattle.macs_headline.specs.Example.{add_peer, check_only, example_identity, install_own, guard, install_peer}
+use Rattle.macs_headline.specs.Example.{later_edition, narrow, own_sa, remove_peer, unguard, use_own, widen}
 use Rattle.macs_headline.specs.ExampleStanding.{checked_standing, full_standing, last_standing, served_config}
 use Rattle.macs_headline.proofs.ExampleFrames.{arrival}
 use Rattle.macs_headline.proofs.ExampleImages.{served_standing}

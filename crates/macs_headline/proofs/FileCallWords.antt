@@ -1,7 +1,8 @@
 -- What a call of a file that behaves may leave.
 use Rattle.std.proofs.Common.{◌≡◌, ◌↔◌, ℕ, true, false, List, [], ◌∷◌, length, take, Ok, Err, refl, ◌∙◌, ap}
 use Rattle.macs_disk.specs.Files.{FileState, IsClaimed, IsFileImage, IsSure, ReadsFile, RereadsFile, SyncsFile}
-use Rattle.macs_disk.specs.Files.{WritesAll, WritesFile, WritesSome, file_after_sync, file_after_write, file_in_doubt, file_reread, file_synced, values_from}
+use Rattle.macs_disk.specs.Files.{WritesAll, WritesFile, WritesSome, file_after_sync, file_after_write, file_in_doubt}
+use Rattle.macs_disk.specs.Files.{file_reread, file_synced, values_from}
 use Rattle.macs_headline.specs.FileCallWords.{FileCallWords}
 
 failed_sync : (old new : FileState) (error : ℕ) → SyncsFile {T = ℕ} {E = ℕ} old new (Err error)

@@ -13,12 +13,14 @@ use Rattle.macs_headline.specs.FittingImages.{RestartsFit}
 use Rattle.macs_headline.specs.Numbers.{IsMoved, IsSkipped}
 
 tx_by : (block : ℕ) (next found : Option ℕ) → (next ≡ None → found ≡ None)
-    → ((n : ℕ) → next ≡ Some n → IsSomeAnd found (λ later. IsSkipped block n later × (later ≤ 2 ^ 32))) → TxRises block next found
+    → ((n : ℕ) → next ≡ Some n → IsSomeAnd found (λ later. IsSkipped block n later × (later ≤ 2 ^ 32)))
+    → TxRises block next found
 tx_by block None found none some = none refl
 tx_by block (Some n) None none some = absurd (some n refl)
 tx_by block (Some n) (Some later) none some = let is = some n refl in (later, refl, is.0.0, is.0.1, is.1)
 
-limit_by : (block : ℕ) (old : Numbers) (later : ℕ) (seen : Option ℕ) → old.seen ≡ seen → IsMoved block old (first_numbers later)
+limit_by : (block : ℕ) (old : Numbers) (later : ℕ) (seen : Option ℕ) → old.seen ≡ seen
+    → IsMoved block old (first_numbers later)
     → later ≤ rx_limit block old.next seen
 limit_by block old later None is moved = let same : later ≡ old.next = moved.unseen is in omega (arith, same)
 limit_by block old later (Some last) is moved = moved.seen last is
@@ -37,7 +39,8 @@ none_some c is = cc
 -- a restart of the state after the command under way is one of the state
 through : (s mid new : State) (c : Command) → s.in_hand ≡ Some c → Makes s c mid → Restart mid new → Restart s new
 through s mid new c hand makes (inl up) = inr (c, mid, hand, makes, up)
-through s mid new c hand makes (inr (d, last, held, made, up)) = absurd (none_some d (sym (ap (λ (t : State). t.in_hand) makes.2) ∙ held))
+through s mid new c hand makes (inr (d, last, held, made, up)) =
+    absurd (none_some d (sym (ap (λ (t : State). t.in_hand) makes.2) ∙ held))
 
 module _ (sectors : ℕ) where
   pub restarts-fit : RestartsFit sectors
@@ -46,11 +49,13 @@ module _ (sectors : ℕ) where
       found = found;
       is_found = stands;
       restart = inl (record {
-        edition = subst (λ (e : Edition). IsUpTo s.edition e) (sym (of-edition edition sectors image found stands)) up_to;
+        edition =
+            subst (λ (e : Edition). IsUpTo s.edition e) (sym (of-edition edition sectors image found stands)) up_to;
         identity = identity;
         config = config;
         next = λ an. tx_by s.identity.tx_block (s.next an) (found.ceilings.tx an) (no_tx an) (tx an);
-        numbers = λ sci an. rx_by s.identity.rx_block (s.numbers sci an) (found.ceilings.rx sci an) (no_rx sci an) (rx sci an);
+        numbers = λ sci an.
+            rx_by s.identity.rx_block (s.numbers sci an) (found.ceilings.rx sci an) (no_rx sci an) (rx sci an);
         logs = refl;
         running = refl;
         idle = refl;

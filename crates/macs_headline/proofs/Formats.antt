@@ -1,5 +1,6 @@
 -- A `format`, answered or cut short, is a life.
-use Rattle.std.proofs.Common.{◌≡◌, ◌≤◌, inl, inr, ℕ, zero, suc, false, List, [], ◌∷◌, Result, Ok, Err, is_ok, refl, ◌∙◌, subst, arith}
+use Rattle.std.proofs.Common.{◌≡◌, ◌≤◌, inl, inr, ℕ, zero, suc, false, List, [], ◌∷◌, Result, Ok, Err, is_ok, refl, ◌∙◌}
+use Rattle.std.proofs.Common.{subst, arith}
 use Rattle.macs_config.specs.Config.{this_edition}
 use Rattle.macs_config.specs.Identity.{Identity}
 use Rattle.macs_disk.specs.Disk.{Disk, IsHonest, LeftSince, now}
@@ -25,7 +26,8 @@ use Rattle.macs_headline.proofs.Losses.{IsCovered, LeadTo, covered-passed, cover
 -- ---- one image
 
 -- one that stands for a new endpoint fits its state
-pub new-fits : (sectors : ℕ) (image : Image) (identity : Identity) → StandingIs this_edition sectors image (Ok (new_standing this_edition identity))
+pub new-fits : (sectors : ℕ) (image : Image) (identity : Identity)
+    → StandingIs this_edition sectors image (Ok (new_standing this_edition identity))
     → Fits this_edition sectors image (formatted_state this_edition identity)
 new-fits sectors image identity is = record {
   found = new_standing this_edition identity;
@@ -44,19 +46,29 @@ new-fits sectors image identity is = record {
   });
 }
 
-blank_more : (sectors : ℕ) (identities : List Identity) (identity : Identity) (image : Image) → FitsPast this_edition sectors (Blank identities) image
+blank_more : (sectors : ℕ) (identities : List Identity) (identity : Identity) (image : Image)
+    → FitsPast this_edition sectors (Blank identities) image
     → FitsPast this_edition sectors (Blank (identity ∷ identities)) image
 blank_more sectors identities identity image (inl none) = inl none
-blank_more sectors identities identity image (inr (other, among, is)) = inr (other, contains-later identity identities other among, is)
+blank_more sectors identities identity image (inr (other, among, is)) =
+    inr (other, contains-later identity identities other among, is)
 
 -- what a format leaves on the way
-blank_left : (sectors : ℕ) (identities : List Identity) (identity : Identity) (old : Disk) (image : Image) → IsCovered sectors (Blank identities) old
+blank_left : (sectors : ℕ) (identities : List Identity) (identity : Identity) (old : Disk) (image : Image)
+    → IsCovered sectors (Blank identities) old
     → FormatLeaves old identity image → FitsPast this_edition sectors (Blank (identity ∷ identities)) image
-blank_left sectors identities identity old image covered (inl before) = blank_more sectors identities identity image (covered.images image before)
+blank_left sectors identities identity old image covered (inl before) =
+    blank_more sectors identities identity image (covered.images image before)
 blank_left sectors identities identity old image covered (inr (inl none)) =
     inl (subst (λ (n : ℕ). StandingIs this_edition n image (Err NotFormatted)) covered.size none)
 blank_left sectors identities identity old image covered (inr (inr new)) =
-    inr (identity, contains-first identity identities, subst (λ (n : ℕ). StandingIs this_edition n image (Ok (new_standing this_edition identity))) covered.size new.stands)
+    inr (
+      identity,
+      contains-first identity identities,
+      subst
+          (λ (n : ℕ). StandingIs this_edition n image (Ok (new_standing this_edition identity)))
+          covered.size new.stands,
+    )
 
 -- ---- a disk with a journal
 
@@ -66,13 +78,15 @@ open_head image (suc zero) is opens = inr opens
 open_head image (suc (suc n)) is opens = absurd (omega (arith, is))
 
 -- a head gate reads open where a standing is found
-found_open : (sectors : ℕ) (image : Image) (found : Standing) → StandingIs this_edition sectors image (Ok found) → HasOpenHead image
+found_open : (sectors : ℕ) (image : Image) (found : Standing) → StandingIs this_edition sectors image (Ok found)
+    → HasOpenHead image
 found_open sectors image found (size, stands) =
     let journal = stands.found.stands in
     open_head image stands.content.area journal.area journal.head.open_gate
 
 -- what might have been left of sectors that were all left alone may be left before
-spared_image : (old new : Disk) (k : ℕ) (image : Image) → old.clock ≤ k → k ≤ new.clock → ((i : ℕ) → IsSpared old new i) → IsImage (new.past k) image → IsImage (now old) image
+spared_image : (old new : Disk) (k : ℕ) (image : Image) → old.clock ≤ k → k ≤ new.clock → ((i : ℕ) → IsSpared old new i)
+    → IsImage (new.past k) image → IsImage (now old) image
 spared_image old new k image from until spared left = record {
   kept = λ i. (holds i).kept;
   whole = λ i. (holds i).whole;
@@ -82,8 +96,10 @@ spared_image old new k image from until spared left = record {
 
 -- ---- the deed
 
-module _ {D : Type 0} (disk_of : D → Disk) (sound : (it : D) → IsHonest (disk_of it) → IsSound (now (disk_of it))) (sectors : ℕ)
-    (old new : D) (identity : Identity) (result : Result (Unit {0}) JournalFault) (format : IsFormat disk_of old identity result new) where
+module _ {D : Type 0} (disk_of : D → Disk) (sound : (it : D) → IsHonest (disk_of it) → IsSound (now (disk_of it)))
+    (sectors : ℕ)
+    (old new : D) (identity : Identity) (result : Result (Unit {0}) JournalFault)
+    (format : IsFormat disk_of old identity result new) where
   module _ (past : Past) (covered : IsCovered sectors past (disk_of old)) where
     format_honest : IsHonest (disk_of new)
     format_honest = format.device.work.works.honest ∙ covered.honest
@@ -92,12 +108,15 @@ module _ {D : Type 0} (disk_of : D → Disk) (sound : (it : D) → IsHonest (dis
     format_size = format.device.work.works.sectors ∙ covered.size
 
   left_blank : (identities : List Identity) → IsCovered sectors (Blank identities) (disk_of old)
-      → (image : Image) → LeftSince (disk_of new) (disk_of old).clock image → FitsPast this_edition sectors (Blank (identity ∷ identities)) image
+      → (image : Image) → LeftSince (disk_of new) (disk_of old).clock image
+      → FitsPast this_edition sectors (Blank (identity ∷ identities)) image
   left_blank identities covered image left =
-      blank_left sectors identities identity (disk_of old) image covered ((format.any_moment (format_honest (Blank identities) covered)).each image left)
+      blank_left sectors identities identity (disk_of old) image covered
+      ((format.any_moment (format_honest (Blank identities) covered)).each image left)
 
   left_formatted : (s : State) → IsCovered sectors (Formatted s) (disk_of old)
-      → (image : Image) → LeftSince (disk_of new) (disk_of old).clock image → FitsPast this_edition sectors (Formatted s) image
+      → (image : Image) → LeftSince (disk_of new) (disk_of old).clock image
+      → FitsPast this_edition sectors (Formatted s) image
   left_formatted s covered image left =
       let fits = covered-seen sectors (Formatted s) (disk_of old) (sound old covered.honest) covered in
       let opens = found_open sectors (now (disk_of old)).seen fits.found fits.is_found in
@@ -105,13 +124,16 @@ module _ {D : Type 0} (disk_of : D → Disk) (sound : (it : D) → IsHonest (dis
       (format.device.journal opens (format_honest (Formatted s) covered)) left.3)
 
   -- cut short
-  pub format-cut : (past : Past) (lost : D) → IsCovered sectors past (disk_of old) → IsPassedOn (disk_of new) (disk_of old).clock (disk_of lost)
+  pub format-cut : (past : Past) (lost : D) → IsCovered sectors past (disk_of old)
+      → IsPassedOn (disk_of new) (disk_of old).clock (disk_of lost)
       → LeadTo sectors past (Formats this_edition identity false ∷ []) (disk_of lost)
   format-cut (Blank identities) lost covered passed = record {
     later = Blank (identity ∷ identities);
     lead = (Blank (identity ∷ identities), refl, refl);
-    covered = covered-passed sectors (Blank (identity ∷ identities)) (disk_of new) (disk_of lost) (disk_of old).clock passed
-        (format_honest (Blank identities) covered) (format_size (Blank identities) covered) (left_blank identities covered);
+    covered =
+        covered-passed sectors (Blank (identity ∷ identities)) (disk_of new) (disk_of lost) (disk_of old).clock passed
+        (format_honest (Blank identities) covered) (format_size (Blank identities) covered)
+        (left_blank identities covered);
   }
   format-cut (Formatted s) lost covered passed = record {
     later = Formatted s;
@@ -121,9 +143,11 @@ module _ {D : Type 0} (disk_of : D → Disk) (sound : (it : D) → IsHonest (dis
   }
 
 -- answered
-module _ {D : Type 0} (disk_of : D → Disk) (sound : (it : D) → IsHonest (disk_of it) → IsSound (now (disk_of it))) (sectors : ℕ)
+module _ {D : Type 0} (disk_of : D → Disk) (sound : (it : D) → IsHonest (disk_of it) → IsSound (now (disk_of it)))
+    (sectors : ℕ)
     (old new : D) (identity : Identity) where
-  pub format-answered : (past : Past) (result : Result (Unit {0}) JournalFault) → IsCovered sectors past (disk_of old) → IsFormat disk_of old identity result new
+  pub format-answered : (past : Past) (result : Result (Unit {0}) JournalFault) → IsCovered sectors past (disk_of old)
+      → IsFormat disk_of old identity result new
       → LeadTo sectors past (Formats this_edition identity (is_ok result) ∷ []) (disk_of new)
   format-answered (Blank identities) (Ok done) covered format =
       let honest = format_honest disk_of sound sectors old new identity (Ok done) format (Blank identities) covered in
@@ -135,7 +159,8 @@ module _ {D : Type 0} (disk_of : D → Disk) (sound : (it : D) → IsHonest (dis
           honest = honest;
           size = size;
           images = λ image left. new-fits sectors image identity
-              (subst (λ (n : ℕ). StandingIs this_edition n image (Ok (new_standing this_edition identity))) size (format.kept honest image left).stands);
+              (subst (λ (n : ℕ). StandingIs this_edition n image (Ok (new_standing this_edition identity))) size
+              (format.kept honest image left).stands);
         };
       }
   format-answered (Blank identities) (Err fault) covered format = record {
@@ -144,7 +169,8 @@ module _ {D : Type 0} (disk_of : D → Disk) (sound : (it : D) → IsHonest (dis
     covered = record {
       honest = format_honest disk_of sound sectors old new identity (Err fault) format (Blank identities) covered;
       size = format_size disk_of sound sectors old new identity (Err fault) format (Blank identities) covered;
-      images = λ image left. left_blank disk_of sound sectors old new identity (Err fault) format identities covered image
+      images =
+          λ image left. left_blank disk_of sound sectors old new identity (Err fault) format identities covered image
           (Left-now (disk_of new) (disk_of old).clock image format.device.work.works.later left);
     };
   }
@@ -152,7 +178,8 @@ module _ {D : Type 0} (disk_of : D → Disk) (sound : (it : D) → IsHonest (dis
       let fits = covered-seen sectors (Formatted s) (disk_of old) (sound old covered.honest) covered in
       let honest = format_honest disk_of sound sectors old new identity (Ok done) format (Formatted s) covered in
       absurd (found-or-refused this_edition sectors (now (disk_of old)).seen NotFormatted fits.found
-      (subst (λ (n : ℕ). StandingIs this_edition n (now (disk_of old)).seen (Err NotFormatted)) covered.size (format.blank honest)) fits.is_found)
+      (subst (λ (n : ℕ). StandingIs this_edition n (now (disk_of old)).seen (Err NotFormatted)) covered.size
+      (format.blank honest)) fits.is_found)
   format-answered (Formatted s) (Err fault) covered format = record {
     later = Formatted s;
     lead = (Formatted s, refl, refl);

@@ -16,14 +16,17 @@ lead-front sectors (life ∷ before) more old new (next, leads, rest) =
     (parts.0, (next, leads, parts.1), parts.2)
 
 -- lives that lead to a disk that is not formatted for sure
-unformatted : (sectors : ℕ) (lives : List Life) (past : Past) → IsHistory sectors lives past → ¬ IsFormatted past → AreUnformatted lives
+unformatted : (sectors : ℕ) (lives : List Life) (past : Past) → IsHistory sectors lives past → ¬ IsFormatted past
+    → AreUnformatted lives
 unformatted sectors lives past history never = record {
-  no_format = λ edition identity among. never (formatted-by sectors (Blank []) lives past (Formats edition identity true) history among tt);
+  no_format = λ edition identity among.
+      never (formatted-by sectors (Blank []) lives past (Formats edition identity true) history among tt);
   no_opening = λ edition image exchanges cut among.
       never (formatted-by sectors (Blank []) lives past (Serves edition image exchanges cut) history among tt);
 }
 
-not_before : (old : Past) (edition : Edition) (identity : Identity) (new : Past) → FormatLeads old edition identity true new → ¬ IsFormatted old
+not_before : (old : Past) (edition : Edition) (identity : Identity) (new : Past)
+    → FormatLeads old edition identity true new → ¬ IsFormatted old
 not_before (Blank identities) edition identity new leads formatted = formatted
 not_before (Formatted s) edition identity new leads formatted = leads
 

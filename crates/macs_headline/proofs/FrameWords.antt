@@ -1,5 +1,6 @@
 -- All that is to be drawn from words that say what a frame is.
-use Rattle.std.proofs.Common.{◌≡◌, ◌≢◌, ◌⊎◌, ◌↔◌, ◌≤◌, ◌<◌, ◌+◌, ◌++◌, inl, inr, ℕ, Bool, true, false, List, [], ◌∷◌, refl, sym, ◌∙◌, ap, subst, arith}
+use Rattle.std.proofs.Common.{◌≡◌, ◌≢◌, ◌⊎◌, ◌↔◌, ◌≤◌, ◌<◌, ◌+◌, ◌++◌, inl, inr, ℕ, Bool, true, false, List, [], ◌∷◌}
+use Rattle.std.proofs.Common.{refl, sym, ◌∙◌, ap, subst, arith}
 use Rattle.std.specs.Prelude.{slice_index, slice_range, take, Some, None}
 use Rattle.macs_gcm.specs.Gcm.{seal}
 use Rattle.macs_frame.specs.Opening.{Verified, clear_of, hidden_of, iv_of, named_sci}
@@ -22,7 +23,8 @@ use Rattle.macs_headline.specs.Verdicts.{behind_data, behind_tag}
 module _ (frame key sci plain : List ℕ) (offset : ℕ) where
   -- with the Secure Data between these places, this PN, and E
   abbrev IsSealed : (start end number : ℕ) → Bool → Type 0
-  IsSealed start end number e = (text : List ℕ) × (plain ≡ take 12 frame ++ clear_of e offset (slice_range frame start end) ++ text)
+  IsSealed start end number e = (text : List ℕ)
+      × (plain ≡ take 12 frame ++ clear_of e offset (slice_range frame start end) ++ text)
       × (seal key (iv_of sci number) (take start frame ++ clear_of e offset (slice_range frame start end)) text
       ≡ (hidden_of e offset (slice_range frame start end), slice_range frame end (end + 16)))
 
@@ -32,26 +34,33 @@ module _ (frame key sci plain : List ℕ) (offset : ℕ) where
   sealed e v is =
       let read = v.tag.reading in
       let tag = v.parts.tag in
-      let by_parts : IsSealed v.parts.start v.parts.end tag.pn tag.encrypted = (v.opens.plaintext, v.opens.plain_is, v.opens.sealed) in
+      let by_parts : IsSealed v.parts.start v.parts.end tag.pn tag.encrypted =
+      (v.opens.plaintext, v.opens.plain_is, v.opens.sealed) in
       let from : IsSealed (behind_tag frame) v.parts.end tag.pn tag.encrypted =
       subst (λ (n : ℕ). IsSealed n v.parts.end tag.pn tag.encrypted) read.start by_parts in
       let to : IsSealed (behind_tag frame) (behind_data frame) tag.pn tag.encrypted =
       subst (λ (n : ℕ). IsSealed (behind_tag frame) n tag.pn tag.encrypted) read.end from in
       let numbered : IsSealed (behind_tag frame) (behind_data frame) (pn_of frame) tag.encrypted =
-      subst (λ (n : ℕ). IsSealed (behind_tag frame) (behind_data frame) n tag.encrypted) (ap (λ (t : SecTag). t.pn) read.tag) to in
-      subst (λ (b : Bool). IsSealed (behind_tag frame) (behind_data frame) (pn_of frame) b) (ap (λ (t : SecTag). t.encrypted) read.tag ∙ is) numbered
+      subst (λ (n : ℕ). IsSealed (behind_tag frame) (behind_data frame) n tag.encrypted)
+      (ap (λ (t : SecTag). t.pn) read.tag) to in
+      subst (λ (b : Bool). IsSealed (behind_tag frame) (behind_data frame) (pn_of frame) b)
+      (ap (λ (t : SecTag). t.encrypted) read.tag ∙ is) numbered
 
 -- ---- names
 
-named_as : (s new : State) (plain out : List ℕ) (pn : ℕ) → IsStandardFrame s plain pn out new → IsIdentity s.identity → (mode : SciMode) → s.config.mode ≡ mode
+named_as : (s new : State) (plain out : List ℕ) (pn : ℕ) → IsStandardFrame s plain pn out new → IsIdentity s.identity
+    → (mode : SciMode) → s.config.mode ≡ mode
     → IsNamedIn mode s.identity.sci (name_of out)
-named_as s new plain out pn f identity mode is = subst (λ (m : SciMode). IsNamedIn m s.identity.sci (name_of out)) is (f.named identity)
+named_as s new plain out pn f identity mode is =
+    subst (λ (m : SciMode). IsNamedIn m s.identity.sci (name_of out)) is (f.named identity)
 
 -- ---- the other way
 
-module _ (frame key sci plain : List ℕ) (offset : ℕ) (parts : Parts) (tag : Tag frame parts) (ours : ¬ IsForKay frame) where
+module _ (frame key sci plain : List ℕ) (offset : ℕ) (parts : Parts) (tag : Tag frame parts)
+    (ours : ¬ IsForKay frame) where
   verified : (e : Bool) → has_bit (slice_index frame 14) 0x08 ≡ e
-      → IsSealed frame key sci plain offset (behind_tag frame) (behind_data frame) (pn_of frame) e → Verified frame key sci offset plain
+      → IsSealed frame key sci plain offset (behind_tag frame) (behind_data frame) (pn_of frame) e
+      → Verified frame key sci offset plain
   verified e is sealed =
       let read = tag.reading in
       let number : ℕ = parts.tag.pn in
@@ -75,7 +84,8 @@ module _ (frame key sci plain : List ℕ) (offset : ℕ) (parts : Parts) (tag : 
 
 -- ---- deliveries
 
-when_delayed : (lowest pn : ℕ) (kind : Kind) → IsInTime lowest pn kind → ((kind ≡ Delayed) ↔ (pn < lowest)) × ((kind ≡ AsOk) ↔ (lowest ≤ pn))
+when_delayed : (lowest pn : ℕ) (kind : Kind) → IsInTime lowest pn kind
+    → ((kind ≡ Delayed) ↔ (pn < lowest)) × ((kind ≡ AsOk) ↔ (lowest ≤ pn))
 when_delayed lowest pn kind (inl (below, is)) = (
   (λ late. below, λ under. is),
   (λ ok. let both : Delayed ≡ AsOk = sym is ∙ ok in absurd (cc), λ above. absurd (omega (arith, below, above))),
@@ -85,7 +95,8 @@ when_delayed lowest pn kind (inr (above, is)) = (
   (λ ok. above, λ over. is),
 )
 
-unnamed : (s : State) (frame sci : List ℕ) → IsOfChannel s frame sci → named_sci frame (name_of frame) ≡ None → s.config.channels ≡ sci ∷ []
+unnamed : (s : State) (frame sci : List ℕ) → IsOfChannel s frame sci → named_sci frame (name_of frame) ≡ None
+    → s.config.channels ≡ sci ∷ []
 unnamed s frame sci (among, inl named) none = let both : None ≡ Some sci = sym none ∙ named in absurd (cc)
 unnamed s frame sci (among, inr (also, alone)) none = alone
 
@@ -101,9 +112,11 @@ frame-words sectors = record {
   );
   bits = λ s new plain out pn f identity. f.bits identity;
   read = λ s new plain out pn f identity. f.read identity;
-  delivered = λ s new frame out kind d. (d.named, d.association, d.are_numbers, d.guarded, d.verified, d.only, d.logged);
+  delivered =
+      λ s new frame out kind d. (d.named, d.association, d.are_numbers, d.guarded, d.verified, d.only, d.logged);
   in_time = λ s new frame out kind d. when_delayed d.numbers.lowest (tag_of frame).pn kind d.in_time;
-  moved = λ s new frame out kind d. (numbers_moved s.config.replay.window d.numbers (tag_of frame).pn, d.moved, refl, refl, refl);
+  moved = λ s new frame out kind d.
+      (numbers_moved s.config.replay.window d.numbers (tag_of frame).pn, d.moved, refl, refl, refl);
   greatest = λ seen pn. (refl, refl);
   held = λ s new frame a. (a.named, a.association, a.are_numbers, a.ahead, a.verified);
   unnamed = unnamed;

@@ -1,5 +1,6 @@
 -- A frame that goes out is read as it was written, and verifies.
-use Rattle.std.proofs.Common.{◌≡◌, ◌<◌, ◌≤◌, ◌+◌, ◌^◌, ◌++◌, ◌%◌, ◌&&◌, ℕ, false, true, not, List, [], ◌∷◌, length, take, drop, refl, sym, ◌∙◌, ap, arith}
+use Rattle.std.proofs.Common.{◌≡◌, ◌<◌, ◌≤◌, ◌+◌, ◌^◌, ◌++◌, ◌%◌, ◌&&◌, ℕ, false, true, not, List, [], ◌∷◌, length}
+use Rattle.std.proofs.Common.{take, drop, refl, sym, ◌∙◌, ap, arith}
 use Rattle.std.specs.Prelude.{slice_index, slice_range}
 use Rattle.std.proofs.lemmas.Bool.{not-false}
 use Rattle.std.proofs.lemmas.List.{take-append-drop}
@@ -25,7 +26,8 @@ pub own-source : (mode : SciMode) (sci plain : List ℕ) → (is_end_station mod
 own-source Explicit sci plain test port is = absurd (cc)
 own-source Implicit sci plain test port is = absurd (cc)
 own-source EndStation sci plain test port is =
-    let source : slice_range plain 6 12 ≡ take 6 sci = same_octets (slice_range plain 6 12) (take 6 sci) (not-false (is_own_source sci plain) test) in
+    let source : slice_range plain 6 12 ≡ take 6 sci =
+    same_octets (slice_range plain 6 12) (take 6 sci) (not-false (is_own_source sci plain) test) in
     let one : drop 6 sci ≡ 0 ∷ 1 ∷ [] = same_octets (drop 6 sci) (0 ∷ 1 ∷ []) (port refl) in
     sym (take-append-drop 6 sci) ∙ (λ i. sym source i ++ one i)
 
@@ -39,7 +41,8 @@ name_written Explicit sci is = is
 name_written EndStation sci is = tt
 name_written Implicit sci is = tt
 
-module _ (s : State) (plain : List ℕ) (o : Outgoing) (is : IsIdentity s.identity) (placed : o.an < 4) (least : 1 ≤ o.pn) (most : o.pn < 2 ^ 32)
+module _ (s : State) (plain : List ℕ) (o : Outgoing) (is : IsIdentity s.identity) (placed : o.an < 4) (least : 1 ≤ o.pn)
+    (most : o.pn < 2 ^ 32)
     (long : 14 ≤ length plain) (fits : length plain + overhead (name_in s.config.mode s.identity.sci) ≤ 9216) where
   abbrev tag : SecTag
   tag = tag_for (tx_side s) o
@@ -58,7 +61,8 @@ module _ (s : State) (plain : List ℕ) (o : Outgoing) (is : IsIdentity s.identi
   frame-named =
       let read =
       protected_is_read o.sa.key s.identity.sci tag (octets_of (offset_of o.sa.protection)) plain written long fits in
-      named_by s.config.mode s.identity.sci (name_of (frame_of (tx_side s) o plain)) (sym (ap (λ (t : SecTag). t.name) read.0.reading.tag))
+      named_by s.config.mode s.identity.sci (name_of (frame_of (tx_side s) o plain))
+      (sym (ap (λ (t : SecTag). t.name) read.0.reading.tag))
 
   -- it has the AN, and E and C both set under confidentiality, else both clear
   pub frame-bits : (slice_index (frame_of (tx_side s) o plain) 14 % 4 ≡ o.an)
@@ -74,5 +78,7 @@ module _ (s : State) (plain : List ℕ) (o : Outgoing) (is : IsIdentity s.identi
       )
 
   -- and it verifies
-  pub frame-read : Verified (frame_of (tx_side s) o plain) o.sa.key s.identity.sci (octets_of (offset_of o.sa.protection)) plain
-  frame-read = (protected_is_verified o.sa.key s.identity.sci tag (octets_of (offset_of o.sa.protection)) plain plain written long fits).1 refl
+  pub frame-read : Verified (frame_of (tx_side s) o plain) o.sa.key s.identity.sci
+      (octets_of (offset_of o.sa.protection)) plain
+  frame-read = (protected_is_verified o.sa.key s.identity.sci tag (octets_of (offset_of o.sa.protection)) plain plain
+      written long fits).1 refl

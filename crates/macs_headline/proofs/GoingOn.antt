@@ -16,14 +16,16 @@ use Rattle.macs_endpoint.specs.State.{Call}
 use Rattle.macs_endpoint.specs.Step.{Exchange}
 use Rattle.macs_headline.specs.Answered.{exchanges_in, exchanges_of_lives}
 use Rattle.macs_headline.specs.GoingOn.{LivesGoOn}
-use Rattle.macs_headline.specs.History.{Blank, Formats, Formatted, Life, Refuses, Serves, formatted_state, logs_of, state_at_end}
+use Rattle.macs_headline.specs.History.{Blank, Formats, Formatted, Life, Refuses, Serves, formatted_state, logs_of}
+use Rattle.macs_headline.specs.History.{state_at_end}
 use Rattle.macs_headline.specs.Moments.{Moment}
 use Rattle.macs_headline.proofs.Answered.{history-on, life-on}
 use Rattle.macs_headline.proofs.Chains.{exchanges-on}
 use Rattle.macs_headline.proofs.Lists.{contains-cases, contains-front, contains-none, contains-rear}
 
 -- a journal that an edition cannot start over
-pub at_last : (edition : Edition) (image : Image) (c : Content) (s : Standing) → HasJournal image c → meaning_of edition c ≡ Some s → c.head.format ≡ One
+pub at_last : (edition : Edition) (image : Image) (c : Content) (s : Standing) → HasJournal image c
+    → meaning_of edition c ≡ Some s → c.head.format ≡ One
     → edition.format_two ≡ true → c.head.generation ≡ last_generation → IsAtLast edition image
 at_last edition image c s found stands one two last = record {
   content = c;
@@ -33,13 +35,18 @@ at_last edition image c s found stands one two last = record {
 }
 
 -- each answer of a life is one of all of them
-among-answers : (lives : List Life) (edition : Edition) (image : Image) (exchanges : List Exchange) (cut : Option Call) (e : Exchange)
+among-answers : (lives : List Life) (edition : Edition) (image : Image) (exchanges : List Exchange) (cut : Option Call)
+    (e : Exchange)
     → Contains lives (Serves edition image exchanges cut) → Contains exchanges e → Contains (exchanges_of_lives lives) e
-among-answers [] edition image exchanges cut e among is = absurd (contains-none (Serves edition image exchanges cut) among)
-among-answers (life ∷ lives) edition image exchanges cut e among is = elim (contains-cases life lives (Serves edition image exchanges cut) among) [
-  | inl same ↦ contains-front (exchanges_in life) (exchanges_of_lives lives) e (subst (λ (l : Life). Contains (exchanges_in l) e) same is)
-  | inr later ↦ contains-rear (exchanges_in life) (exchanges_of_lives lives) e (among-answers lives edition image exchanges cut e later is)
-]
+among-answers [] edition image exchanges cut e among is =
+    absurd (contains-none (Serves edition image exchanges cut) among)
+among-answers (life ∷ lives) edition image exchanges cut e among is =
+    elim (contains-cases life lives (Serves edition image exchanges cut) among) [
+      | inl same ↦ contains-front (exchanges_in life) (exchanges_of_lives lives) e
+          (subst (λ (l : Life). Contains (exchanges_in l) e) same is)
+      | inr later ↦ contains-rear (exchanges_in life) (exchanges_of_lives lives) e
+          (among-answers lives edition image exchanges cut e later is)
+    ]
 
 pub lives-go-on : (sectors : ℕ) → LivesGoOn sectors
 lives-go-on sectors = record {
@@ -67,10 +74,12 @@ lives-go-on sectors = record {
         life = life-on sectors m.past m.edition m.image m.exchanges s e new m.life in_range step;
       } in
       (n, refl, refl, refl, refl);
-  answered = λ s m e is. exchanges-on m.lives (Serves m.edition m.image m.exchanges None ∷ []) e (inr (contains-front m.exchanges [] e is));
+  answered = λ s m e is. exchanges-on m.lives (Serves m.edition m.image m.exchanges None ∷ []) e
+      (inr (contains-front m.exchanges [] e is));
   among = among-answers;
   ended = λ s m cut in_range.
-      history-on sectors m.lives m.past (Serves m.edition m.image m.exchanges cut) (Formatted (state_at_end s cut)) m.history (s, m.life, in_range, refl);
+      history-on sectors m.lives m.past (Serves m.edition m.image m.exchanges cut) (Formatted (state_at_end s cut))
+      m.history (s, m.life, in_range, refl);
   refused = λ lives past edition image fault history fits why.
       history-on sectors lives past (Refuses edition image fault) past history (fits, why, refl);
   refused_blank = λ lives identities edition image history large none.
@@ -80,9 +89,11 @@ lives-go-on sectors = record {
       history-on sectors lives past (Refuses edition image GenerationsSpent) past history
       (fits, inr (large, at_last edition image c s found stands one two last), refl);
   formatted = λ lives identities edition identity history.
-      history-on sectors lives (Blank identities) (Formats edition identity true) (Formatted (formatted_state edition identity)) history refl;
+      history-on sectors lives (Blank identities) (Formats edition identity true)
+      (Formatted (formatted_state edition identity)) history refl;
   not_formatted = λ lives identities edition identity history.
-      history-on sectors lives (Blank identities) (Formats edition identity false) (Blank (identity ∷ identities)) history refl;
+      history-on sectors lives (Blank identities) (Formats edition identity false) (Blank (identity ∷ identities))
+      history refl;
   formatted_still = λ lives s edition identity history.
       history-on sectors lives (Formatted s) (Formats edition identity false) (Formatted s) history refl;
 }

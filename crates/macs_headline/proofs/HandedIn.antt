@@ -1,5 +1,6 @@
 -- What is under way at the end of a life was given to a call of it.
-use Rattle.std.proofs.Common.{◌≡◌, ◌⊎◌, ◌+◌, ◌&&◌, inl, inr, ℕ, Bool, true, false, cond, not, is_ok, List, [], ◌∷◌, Option, Some, None, Result, Ok, Err, refl, sym, ◌∙◌, ap, subst}
+use Rattle.std.proofs.Common.{◌≡◌, ◌⊎◌, ◌+◌, ◌&&◌, inl, inr, ℕ, Bool, true, false, cond, not, is_ok, List, [], ◌∷◌}
+use Rattle.std.proofs.Common.{Option, Some, None, Result, Ok, Err, refl, sym, ◌∙◌, ap, subst}
 use Rattle.std.specs.Prelude.{Contains}
 use Rattle.std.proofs.lemmas.Bool.{false≢true}
 use Rattle.macs_config.specs.Apply.{apply}
@@ -21,8 +22,11 @@ use Rattle.macs_endpoint.specs.declared.progress.Step.{Step as Progress}
 use Rattle.macs_endpoint.specs.declared.progress.Step.TheVariants.{Done, Worked}
 use Rattle.macs_endpoint.specs.declared.queue.Waiting.{Waiting}
 use Rattle.macs_endpoint.specs.Restart.{opened_state, state_taking_alone, state_taking_first}
-use Rattle.macs_endpoint.specs.State.{Advanced, AdvancedLong, Advances, Call, Commands, Protected, Protects, Ran, Received, Receives, Refilled, Refills, RefusedLong, Reply, State, Submits, Submitted, state_with_in_hand}
-use Rattle.macs_endpoint.specs.Step.{AdvanceStep, CommandStep, Ends, Exchange, ProtectStep, ReceiveStep, RefillStep, RunningStep, Step, Steps, SubmitStep, TakesUp}
+use Rattle.macs_endpoint.specs.State.{Advanced, AdvancedLong, Advances, Call, Commands, Protected, Protects, Ran}
+use Rattle.macs_endpoint.specs.State.{Received, Receives, Refilled, Refills, RefusedLong, Reply, State, Submits}
+use Rattle.macs_endpoint.specs.State.{Submitted, state_with_in_hand}
+use Rattle.macs_endpoint.specs.Step.{AdvanceStep, CommandStep, Ends, Exchange, ProtectStep, ReceiveStep, RefillStep}
+use Rattle.macs_endpoint.specs.Step.{RunningStep, Step, Steps, SubmitStep, TakesUp}
 use Rattle.macs_headline.specs.Commands.{InHandWasGiven, WasHandedIn, failing, waiting_at_end}
 use Rattle.macs_headline.specs.History.{logs_of, state_at_end}
 use Rattle.macs_headline.proofs.Commands.{waits-from}
@@ -33,7 +37,8 @@ none_some : (c : Command) → ◌≡◌ {A = Option Command} None (Some c) → �
 none_some c is = cc
 
 -- one more that waits leaves the first one
-first_on : (waiting : List Waiting) (ticket : ℕ) (c d : Command) → first_command waiting ≡ Some d → first_command (with_waiting waiting ticket c) ≡ Some d
+first_on : (waiting : List Waiting) (ticket : ℕ) (c d : Command) → first_command waiting ≡ Some d
+    → first_command (with_waiting waiting ticket c) ≡ Some d
 first_on [] ticket c d is = absurd (none_some d is)
 first_on (first ∷ rest) ticket c d is = is
 
@@ -46,9 +51,11 @@ taken_up old new (first, rest, waiting, idle, accepts, is) =
 
 -- of commands that `command` answered with Disk this is known
 module _ (Failed : Command → Type 0) where
-  -- what is under way is the first that waits; or the endpoint is stopped, none waits, and `command` answered it with Disk
+  -- what is under way is the first that waits; or the endpoint is stopped, none waits, and `command` answered it with
+  -- Disk
   abbrev IsHeld : State → Type 0
-  IsHeld s = (c : Command) → s.in_hand ≡ Some c → (first_command s.waiting ≡ Some c) ⊎ ((s.stopped ≡ true) × (s.waiting ≡ []) × Failed c)
+  IsHeld s = (c : Command) → s.in_hand ≡ Some c
+      → (first_command s.waiting ≡ Some c) ⊎ ((s.stopped ≡ true) × (s.waiting ≡ []) × Failed c)
 
   none_held : (s : State) → s.in_hand ≡ None → IsHeld s
   none_held s none c is = absurd (none_some c (sym none ∙ is))
@@ -60,7 +67,8 @@ module _ (Failed : Command → Type 0) where
   same_held old new is held = subst (λ (s : State). IsHeld s) (sym is) held
 
   -- an endpoint that ran has the same under way, and the same waits
-  alike : (old new : State) → old.stopped ≡ false → new.in_hand ≡ old.in_hand → new.waiting ≡ old.waiting → IsHeld old → IsHeld new
+  alike : (old new : State) → old.stopped ≡ false → new.in_hand ≡ old.in_hand → new.waiting ≡ old.waiting → IsHeld old
+      → IsHeld new
   alike old new running hand waiting held c is = elim (held c (sym hand ∙ is)) [
     | inl first ↦ inl (ap first_command waiting ∙ first)
     | inr stopped ↦ absurd (false≢true (sym running ∙ stopped.0))
@@ -71,7 +79,8 @@ module _ (Failed : Command → Type 0) where
   IsTold (Commands c) (Ran (Err ran.Disk)) = Failed c
   IsTold call reply = Unit {0}
 
-  by_command : (old : State) (c : Command) (result : Result (Unit {0}) CommandFault) (new : State) → IsTold (Commands c) (Ran result)
+  by_command : (old : State) (c : Command) (result : Result (Unit {0}) CommandFault) (new : State)
+      → IsTold (Commands c) (Ran result)
       → CommandStep old c result new → IsHeld old → IsHeld new
   by_command old c (Ok done) new told (none, makes) held = none_held new (ap (λ (s : State). s.in_hand) makes.2)
   by_command old c (Err ran.Stopped) new told h held = absurd h
@@ -84,91 +93,113 @@ module _ (Failed : Command → Type 0) where
   by_command old c (Err ran.Busy) new told (some, is) held = same_held old new is held
   by_command old c (Err fault) new told h held = same_held old new h.2 held
 
-  by_refill : (old : State) (result : Result (Unit {0}) RefillFault) (new : State) → old.stopped ≡ false → RefillStep old result new → IsHeld old → IsHeld new
+  by_refill : (old : State) (result : Result (Unit {0}) RefillFault) (new : State) → old.stopped ≡ false
+      → RefillStep old result new → IsHeld old → IsHeld new
   by_refill old (Ok done) new running (none, is) held = same_held old new is held
   by_refill old (Err refill.Stopped) new running h held = absurd h
   by_refill old (Err refill.Disk) new running (none, is) held =
       alike old new running (ap (λ (s : State). s.in_hand) is) (ap (λ (s : State). s.waiting) is) held
   by_refill old (Err fault) new running (none, is) held = same_held old new is held
 
-  by_submit : (old : State) (c : Command) (result : Result ℕ SubmitFault) (new : State) → old.stopped ≡ false → SubmitStep old c result new
+  by_submit : (old : State) (c : Command) (result : Result ℕ SubmitFault) (new : State) → old.stopped ≡ false
+      → SubmitStep old c result new
       → IsHeld old → IsHeld new
   by_submit old c (Ok ticket) new running (few, left, is_ticket, is) held =
       λ d hand. elim (held d (sym (ap (λ (s : State). s.in_hand) is) ∙ hand)) [
-        | inl first ↦ inl (ap (λ (s : State). first_command s.waiting) is ∙ first_on old.waiting (old.tickets + 1) c d first)
+        | inl first ↦ inl
+            (ap (λ (s : State). first_command s.waiting) is ∙ first_on old.waiting (old.tickets + 1) c d first)
         | inr stopped ↦ absurd (false≢true (sym running ∙ stopped.0))
       ]
   by_submit old c (Err submit.QueueFull) new running (many, is) held = same_held old new is held
   by_submit old c (Err submit.TicketsSpent) new running (few, spent, is) held = same_held old new is held
   by_submit old c (Err submit.Stopped) new running h held = absurd h
 
-  by_end : (old : State) (first : Waiting) (rest : List Waiting) (result : Result (Unit {0}) CommandFault) (new : State) → Ends old first rest result new
+  by_end : (old : State) (first : Waiting) (rest : List Waiting) (result : Result (Unit {0}) CommandFault) (new : State)
+      → Ends old first rest result new
       → IsHeld new
   by_end old first rest (Ok done) new makes = none_held new (ap (λ (s : State). s.in_hand) makes.2)
-  by_end old first rest (Err (ran.Refused refusal)) new (idle, why, is) = none_held new (ap (λ (s : State). s.in_hand) is)
-  by_end old first rest (Err ran.GenerationsSpent) new (idle, accepts, is) = none_held new (ap (λ (s : State). s.in_hand) is)
+  by_end old first rest (Err (ran.Refused refusal)) new (idle, why, is) =
+      none_held new (ap (λ (s : State). s.in_hand) is)
+  by_end old first rest (Err ran.GenerationsSpent) new (idle, accepts, is) =
+      none_held new (ap (λ (s : State). s.in_hand) is)
   by_end old first rest (Err fault) new h = absurd h
 
-  by_advance : (old : State) (result : Result Progress StepFault) (new : State) → old.stopped ≡ false → AdvanceStep old result new → IsHeld old → IsHeld new
+  by_advance : (old : State) (result : Result Progress StepFault) (new : State) → old.stopped ≡ false
+      → AdvanceStep old result new → IsHeld old → IsHeld new
   by_advance old (Ok Worked) new running (inl is) held = same_held old new is held
   by_advance old (Ok Worked) new running (inr takes) held = first_held new (taken_up old new takes)
-  by_advance old (Ok (Done ticket result)) new running (first, rest, waiting, is_ticket, ends) held = by_end old first rest result new ends
+  by_advance old (Ok (Done ticket result)) new running (first, rest, waiting, is_ticket, ends) held =
+      by_end old first rest result new ends
   by_advance old (Err advance.Disk) new running (inl is) held =
       alike old new running (ap (λ (s : State). s.in_hand) is) (ap (λ (s : State). s.waiting) is) held
   by_advance old (Err advance.Disk) new running (inr (mid, takes, is)) held =
-      first_held new (ap (λ (s : State). first_command s.waiting) is ∙ taken_up old mid takes ∙ sym (ap (λ (s : State). s.in_hand) is))
+      first_held new (ap (λ (s : State). first_command s.waiting) is ∙ taken_up old mid takes
+      ∙ sym (ap (λ (s : State). s.in_hand) is))
   by_advance old (Err advance.Stopped) new running h held = absurd h
   by_advance old result new running is held = same_held old new is held
 
-  by_protect : (old : State) (plain : List ℕ) (result : Result ℕ ProtectFault) (out : List ℕ) (new : State) → old.stopped ≡ false
+  by_protect : (old : State) (plain : List ℕ) (result : Result ℕ ProtectFault) (out : List ℕ) (new : State)
+      → old.stopped ≡ false
       → ProtectStep old plain result out new → IsHeld old → IsHeld new
   by_protect old plain (Ok pn) out new running (none, (o, is_o, is_pn, is_out, is)) held =
       alike old new running (ap (λ (s : State). s.in_hand) is) (ap (λ (s : State). s.waiting) is) held
   by_protect old plain (Err (protect.Tx fault)) out new running (why, empty, is) held = same_held old new is held
   by_protect old plain (Err protect.Stopped) out new running h held = absurd h
 
-  by_receive : (old : State) (frame : List ℕ) (result : Result Verdict Stopped) (out : List ℕ) (new : State) → old.stopped ≡ false
+  by_receive : (old : State) (frame : List ℕ) (result : Result Verdict Stopped) (out : List ℕ) (new : State)
+      → old.stopped ≡ false
       → ReceiveStep old frame result out new → IsHeld old → IsHeld new
-  by_receive old frame (Ok verdict) out new running (inl (step, is_first, is_verdict, is_out, is)) held = same_held old new is held
+  by_receive old frame (Ok verdict) out new running (inl (step, is_first, is_verdict, is_out, is)) held =
+      same_held old new is held
   by_receive old frame (Ok verdict) out new running (inr (a, there, inl (is_verdict, above, is_out, is))) held =
       alike old new running (ap (λ (s : State). s.in_hand) is) (ap (λ (s : State). s.waiting) is) held
   by_receive old frame (Ok verdict) out new running (inr (a, there, inr (is_verdict, is_out, is))) held =
       alike old new running (ap (λ (s : State). s.in_hand) is) (ap (λ (s : State). s.waiting) is) held
   by_receive old frame (Err stopped) out new running h held = absurd h
 
-  by_call : (old : State) (call : Call) (reply : Reply) (new : State) → IsTold call reply → old.stopped ≡ false → RunningStep old call reply new
+  by_call : (old : State) (call : Call) (reply : Reply) (new : State) → IsTold call reply → old.stopped ≡ false
+      → RunningStep old call reply new
       → IsHeld old → IsHeld new
   by_call old (Commands c) (Ran result) new told running h held = by_command old c result new told h held
   by_call old Refills (Refilled result) new told running h held = by_refill old result new running h held
   by_call old (Submits c) (Submitted result) new told running h held = by_submit old c result new running h held
   by_call old Advances (Advanced result) new told running h held = by_advance old result new running h held
-  by_call old (Protects plain) (Protected result out) new told running h held = by_protect old plain result out new running h held
-  by_call old (Receives frame) (Received result out) new told running h held = by_receive old frame result out new running h held
+  by_call old (Protects plain) (Protected result out) new told running h held =
+      by_protect old plain result out new running h held
+  by_call old (Receives frame) (Received result out) new told running h held =
+      by_receive old frame result out new running h held
   by_call old (Commands c) RefusedLong new told running (none, why, is) held = same_held old new is held
-  by_call old Advances (AdvancedLong ticket) new told running (first, rest, waiting, is_ticket, (idle, why, is)) held = none_held new (ap (λ (s : State). s.in_hand) is)
+  by_call old Advances (AdvancedLong ticket) new told running (first, rest, waiting, is_ticket, (idle, why, is)) held =
+      none_held new (ap (λ (s : State). s.in_hand) is)
   by_call old call reply new told running h held = absurd h
 
-  by_step : (old : State) (call : Call) (reply : Reply) (new : State) → IsTold call reply → Step old call reply new → IsHeld old → IsHeld new
+  by_step : (old : State) (call : Call) (reply : Reply) (new : State) → IsTold call reply → Step old call reply new
+      → IsHeld old → IsHeld new
   by_step old call reply new told (inl (stopped, answer, is)) held = same_held old new is held
   by_step old call reply new told (inr (running, h)) held = by_call old call reply new told running h held
 
-  told_by : (call : Call) (reply : Reply) → ((c : Command) → ◌≡◌ {A = Exchange} (record { call = call; reply = reply }) (failing c) → Failed c) → IsTold call reply
+  told_by : (call : Call) (reply : Reply) → ((c : Command)
+      → ◌≡◌ {A = Exchange} (record { call = call; reply = reply }) (failing c) → Failed c) → IsTold call reply
   told_by (Commands c) (Ran (Err ran.Disk)) known = known c refl
   told_by call reply known = tt
 
-  by_steps : (old : State) (exchanges : List Exchange) (new : State) → ((c : Command) → Contains exchanges (failing c) → Failed c) → Steps old exchanges new
+  by_steps : (old : State) (exchanges : List Exchange) (new : State)
+      → ((c : Command) → Contains exchanges (failing c) → Failed c) → Steps old exchanges new
       → IsHeld old → IsHeld new
   by_steps old [] new known steps held = same_held old new steps held
   by_steps old (e ∷ exchanges) new known (mid, step, steps) held =
       let told : IsTold e.call e.reply =
-      told_by e.call e.reply (λ c same. known c (subst (λ (x : Exchange). Contains (e ∷ exchanges) x) same (contains-first e exchanges))) in
-      by_steps mid exchanges new (λ c among. known c (contains-later e exchanges (failing c) among)) steps (by_step old e.call e.reply mid told step held)
+      told_by e.call e.reply (λ c same.
+      known c (subst (λ (x : Exchange). Contains (e ∷ exchanges) x) same (contains-first e exchanges))) in
+      by_steps mid exchanges new (λ c among. known c (contains-later e exchanges (failing c) among)) steps
+      (by_step old e.call e.reply mid told step held)
 
 -- ---- the end of a life
 
 module _ (exchanges : List Exchange) (s : State) (waits : s.waiting ≡ waiting_at_end exchanges)
     (held : (c : Command) → s.in_hand ≡ Some c
-    → (first_command s.waiting ≡ Some c) ⊎ ((s.stopped ≡ true) × (s.waiting ≡ []) × Contains exchanges (failing c))) where
+    → (first_command s.waiting ≡ Some c)
+    ⊎ ((s.stopped ≡ true) × (s.waiting ≡ []) × Contains exchanges (failing c))) where
   -- under way after the last answer
   by_answers : (cut : Option Call) (c : Command) → s.in_hand ≡ Some c → WasHandedIn exchanges cut c
   by_answers cut c is = elim (held c is) [
@@ -176,24 +207,29 @@ module _ (exchanges : List Exchange) (s : State) (waits : s.waiting ≡ waiting_
     | inr failed ↦ inr (sym waits ∙ failed.1, inl failed.2)
   ]
 
-  either_hand : (b : Bool) (d c : Command) → (cond b (state_with_in_hand s d) s).in_hand ≡ Some c → (s.in_hand ≡ Some c) ⊎ (d ≡ c)
+  either_hand : (b : Bool) (d c : Command) → (cond b (state_with_in_hand s d) s).in_hand ≡ Some c
+      → (s.in_hand ≡ Some c) ⊎ (d ≡ c)
   either_hand true d c is = inr (some_one (Some d) d c refl is)
   either_hand false d c is = inl is
 
   -- or taken in the call that is cut short
-  alone_hand : (d : Command) (waiting : List Waiting) (c : Command) → s.waiting ≡ waiting → (state_taking_alone s d waiting).in_hand ≡ Some c
+  alone_hand : (d : Command) (waiting : List Waiting) (c : Command) → s.waiting ≡ waiting
+      → (state_taking_alone s d waiting).in_hand ≡ Some c
       → WasHandedIn exchanges (Some (Commands d)) c
-  alone_hand d [] c none is = elim (either_hand (not s.stopped && is_ok (apply s.edition s.identity s.config d)) d c is) [
-    | inl hand ↦ by_answers (Some (Commands d)) c hand
-    | inr one ↦ inr (sym waits ∙ none, inr (ap (λ (c : Command). Some (Commands c)) one))
-  ]
+  alone_hand d [] c none is =
+      elim (either_hand (not s.stopped && is_ok (apply s.edition s.identity s.config d)) d c is) [
+        | inl hand ↦ by_answers (Some (Commands d)) c hand
+        | inr one ↦ inr (sym waits ∙ none, inr (ap (λ (c : Command). Some (Commands c)) one))
+      ]
   alone_hand d (first ∷ rest) c some is = by_answers (Some (Commands d)) c is
 
-  first_hand : (in_hand : Option Command) (waiting : List Waiting) (c : Command) → s.waiting ≡ waiting → (state_taking_first s in_hand waiting).in_hand ≡ Some c
+  first_hand : (in_hand : Option Command) (waiting : List Waiting) (c : Command) → s.waiting ≡ waiting
+      → (state_taking_first s in_hand waiting).in_hand ≡ Some c
       → WasHandedIn exchanges (Some Advances) c
   first_hand None [] c none is = by_answers (Some Advances) c is
   first_hand None (first ∷ rest) c waiting is =
-      elim (either_hand (not s.stopped && is_ok (apply s.edition s.identity s.config first.command)) first.command c is) [
+      elim (either_hand (not s.stopped && is_ok (apply s.edition s.identity s.config first.command))
+      first.command c is) [
         | inl hand ↦ by_answers (Some Advances) c hand
         | inr one ↦ inl (sym (ap first_command waits) ∙ ap first_command waiting ∙ ap (λ (c : Command). Some c) one)
       ]
@@ -213,4 +249,5 @@ in-hand-was-given sectors last m cut command is =
     let begun = opened_state m.life.found (logs_of m.past) in
     let failed : Command → Type 0 = λ c. Contains m.exchanges (failing c) in
     at_end m.exchanges last (waits-from [] begun m.exchanges last refl m.life.steps)
-    (by_steps failed begun m.exchanges last (λ c among. among) m.life.steps (none_held failed begun refl)) cut command is
+    (by_steps failed begun m.exchanges last (λ c among. among) m.life.steps (none_held failed begun refl))
+    cut command is

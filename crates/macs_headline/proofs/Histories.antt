@@ -12,7 +12,8 @@ use Rattle.macs_store.proofs.OneStanding.{one_standing}
 use Rattle.macs_endpoint.specs.State.{State, no_logs}
 use Rattle.macs_endpoint.specs.Step.{Exchange}
 use Rattle.macs_endpoint.specs.Restart.{Fits, Restart, opened_state}
-use Rattle.macs_headline.specs.History.{Blank, FitsPast, Formats, Formatted, FormatLeads, IsHistory, IsLifeSoFar, LeadOn, Leads, Life, Past, Refuses, Serves, logs_of, state_at_end}
+use Rattle.macs_headline.specs.History.{Blank, FitsPast, Formats, Formatted, FormatLeads, IsHistory, IsLifeSoFar}
+use Rattle.macs_headline.specs.History.{LeadOn, Leads, Life, Past, Refuses, Serves, logs_of, state_at_end}
 use Rattle.macs_headline.specs.Moments.{Moment}
 use Rattle.macs_headline.proofs.Effects.{core}
 use Rattle.macs_headline.proofs.Sound.{IsSound, end-core, sound-formatted, sound-restart, sound-steps}
@@ -26,23 +27,30 @@ refused_ok : (fault : JournalFault) (a : Standing) → ◌≡◌ {A = Result Sta
 refused_ok fault a is = cc
 
 module _ (edition : Edition) (sectors : ℕ) (image : Image) where
-  pub found-one : (a b : Standing) → StandingIs edition sectors image (Ok a) → StandingIs edition sectors image (Ok b) → a ≡ b
+  pub found-one : (a b : Standing) → StandingIs edition sectors image (Ok a)
+      → StandingIs edition sectors image (Ok b) → a ≡ b
   found-one a b is_a is_b = ok_one a b (one_standing edition sectors image (Ok a) (Ok b) is_a is_b)
 
-  pub found-or-refused : (fault : JournalFault) (a : Standing) → StandingIs edition sectors image (Err fault) → StandingIs edition sectors image (Ok a) → ⊥
-  found-or-refused fault a refused is_a = refused_ok fault a (one_standing edition sectors image (Err fault) (Ok a) refused is_a)
+  pub found-or-refused : (fault : JournalFault) (a : Standing) → StandingIs edition sectors image (Err fault)
+      → StandingIs edition sectors image (Ok a) → ⊥
+  found-or-refused fault a refused is_a =
+      refused_ok fault a (one_standing edition sectors image (Err fault) (Ok a) refused is_a)
 
   -- what an opening finds of a disk that fits a state is a restart of it
-  pub fits-restart : (s : State) (found : Standing) → Fits edition sectors image s → StandingIs edition sectors image (Ok found)
+  pub fits-restart : (s : State) (found : Standing) → Fits edition sectors image s
+      → StandingIs edition sectors image (Ok found)
       → Restart s (opened_state found s.logs)
   fits-restart s found fits is =
-      subst (λ (o : Standing). Restart s (opened_state o s.logs)) (found-one fits.found found fits.is_found is) fits.restart
+      subst (λ (o : Standing). Restart s (opened_state o s.logs)) (found-one fits.found found fits.is_found is)
+      fits.restart
 
   -- what is found on a disk on which no `format` has answered Ok
-  pub found-new : (identities : List Identity) (found : Standing) → FitsPast edition sectors (Blank identities) image → StandingIs edition sectors image (Ok found)
+  pub found-new : (identities : List Identity) (found : Standing) → FitsPast edition sectors (Blank identities) image
+      → StandingIs edition sectors image (Ok found)
       → (identity : Identity) × Contains identities identity × (new_standing edition identity ≡ found)
   found-new identities found (inl none) is = absurd (found-or-refused NotFormatted found none is)
-  found-new identities found (inr (identity, among, new)) is = (identity, among, found-one (new_standing edition identity) found new is)
+  found-new identities found (inr (identity, among, new)) is =
+      (identity, among, found-one (new_standing edition identity) found new is)
 
 -- ---- lives
 
@@ -52,8 +60,10 @@ IsSoundPast (Blank identities) = Unit {0}
 IsSoundPast (Formatted s) = IsSound (core s)
 
 module _ (sectors : ℕ) where
-  pub sound-opening : (past : Past) (edition : Edition) (image : Image) (found : Standing) → FitsPast edition sectors past image
-      → StandingIs edition sectors image (Ok found) → IsSoundPast past → IsSound (core (opened_state found (logs_of past)))
+  pub sound-opening : (past : Past) (edition : Edition) (image : Image) (found : Standing)
+      → FitsPast edition sectors past image
+      → StandingIs edition sectors image (Ok found) → IsSoundPast past
+      → IsSound (core (opened_state found (logs_of past)))
   sound-opening (Blank identities) edition image found fits is sound =
       let new = found-new edition sectors image identities found fits is in
       subst (λ (o : Standing). IsSound (core (opened_state o no_logs))) new.2 (sound-formatted edition new.0)
@@ -64,13 +74,17 @@ module _ (sectors : ℕ) where
   pub sound-life : (past : Past) (edition : Edition) (image : Image) (exchanges : List Exchange) (s : State)
       → IsLifeSoFar sectors past edition image exchanges s → IsSoundPast past → IsSound (core s)
   sound-life past edition image exchanges s life sound =
-      sound-steps (opened_state life.found (logs_of past)) exchanges s life.steps (sound-opening past edition image life.found life.fits life.is_found sound)
+      sound-steps (opened_state life.found (logs_of past)) exchanges s life.steps
+      (sound-opening past edition image life.found life.fits life.is_found sound)
 
-  sound_format : (old : Past) (edition : Edition) (identity : Identity) (new : Past) → FormatLeads old edition identity true new → IsSoundPast old → IsSoundPast new
-  sound_format (Blank identities) edition identity new is sound = subst IsSoundPast (sym is) (sound-formatted edition identity)
+  sound_format : (old : Past) (edition : Edition) (identity : Identity) (new : Past)
+      → FormatLeads old edition identity true new → IsSoundPast old → IsSoundPast new
+  sound_format (Blank identities) edition identity new is sound =
+      subst IsSoundPast (sym is) (sound-formatted edition identity)
   sound_format (Formatted s) edition identity new h sound = absurd h
 
-  sound_no_format : (old : Past) (edition : Edition) (identity : Identity) (new : Past) → FormatLeads old edition identity false new → IsSoundPast old → IsSoundPast new
+  sound_no_format : (old : Past) (edition : Edition) (identity : Identity) (new : Past)
+      → FormatLeads old edition identity false new → IsSoundPast old → IsSoundPast new
   sound_no_format (Blank identities) edition identity new is sound = subst IsSoundPast (sym is) tt
   sound_no_format (Formatted s) edition identity new is sound = subst IsSoundPast (sym is) sound
 
@@ -83,7 +97,8 @@ module _ (sectors : ℕ) where
       subst IsSound (sym (end-core last cut)) (sound-life old edition image exchanges last life sound) in
       subst IsSoundPast (sym is) at_cut
 
-  pub sound-lives : (old : Past) (lives : List Life) (new : Past) → LeadOn sectors old lives new → IsSoundPast old → IsSoundPast new
+  pub sound-lives : (old : Past) (lives : List Life) (new : Past) → LeadOn sectors old lives new → IsSoundPast old
+      → IsSoundPast new
   sound-lives old [] new is sound = subst IsSoundPast (sym is) sound
   sound-lives old (life ∷ lives) new h sound = sound-lives h.0 lives new h.2 (sound_leads old life h.0 h.1 sound)
 
@@ -95,7 +110,8 @@ module _ (sectors : ℕ) where
   -- at each opening
   pub sound-opened : (s : State) (m : Moment sectors s) → IsSound (core (opened_state m.life.found (logs_of m.past)))
   sound-opened s m =
-      sound-opening m.past m.edition m.image m.life.found m.life.fits m.life.is_found (sound-history m.lives m.past m.history)
+      sound-opening m.past m.edition m.image m.life.found m.life.fits m.life.is_found
+      (sound-history m.lives m.past m.history)
 
   -- and at each moment
   pub sound-moment : (s : State) (m : Moment sectors s) → IsSound (core s)

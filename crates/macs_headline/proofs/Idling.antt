@@ -23,7 +23,8 @@ in_hand_or_not (Renewing r) = inr (λ is. cc)
 in_hand_or_not (Appending r) = inr (λ is. cc)
 
 -- where no piece of work is next, no command waits and no ceiling is needed
-no_piece : (whose : Turn) (o : Option Raise) (waiting : List Waiting) → piece_among whose o (first_waiting waiting) ≡ None → (waiting ≡ []) × (o ≡ None)
+no_piece : (whose : Turn) (o : Option Raise) (waiting : List Waiting)
+    → piece_among whose o (first_waiting waiting) ≡ None → (waiting ≡ []) × (o ≡ None)
 no_piece whose None [] is = (refl, refl)
 no_piece whose (Some raise) [] is = absurd (cc)
 no_piece whose None (w ∷ rest) is = absurd (cc)
@@ -31,7 +32,8 @@ no_piece turn.Reservation (Some raise) (w ∷ rest) is = absurd (cc)
 no_piece turn.Command (Some raise) (w ∷ rest) is = absurd (cc)
 
 module _ {D : Type 0} (disk_of : D → Disk) where
-  none_next : (old new : EndpointValue D) (piece : Option Piece) → BeginsWith old piece (Ok Idle) new → (piece ≡ None) × (new ≡ old)
+  none_next : (old new : EndpointValue D) (piece : Option Piece) → BeginsWith old piece (Ok Idle) new
+      → (piece ≡ None) × (new ≡ old)
   none_next old new None begins = (refl, begins)
   none_next old new (Some (ToRaise raise)) begins = absurd begins
   none_next old new (Some (ToKeep first)) begins = absurd begins

@@ -26,16 +26,21 @@ at_end disk image left =
     let same : left.0 ≡ disk.clock = omega (arith, low, high) in
     subst (λ (k : ℕ). IsImage (disk.past k) image) same left.3
 
-module _ {D : Type 0} (disk_of : D → Disk) (sound : (it : D) → IsHonest (disk_of it) → IsSound (now (disk_of it))) (disk : D) (before : List Life)
-    (h : HasHistory this_edition (disk_of disk) before) (first : EndpointValue D) (turns : List (Transition D)) (last : EndpointValue D)
+module _ {D : Type 0} (disk_of : D → Disk) (sound : (it : D) → IsHonest (disk_of it) → IsSound (now (disk_of it)))
+    (disk : D) (before : List Life)
+    (h : HasHistory this_edition (disk_of disk) before) (first : EndpointValue D) (turns : List (Transition D))
+    (last : EndpointValue D)
     (lived : LivesFrom disk_of disk first turns last) where
   -- an opening after it, and after a power loss
-  pub never-spent : (left lost : D) → left ≡ device_in last → LosesPower (disk_of left) (disk_of left).clock (disk_of lost) → (fault : JournalFault)
+  pub never-spent : (left lost : D) → left ≡ device_in last
+      → LosesPower (disk_of left) (disk_of left).clock (disk_of lost) → (fault : JournalFault)
       → IsSpentFor this_edition (now (disk_of lost)).seen fault → ⊥
   never-spent left lost gave loses fault spent =
-      let is = alive disk_of sound (disk_of disk).sectors h.past disk first turns last (history-covers (disk_of disk) before h) lived in
+      let is = alive disk_of sound (disk_of disk).sectors h.past disk first turns last
+      (history-covers (disk_of disk) before h) lived in
       let may : MayLeave (disk_of left) loses.image = at_end (disk_of left) loses.image loses.left in
-      let two : HasFormat loses.image Two = is.backed.form loses.image (subst (λ (d : D). MayLeave (disk_of d) loses.image) gave may) in
+      let two : HasFormat loses.image Two =
+      is.backed.form loses.image (subst (λ (d : D). MayLeave (disk_of d) loses.image) gave may) in
       let same : (now (disk_of lost)).seen ≡ loses.image = ap (λ (s : DiskState). s.seen) loses.settled in
       let at_last = spent.1 in
       not-old loses.image at_last.content at_last.standing two

@@ -1,5 +1,6 @@
 -- Items of lists.
-use Rattle.std.proofs.Common.{◌≡◌, ◌≢◌, ◌⊎◌, inl, inr, ℕ, zero, suc, List, [], ◌∷◌, ◌++◌, map, ap, replicate, refl, sym, ◌∙◌, subst, arith}
+use Rattle.std.proofs.Common.{◌≡◌, ◌≢◌, ◌⊎◌, inl, inr, ℕ, zero, suc, List, [], ◌∷◌, ◌++◌, map, ap, replicate, refl, sym}
+use Rattle.std.proofs.Common.{◌∙◌, subst, arith}
 use Rattle.std.specs.Prelude.{AllPairs, Contains}
 use Rattle.std.specs.List.{AllByRecursion}
 use Rattle.std.proofs.lemmas.List.{get_or_default}
@@ -56,7 +57,8 @@ pub pairs-none : {X : Type 0} → AllPairs {X = X} (λ a b. a ≢ b) []
 pairs-none i j d before within = absurd (omega (arith, within))
 
 -- one that is none of the others
-pub none-twice : {X : Type 0} (x : X) (xs : List X) → ¬ Contains xs x → AllPairs {X = X} (λ a b. a ≢ b) xs → AllPairs {X = X} (λ a b. a ≢ b) (x ∷ xs)
+pub none-twice : {X : Type 0} (x : X) (xs : List X) → ¬ Contains xs x → AllPairs {X = X} (λ a b. a ≢ b) xs
+    → AllPairs {X = X} (λ a b. a ≢ b) (x ∷ xs)
 none-twice {X} x xs apart pairs =
     AllPairs-cons (λ (a : X) (b : X). a ≢ b) x xs
     (λ k d within same. apart (k, within, get_or_default xs k x d within ∙ sym same)) pairs
@@ -66,7 +68,8 @@ not-twice x xs pairs (k, within, is) = pairs zero (suc k) x (omega arith) (omega
 
 -- ---- one more at the end
 
-pub all-on : {X : Type 0} (P : X → Type 0) (xs : List X) (x : X) → AllByRecursion P xs → P x → AllByRecursion P (xs ++ x ∷ [])
+pub all-on : {X : Type 0} (P : X → Type 0) (xs : List X) (x : X) → AllByRecursion P xs → P x
+    → AllByRecursion P (xs ++ x ∷ [])
 all-on P [] x all is = (is, tt)
 all-on P (first ∷ xs) x all is = (all.0, all-on P xs x all.1 is)
 

@@ -5,13 +5,15 @@ use Rattle.macs_config.specs.Identity.{Identity}
 use Rattle.macs_endpoint.specs.State.{Logs, State, no_logs}
 use Rattle.macs_endpoint.specs.Step.{Exchange, Steps}
 use Rattle.macs_endpoint.specs.Restart.{opened_state}
-use Rattle.macs_headline.specs.History.{Blank, FormatLeads, Formats, Formatted, Leads, Life, Past, Refuses, Serves, logs_of}
+use Rattle.macs_headline.specs.History.{Blank, FormatLeads, Formats, Formatted, Leads, Life, Past, Refuses, Serves}
+use Rattle.macs_headline.specs.History.{logs_of}
 use Rattle.macs_headline.specs.Numbers.{AreHeldIn, NothingForgotten}
 use Rattle.macs_headline.proofs.Effects.{Commanded, Core, Effect, Given, Held, NoEffect, Sent, core, effect-of, use_of}
 use Rattle.macs_headline.proofs.Sound.{end-core}
 
 held_same : (old new : Logs) → new ≡ old → AreHeldIn old new
-held_same old new is = subst (AreHeldIn old) (sym is) (record { used_since = []; used = refl; given_since = []; given = refl })
+held_same old new is =
+    subst (AreHeldIn old) (sym is) (record { used_since = []; used = refl; given_since = []; given = refl })
 
 pub held-on : (old mid new : Logs) → AreHeldIn old mid → AreHeldIn mid new → AreHeldIn old new
 held-on old mid new one two = record {
@@ -30,19 +32,24 @@ by_effect : (edition : Edition) (old new : Core) → Effect edition old new → 
 by_effect edition old new (NoEffect is) = held_same (logs_in old) (logs_in new) (ap logs_in is)
 by_effect edition old new (Commanded c config ok is) = held_same (logs_in old) (logs_in new) (ap logs_in is)
 by_effect edition old new (Sent an sa pn is_sa is_pn is) =
-    subst (λ (c : Core). AreHeldIn (logs_in old) (logs_in c)) (sym is) (record { used_since = use_of sa.key pn ∷ []; used = refl; given_since = []; given = refl })
+    subst (λ (c : Core). AreHeldIn (logs_in old) (logs_in c)) (sym is)
+    (record { used_since = use_of sa.key pn ∷ []; used = refl; given_since = []; given = refl })
 by_effect edition old new (Held sci an n pn is_n is) = held_same (logs_in old) (logs_in new) (ap logs_in is)
 by_effect edition old new (Given sci an sa n pn is_sa is_n in_time is) =
-    subst (λ (c : Core). AreHeldIn (logs_in old) (logs_in c)) (sym is) (record { used_since = []; used = refl; given_since = _ ∷ []; given = refl })
+    subst (λ (c : Core). AreHeldIn (logs_in old) (logs_in c)) (sym is)
+    (record { used_since = []; used = refl; given_since = _ ∷ []; given = refl })
 
 -- what was used and delivered before calls is held after them
-pub steps-hold : (old : State) (exchanges : List Exchange) (new : State) → Steps old exchanges new → AreHeldIn old.logs new.logs
+pub steps-hold : (old : State) (exchanges : List Exchange) (new : State) → Steps old exchanges new
+    → AreHeldIn old.logs new.logs
 steps-hold old [] new steps = held_same old.logs new.logs (ap (λ (s : State). s.logs) steps)
 steps-hold old (e ∷ es) new steps =
     let mid = steps.0 in
-    held-on old.logs mid.logs new.logs (by_effect old.edition (core old) (core mid) (effect-of old e.call e.reply mid steps.1)) (steps-hold mid es new steps.2)
+    held-on old.logs mid.logs new.logs (by_effect old.edition (core old) (core mid)
+    (effect-of old e.call e.reply mid steps.1)) (steps-hold mid es new steps.2)
 
-by_format : (old : Past) (edition : Edition) (identity : Identity) (is_ok : Bool) (new : Past) → FormatLeads old edition identity is_ok new
+by_format : (old : Past) (edition : Edition) (identity : Identity) (is_ok : Bool) (new : Past)
+    → FormatLeads old edition identity is_ok new
     → AreHeldIn (logs_of old) (logs_of new)
 by_format (Blank identities) edition identity true new is = held_same no_logs (logs_of new) (ap logs_of is)
 by_format (Blank identities) edition identity false new is = held_same no_logs (logs_of new) (ap logs_of is)

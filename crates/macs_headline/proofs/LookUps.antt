@@ -16,11 +16,14 @@ no-one None none = refl
 no-one (Some x) none = absurd (none x refl)
 
 -- one in what another one found
-pub then-none : {X Y : Type 0} (f : X → Option Y) (o : Option X) → (option_and_then f o ≡ None) ↔ ((x : X) → o ≡ Some x → f x ≡ None)
+pub then-none : {X Y : Type 0} (f : X → Option Y) (o : Option X)
+    → (option_and_then f o ≡ None) ↔ ((x : X) → o ≡ Some x → f x ≡ None)
 then-none {X} f None = (λ is x here. absurd (none-some x here), λ each. refl)
-then-none {X} f (Some y) = (λ is x here. subst (λ (z : X). f z ≡ None) (some_one (Some y) y x refl here) is, λ each. each y refl)
+then-none {X} f (Some y) =
+    (λ is x here. subst (λ (z : X). f z ≡ None) (some_one (Some y) y x refl here) is, λ each. each y refl)
 
-pub then-some : {X Y : Type 0} (f : X → Option Y) (o : Option X) (y : Y) → option_and_then f o ≡ Some y → (x : X) × (o ≡ Some x) × (f x ≡ Some y)
+pub then-some : {X Y : Type 0} (f : X → Option Y) (o : Option X) (y : Y) → option_and_then f o ≡ Some y
+    → (x : X) × (o ≡ Some x) × (f x ≡ Some y)
 then-some f None y is = absurd (none-some y is)
 then-some f (Some x) y is = (x, refl, is)
 

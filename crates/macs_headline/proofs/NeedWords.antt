@@ -22,7 +22,8 @@ use Rattle.macs_rxsc.specs.Receive.{Numbers}
 use Rattle.macs_rxsc.proofs.Needed.{is-need, needs_among, own-place}
 use Rattle.macs_endpoint.specs.Advancing.{turn_after, turn_after_refill}
 use Rattle.macs_endpoint.specs.Ceilings.{Raise, either_raise}
-use Rattle.macs_endpoint.specs.State.{Advanced, Advances, Commands, Protects, Ran, Receives, Refilled, Refills, Reply, Submits}
+use Rattle.macs_endpoint.specs.State.{Advanced, Advances, Commands, Protects, Ran, Receives, Refilled, Refills, Reply}
+use Rattle.macs_endpoint.specs.State.{Submits}
 use Rattle.macs_endpoint.specs.Value.{EndpointValue}
 use Rattle.macs_endpoint.specs.declared.fault.CommandFault.{CommandFault}
 use Rattle.macs_endpoint.specs.declared.fault.CommandFault.TheVariants as ran

@@ -1,5 +1,6 @@
 -- A night: two frames under one key have two numbers, though power was lost between them.
-use Rattle.std.proofs.Common.{◌≡◌, ◌≢◌, ◌≤◌, ◌⊎◌, ◌+◌, arith, ◌++◌, inl, inr, ℕ, List, [], ◌∷◌, None, Result, Ok, Err, is_ok, refl, sym, ◌∙◌, ap, subst, le_refl, map}
+use Rattle.std.proofs.Common.{◌≡◌, ◌≢◌, ◌≤◌, ◌⊎◌, ◌+◌, arith, ◌++◌, inl, inr, ℕ, List, [], ◌∷◌, None, Result, Ok, Err}
+use Rattle.std.proofs.Common.{is_ok, refl, sym, ◌∙◌, ap, subst, le_refl, map}
 use Rattle.std.specs.Prelude.{Contains, Option, Some}
 use Rattle.std.specs.List.{AllByRecursion}
 use Rattle.macs_fields.specs.Fields.{octets_of}
@@ -59,25 +60,34 @@ use Rattle.macs_headline.proofs.Places.{put-that, put-this}
 -- ---- power losses that are played
 
 -- in memory
-pub crashed-loses : (old new : Memory) → new ≡ memory_after_loss old → MayLeave old.disk (now new.disk).seen → LosesPower old.disk old.disk.clock new.disk
+pub crashed-loses : (old new : Memory) → new ≡ memory_after_loss old → MayLeave old.disk (now new.disk).seen
+    → LosesPower old.disk old.disk.clock new.disk
 crashed-loses old new is may =
     let after : new.disk ≡ disk_after_loss old.disk (image_left old) = ap (λ (m : Memory). m.disk) is in
     let left : MayLeave old.disk (image_left old) = subst (λ (d : Disk). MayLeave old.disk (now d).seen) after may in
     let clock = old.disk.clock in
-    subst (LosesPower old.disk clock) (sym after) (loses-power old.disk clock (image_left old) (clock, le_refl clock, le_refl clock, left))
+    subst (LosesPower old.disk clock) (sym after)
+    (loses-power old.disk clock (image_left old) (clock, le_refl clock, le_refl clock, left))
 
 -- behind a fuse, of which another takes the place
-pub fuse-loses : (disk lost : Disk) (at missed added later : ℕ) → at ≤ disk.clock → later ≤ lost.clock → LosesPower disk disk.clock lost
+pub fuse-loses : (disk lost : Disk) (at missed added later : ℕ) → at ≤ disk.clock → later ≤ lost.clock
+    → LosesPower disk disk.clock lost
     → LosesPower (fused_disk disk at missed added) (disk.clock + missed) (fused_disk lost later 0 0)
 fuse-loses disk lost at missed added later before behind loses =
     let fused = fused_disk disk at missed added in
     let from = loses.left.1 in
     let to = loses.left.2 in
     let last : loses.left.0 ≡ disk.clock = omega (arith, from, to) in
-    let left : IsImage (now disk) loses.image = subst (λ (k : ℕ). IsImage (disk.past k) loses.image) last loses.left.3 in
+    let left : IsImage (now disk) loses.image =
+    subst (λ (k : ℕ). IsImage (disk.past k) loses.image) last loses.left.3 in
     record {
       image = loses.image;
-      left = (fused.clock, le_refl fused.clock, le_refl fused.clock, subst (λ (s : DiskState). IsImage s loses.image) (sym (fuse-now disk at missed added before)) left);
+      left = (
+        fused.clock,
+        le_refl fused.clock,
+        le_refl fused.clock,
+        subst (λ (s : DiskState). IsImage s loses.image) (sym (fuse-now disk at missed added before)) left,
+      );
       alike = record { sectors = loses.alike.sectors; honest = loses.alike.honest };
       settled = fuse-now lost later 0 0 behind ∙ loses.settled;
     }
@@ -88,18 +98,27 @@ pub blank-new : (m : Memory) → m ≡ blank_memory 1028 → IsNewDisk m.disk
 blank-new m is = subst (λ (m : Memory). IsNewDisk m.disk) (sym is) (blank-is-new 1028 (omega arith))
 
 -- one behind a fuse
-pub fused-new : (disk : Disk) (at missed added : ℕ) → at ≤ disk.clock → IsNewDisk disk → IsNewDisk (fused_disk disk at missed added)
+pub fused-new : (disk : Disk) (at missed added : ℕ) → at ≤ disk.clock → IsNewDisk disk
+    → IsNewDisk (fused_disk disk at missed added)
 fused-new disk at missed added before is = record {
   honest = is.honest;
   large = is.large;
-  closed = λ image left. is.closed image (subst (λ (s : DiskState). IsImage s image) (fuse-now disk at missed added before) left);
+  closed = λ image left.
+      is.closed image (subst (λ (s : DiskState). IsImage s image) (fuse-now disk at missed added before) left);
 }
 
 -- ---- frames of such a state
 
 abbrev frame_by : ℕ → TxSa → Identity → SciMode → ℕ → List ℕ → List ℕ
 frame_by an sa identity mode pn plain = protected_frame sa.key identity.sci
-    (record { an = an; pn = pn; name = name_in mode identity.sci; encrypted = is_confidential sa.protection; changed = is_confidential sa.protection })
+    (record {
+      an = an;
+      pn = pn;
+      name = name_in mode identity.sci;
+      encrypted = is_confidential sa.protection;
+      changed =
+          is_confidential sa.protection;
+    })
     (octets_of (offset_of sa.protection)) plain
 
 none_some : {X : Type 0} (x : X) → ◌≡◌ {A = Option X} None (Some x) → ⊥
@@ -141,14 +160,19 @@ module _ (identity : Identity) (an : ℕ) (key : Key) where
   abbrev IsOurLife : Life → Type 0
   IsOurLife life = alone.IsOurLife identity IsOurCommand IsOurConfig by_default after_ours life
 
-  our-moment : (sectors : ℕ) (s : State) (m : Moment sectors s) → AllByRecursion IsOurLife m.lives → AreOurCalls m.exchanges → IsOurs s
-  our-moment sectors s m lives calls = alone.our-moment identity IsOurCommand IsOurConfig by_default after_ours sectors s m lives calls
+  our-moment : (sectors : ℕ) (s : State) (m : Moment sectors s) → AllByRecursion IsOurLife m.lives
+      → AreOurCalls m.exchanges → IsOurs s
+  our-moment sectors s m lives calls =
+      alone.our-moment identity IsOurCommand IsOurConfig by_default after_ours sectors s m lives calls
 
-  our-answer : (sectors : ℕ) (lives : List Life) (e : Exchange) (logs : Logs) (was : WasAnswered sectors lives e logs) → AllByRecursion IsOurLife lives
+  our-answer : (sectors : ℕ) (lives : List Life) (e : Exchange) (logs : Logs) (was : WasAnswered sectors lives e logs)
+      → AllByRecursion IsOurLife lives
       → IsOurs was.at
-  our-answer sectors lives e logs was its = alone.our-answer identity IsOurCommand IsOurConfig by_default after_ours sectors lives e logs was its
+  our-answer sectors lives e logs was its =
+      alone.our-answer identity IsOurCommand IsOurConfig by_default after_ours sectors lives e logs was its
 
-  night-frame : (s : State) (plain : List ℕ) (pn : ℕ) (out : List ℕ) (new : State) → IsOurs s → IsStandardFrame s plain pn out new
+  night-frame : (s : State) (plain : List ℕ) (pn : ℕ) (out : List ℕ) (new : State) → IsOurs s
+      → IsStandardFrame s plain pn out new
       → IsNightFrame identity an (octets_of_key key) plain pn out
   night-frame s plain pn out new ours f =
       let its = ours.config_is.ours f.an f.sa f.association in
@@ -158,33 +182,41 @@ module _ (identity : Identity) (an : ℕ) (key : Key) where
         frame = f.frame ∙ (λ i. frame_by (its.0 i) (its.1 i) (ours.identity_is i) (ours.config_is.mode i) pn plain);
       }
 
-  key-is : (s : State) (plain : List ℕ) (pn : ℕ) (out : List ℕ) (new : State) → IsOurs s → (f : IsStandardFrame s plain pn out new)
+  key-is : (s : State) (plain : List ℕ) (pn : ℕ) (out : List ℕ) (new : State) → IsOurs s
+      → (f : IsStandardFrame s plain pn out new)
       → f.sa.key ≡ octets_of_key key
   key-is s plain pn out new ours f = ap (λ (sa : TxSa). sa.key) (ours.config_is.ours f.an f.sa f.association).1
 
 -- ---- the night
 
 -- the first opening was refused
-pub refused-first : {D : Type 0} (disk_of : D → Disk) (sound : (it : D) → IsHonest (disk_of it) → IsSound (now (disk_of it))) (identity : Identity) (old mid : D)
-    → IsNewDisk (disk_of old) → (formatted : Result (Unit {0}) JournalFault) → IsFormat disk_of old identity formatted mid
+pub refused-first : {D : Type 0} (disk_of : D → Disk) (sound : (it : D) → IsHonest (disk_of it)
+    → IsSound (now (disk_of it))) (identity : Identity) (old mid : D)
+    → IsNewDisk (disk_of old) → (formatted : Result (Unit {0}) JournalFault)
+    → IsFormat disk_of old identity formatted mid
     → (refused : RecoverRefused D) → IsOpening disk_of mid (Err refused) → IsRefusedEvening disk_of old identity refused
 refused-first disk_of sound identity old mid is_new formatted format refused opening = record {
   day = is-refused-day disk_of sound old identity formatted mid refused is_new format opening;
   failed = day-failed disk_of sound old is_new identity mid refused.disk refused.fault opening formatted format;
 }
 
-module _ {D : Type 0} (disk_of : D → Disk) (sound : (it : D) → IsHonest (disk_of it) → IsSound (now (disk_of it))) (identity : Identity) (an : ℕ) (key : Key)
-    (old mid : D) (is_new : IsNewDisk (disk_of old)) (formatted : Result (Unit {0}) JournalFault) (format : IsFormat disk_of old identity formatted mid)
+module _ {D : Type 0} (disk_of : D → Disk) (sound : (it : D) → IsHonest (disk_of it) → IsSound (now (disk_of it)))
+    (identity : Identity) (an : ℕ) (key : Key)
+    (old mid : D) (is_new : IsNewDisk (disk_of old)) (formatted : Result (Unit {0}) JournalFault)
+    (format : IsFormat disk_of old identity formatted mid)
     (first one two three : EndpointValue D) (opening : IsOpening disk_of mid (Ok first))
-    (kept : IsSoundEndpoint first) (installed : Result (Unit {0}) CommandFault) (install : IsCall disk_of first (Commands (night_install an key)) (Ran installed) one)
-    (kept_one : IsSoundEndpoint one) (chosen : Result (Unit {0}) CommandFault) (choose : IsCall disk_of one (Commands (TxUse an)) (Ran chosen) two)
+    (kept : IsSoundEndpoint first) (installed : Result (Unit {0}) CommandFault)
+    (install : IsCall disk_of first (Commands (night_install an key)) (Ran installed) one)
+    (kept_one : IsSoundEndpoint one) (chosen : Result (Unit {0}) CommandFault)
+    (choose : IsCall disk_of one (Commands (TxUse an)) (Ran chosen) two)
     (kept_two : IsSoundEndpoint two) (evening : List ℕ) (sent : Result ℕ ProtectFault) (out : List ℕ)
     (protect : IsCall disk_of two (Protects evening) (Protected sent out) three) where
   abbrev before : List Life
   before = Formats this_edition identity (is_ok formatted) ∷ []
 
   has_before : HasHistory this_edition (disk_of mid) before
-  has_before = new-deeds-are-histories disk_of sound old mid (record { deed = Formatting identity formatted; after = mid } ∷ []) is_new (format, refl)
+  has_before = new-deeds-are-histories disk_of sound old mid
+      (record { deed = Formatting identity formatted; after = mid } ∷ []) is_new (format, refl)
 
   abbrev commands : List (Transition D)
   commands =
@@ -206,14 +238,16 @@ module _ {D : Type 0} (disk_of : D → Disk) (sound : (it : D) → IsHonest (dis
   pub evening-frame : (pn : ℕ) → sent ≡ Ok pn → IsNightFrame identity an (octets_of_key key) evening pn out
   evening-frame pn is =
       let w = frames-are-written-once disk_of sound mid before first two three commands evening pn out has_before lived
-      (subst (λ (r : Result ℕ ProtectFault). IsCall disk_of two (Protects evening) (Protected r out) three) is protect) in
+      (subst (λ (r : Result ℕ ProtectFault). IsCall disk_of two (Protects evening) (Protected r out) three)
+      is protect) in
       night-frame identity an key (state_of two w.at.logs) evening pn out (state_of three w.later)
       (our-moment identity an key (disk_of mid).sectors (state_of two w.at.logs) w.at.moment
       (subst (AllByRecursion (IsOurLife identity an key)) (sym w.at.after_lives) (refl, tt))
       (subst (AreOurCalls identity an key) (sym w.at.calls) (inl refl, (inr refl, tt))))
       w.standard
 
-  module _ (left : D) (gave : left ≡ device_in three) (lost : D) (loses : LosesPower (disk_of left) (disk_of left).clock (disk_of lost)) where
+  module _ (left : D) (gave : left ≡ device_in three) (lost : D)
+      (loses : LosesPower (disk_of left) (disk_of left).clock (disk_of lost)) where
     abbrev evening_life : Life
     evening_life = Serves this_edition (now (disk_of mid)).seen (map exchange_of with_frame) None
 
@@ -221,7 +255,8 @@ module _ {D : Type 0} (disk_of : D → Disk) (sound : (it : D) → IsHonest (dis
     both = Formats this_edition identity (is_ok formatted) ∷ evening_life ∷ []
 
     abbrev links : List (Link D)
-    links = record { deed = Living first with_frame three None; after = left } ∷ record { deed = PassingOn; after = lost } ∷ []
+    links = record { deed = Living first with_frame three None; after = left }
+        ∷ record { deed = PassingOn; after = lost } ∷ []
 
     has_both : HasHistory this_edition (disk_of lost) both
     has_both = deeds-are-histories disk_of sound mid lost before links has_before (
@@ -230,7 +265,8 @@ module _ {D : Type 0} (disk_of : D → Disk) (sound : (it : D) → IsHonest (dis
     )
 
     -- the second opening was refused
-    pub refused-again : (refused : RecoverRefused D) → IsOpening disk_of lost (Err refused) → IsRefusedMorning disk_of old identity an key evening out refused
+    pub refused-again : (refused : RecoverRefused D) → IsOpening disk_of lost (Err refused)
+        → IsRefusedMorning disk_of old identity an key evening out refused
     refused-again refused opening_again = record {
       formatted = formatted;
       installed = installed;
@@ -255,15 +291,18 @@ module _ {D : Type 0} (disk_of : D → Disk) (sound : (it : D) → IsHonest (dis
         | inl disk ↦ disk.0
         | inr later ↦ elim later [
           | inl blank ↦ absurd (blank.2 this_edition (now (disk_of mid)).seen (map exchange_of with_frame) None
-              (contains-later (Formats this_edition identity (is_ok formatted)) (evening_life ∷ []) evening_life (contains-first evening_life [])))
+              (contains-later (Formats this_edition identity (is_ok formatted)) (evening_life ∷ []) evening_life
+              (contains-first evening_life [])))
           | inr spent ↦ absurd (never-spent disk_of sound mid before has_before first with_frame three
-              (opening, (kept, install, (kept_one, choose, (kept_two, protect, refl)))) left lost gave loses refused.fault spent)
+              (opening, (kept, install, (kept_one, choose, (kept_two, protect, refl)))) left lost gave loses
+              refused.fault spent)
         ]
       ];
     }
 
     module _ (again four five : EndpointValue D) (opening_again : IsOpening disk_of lost (Ok again))
-        (kept_again : IsSoundEndpoint again) (refilled : Result (Unit {0}) RefillFault) (refill : IsCall disk_of again Refills (Refilled refilled) four)
+        (kept_again : IsSoundEndpoint again) (refilled : Result (Unit {0}) RefillFault)
+        (refill : IsCall disk_of again Refills (Refilled refilled) four)
         (morning : List ℕ) (sent_again : Result ℕ ProtectFault) (second : List ℕ)
         (protect_again : IsCall disk_of four (Protects morning) (Protected sent_again second) five) where
       abbrev refills : List (Transition D)
@@ -273,27 +312,33 @@ module _ {D : Type 0} (disk_of : D → Disk) (sound : (it : D) → IsHonest (dis
       lived_again = (opening_again, (kept_again, refill, refl))
 
       written : (pn : ℕ) → sent_again ≡ Ok pn
-          → IsWrittenOnce (disk_of lost).sectors both (now (disk_of lost)).seen refills again four five morning pn second
+          → IsWrittenOnce (disk_of lost).sectors both (now (disk_of lost)).seen refills again four five
+          morning pn second
       written pn is =
           frames-are-written-once disk_of sound lost both again four five refills morning pn second has_both lived_again
-          (subst (λ (r : Result ℕ ProtectFault). IsCall disk_of four (Protects morning) (Protected r second) five) is protect_again)
+          (subst (λ (r : Result ℕ ProtectFault). IsCall disk_of four (Protects morning) (Protected r second) five) is
+          protect_again)
 
       module _ (pn : ℕ) (is : sent_again ≡ Ok pn) where
-        abbrev w : IsWrittenOnce (disk_of lost).sectors both (now (disk_of lost)).seen refills again four five morning pn second
+        abbrev w : IsWrittenOnce (disk_of lost).sectors both (now (disk_of lost)).seen refills again four five
+            morning pn second
         w = written pn is
 
         both_ours : AllByRecursion (IsOurLife identity an key) w.at.moment.lives
-        both_ours = subst (AllByRecursion (IsOurLife identity an key)) (sym w.at.after_lives) (refl, ((inl refl, (inr refl, (tt, tt))), tt))
+        both_ours = subst (AllByRecursion (IsOurLife identity an key)) (sym w.at.after_lives)
+            (refl, ((inl refl, (inr refl, (tt, tt))), tt))
 
         refills_ours : AreOurCalls identity an key w.at.moment.exchanges
         refills_ours = subst (AreOurCalls identity an key) (sym w.at.calls) (tt, tt)
 
         now_ours : IsOurs identity an key (state_of four w.at.logs)
-        now_ours = our-moment identity an key (disk_of lost).sectors (state_of four w.at.logs) w.at.moment both_ours refills_ours
+        now_ours = our-moment identity an key (disk_of lost).sectors (state_of four w.at.logs) w.at.moment both_ours
+            refills_ours
 
         -- the frame of the morning
         pub morning-frame : IsNightFrame identity an (octets_of_key key) morning pn second
-        morning-frame = night-frame identity an key (state_of four w.at.logs) morning pn second (state_of five w.later) now_ours w.standard
+        morning-frame = night-frame identity an key (state_of four w.at.logs) morning pn second (state_of five w.later)
+            now_ours w.standard
 
         -- and that of the evening has another number
         pub numbers-apart : (number : ℕ) → sent ≡ Ok number → number ≢ pn
@@ -310,9 +355,13 @@ module _ {D : Type 0} (disk_of : D → Disk) (sound : (it : D) → IsHonest (dis
             let here : Contains (exchanges_of_lives (both ++ Serves m.edition m.image m.exchanges None ∷ [])) e =
             contains-later installing (choosing ∷ frame ∷ rest) e (contains-later choosing (frame ∷ rest) e front) in
             let among : Contains (exchanges_of_lives lives) e =
-            subst (λ (lives : List Life). Contains (exchanges_of_lives (lives ++ Serves m.edition m.image m.exchanges None ∷ [])) e) (sym w.at.after_lives) here in
+            subst (λ (lives : List Life). Contains (exchanges_of_lives
+            (lives ++ Serves m.edition m.image m.exchanges None ∷ [])) e) (sym w.at.after_lives) here in
             let other = w.others evening number out among in
             let ours = our-answer identity an key (disk_of lost).sectors lives e w.at.logs other.answered
-            (all-on (IsOurLife identity an key) m.lives (Serves m.edition m.image m.exchanges None) both_ours refills_ours) in
-            other.other (key-is identity an key other.answered.at evening number out other.answered.after ours other.frame
-            ∙ sym (key-is identity an key (state_of four w.at.logs) morning pn second (state_of five w.later) now_ours w.standard))
+            (all-on (IsOurLife identity an key) m.lives (Serves m.edition m.image m.exchanges None) both_ours
+            refills_ours) in
+            other.other
+            (key-is identity an key other.answered.at evening number out other.answered.after ours other.frame
+            ∙ sym (key-is identity an key (state_of four w.at.logs) morning pn second (state_of five w.later) now_ours
+            w.standard))

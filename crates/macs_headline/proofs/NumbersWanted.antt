@@ -1,5 +1,6 @@
 -- What wants a reservation.
-use Rattle.std.proofs.Common.{◌≡◌, ◌≤◌, ◌==◌, inl, inr, ℕ, true, false, nat_lt, Option, Some, None, Ok, refl, sym, ◌∙◌, ap}
+use Rattle.std.proofs.Common.{◌≡◌, ◌≤◌, ◌==◌, inl, inr, ℕ, true, false, nat_lt, Option, Some, None, Ok, refl, sym, ◌∙◌}
+use Rattle.std.proofs.Common.{ap}
 use Rattle.std.specs.Option.{option_map_or}
 use Rattle.std.proofs.lemmas.Bool.{eqb-true, false≢true, ltb-false}
 use Rattle.macs_disk.specs.Disk.{Disk}
@@ -42,10 +43,13 @@ reservations-are-wanted {D} disk_of = record {
       let limited = call.behaves.limited in
       (limited.0, limited.1, λ ceiling is. not_below _ limited.0.pn ceiling limited.2 is);
   unsent = λ last after plain out call.
-      at_ceiling (tx_side (state_of last no_logs)) (standing_in last.store).ceilings.tx (next_outgoing (tx_side (state_of last no_logs))) refl
+      at_ceiling (tx_side (state_of last no_logs)) (standing_in last.store).ceilings.tx
+      (next_outgoing (tx_side (state_of last no_logs))) refl
       call.behaves.limited;
   refilled = λ last after call.
       let stepped = call.behaves.step no_logs in
-      let same : state_of after stepped.0 ≡ state_of last no_logs = same_state (state_of last no_logs) (state_of after stepped.0) stepped.1 in
-      (λ i. first_raise (standing_in after.store) (tx_side (same i)) (rx_side (same i))) ∙ call.behaves.ceilings.is_next;
+      let same : state_of after stepped.0 ≡ state_of last no_logs =
+      same_state (state_of last no_logs) (state_of after stepped.0) stepped.1 in
+      (λ i. first_raise (standing_in after.store) (tx_side (same i)) (rx_side (same i)))
+      ∙ call.behaves.ceilings.is_next;
 }

@@ -19,10 +19,12 @@ up_through small mid large first second = record {
 }
 
 module _ (small large : Edition) (up_to : IsUpTo small large) where
-  resumes_larger : (old : State) (found : Standing) (logs : Logs) → found.edition ≡ small → Resumes old (opened_state found logs)
+  resumes_larger : (old : State) (found : Standing) (logs : Logs) → found.edition ≡ small
+      → Resumes old (opened_state found logs)
       → Resumes old (opened_state (record found { edition = large }) logs)
   resumes_larger old found logs is up = record {
-    edition = up_through old.edition found.edition large up.edition (subst (λ (e : Edition). IsUpTo e large) (sym is) up_to);
+    edition =
+        up_through old.edition found.edition large up.edition (subst (λ (e : Edition). IsUpTo e large) (sym is) up_to);
     identity = up.identity;
     config = up.config;
     next = up.next;
@@ -34,10 +36,12 @@ module _ (small large : Edition) (up_to : IsUpTo small large) where
     tickets = up.tickets;
   }
 
-  restart_larger : (old : State) (found : Standing) (logs : Logs) → found.edition ≡ small → Restart old (opened_state found logs)
+  restart_larger : (old : State) (found : Standing) (logs : Logs) → found.edition ≡ small
+      → Restart old (opened_state found logs)
       → Restart old (opened_state (record found { edition = large }) logs)
   restart_larger old found logs is (inl up) = inl (resumes_larger old found logs is up)
-  restart_larger old found logs is (inr (c, mid, hand, makes, up)) = inr (c, mid, hand, makes, resumes_larger mid found logs is up)
+  restart_larger old found logs is (inr (c, mid, hand, makes, up)) =
+      inr (c, mid, hand, makes, resumes_larger mid found logs is up)
 
   -- an image that fits a state fits it in the larger edition
   pub larger-fits : (sectors : ℕ) (image : Image) (s : State) → Fits small sectors image s → Fits large sectors image s
@@ -47,7 +51,8 @@ module _ (small large : Edition) (up_to : IsUpTo small large) where
     restart = restart_larger s fits.found s.logs (of-edition small sectors image fits.found fits.is_found) fits.restart;
   }
 
-  larger_past : (sectors : ℕ) (past : Past) (image : Image) → FitsPast small sectors past image → FitsPast large sectors past image
+  larger_past : (sectors : ℕ) (past : Past) (image : Image) → FitsPast small sectors past image
+      → FitsPast large sectors past image
   larger_past sectors (Blank identities) image (inl none) = inl none
   larger_past sectors (Blank identities) image (inr (identity, among, new)) =
       inr (identity, among, larger-finds small large up_to sectors image (new_standing small identity) new)
@@ -57,11 +62,13 @@ module _ (small large : Edition) (up_to : IsUpTo small large) where
 
 by_restart : (s new : State) → Restart s new → IsUpTo s.edition new.edition
 by_restart s new (inl up) = up.edition
-by_restart s new (inr (c, mid, hand, makes, up)) = subst (λ (e : Edition). IsUpTo e new.edition) (ap (λ (s : State). s.edition) makes.2) up.edition
+by_restart s new (inr (c, mid, hand, makes, up)) =
+    subst (λ (e : Edition). IsUpTo e new.edition) (ap (λ (s : State). s.edition) makes.2) up.edition
 
 pub editions-rise : (sectors : ℕ) → EditionsRise sectors
 editions-rise sectors s edition image fits =
-    subst (IsUpTo s.edition) (of-edition edition sectors image fits.found fits.is_found) (by_restart s (opened_state fits.found s.logs) fits.restart)
+    subst (IsUpTo s.edition) (of-edition edition sectors image fits.found fits.is_found)
+    (by_restart s (opened_state fits.found s.logs) fits.restart)
 
 -- ---- a history that goes on
 

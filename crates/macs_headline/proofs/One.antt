@@ -1,5 +1,6 @@
 -- What comes of a call is one.
-use Rattle.std.proofs.Common.{◌≡◌, ◌<◌, ◌≤◌, ◌+◌, ◌^◌, ◌++◌, inl, inr, ℕ, Bool, List, ◌∷◌, length, take, drop, refl, sym, ◌∙◌, ap, subst, arith, append_assoc, length-append, length-take}
+use Rattle.std.proofs.Common.{◌≡◌, ◌<◌, ◌≤◌, ◌+◌, ◌^◌, ◌++◌, inl, inr, ℕ, Bool, List, ◌∷◌, length, take, drop, refl}
+use Rattle.std.proofs.Common.{sym, ◌∙◌, ap, subst, arith, append_assoc, length-append, length-take}
 use Rattle.std.specs.Prelude.{IsSomeAnd, Option, Some, None}
 use Rattle.std.specs.Int.{w32, from_be_bytes}
 use Rattle.std.specs.Option.{option_map}
@@ -23,7 +24,8 @@ use Rattle.macs_config.specs.declared.association.Protection.TheVariants.{Confid
 use Rattle.macs_config.specs.declared.association.RxSa.{RxSa}
 use Rattle.macs_config.specs.declared.association.TxSa.{TxSa}
 use Rattle.macs_config.specs.declared.command.Command.{Command}
-use Rattle.macs_config.specs.declared.command.Command.TheVariants.{RxAdd, RxDrop, RxInstall, RxRemove, SetReplay, SetSciMode, SetValidate, TxInstall, TxRemove, TxUse}
+use Rattle.macs_config.specs.declared.command.Command.TheVariants.{RxAdd, RxDrop, RxInstall, RxRemove, SetReplay}
+use Rattle.macs_config.specs.declared.command.Command.TheVariants.{SetSciMode, SetValidate, TxInstall, TxRemove, TxUse}
 use Rattle.macs_txsc.specs.Transmit.{name_in}
 use Rattle.macs_rxsc.specs.Receive.{Numbers, channel_of, seen_after}
 use Rattle.macs_rxsc.specs.declared.verdict.Kind.{Kind}
@@ -53,7 +55,8 @@ frame_by s plain an sa pn = protected_frame sa.key s.identity.sci
     })
     (octets_of (offset_of sa.protection)) plain
 
-module _ (s a b : State) (plain one other : List ℕ) (pn number : ℕ) (p : IsStandardFrame s plain pn one a) (q : IsStandardFrame s plain number other b) where
+module _ (s a b : State) (plain one other : List ℕ) (pn number : ℕ) (p : IsStandardFrame s plain pn one a)
+    (q : IsStandardFrame s plain number other b) where
   same_an : p.an ≡ q.an
   same_an = some_one s.config.encoding p.an q.an p.encoding q.encoding
 
@@ -78,12 +81,14 @@ module _ (s a b : State) (plain one other : List ℕ) (pn number : ℕ) (p : IsS
 -- addresses, SecTAG, octets in the clear, ciphertext and ICV
 grouped : (a w clear c i : List ℕ) → a ++ w ++ clear ++ c ++ i ≡ a ++ (w ++ ((clear ++ c) ++ i))
 grouped a w clear c i =
-    ap (λ (l : List ℕ). l ++ i) (append_assoc (a ++ w) clear c) ∙ append_assoc (a ++ w) (clear ++ c) i ∙ append_assoc a w ((clear ++ c) ++ i)
+    ap (λ (l : List ℕ). l ++ i) (append_assoc (a ++ w) clear c) ∙ append_assoc (a ++ w) (clear ++ c) i
+    ∙ append_assoc a w ((clear ++ c) ++ i)
 
 past_addresses : (a rest : List ℕ) (k : ℕ) → length a ≡ 12 → drop (12 + k) (a ++ rest) ≡ drop k rest
 past_addresses a rest k h = rw (← h, ← drop-drop k (length a) (a ++ rest), drop_at a rest (length a) refl) refl
 
-module _ (key sci : List ℕ) (tag : SecTag) (offset : ℕ) (plain : List ℕ) (long : 12 ≤ length plain) (most : tag.pn < 2 ^ 32) where
+module _ (key sci : List ℕ) (tag : SecTag) (offset : ℕ) (plain : List ℕ) (long : 12 ≤ length plain)
+    (most : tag.pn < 2 ^ 32) where
   number_written : pn_of (protected_frame key sci tag offset plain) ≡ tag.pn
   unfolding protected_frame
   number_written =
@@ -93,11 +98,13 @@ module _ (key sci : List ℕ) (tag : SecTag) (offset : ℕ) (plain : List ℕ) (
       let w = written_tag tag (length user) in
       let addresses : length (take 12 plain) ≡ 12 = omega (arith, long, length-take 12 plain) in
       ap (λ (l : List ℕ). from_be_bytes w32 (take 4 (drop 16 l))) (grouped (take 12 plain) w clear sealed.0 sealed.1)
-      ∙ ap (λ (l : List ℕ). from_be_bytes w32 (take 4 l)) (past_addresses (take 12 plain) (w ++ ((clear ++ sealed.0) ++ sealed.1)) 4 addresses)
+      ∙ ap (λ (l : List ℕ). from_be_bytes w32 (take 4 l))
+      (past_addresses (take 12 plain) (w ++ ((clear ++ sealed.0) ++ sealed.1)) 4 addresses)
       ∙ from_be_bytes-to_be_bytes_4 tag.pn most
 
 -- a frame that verifies stands for a plain one with two addresses
-addresses_there : (frame key sci : List ℕ) (offset : ℕ) (plain : List ℕ) → Verified frame key sci offset plain → 12 ≤ length plain
+addresses_there : (frame key sci : List ℕ) (offset : ℕ) (plain : List ℕ) → Verified frame key sci offset plain
+    → 12 ≤ length plain
 addresses_there frame key sci offset plain v =
     let clear = clear_of v.parts.tag.encrypted offset (secure_data frame v.parts) in
     let long : 14 ≤ length frame = v.tag.long_enough in
@@ -110,9 +117,11 @@ addresses_there frame key sci offset plain v =
       length-append (take 12 frame) clear,
     )
 
-wire : (s new : State) (plain out : List ℕ) (pn : ℕ) → IsStandardFrame s plain pn out new → IsIdentity s.identity → (tag_of out).pn ≡ pn
+wire : (s new : State) (plain out : List ℕ) (pn : ℕ) → IsStandardFrame s plain pn out new → IsIdentity s.identity
+    → (tag_of out).pn ≡ pn
 wire s new plain out pn p identity =
-    let long = addresses_there out p.sa.key s.identity.sci (octets_of (offset_of p.sa.protection)) plain (p.read identity) in
+    let long =
+    addresses_there out p.sa.key s.identity.sci (octets_of (offset_of p.sa.protection)) plain (p.read identity) in
     ap pn_of p.frame ∙ number_written p.sa.key s.identity.sci (record {
       an = p.an;
       pn = pn;
@@ -129,7 +138,8 @@ one_kind lowest pn k l (inl (below, is)) (inr (above, so)) = absurd (omega (arit
 one_kind lowest pn k l (inr (above, is)) (inl (below, so)) = absurd (omega (arith, below, above))
 one_kind lowest pn k l (inr (above, is)) (inr (high, so)) = is ∙ sym so
 
-module _ (s a b : State) (frame out other : List ℕ) (k l : Kind) (p : IsVerifiedDelivery s frame k out a) (q : IsVerifiedDelivery s frame l other b) where
+module _ (s a b : State) (frame out other : List ℕ) (k l : Kind) (p : IsVerifiedDelivery s frame k out a)
+    (q : IsVerifiedDelivery s frame l other b) where
   its_sci : p.sci ≡ q.sci
   its_sci = some_one (channel_of (rx_side s) frame) p.sci q.sci p.named q.named
 
@@ -154,8 +164,10 @@ module _ (s a b : State) (frame out other : List ℕ) (k l : Kind) (p : IsVerifi
   one_delivery = (
     its_kind,
     its_plain,
-    p.logged ∙ (λ i. record { sci = its_sci i; key = (its_sa i).key; pn = (tag_of frame).pn; kind = its_kind i } ∷ s.logs.given) ∙ sym q.logged,
-    p.moved ∙ ap (λ (n : Numbers). Some (numbers_moved s.config.replay.window n (tag_of frame).pn)) its_numbers ∙ sym q.moved
+    p.logged ∙ (λ i. record { sci = its_sci i; key = (its_sa i).key; pn = (tag_of frame).pn; kind = its_kind i }
+        ∷ s.logs.given) ∙ sym q.logged,
+    p.moved ∙ ap (λ (n : Numbers). Some (numbers_moved s.config.replay.window n (tag_of frame).pn)) its_numbers
+        ∙ sym q.moved
         ∙ ap (λ (sci : List ℕ). b.numbers sci (tag_of frame).an) (sym its_sci),
   )
 
@@ -211,19 +223,23 @@ offset_one Fifty Zero is = absurd (omega (arith, is))
 offset_one Fifty Thirty is = absurd (omega (arith, is))
 offset_one Fifty Fifty is = refl
 
-protection_one : (a b : Protection) → is_confidential a ≡ is_confidential b → octets_of (offset_of a) ≡ octets_of (offset_of b) → a ≡ b
+protection_one : (a b : Protection) → is_confidential a ≡ is_confidential b
+    → octets_of (offset_of a) ≡ octets_of (offset_of b) → a ≡ b
 protection_one Integrity Integrity is same = refl
 protection_one Integrity (Confidentiality offset) is same = absurd (cc)
 protection_one (Confidentiality offset) Integrity is same = absurd (cc)
-protection_one (Confidentiality offset) (Confidentiality other) is same = ap Confidentiality (offset_one offset other same)
+protection_one (Confidentiality offset) (Confidentiality other) is same =
+    ap Confidentiality (offset_one offset other same)
 
-tx_one : (key : Key) (confidential : Bool) (offset : ℕ) (x y : Option TxSa) → IsSomeAnd x (λ sa. IsTxAsked key confidential offset sa)
+tx_one : (key : Key) (confidential : Bool) (offset : ℕ) (x y : Option TxSa)
+    → IsSomeAnd x (λ sa. IsTxAsked key confidential offset sa)
     → IsSomeAnd y (λ sa. IsTxAsked key confidential offset sa) → x ≡ y
 tx_one key confidential offset x y is so =
     let p = some-and x (λ sa. IsTxAsked key confidential offset sa) is in
     let q = some-and y (λ sa. IsTxAsked key confidential offset sa) so in
     let keys : p.0.key ≡ q.0.key = p.2.0 ∙ sym q.2.0 in
-    let protections : p.0.protection ≡ q.0.protection = protection_one p.0.protection q.0.protection (p.2.1 ∙ sym q.2.1) (p.2.2 ∙ sym q.2.2) in
+    let protections : p.0.protection ≡ q.0.protection =
+    protection_one p.0.protection q.0.protection (p.2.1 ∙ sym q.2.1) (p.2.2 ∙ sym q.2.2) in
     p.1 ∙ (λ i. Some (record { key = keys i; protection = protections i })) ∙ sym q.1
 
 rx_one : (key : Key) (offset : ℕ) (x y : Option RxSa) → IsSomeAnd x (λ sa. IsRxAsked key offset sa)
@@ -264,7 +280,8 @@ module _ (old a b : Config) where
   ]
   one_tx c p q an = p.tx an (λ h. h) ∙ sym (q.tx an (λ h. h))
 
-  one_channels : (c : Command) → ChangesAsNamed old c a → ChangesAsNamed old c b → (sci : List ℕ) → is_among a.channels sci ≡ is_among b.channels sci
+  one_channels : (c : Command) → ChangesAsNamed old c a → ChangesAsNamed old c b → (sci : List ℕ)
+      → is_among a.channels sci ≡ is_among b.channels sci
   one_channels (RxAdd at) p q sci = elim (cases_sci sci at) [
     | inl same ↦ ap (is_among a.channels) same ∙ p.done ∙ sym q.done ∙ ap (is_among b.channels) (sym same)
     | inr apart ↦ p.channels sci (λ is. apart (sym is)) ∙ sym (q.channels sci (λ is. apart (sym is)))
@@ -275,34 +292,44 @@ module _ (old a b : Config) where
   ]
   one_channels c p q sci = p.channels sci (λ h. h) ∙ sym (q.channels sci (λ h. h))
 
-  one_rx : (c : Command) → ChangesAsNamed old c a → ChangesAsNamed old c b → (sci : List ℕ) (an : ℕ) → a.rx sci an ≡ b.rx sci an
+  one_rx : (c : Command) → ChangesAsNamed old c a → ChangesAsNamed old c b → (sci : List ℕ) (an : ℕ)
+      → a.rx sci an ≡ b.rx sci an
   one_rx (RxDrop at) p q sci an = elim (cases_sci sci at) [
-    | inl same ↦ ap (λ (l : List ℕ). a.rx l an) same ∙ p.done.1 an ∙ sym (q.done.1 an) ∙ ap (λ (l : List ℕ). b.rx l an) (sym same)
+    | inl same ↦ ap (λ (l : List ℕ). a.rx l an) same ∙ p.done.1 an ∙ sym (q.done.1 an)
+        ∙ ap (λ (l : List ℕ). b.rx l an) (sym same)
     | inr apart ↦ p.rx sci an (λ is. apart (sym is)) ∙ sym (q.rx sci an (λ is. apart (sym is)))
   ]
   one_rx (RxInstall at number key start offset) p q sci an = elim (cases_place sci an at number) [
     | inl same ↦ (λ i. a.rx (same.0 i) (same.1 i)) ∙ rx_one key offset (a.rx at number) (b.rx at number) p.done q.done
         ∙ (λ i. b.rx (sym same.0 i) (sym same.1 i))
-    | inr apart ↦ p.rx sci an (λ is. apart (sym is.0) (sym is.1)) ∙ sym (q.rx sci an (λ is. apart (sym is.0) (sym is.1)))
+    | inr apart ↦ p.rx sci an (λ is. apart (sym is.0) (sym is.1))
+        ∙ sym (q.rx sci an (λ is. apart (sym is.0) (sym is.1)))
   ]
   one_rx (RxRemove at number) p q sci an = elim (cases_place sci an at number) [
     | inl same ↦ (λ i. a.rx (same.0 i) (same.1 i)) ∙ p.done ∙ sym q.done ∙ (λ i. b.rx (sym same.0 i) (sym same.1 i))
-    | inr apart ↦ p.rx sci an (λ is. apart (sym is.0) (sym is.1)) ∙ sym (q.rx sci an (λ is. apart (sym is.0) (sym is.1)))
+    | inr apart ↦ p.rx sci an (λ is. apart (sym is.0) (sym is.1))
+        ∙ sym (q.rx sci an (λ is. apart (sym is.0) (sym is.1)))
   ]
   one_rx c p q sci an = p.rx sci an (λ h. h) ∙ sym (q.rx sci an (λ h. h))
 
 -- ---- numbers that a command sets
 
-set_next : (s new : State) (c : Command) → AreSet s c new → (an : ℕ) (later : Option ℕ) → SetsNext c an later → new.next an ≡ later
-set_next s new c set an later (inl (key, start, confidential, offset, is, is_later)) = subst (λ (c : Command). AreSet s c new) is set ∙ sym is_later
+set_next : (s new : State) (c : Command) → AreSet s c new → (an : ℕ) (later : Option ℕ) → SetsNext c an later
+    → new.next an ≡ later
+set_next s new c set an later (inl (key, start, confidential, offset, is, is_later)) =
+    subst (λ (c : Command). AreSet s c new) is set ∙ sym is_later
 set_next s new c set an later (inr (is, is_later)) = subst (λ (c : Command). AreSet s c new) is set ∙ sym is_later
 
 set_numbers : (s new : State) (c : Command) → AreSet s c new → (sci : List ℕ) (an : ℕ) (later : Option Numbers)
     → SetsNumbers c sci an (s.numbers sci an) later → new.numbers sci an ≡ later
-set_numbers s new c set sci an later (inl (key, start, offset, is, is_later)) = subst (λ (c : Command). AreSet s c new) is set ∙ sym is_later
-set_numbers s new c set sci an later (inr (inl (inl is, is_later))) = subst (λ (c : Command). AreSet s c new) is set ∙ sym is_later
-set_numbers s new c set sci an later (inr (inl (inr is, is_later))) = subst (λ (c : Command). AreSet s c new) is set an ∙ sym is_later
-set_numbers s new c set sci an later (inr (inr (on, window, is, is_later))) = subst (λ (c : Command). AreSet s c new) is set sci an ∙ sym is_later
+set_numbers s new c set sci an later (inl (key, start, offset, is, is_later)) =
+    subst (λ (c : Command). AreSet s c new) is set ∙ sym is_later
+set_numbers s new c set sci an later (inr (inl (inl is, is_later))) = subst (λ (c : Command). AreSet s c new) is set
+    ∙ sym is_later
+set_numbers s new c set sci an later (inr (inl (inr is, is_later))) = subst (λ (c : Command). AreSet s c new) is set an
+    ∙ sym is_later
+set_numbers s new c set sci an later (inr (inr (on, window, is, is_later))) =
+    subst (λ (c : Command). AreSet s c new) is set sci an ∙ sym is_later
 
 pub one-change-comes : OneChangeComes
 one-change-comes = record {

@@ -1,4 +1,5 @@
--- What the words say that give the reason why an opening is refused, what it leaves, and which sectors are written; and that it is refused for one reason.
+-- What the words say that give the reason why an opening is refused, what it leaves, and which sectors are written; and
+-- that it is refused for one reason.
 use Rattle.std.proofs.Common.{◌≡◌, ◌≢◌, ◌⊎◌, ◌≤◌, ◌<◌, ◌+◌, ◌*◌, inl, inr, ℕ, refl, sym, ap, ◌∙◌, subst, arith}
 use Rattle.std.specs.Prelude.{None, Ok, Err}
 use Rattle.macs_config.specs.Config.{Edition, this_edition}
@@ -13,7 +14,8 @@ use Rattle.macs_journal.specs.Recovery.{IsLeftBy}
 use Rattle.macs_journal.specs.Rewriting.{HasNewGates}
 use Rattle.macs_journal.specs.Work.{FailsWith}
 use Rattle.macs_journal.specs.declared.fault.JournalFault.{JournalFault}
-use Rattle.macs_journal.specs.declared.fault.JournalFault.TheVariants.{BadJournal, Disk as DiskFault, GenerationsSpent, NotFormatted, TooSmall}
+use Rattle.macs_journal.specs.declared.fault.JournalFault.TheVariants.{BadJournal, Disk as DiskFault, GenerationsSpent}
+use Rattle.macs_journal.specs.declared.fault.JournalFault.TheVariants.{NotFormatted, TooSmall}
 use Rattle.macs_journal.specs.declared.recovery.RecoverRefused.{RecoverRefused}
 use Rattle.macs_journal.proofs.Current.{one_content}
 use Rattle.macs_journal.proofs.HeadOpened.{open_gate-opens}
@@ -37,7 +39,8 @@ use Rattle.macs_headline.proofs.Openings.{old-format, same-fault}
 stands_once : (image : Image) (s t : Standing) → StandsFor this_edition image s → StandsFor this_edition image t → s ≡ t
 stands_once image s t first second =
     some_one (meaning_of this_edition second.content) s t
-    (ap (λ (c : Content). meaning_of this_edition c) (one_content image second.content first.content second.found first.found) ∙ first.stands) second.stands
+    (ap (λ (c : Content). meaning_of this_edition c)
+    (one_content image second.content first.content second.found first.found) ∙ first.stands) second.stands
 
 pub opening-words : OpeningWords
 opening-words = record {
@@ -47,7 +50,8 @@ opening-words = record {
   ];
   each_moment = λ old new k is from to. is k from to;
   as_read = λ old image s alike stands.
-      subst (λ (t : Standing). StandsFor this_edition image t) (stands_once (now old).seen alike.0 s alike.1 stands) alike.2;
+      subst (λ (t : Standing). StandsFor this_edition image t)
+      (stands_once (now old).seen alike.0 s alike.1 stands) alike.2;
 }
 
 -- ---- why an opening is refused
@@ -62,7 +66,8 @@ module _ (edition : Edition) (sectors : ℕ) (image : Image) where
   named fault is = absurd is
 
   -- where the image stands for something
-  standing : (fault : JournalFault) (s : Standing) → IsUnfitTo edition sectors image fault → StandingIs edition sectors image (Ok s)
+  standing : (fault : JournalFault) (s : Standing) → IsUnfitTo edition sectors image fault
+      → StandingIs edition sectors image (Ok s)
       → fault ≡ GenerationsSpent
   standing GenerationsSpent s is there = refl
   standing fault s is there = absurd (found-or-refused edition sectors image fault s is there)
@@ -108,7 +113,8 @@ refusal-words = record {
 
 -- ---- what is written
 
-format_writes : (seen : Image) (i : ℕ) → FormatWrites seen i → (i ≤ 2) ⊎ ((k : ℕ) × (k < 257) × (i ≡ 2 * k + 1) × IsOpen (seen i))
+format_writes : (seen : Image) (i : ℕ) → FormatWrites seen i
+    → (i ≤ 2) ⊎ ((k : ℕ) × (k < 257) × (i ≡ 2 * k + 1) × IsOpen (seen i))
 format_writes seen i (inl (inl is)) = inl (omega (arith, is))
 format_writes seen i (inl (inr (inl is))) = inl (omega (arith, is))
 format_writes seen i (inl (inr (inr is))) = inl (omega (arith, is))
@@ -117,7 +123,8 @@ format_writes seen i (inr (slot, few, opened, is)) =
 
 compact_writes : (seen : Image) (area count i : ℕ) → CompactWrites seen area count i
     → ((i ≡ 514 * area) ⊎ (i ≡ 514 * area + 1))
-    ⊎ (((j : ℕ) × (j < count) × (i ≡ 514 * area + 2 + 2 * j)) ⊎ ((k : ℕ) × (k < 257) × (i ≡ 514 * area + 1 + 2 * k) × IsOpen (seen i)))
+    ⊎ (((j : ℕ) × (j < count) × (i ≡ 514 * area + 2 + 2 * j))
+    ⊎ ((k : ℕ) × (k < 257) × (i ≡ 514 * area + 1 + 2 * k) × IsOpen (seen i)))
 compact_writes seen area count i (inl (inl is)) = inl (inl is)
 compact_writes seen area count i (inl (inr is)) = inl (inr (omega (arith, is)))
 compact_writes seen area count i (inr (inl slot)) = inr (inl slot)
@@ -125,19 +132,22 @@ compact_writes seen area count i (inr (inr (k, few, opened, is))) =
     inr (inr (k, few, is, subst (λ (j : ℕ). IsOpen (seen j)) (sym is) opened))
 
 open_names : (name : JournalFault) → IsOpenName name
-    → (name ≡ TooSmall) ⊎ ((name ≡ DiskFault) ⊎ ((name ≡ NotFormatted) ⊎ ((name ≡ BadJournal) ⊎ (name ≡ GenerationsSpent))))
+    → (name ≡ TooSmall)
+    ⊎ ((name ≡ DiskFault) ⊎ ((name ≡ NotFormatted) ⊎ ((name ≡ BadJournal) ⊎ (name ≡ GenerationsSpent))))
 open_names name (inl (inl is)) = inl is
 open_names name (inl (inr (inl is))) = inr (inl is)
 open_names name (inl (inr (inr (inl is)))) = inr (inr (inl is))
 open_names name (inl (inr (inr (inr is)))) = inr (inr (inr (inl is)))
 open_names name (inr is) = inr (inr (inr (inr is)))
 
-left_by : (fault : JournalFault) (old new : DiskState) → IsLeftBy fault old new → (new ≡ old) ⊎ (new ≡ settled_state old.seen)
+left_by : (fault : JournalFault) (old new : DiskState) → IsLeftBy fault old new
+    → (new ≡ old) ⊎ (new ≡ settled_state old.seen)
 left_by TooSmall old new is = inl is
 left_by DiskFault old new is = is
 left_by fault old new is = inr is
 
-left_read : (fault : JournalFault) (old new : DiskState) → fault ≢ TooSmall → fault ≢ DiskFault → IsLeftBy fault old new → new ≡ settled_state old.seen
+left_read : (fault : JournalFault) (old new : DiskState) → fault ≢ TooSmall → fault ≢ DiskFault → IsLeftBy fault old new
+    → new ≡ settled_state old.seen
 left_read TooSmall old new large worked is = absurd (large refl)
 left_read DiskFault old new large worked is = absurd (worked refl)
 left_read fault old new large worked is = is
@@ -151,7 +161,8 @@ new_gates old new area slot is =
       λ few opens. ap new (sym at) ∙ is.slot slot few (subst (λ (i : ℕ). IsOpen (old i)) (sym at) opens),
     )
 
-failures : (old new : Disk) (fault : JournalFault) → fault ≢ DiskFault → FailsWith old new fault → new.failures ≡ old.failures
+failures : (old new : Disk) (fault : JournalFault) → fault ≢ DiskFault → FailsWith old new fault
+    → new.failures ≡ old.failures
 failures old new DiskFault worked is = absurd (worked refl)
 failures old new fault worked is = is
 
@@ -173,11 +184,13 @@ journal-words = record {
 -- ---- and for one reason
 
 module _ {D : Type 0} (disk_of : D → Disk) (sound : (it : D) → IsHonest (disk_of it) → IsSound (now (disk_of it))) where
-  unfit : (disk : D) (refused : RecoverRefused D) → IsHonest (disk_of disk) → IsOpening disk_of disk (Err refused) → refused.fault ≢ DiskFault
+  unfit : (disk : D) (refused : RecoverRefused D) → IsHonest (disk_of disk) → IsOpening disk_of disk (Err refused)
+      → refused.fault ≢ DiskFault
       → IsUnfitTo this_edition (disk_of disk).sectors (now (disk_of disk)).seen refused.fault
   unfit disk refused was opening worked = opening.refused.found worked (opening.refused.works.honest ∙ was)
 
-  opened : (disk : D) (first : EndpointValue D) (fault : JournalFault) → IsHonest (disk_of disk) → IsOpening disk_of disk (Ok first)
+  opened : (disk : D) (first : EndpointValue D) (fault : JournalFault) → IsHonest (disk_of disk)
+      → IsOpening disk_of disk (Ok first)
       → ¬ IsUnfitTo this_edition (disk_of disk).sectors (now (disk_of disk)).seen fault
   opened disk first GenerationsSpent was opening is =
       let at = is.1 in
@@ -191,6 +204,7 @@ module _ {D : Type 0} (disk_of : D → Disk) (sound : (it : D) → IsHonest (dis
   refusals-are-one = record {
     refused = unfit;
     one = λ disk refused fault was opening worked is.
-        one this_edition (disk_of disk).sectors (now (disk_of disk)).seen refused.fault fault (unfit disk refused was opening worked) is;
+        one this_edition (disk_of disk).sectors (now (disk_of disk)).seen refused.fault fault
+        (unfit disk refused was opening worked) is;
     opened = opened;
   }

@@ -7,7 +7,8 @@ use Rattle.macs_endpoint.specs.Calls.{IsInRange}
 use Rattle.macs_endpoint.specs.Restart.{opened_state}
 use Rattle.macs_endpoint.specs.State.{State}
 use Rattle.macs_endpoint.specs.Step.{Exchange, Step, Steps}
-use Rattle.macs_headline.specs.History.{Blank, FitsPast, FormatLeads, Formats, Formatted, IsHistory, Life, Past, Refuses, Serves, formatted_state, logs_of}
+use Rattle.macs_headline.specs.History.{Blank, FitsPast, FormatLeads, Formats, Formatted, IsHistory, Life, Past}
+use Rattle.macs_headline.specs.History.{Refuses, Serves, formatted_state, logs_of}
 use Rattle.macs_headline.specs.Moments.{Moment}
 use Rattle.macs_headline.specs.Origins.{ComeUponAlone, LivesCameSo}
 use Rattle.macs_headline.proofs.FormatsOnce.{lead-front}
@@ -28,25 +29,39 @@ last_step old (first ∷ exchanges) e new steps =
     (parts.0, (steps.0, steps.1, parts.1), parts.2)
 
 -- a `format` that answered Ok
-by_format : (sectors : ℕ) (lives : List Life) (old : Past) (edition : Edition) (identity : Identity) (mid past : Past) → IsHistory sectors lives old
+by_format : (sectors : ℕ) (lives : List Life) (old : Past) (edition : Edition) (identity : Identity) (mid past : Past)
+    → IsHistory sectors lives old
     → FormatLeads old edition identity true mid → past ≡ mid
-    → (identities : List Identity) × IsHistory sectors lives (Blank identities) × (past ≡ Formatted (formatted_state edition identity))
-by_format sectors lives (Blank identities) edition identity mid past history leads same = (identities, history, same ∙ leads)
+    → (identities : List Identity) × IsHistory sectors lives (Blank identities)
+    × (past ≡ Formatted (formatted_state edition identity))
+by_format sectors lives (Blank identities) edition identity mid past history leads same =
+    (identities, history, same ∙ leads)
 by_format sectors lives (Formatted s) edition identity mid past history leads same = absurd leads
 
 -- and another one
-by_no_format : (sectors : ℕ) (lives : List Life) (old : Past) (edition : Edition) (identity : Identity) (mid past : Past) → IsHistory sectors lives old
+by_no_format : (sectors : ℕ) (lives : List Life) (old : Past) (edition : Edition) (identity : Identity)
+    (mid past : Past) → IsHistory sectors lives old
     → FormatLeads old edition identity false mid → past ≡ mid
-    → ((identities : List Identity) × IsHistory sectors lives (Blank identities) × (past ≡ Blank (identity ∷ identities)))
+    → ((identities : List Identity) × IsHistory sectors lives (Blank identities)
+    × (past ≡ Blank (identity ∷ identities)))
     ⊎ ((s : State) × IsHistory sectors lives (Formatted s) × (past ≡ Formatted s))
-by_no_format sectors lives (Blank identities) edition identity mid past history leads same = inl (identities, history, same ∙ leads)
+by_no_format sectors lives (Blank identities) edition identity mid past history leads same =
+    inl (identities, history, same ∙ leads)
 by_no_format sectors lives (Formatted s) edition identity mid past history leads same = inr (s, history, same ∙ leads)
 
 pub lives-came-so : (sectors : ℕ) → LivesCameSo sectors
 lives-came-so sectors = record {
   none = λ past history. history;
   begun = λ s m none. (
-    record { lives = m.lives; history = m.history; edition = m.edition; image = m.image; fits = m.life.fits; is_found = m.life.is_found },
+    record {
+      lives = m.lives;
+      history = m.history;
+      edition = m.edition;
+      image = m.image;
+      fits = m.life.fits;
+      is_found =
+          m.life.is_found;
+    },
     refl,
     refl,
     refl,
@@ -54,7 +69,8 @@ lives-came-so sectors = record {
   );
   called = λ s m exchanges e is.
       let opened = opened_state m.life.found (logs_of m.past) in
-      let steps : Steps opened (exchanges ++ e ∷ []) s = subst (λ (es : List Exchange). Steps opened es s) is m.life.steps in
+      let steps : Steps opened (exchanges ++ e ∷ []) s =
+      subst (λ (es : List Exchange). Steps opened es s) is m.life.steps in
       let all : AllByRecursion (λ (e : Exchange). IsInRange e.call) (exchanges ++ e ∷ []) =
       subst (λ (es : List Exchange). AllByRecursion (λ (e : Exchange). IsInRange e.call) es) is m.life.in_range in
       let parts = last_step opened exchanges e s steps in
@@ -72,8 +88,18 @@ lives-came-so sectors = record {
           in_range = all-front (λ (e : Exchange). IsInRange e.call) exchanges (e ∷ []) all;
           steps = parts.1;
         };
-      } in
-      (parts.0, n, refl, refl, refl, refl, refl, refl, (all-rear (λ (e : Exchange). IsInRange e.call) exchanges (e ∷ []) all).0, parts.2);
+      } in (
+        parts.0,
+        n,
+        refl,
+        refl,
+        refl,
+        refl,
+        refl,
+        refl,
+        (all-rear (λ (e : Exchange). IsInRange e.call) exchanges (e ∷ []) all).0,
+        parts.2,
+      );
   served = λ lives edition image exchanges cut past history.
       let parts = lead-front sectors lives (Serves edition image exchanges cut ∷ []) (Blank []) past history in
       let next = parts.2 in

@@ -35,19 +35,24 @@ put_at-that f at sci x apart = put_at-other f at sci x (λ same. apart (sym same
 abbrev pub put_rx : {X : Type 0} → (List ℕ → ℕ → X) → List ℕ → ℕ → X → List ℕ → ℕ → X
 put_rx f at number x = put_at f at (put (f at) number x)
 
-pub put_rx-this : {X : Type 0} (f : List ℕ → ℕ → X) (at : List ℕ) (number : ℕ) (sci : List ℕ) (an : ℕ) (x : X) → sci ≡ at → an ≡ number
+pub put_rx-this : {X : Type 0} (f : List ℕ → ℕ → X) (at : List ℕ) (number : ℕ) (sci : List ℕ) (an : ℕ) (x : X)
+    → sci ≡ at → an ≡ number
     → put_rx f at number x sci an ≡ x
-put_rx-this f at number sci an x is same = ap (λ g. g an) (put_at-this f at sci (put (f at) number x) is) ∙ put-this (f at) number an x same
+put_rx-this f at number sci an x is same = ap (λ g. g an) (put_at-this f at sci (put (f at) number x) is)
+    ∙ put-this (f at) number an x same
 
-pub put_rx-that : {X : Type 0} (f : List ℕ → ℕ → X) (at : List ℕ) (number : ℕ) (sci : List ℕ) (an : ℕ) (x : X) → (sci ≡ at → an ≡ number → ⊥)
+pub put_rx-that : {X : Type 0} (f : List ℕ → ℕ → X) (at : List ℕ) (number : ℕ) (sci : List ℕ) (an : ℕ) (x : X)
+    → (sci ≡ at → an ≡ number → ⊥)
     → put_rx f at number x sci an ≡ f sci an
 put_rx-that f at number sci an x apart = elim (cases_sci sci at) [
-  | inl is ↦ ap (λ g. g an) (put_at-this f at sci (put (f at) number x) is) ∙ put-that (f at) number an x (λ same. apart is same) ∙ ap (λ s. f s an) (sym is)
+  | inl is ↦ ap (λ g. g an) (put_at-this f at sci (put (f at) number x) is)
+      ∙ put-that (f at) number an x (λ same. apart is same) ∙ ap (λ s. f s an) (sym is)
   | inr far ↦ ap (λ g. g an) (put_at-that f at sci (put (f at) number x) far)
 ]
 
 -- two places are one or not
-pub cases_place : (sci : List ℕ) (an : ℕ) (at : List ℕ) (number : ℕ) → ((sci ≡ at) × (an ≡ number)) ⊎ (sci ≡ at → an ≡ number → ⊥)
+pub cases_place : (sci : List ℕ) (an : ℕ) (at : List ℕ) (number : ℕ)
+    → ((sci ≡ at) × (an ≡ number)) ⊎ (sci ≡ at → an ≡ number → ⊥)
 cases_place sci an at number = elim (cases_sci sci at) [
   | inl is ↦ elim (cases_eq an number) [ inl same ↦ inl (is, same) | inr far ↦ inr (λ is same. far same) ]
   | inr far ↦ inr (λ is same. far is)

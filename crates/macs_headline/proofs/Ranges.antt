@@ -1,5 +1,6 @@
 -- Next packet numbers stay within 1 and 2^32, and commands under way and those that wait in their ranges.
-use Rattle.std.proofs.Common.{◌≡◌, ◌<◌, ◌≤◌, ◌+◌, ◌%◌, ◌^◌, ◌==◌, inl, inr, ℕ, refl, sym, ◌∙◌, ap, subst, arith, List, [], ◌∷◌, length, Bool, true, false, cond, Result, Ok, Err}
+use Rattle.std.proofs.Common.{◌≡◌, ◌<◌, ◌≤◌, ◌+◌, ◌%◌, ◌^◌, ◌==◌, inl, inr, ℕ, refl, sym, ◌∙◌, ap, subst, arith, List}
+use Rattle.std.proofs.Common.{[], ◌∷◌, length, Bool, true, false, cond, Result, Ok, Err}
 use Rattle.std.specs.Prelude.{Option, Some, None, IfSome, not, ◌&&◌, is_ok, slice_index}
 use Rattle.std.specs.List.{AllByRecursion}
 use Rattle.std.proofs.lemmas.Bool.{cases_eq, eq-eqb, ltb-false, not-false}
@@ -39,11 +40,17 @@ use Rattle.macs_endpoint.specs.declared.fault.SubmitFault.TheVariants as submit
 use Rattle.macs_endpoint.specs.declared.progress.Step.{Step as Progress}
 use Rattle.macs_endpoint.specs.declared.progress.Step.TheVariants.{Done, Worked}
 use Rattle.macs_endpoint.specs.declared.queue.Waiting.{Waiting}
-use Rattle.macs_endpoint.specs.Restart.{Restart, Resumes, TxRises, opened_state, state_taking, state_taking_alone, state_taking_first}
-use Rattle.macs_endpoint.specs.State.{Advanced, AdvancedLong, Advances, Call, Commands, Protected, Protects, Ran, Received, Receives, Refilled, Refills, RefusedLong, Reply, State, Submits, Submitted, no_logs, state_with_in_hand, tx_side}
-use Rattle.macs_endpoint.specs.Step.{AdvanceStep, CommandStep, Ends, Exchange, Makes, ProtectStep, ReceiveStep, RefillStep, RunningStep, Step, Steps, SubmitStep, TakesUp, next_after, state_without_first}
+use Rattle.macs_endpoint.specs.Restart.{Restart, Resumes, TxRises, opened_state, state_taking, state_taking_alone}
+use Rattle.macs_endpoint.specs.Restart.{state_taking_first}
+use Rattle.macs_endpoint.specs.State.{Advanced, AdvancedLong, Advances, Call, Commands, Protected, Protects, Ran}
+use Rattle.macs_endpoint.specs.State.{Received, Receives, Refilled, Refills, RefusedLong, Reply, State, Submits}
+use Rattle.macs_endpoint.specs.State.{Submitted, no_logs, state_with_in_hand, tx_side}
+use Rattle.macs_endpoint.specs.Step.{AdvanceStep, CommandStep, Ends, Exchange, Makes, ProtectStep, ReceiveStep}
+use Rattle.macs_endpoint.specs.Step.{RefillStep, RunningStep, Step, Steps, SubmitStep, TakesUp, next_after}
+use Rattle.macs_endpoint.specs.Step.{state_without_first}
 use Rattle.macs_headline.specs.Frames.{FramesAreStandard, IsNamedIn, IsStandardFrame}
-use Rattle.macs_headline.specs.History.{Blank, FitsPast, FormatLeads, Formats, Formatted, IsLifeSoFar, LeadOn, Leads, Life, Past, Refuses, Serves, formatted_state, logs_of, state_at_end}
+use Rattle.macs_headline.specs.History.{Blank, FitsPast, FormatLeads, Formats, Formatted, IsLifeSoFar, LeadOn, Leads}
+use Rattle.macs_headline.specs.History.{Life, Past, Refuses, Serves, formatted_state, logs_of, state_at_end}
 use Rattle.macs_headline.specs.Moments.{Moment, OfItsEdition}
 use Rattle.macs_headline.proofs.Ledger.{some_one}
 use Rattle.macs_headline.proofs.Places.{put-that, put-this}
@@ -64,7 +71,8 @@ AreCommands waiting = AllByRecursion (λ (w : Waiting). IsCommand w.command) wai
 -- transmit associations have the numbers 0 to 3, and in end station mode the port is 00-01
 abbrev IsTxRanged : Identity → Config → Type 0
 IsTxRanged identity config =
-    ((an : ℕ) (sa : TxSa) → config.tx an ≡ Some sa → an < 4) × (config.mode ≡ EndStation → is_port_one identity.sci ≡ true)
+    ((an : ℕ) (sa : TxSa) → config.tx an ≡ Some sa → an < 4)
+    × (config.mode ≡ EndStation → is_port_one identity.sci ≡ true)
 
 -- a state of a program of this edition, with numbers, associations and commands in their ranges
 pub record IsRanged (edition : Edition) (s : State) : Type 0 where
@@ -80,32 +88,39 @@ none_some o x is js = absurd (cc)
 -- ---- commands
 
 -- a command in its ranges that is accepted keeps the numbers in theirs
-nexts_after : (edition : Edition) (identity : Identity) (config : Config) (c : Command) (next : ℕ → Option ℕ) → IsCommand c
-    → refusal_of edition identity config c ≡ None → ((an m : ℕ) → next an ≡ Some m → IsNext m) → (an m : ℕ) → next_after c next an ≡ Some m → IsNext m
-nexts_after edition identity config (TxInstall at key start confidential offset) next ranged ok old an m is = elim (cases_eq an at) [
-  | inl here ↦
-      let test : (start == 0) ≡ false = right-start edition identity config (TxInstall at key start confidential offset) ok in
-      let one : start ≡ m = some_one (put next at (Some start) an) start m (put-this next at an (Some start) here) is in
-      let small : start < 2 ^ 32 = ranged.2 in
-      elim (cases_eq start 0) [
-        | inl none ↦ let test_true : (start == 0) ≡ true = eq-eqb start 0 none in absurd (cc)
-        | inr some ↦ (omega (arith, one, some), omega (arith, one, small))
-      ]
-  | inr apart ↦ old an m (sym (put-that next at an (Some start) apart) ∙ is)
-]
+nexts_after : (edition : Edition) (identity : Identity) (config : Config) (c : Command) (next : ℕ → Option ℕ)
+    → IsCommand c
+    → refusal_of edition identity config c ≡ None → ((an m : ℕ) → next an ≡ Some m → IsNext m) → (an m : ℕ)
+    → next_after c next an ≡ Some m → IsNext m
+nexts_after edition identity config (TxInstall at key start confidential offset) next ranged ok old an m is =
+    elim (cases_eq an at) [
+      | inl here ↦
+          let test : (start == 0) ≡ false =
+          right-start edition identity config (TxInstall at key start confidential offset) ok in
+          let one : start ≡ m =
+          some_one (put next at (Some start) an) start m (put-this next at an (Some start) here) is in
+          let small : start < 2 ^ 32 = ranged.2 in
+          elim (cases_eq start 0) [
+            | inl none ↦ let test_true : (start == 0) ≡ true = eq-eqb start 0 none in absurd (cc)
+            | inr some ↦ (omega (arith, one, some), omega (arith, one, small))
+          ]
+      | inr apart ↦ old an m (sym (put-that next at an (Some start) apart) ∙ is)
+    ]
 nexts_after edition identity config (TxRemove at) next ranged ok old an m is = elim (cases_eq an at) [
   | inl here ↦ let gone = put-this next at an None here in absurd (cc)
   | inr apart ↦ old an m (sym (put-that next at an None apart) ∙ is)
 ]
 nexts_after edition identity config c next ranged ok old an m is = old an m is
 
-port_by : (mode : SciMode) (sci : List ℕ) → (is_end_station mode && not (is_port_one sci)) ≡ false → mode ≡ EndStation → is_port_one sci ≡ true
+port_by : (mode : SciMode) (sci : List ℕ) → (is_end_station mode && not (is_port_one sci)) ≡ false → mode ≡ EndStation
+    → is_port_one sci ≡ true
 port_by Explicit sci test is = absurd (cc)
 port_by Implicit sci test is = absurd (cc)
 port_by EndStation sci test is = not-false (is_port_one sci) test
 
 -- and keeps the associations and the mode in theirs
-channel_after : (edition : Edition) (identity : Identity) (old : Config) (c : Command) → IsCommand c → refusal_of edition identity old c ≡ None
+channel_after : (edition : Edition) (identity : Identity) (old : Config) (c : Command) → IsCommand c
+    → refusal_of edition identity old c ≡ None
     → IsTxRanged identity old → IsTxRanged identity (config_after old c)
 channel_after edition identity old (SetSciMode mode) given ok is =
     (is.0, λ station. port_by mode identity.sci (right-mode edition identity old (SetSciMode mode) ok) station)
@@ -129,7 +144,8 @@ module _ (edition : Edition) where
   same_range : (old new : State) → new ≡ old → IsRanged edition old → IsRanged edition new
   same_range old new is ranged = subst (IsRanged edition) (sym is) ranged
 
-  makes_range : (old : State) (c : Command) (new : State) → IsCommand c → Makes old c new → IsRanged edition old → IsRanged edition new
+  makes_range : (old : State) (c : Command) (new : State) → IsCommand c → Makes old c new → IsRanged edition old
+      → IsRanged edition new
   makes_range old c new command m ranged =
       let a = accepted old.edition old.identity old.config c m.0 m.1 in
       subst (IsRanged edition) (sym m.2) (record {
@@ -142,7 +158,14 @@ module _ (edition : Edition) where
       })
 
   stopped_range : (old new : State) → new ≡ record old { stopped = true } → IsRanged edition old → IsRanged edition new
-  stopped_range old new is ranged = subst (IsRanged edition) (sym is) (record { same = ranged.same; nexts = ranged.nexts; channel = ranged.channel; hand = ranged.hand; queue = ranged.queue })
+  stopped_range old new is ranged = subst (IsRanged edition) (sym is) (record {
+    same = ranged.same;
+    nexts =
+        ranged.nexts;
+    channel = ranged.channel;
+    hand = ranged.hand;
+    queue = ranged.queue;
+  })
 
   hand_range : (s : State) (c : Command) → IsCommand c → IsRanged edition s → IsRanged edition (state_with_in_hand s c)
   hand_range s c command ranged = record {
@@ -153,15 +176,18 @@ module _ (edition : Edition) where
     queue = ranged.queue;
   }
 
-  by_command : (old : State) (c : Command) (result : Result (Unit {0}) CommandFault) (new : State) → IsCommand c → CommandStep old c result new
+  by_command : (old : State) (c : Command) (result : Result (Unit {0}) CommandFault) (new : State) → IsCommand c
+      → CommandStep old c result new
       → IsRanged edition old → IsRanged edition new
   by_command old c (Ok done) new command (none, makes) ranged = makes_range old c new command makes ranged
   by_command old c (Err ran.Stopped) new command h ranged = absurd h
-  by_command old c (Err ran.Disk) new command (none, accepts, is) ranged = stopped_range (state_with_in_hand old c) new is (hand_range old c command ranged)
+  by_command old c (Err ran.Disk) new command (none, accepts, is) ranged =
+      stopped_range (state_with_in_hand old c) new is (hand_range old c command ranged)
   by_command old c (Err ran.Busy) new command (some, is) ranged = same_range old new is ranged
   by_command old c (Err fault) new command h ranged = same_range old new h.2 ranged
 
-  by_refill : (old : State) (result : Result (Unit {0}) RefillFault) (new : State) → RefillStep old result new → IsRanged edition old → IsRanged edition new
+  by_refill : (old : State) (result : Result (Unit {0}) RefillFault) (new : State) → RefillStep old result new
+      → IsRanged edition old → IsRanged edition new
   by_refill old (Ok done) new (none, is) ranged = same_range old new is ranged
   by_refill old (Err refill.Stopped) new h ranged = absurd h
   by_refill old (Err refill.Disk) new (none, is) ranged = stopped_range old new is ranged
@@ -173,7 +199,8 @@ module _ (edition : Edition) where
   more_commands [] ticket c command are = (command, tt)
   more_commands (first ∷ rest) ticket c command are = (are.0, more_commands rest ticket c command are.1)
 
-  by_submit : (old : State) (c : Command) (result : Result ℕ SubmitFault) (new : State) → IsCommand c → SubmitStep old c result new
+  by_submit : (old : State) (c : Command) (result : Result ℕ SubmitFault) (new : State) → IsCommand c
+      → SubmitStep old c result new
       → IsRanged edition old → IsRanged edition new
   by_submit old c (Ok ticket) new command (few, left, is_ticket, is) ranged =
       subst (IsRanged edition) (sym is) (record {
@@ -188,7 +215,8 @@ module _ (edition : Edition) where
   by_submit old c (Err submit.Stopped) new command h ranged = absurd h
 
   -- the first one that waits
-  first_command : (old : State) (first : Waiting) (rest : List Waiting) → old.waiting ≡ first ∷ rest → IsRanged edition old
+  first_command : (old : State) (first : Waiting) (rest : List Waiting) → old.waiting ≡ first ∷ rest
+      → IsRanged edition old
       → IsCommand first.command × AreCommands rest
   first_command old first rest waiting ranged = subst AreCommands waiting ranged.queue
 
@@ -198,7 +226,8 @@ module _ (edition : Edition) where
       (hand_range old first.command (first_command old first rest waiting ranged).0 ranged)
 
   -- it no longer waits
-  without_first : (old : State) (rest : List Waiting) → AreCommands rest → IsRanged edition old → IsRanged edition (state_without_first old rest)
+  without_first : (old : State) (rest : List Waiting) → AreCommands rest → IsRanged edition old
+      → IsRanged edition (state_without_first old rest)
   without_first old rest are ranged = record {
     same = ranged.same;
     nexts = ranged.nexts;
@@ -207,26 +236,33 @@ module _ (edition : Edition) where
     queue = are;
   }
 
-  by_end : (old : State) (first : Waiting) (rest : List Waiting) (result : Result (Unit {0}) CommandFault) (new : State) → IsCommand first.command
+  by_end : (old : State) (first : Waiting) (rest : List Waiting) (result : Result (Unit {0}) CommandFault) (new : State)
+      → IsCommand first.command
       → IsRanged edition (state_without_first old rest) → Ends old first rest result new → IsRanged edition new
-  by_end old first rest (Ok done) new command ranged makes = makes_range (state_without_first old rest) first.command new command makes ranged
-  by_end old first rest (Err (ran.Refused refusal)) new command ranged (idle, why, is) = same_range (state_without_first old rest) new is ranged
-  by_end old first rest (Err ran.GenerationsSpent) new command ranged (idle, accepts, is) = same_range (state_without_first old rest) new is ranged
+  by_end old first rest (Ok done) new command ranged makes =
+      makes_range (state_without_first old rest) first.command new command makes ranged
+  by_end old first rest (Err (ran.Refused refusal)) new command ranged (idle, why, is) =
+      same_range (state_without_first old rest) new is ranged
+  by_end old first rest (Err ran.GenerationsSpent) new command ranged (idle, accepts, is) =
+      same_range (state_without_first old rest) new is ranged
   by_end old first rest (Err fault) new command ranged h = absurd h
 
-  by_advance : (old : State) (result : Result Progress StepFault) (new : State) → AdvanceStep old result new → IsRanged edition old → IsRanged edition new
+  by_advance : (old : State) (result : Result Progress StepFault) (new : State) → AdvanceStep old result new
+      → IsRanged edition old → IsRanged edition new
   by_advance old (Ok Worked) new (inl is) ranged = same_range old new is ranged
   by_advance old (Ok Worked) new (inr takes) ranged = taken_up old new takes ranged
   by_advance old (Ok (Done ticket result)) new (first, rest, waiting, is_ticket, ends) ranged =
       let queue = first_command old first rest waiting ranged in
       by_end old first rest result new queue.0 (without_first old rest queue.1 ranged) ends
   by_advance old (Err advance.Disk) new (inl is) ranged = stopped_range old new is ranged
-  by_advance old (Err advance.Disk) new (inr (mid, takes, is)) ranged = stopped_range mid new is (taken_up old mid takes ranged)
+  by_advance old (Err advance.Disk) new (inr (mid, takes, is)) ranged =
+      stopped_range mid new is (taken_up old mid takes ranged)
   by_advance old (Err advance.Stopped) new h ranged = absurd h
   by_advance old result new is ranged = same_range old new is ranged
 
   -- a frame that goes out
-  goes_out : (old : State) (plain : List ℕ) (pn : ℕ) (out : List ℕ) (new : State) → ProtectStep old plain (Ok pn) out new → IsRanged edition old
+  goes_out : (old : State) (plain : List ℕ) (pn : ℕ) (out : List ℕ) (new : State)
+      → ProtectStep old plain (Ok pn) out new → IsRanged edition old
       → IsStandardFrame old plain pn out new × IsRanged edition new
   goes_out old plain pn out new (none, (o, is_o, is_pn, is_out, is)) ranged =
       let there = outgoing_is (tx_side old) old.config.encoding o is_o in
@@ -251,25 +287,29 @@ module _ (edition : Edition) where
           least = within.0;
           most = below;
           frame = is_out;
-          short = ap (λ (frame : List ℕ). slice_index frame 15) is_out ∙ short-length o.sa.key old.identity.sci (tag_for (tx_side old) o)
+          short = ap (λ (frame : List ℕ). slice_index frame 15) is_out
+              ∙ short-length o.sa.key old.identity.sci (tag_for (tx_side old) o)
               (octets_of (offset_of o.sa.protection)) plain long;
           logged = ap (λ (s : State). s.logs.used) is;
           next = ap (λ (s : State). s.next o.an) is ∙ put-this old.next o.an o.an (Some (o.pn + 1)) refl;
           own = own-source old.config.mode old.identity.sci plain tests.1.1.0 ranged.channel.1;
-          named = λ identity. subst (λ (frame : List ℕ). IsNamedIn old.config.mode old.identity.sci (name_of frame)) (sym is_out)
+          named = λ identity.
+              subst (λ (frame : List ℕ). IsNamedIn old.config.mode old.identity.sci (name_of frame)) (sym is_out)
               (frame-named old plain o identity placed within.0 below long fits);
           bits = λ identity. subst (λ (frame : List ℕ). (slice_index frame 14 % 4 ≡ o.an)
               × (has_bit (slice_index frame 14) 0x08 ≡ is_confidential o.sa.protection)
               × (has_bit (slice_index frame 14) 0x04 ≡ is_confidential o.sa.protection)) (sym is_out)
               (frame-bits old plain o identity placed within.0 below long fits);
-          read = λ identity. subst (λ (frame : List ℕ). Verified frame o.sa.key old.identity.sci (octets_of (offset_of o.sa.protection)) plain) (sym is_out)
+          read = λ identity. subst (λ (frame : List ℕ).
+              Verified frame o.sa.key old.identity.sci (octets_of (offset_of o.sa.protection)) plain) (sym is_out)
               (frame-read old plain o identity placed within.0 below long fits);
         }),
         subst (IsRanged edition) (sym is) (record {
           same = ranged.same;
           nexts = λ an m is_m. elim (cases_eq an o.an) [
             | inl here ↦
-                let one : o.pn + 1 ≡ m = some_one (put old.next o.an (Some (o.pn + 1)) an) (o.pn + 1) m (put-this old.next o.an an (Some (o.pn + 1)) here) is_m in
+                let one : o.pn + 1 ≡ m = some_one (put old.next o.an (Some (o.pn + 1)) an) (o.pn + 1) m
+                (put-this old.next o.an an (Some (o.pn + 1)) here) is_m in
                 (omega (arith, one), omega (arith, one, below))
             | inr apart ↦ ranged.nexts an m (sym (put-that old.next o.an an (Some (o.pn + 1)) apart) ∙ is_m)
           ];
@@ -279,19 +319,34 @@ module _ (edition : Edition) where
         }),
       )
 
-  by_protect : (old : State) (plain : List ℕ) (result : Result ℕ ProtectFault) (out : List ℕ) (new : State) → ProtectStep old plain result out new
+  by_protect : (old : State) (plain : List ℕ) (result : Result ℕ ProtectFault) (out : List ℕ) (new : State)
+      → ProtectStep old plain result out new
       → IsRanged edition old → IsRanged edition new
   by_protect old plain (Ok pn) out new h ranged = (goes_out old plain pn out new h ranged).1
   by_protect old plain (Err (protect.Tx fault)) out new (why, empty, is) ranged = same_range old new is ranged
   by_protect old plain (Err protect.Stopped) out new h ranged = absurd h
 
-  by_receive : (old : State) (frame : List ℕ) (result : Result Verdict Stopped) (out : List ℕ) (new : State) → ReceiveStep old frame result out new
+  by_receive : (old : State) (frame : List ℕ) (result : Result Verdict Stopped) (out : List ℕ) (new : State)
+      → ReceiveStep old frame result out new
       → IsRanged edition old → IsRanged edition new
-  by_receive old frame (Ok verdict) out new (inl (step, is_first, is_verdict, is_out, is)) ranged = same_range old new is ranged
+  by_receive old frame (Ok verdict) out new (inl (step, is_first, is_verdict, is_out, is)) ranged =
+      same_range old new is ranged
   by_receive old frame (Ok verdict) out new (inr (a, there, inl (is_verdict, above, is_out, is))) ranged =
-      subst (IsRanged edition) (sym is) (record { same = ranged.same; nexts = ranged.nexts; channel = ranged.channel; hand = ranged.hand; queue = ranged.queue })
+      subst (IsRanged edition) (sym is) (record {
+        same = ranged.same;
+        nexts = ranged.nexts;
+        channel = ranged.channel;
+        hand = ranged.hand;
+        queue = ranged.queue;
+      })
   by_receive old frame (Ok verdict) out new (inr (a, there, inr (is_verdict, is_out, is))) ranged =
-      subst (IsRanged edition) (sym is) (record { same = ranged.same; nexts = ranged.nexts; channel = ranged.channel; hand = ranged.hand; queue = ranged.queue })
+      subst (IsRanged edition) (sym is) (record {
+        same = ranged.same;
+        nexts = ranged.nexts;
+        channel = ranged.channel;
+        hand = ranged.hand;
+        queue = ranged.queue;
+      })
   by_receive old frame (Err stopped) out new h ranged = absurd h
 
   by_call : (old : State) (call : Call) (reply : Reply) (new : State) → IsInRange call → RunningStep old call reply new
@@ -304,7 +359,8 @@ module _ (edition : Edition) where
   by_call old (Receives frame) (Received result out) new given h ranged = by_receive old frame result out new h ranged
   by_call old (Commands c) RefusedLong new given (none, why, is) ranged = same_range old new is ranged
   by_call old Advances (AdvancedLong ticket) new given (first, rest, waiting, is_ticket, (idle, why, is)) ranged =
-      same_range (state_without_first old rest) new is (without_first old rest (first_command old first rest waiting ranged).1 ranged)
+      same_range (state_without_first old rest) new is
+      (without_first old rest (first_command old first rest waiting ranged).1 ranged)
   by_call old call reply new given h ranged = absurd h
 
   by_step : (old : State) (call : Call) (reply : Reply) (new : State) → IsInRange call → Step old call reply new
@@ -312,7 +368,8 @@ module _ (edition : Edition) where
   by_step old call reply new given (inl (stopped, answer, is)) ranged = same_range old new is ranged
   by_step old call reply new given (inr (running, h)) ranged = by_call old call reply new given h ranged
 
-  by_steps : (old : State) (exchanges : List Exchange) (new : State) → AllByRecursion (λ (e : Exchange). IsInRange e.call) exchanges
+  by_steps : (old : State) (exchanges : List Exchange) (new : State)
+      → AllByRecursion (λ (e : Exchange). IsInRange e.call) exchanges
       → Steps old exchanges new → IsRanged edition old → IsRanged edition new
   by_steps old [] new given steps ranged = same_range old new steps ranged
   by_steps old (e ∷ es) new given steps ranged =
@@ -326,19 +383,23 @@ module _ (edition : Edition) where
 
   taking_range : (s : State) (c : Command) → IsCommand c → IsRanged edition s → IsRanged edition (state_taking s c)
   taking_range s c given ranged =
-      either_range (not s.stopped && is_ok (apply s.edition s.identity s.config c)) (state_with_in_hand s c) s (hand_range s c given ranged) ranged
+      either_range (not s.stopped && is_ok (apply s.edition s.identity s.config c)) (state_with_in_hand s c) s
+      (hand_range s c given ranged) ranged
 
-  alone_range : (s : State) (c : Command) (waiting : List Waiting) → IsCommand c → IsRanged edition s → IsRanged edition (state_taking_alone s c waiting)
+  alone_range : (s : State) (c : Command) (waiting : List Waiting) → IsCommand c → IsRanged edition s
+      → IsRanged edition (state_taking_alone s c waiting)
   alone_range s c [] given ranged = taking_range s c given ranged
   alone_range s c (first ∷ rest) given ranged = ranged
 
-  first_range : (s : State) (in_hand : Option Command) (waiting : List Waiting) → AreCommands waiting → IsRanged edition s
+  first_range : (s : State) (in_hand : Option Command) (waiting : List Waiting) → AreCommands waiting
+      → IsRanged edition s
       → IsRanged edition (state_taking_first s in_hand waiting)
   first_range s None [] are ranged = ranged
   first_range s None (first ∷ rest) are ranged = taking_range s first.command are.0 ranged
   first_range s (Some c) waiting are ranged = ranged
 
-  end_range : (s : State) (cut : Option Call) → IfSome cut (λ call. IsInRange call) → IsRanged edition s → IsRanged edition (state_at_end s cut)
+  end_range : (s : State) (cut : Option Call) → IfSome cut (λ call. IsInRange call) → IsRanged edition s
+      → IsRanged edition (state_at_end s cut)
   end_range s None given ranged = ranged
   end_range s (Some (Commands c)) given ranged = alone_range s c s.waiting given ranged
   end_range s (Some Refills) given ranged = ranged
@@ -349,7 +410,8 @@ module _ (edition : Edition) where
 
 -- ---- a restart
 
-rises_range : (block : ℕ) (old new : Option ℕ) (m : ℕ) → TxRises block old new → ((n : ℕ) → old ≡ Some n → IsNext n) → new ≡ Some m → IsNext m
+rises_range : (block : ℕ) (old new : Option ℕ) (m : ℕ) → TxRises block old new → ((n : ℕ) → old ≡ Some n → IsNext n)
+    → new ≡ Some m → IsNext m
 rises_range block None new m up before is = absurd (cc)
 rises_range block (Some n) new m up before is =
     let one : up.0 ≡ m = some_one new up.0 m up.1 is in
@@ -359,7 +421,8 @@ rises_range block (Some n) new m up before is =
     let high : up.0 ≤ 2 ^ 32 = up.4 in
     (omega (arith, one, least, low), omega (arith, one, high))
 
-resumes_range : (edition : Edition) (old new : State) → Resumes old new → IsRanged edition old → IsRanged new.edition new
+resumes_range : (edition : Edition) (old new : State) → Resumes old new → IsRanged edition old
+    → IsRanged new.edition new
 resumes_range edition old new up ranged = record {
   same = refl;
   channel = (
@@ -367,12 +430,14 @@ resumes_range edition old new up ranged = record {
     λ station. subst (λ (i : Identity). is_port_one i.sci ≡ true) (sym up.identity)
         (ranged.channel.1 (ap (λ (c : Config). c.mode) (sym up.config) ∙ station)),
   );
-  nexts = λ an m is. rises_range old.identity.tx_block (old.next an) (new.next an) m (up.next an) (λ n is. ranged.nexts an n is) is;
+  nexts = λ an m is.
+      rises_range old.identity.tx_block (old.next an) (new.next an) m (up.next an) (λ n is. ranged.nexts an n is) is;
   hand = λ c is. absurd (none_some new.in_hand c up.idle is);
   queue = subst AreCommands (sym up.waiting) tt;
 }
 
-restart_range : (edition : Edition) (old new : State) → Restart old new → IsRanged edition old → IsRanged new.edition new
+restart_range : (edition : Edition) (old new : State) → Restart old new → IsRanged edition old
+    → IsRanged new.edition new
 restart_range edition old new (inl up) ranged = resumes_range edition old new up ranged
 restart_range edition old new (inr (c, mid, hand, makes, up)) ranged =
     resumes_range edition mid new up (makes_range edition old c mid (ranged.hand c hand) makes ranged)
@@ -399,14 +464,17 @@ own_edition : (edition : Edition) (s : State) → IsRanged edition s → IsRange
 own_edition edition s ranged = subst (λ (e : Edition). IsRanged e s) (sym ranged.same) ranged
 
 module _ (sectors : ℕ) where
-  opening_range : (past : Past) (edition : Edition) (image : Image) (found : Standing) → FitsPast edition sectors past image
-      → StandingIs edition sectors image (Ok found) → IsRangedPast past → IsRanged edition (opened_state found (logs_of past))
+  opening_range : (past : Past) (edition : Edition) (image : Image) (found : Standing)
+      → FitsPast edition sectors past image
+      → StandingIs edition sectors image (Ok found) → IsRangedPast past
+      → IsRanged edition (opened_state found (logs_of past))
   opening_range (Blank identities) edition image found fits is ranged =
       let new = found-new edition sectors image identities found fits is in
       subst (λ (o : Standing). IsRanged edition (opened_state o no_logs)) new.2 (formatted_range edition new.0)
   opening_range (Formatted s) edition image found fits is ranged =
       subst (λ (e : Edition). IsRanged e (opened_state found s.logs)) (of-edition edition sectors image found is)
-      (restart_range s.edition s (opened_state found s.logs) (fits-restart edition sectors image s found fits is) ranged)
+      (restart_range s.edition s (opened_state found s.logs)
+      (fits-restart edition sectors image s found fits is) ranged)
 
   life_range : (past : Past) (edition : Edition) (image : Image) (exchanges : List Exchange) (s : State)
       → IsLifeSoFar sectors past edition image exchanges s → IsRangedPast past → IsRanged edition s
@@ -414,36 +482,44 @@ module _ (sectors : ℕ) where
       by_steps edition (opened_state life.found (logs_of past)) exchanges s life.in_range life.steps
       (opening_range past edition image life.found life.fits life.is_found ranged)
 
-  format_range : (old : Past) (edition : Edition) (identity : Identity) (new : Past) → FormatLeads old edition identity true new → IsRangedPast old → IsRangedPast new
-  format_range (Blank identities) edition identity new is ranged = subst IsRangedPast (sym is) (formatted_range edition identity)
+  format_range : (old : Past) (edition : Edition) (identity : Identity) (new : Past)
+      → FormatLeads old edition identity true new → IsRangedPast old → IsRangedPast new
+  format_range (Blank identities) edition identity new is ranged =
+      subst IsRangedPast (sym is) (formatted_range edition identity)
   format_range (Formatted s) edition identity new h ranged = absurd h
 
-  no_format_range : (old : Past) (edition : Edition) (identity : Identity) (new : Past) → FormatLeads old edition identity false new → IsRangedPast old → IsRangedPast new
+  no_format_range : (old : Past) (edition : Edition) (identity : Identity) (new : Past)
+      → FormatLeads old edition identity false new → IsRangedPast old → IsRangedPast new
   no_format_range (Blank identities) edition identity new is ranged = subst IsRangedPast (sym is) tt
   no_format_range (Formatted s) edition identity new is ranged = subst IsRangedPast (sym is) ranged
 
-  leads_range : (old : Past) (life : Life) (new : Past) → Leads sectors old life new → IsRangedPast old → IsRangedPast new
+  leads_range : (old : Past) (life : Life) (new : Past) → Leads sectors old life new → IsRangedPast old
+      → IsRangedPast new
   leads_range old (Formats edition identity true) new h ranged = format_range old edition identity new h ranged
   leads_range old (Formats edition identity false) new h ranged = no_format_range old edition identity new h ranged
   leads_range old (Refuses edition image fault) new h ranged = subst IsRangedPast (sym h.2) ranged
   leads_range old (Serves edition image exchanges cut) new (last, life, given, is) ranged =
       let end : IsRangedPast (Formatted (state_at_end last cut)) =
-      own_edition edition (state_at_end last cut) (end_range edition last cut given (life_range old edition image exchanges last life ranged)) in
+      own_edition edition (state_at_end last cut)
+      (end_range edition last cut given (life_range old edition image exchanges last life ranged)) in
       subst IsRangedPast (sym is) end
 
-  lives_range : (old : Past) (lives : List Life) (new : Past) → LeadOn sectors old lives new → IsRangedPast old → IsRangedPast new
+  lives_range : (old : Past) (lives : List Life) (new : Past) → LeadOn sectors old lives new → IsRangedPast old
+      → IsRangedPast new
   lives_range old [] new is ranged = subst IsRangedPast (sym is) ranged
   lives_range old (life ∷ lives) new h ranged = lives_range h.0 lives new h.2 (leads_range old life h.0 h.1 ranged)
 
   -- ---- the law
 
-  by_frame : (edition : Edition) (s : State) (plain : List ℕ) (pn : ℕ) (out : List ℕ) (new : State) → Step s (Protects plain) (Protected (Ok pn) out) new
+  by_frame : (edition : Edition) (s : State) (plain : List ℕ) (pn : ℕ) (out : List ℕ) (new : State)
+      → Step s (Protects plain) (Protected (Ok pn) out) new
       → IsRanged edition s → IsStandardFrame s plain pn out new
   by_frame edition s plain pn out new (inl (stopped, answer, is)) ranged = absurd answer
   by_frame edition s plain pn out new (inr (running, h)) ranged = (goes_out edition s plain pn out new h ranged).0
 
   moment_range : (s : State) (m : Moment sectors s) → IsRanged m.edition s
-  moment_range s m = life_range m.past m.edition m.image m.exchanges s m.life (lives_range (Blank []) m.lives m.past m.history tt)
+  moment_range s m =
+      life_range m.past m.edition m.image m.exchanges s m.life (lives_range (Blank []) m.lives m.past m.history tt)
 
   -- a next packet number is 1 to 2^32
   pub next-range : (s : State) → Moment sectors s → (an m : ℕ) → s.next an ≡ Some m → (1 ≤ m) × (m ≤ 2 ^ 32)

@@ -1,5 +1,6 @@
 -- How an edition reads a journal with a record more, one that starts over, and a ceiling that is raised.
-use Rattle.std.proofs.Common.{◌≡◌, ◌<◌, ◌≤◌, ◌⊎◌, inl, inr, ℕ, Bool, true, cond, not, List, [], ◌∷◌, ◌++◌, length, take, drop, Option, Some, None, refl, ◌∙◌, ap}
+use Rattle.std.proofs.Common.{◌≡◌, ◌<◌, ◌≤◌, ◌⊎◌, inl, inr, ℕ, Bool, true, cond, not, List, [], ◌∷◌, ◌++◌, length, take}
+use Rattle.std.proofs.Common.{drop, Option, Some, None, refl, ◌∙◌, ap}
 use Rattle.std.specs.Option.{option_and_then}
 use Rattle.std.proofs.lemmas.Bool.{and_from, and_parts, lt-ltb}
 use Rattle.std.proofs.lemmas.List.{drop-append-le, take-append-le}
@@ -11,7 +12,8 @@ use Rattle.macs_record.specs.Layout.{kind_of}
 use Rattle.macs_record.specs.declared.format.Format.{Format}
 use Rattle.macs_record.specs.declared.format.Format.TheVariants.{One, Two}
 use Rattle.macs_record.specs.declared.record.Record.{Record}
-use Rattle.macs_store.specs.Replay.{all_belong, is_long_kind, is_raise, meaning_of, reads_all, replay_of, snapshot_of, standing_after_record, standing_after_records}
+use Rattle.macs_store.specs.Replay.{all_belong, is_long_kind, is_raise, meaning_of, reads_all, replay_of, snapshot_of}
+use Rattle.macs_store.specs.Replay.{standing_after_record, standing_after_records}
 use Rattle.macs_store.specs.Standing.{Standing, standing_with_rx_ceiling, standing_with_tx_ceiling}
 use Rattle.macs_store.proofs.Compacting.{meaning-compacted}
 use Rattle.macs_store.proofs.Formats.{meaning-read, read-meaning}
@@ -24,7 +26,8 @@ use Rattle.macs_headline.proofs.Restored.{rises, snapshot-read}
 
 -- ---- areas that are read
 
-belongs_too : (records : List Record) (r : Record) → all_belong One records ≡ true → not (is_long_kind (kind_of r)) ≡ true
+belongs_too : (records : List Record) (r : Record) → all_belong One records ≡ true
+    → not (is_long_kind (kind_of r)) ≡ true
     → all_belong One (records ++ r ∷ []) ≡ true
 belongs_too [] r all last = and_from (not (is_long_kind (kind_of r))) true last refl
 belongs_too (q ∷ qs) r all last =
@@ -46,20 +49,27 @@ then_all (Some s) = refl
 after_one : (rs : List Record) (r : Record) (s t : Standing) → standing_after_records s rs ≡ Some t
     → standing_after_records s (rs ++ r ∷ []) ≡ standing_after_record t r
 after_one [] r s t is =
-    then_all (standing_after_record s r) ∙ ap (λ (x : Standing). standing_after_record x r) (some_one (Some s) s t refl is)
+    then_all (standing_after_record s r)
+    ∙ ap (λ (x : Standing). standing_after_record x r) (some_one (Some s) s t refl is)
 after_one (q ∷ qs) r s t is =
     let next = then-some (λ (x : Standing). standing_after_records x qs) (standing_after_record s q) t is in
-    ap (option_and_then (λ (x : Standing). standing_after_records x (qs ++ r ∷ []))) next.1 ∙ after_one qs r next.0 t next.2
+    ap (option_and_then (λ (x : Standing). standing_after_records x (qs ++ r ∷ []))) next.1
+    ∙ after_one qs r next.0 t next.2
 
-replay_on : (edition : Edition) (identity : Identity) (n : ℕ) (records : List Record) (r : Record) (s : Standing) → n ≤ length records
-    → replay_of edition identity n records ≡ Some s → replay_of edition identity n (records ++ r ∷ []) ≡ standing_after_record s r
+replay_on : (edition : Edition) (identity : Identity) (n : ℕ) (records : List Record) (r : Record) (s : Standing)
+    → n ≤ length records
+    → replay_of edition identity n records ≡ Some s
+    → replay_of edition identity n (records ++ r ∷ []) ≡ standing_after_record s r
 replay_on edition identity n records r s within is =
     let front : take n (records ++ r ∷ []) ≡ take n records = take-append-le n records (r ∷ []) within in
     let later : drop n (records ++ r ∷ []) ≡ drop n records ++ r ∷ [] = drop-append-le n records (r ∷ []) within in
-    let was = then-some (λ (x : Standing). standing_after_records x (drop n records)) (snapshot_of edition identity (take n records)) s is in
+    let was = then-some (λ (x : Standing). standing_after_records x (drop n records))
+    (snapshot_of edition identity (take n records)) s is in
     let split : replay_of edition identity n (records ++ r ∷ [])
-    ≡ option_and_then (λ (x : Standing). standing_after_records x (drop n records ++ r ∷ [])) (snapshot_of edition identity (take n records)) =
-    λ i. option_and_then (λ (x : Standing). standing_after_records x (later i)) (snapshot_of edition identity (front i)) in
+    ≡ option_and_then (λ (x : Standing). standing_after_records x (drop n records ++ r ∷ []))
+    (snapshot_of edition identity (take n records)) =
+    λ i. option_and_then (λ (x : Standing). standing_after_records x (later i))
+    (snapshot_of edition identity (front i)) in
     split ∙ ap (option_and_then (λ (x : Standing). standing_after_records x (drop n records ++ r ∷ []))) was.1
     ∙ after_one (drop n records) r was.0 s was.2
 
@@ -78,18 +88,24 @@ raised o old ceiling is more = ap (λ (x : Option ℕ). is_raise x ceiling) is �
 
 pub editions-read : EditionsRead
 editions-read = record {
-  stands = λ edition sectors image c s large found means. (large, record { content = c; found = found; stands = means });
+  stands =
+      λ edition sectors image c s large found means. (large, record { content = c; found = found; stands = means });
   either_format = either-format;
   new_one = λ edition identity.
-      meaning-read edition (record (first_content identity) { head = record (first_head identity) { format = One } }) refl;
+      meaning-read edition
+      (record (first_content identity) { head = record (first_head identity) { format = One } }) refl;
   one_more = one_more;
   anew = meaning-compacted;
   anew_one = anew-one;
   tx_raised = λ s an old ceiling is more.
-      ap (λ (b : Bool). cond b (Some (standing_with_tx_ceiling s an ceiling)) None) (raised (s.ceilings.tx an) old ceiling is more);
+      ap (λ (b : Bool). cond b (Some (standing_with_tx_ceiling s an ceiling)) None)
+      (raised (s.ceilings.tx an) old ceiling is more);
   rx_raised = λ s sci an old ceiling is more.
-      ap (λ (b : Bool). cond b (Some (standing_with_rx_ceiling s sci an ceiling)) None) (raised (s.ceilings.rx sci an) old ceiling is more);
+      ap (λ (b : Bool). cond b (Some (standing_with_rx_ceiling s sci an ceiling)) None)
+      (raised (s.ceilings.rx sci an) old ceiling is more);
   snapshot = snapshot-read;
-  tx_rises = λ s after an ceiling made. rises (s.ceilings.tx an) ceiling (standing_with_tx_ceiling s an ceiling) after made;
-  rx_rises = λ s after sci an ceiling made. rises (s.ceilings.rx sci an) ceiling (standing_with_rx_ceiling s sci an ceiling) after made;
+  tx_rises =
+      λ s after an ceiling made. rises (s.ceilings.tx an) ceiling (standing_with_tx_ceiling s an ceiling) after made;
+  rx_rises = λ s after sci an ceiling made.
+      rises (s.ceilings.rx sci an) ceiling (standing_with_rx_ceiling s sci an ceiling) after made;
 }

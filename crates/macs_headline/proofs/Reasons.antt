@@ -1,20 +1,27 @@
 -- A command is refused for a reason that it has, and where it has one.
-use Rattle.std.proofs.Common.{◌≡◌, ◌≢◌, ◌⊎◌, ◌↔◌, ◌||◌, ◌&&◌, ◌==◌, inl, inr, ℕ, Bool, true, false, cond, not, List, [], ◌∷◌, map, drop, length, Option, Some, None, is_none, refl, sym, ◌∙◌, ap, subst}
+use Rattle.std.proofs.Common.{◌≡◌, ◌≢◌, ◌⊎◌, ◌↔◌, ◌||◌, ◌&&◌, ◌==◌, inl, inr, ℕ, Bool, true, false, cond, not, List, []}
+use Rattle.std.proofs.Common.{◌∷◌, map, drop, length, Option, Some, None, is_none, refl, sym, ◌∙◌, ap, subst}
 use Rattle.std.specs.Prelude.{if◌then◌else◌}
 use Rattle.std.proofs.lemmas.Bool.{eq-eqb, eqb-true, false≢true, le-leb, leb-true, or_left, or_right}
 use Rattle.std.proofs.lemmas.Slice.Eq.{bytes_eq-Decides}
 use Rattle.macs_aes.specs.Keys.{octets_of_key}
 use Rattle.macs_fields.specs.First.{IsFirst, first}
 use Rattle.macs_fields.specs.declared.fields.Offset.TheVariants.{Fifty, Thirty, Zero}
-use Rattle.macs_config.specs.Apply.{LongKey, Named, Reason, are_channels_full, are_spent_full, has_no_channel, has_wrong_offset, has_wrong_start, is_channel_taken, is_encoding, is_in_use, is_key_spent, is_long_key, is_own_sci, is_slot_empty, is_slot_taken, is_wrong_end_station, offset_at, refusal_of, refusals}
+use Rattle.macs_config.specs.Apply.{LongKey, Named, Reason, are_channels_full, are_spent_full, has_no_channel}
+use Rattle.macs_config.specs.Apply.{has_wrong_offset, has_wrong_start, is_channel_taken, is_encoding, is_in_use}
+use Rattle.macs_config.specs.Apply.{is_key_spent, is_long_key, is_own_sci, is_slot_empty, is_slot_taken}
+use Rattle.macs_config.specs.Apply.{is_wrong_end_station, offset_at, refusal_of, refusals}
 use Rattle.macs_config.specs.Association.{is_end_station}
 use Rattle.macs_config.specs.Config.{Config, Edition, is_among, max_spent, takes_key}
 use Rattle.macs_config.specs.Identity.{Identity, is_port_one}
 use Rattle.macs_config.specs.declared.command.Command.{Command}
-use Rattle.macs_config.specs.declared.command.Command.TheVariants.{RxAdd, RxDrop, RxInstall, RxRemove, SetSciMode, TxInstall, TxRemove, TxUse}
+use Rattle.macs_config.specs.declared.command.Command.TheVariants.{RxAdd, RxDrop, RxInstall, RxRemove, SetSciMode}
+use Rattle.macs_config.specs.declared.command.Command.TheVariants.{TxInstall, TxRemove, TxUse}
 use Rattle.macs_config.specs.declared.command.SciMode.{SciMode}
 use Rattle.macs_config.specs.declared.command.SciMode.TheVariants.{EndStation, Explicit, Implicit}
-use Rattle.macs_config.specs.declared.refusal.Refusal.TheVariants.{ChannelTaken, ChannelsFull, EndStationSci, InUse, KeySpent, NoChannel, OffsetChoice, OwnSci, SlotEmpty, SlotTaken, SpentFull, StartRange}
+use Rattle.macs_config.specs.declared.refusal.Refusal.TheVariants.{ChannelTaken, ChannelsFull, EndStationSci, InUse}
+use Rattle.macs_config.specs.declared.refusal.Refusal.TheVariants.{KeySpent, NoChannel, OffsetChoice, OwnSci, SlotEmpty}
+use Rattle.macs_config.specs.declared.refusal.Refusal.TheVariants.{SlotTaken, SpentFull, StartRange}
 use Rattle.macs_headline.specs.Reasons.{IsNoOffset, IsReasonOf, ReasonsAreNamed}
 use Rattle.macs_headline.proofs.Accepted.{NoTest, no-test}
 use Rattle.macs_headline.proofs.Ledger.{some_one}
@@ -44,12 +51,18 @@ is_empty (Some x) = (λ is. absurd (false≢true is), λ is. absurd (none_some x
 
 -- ---- offsets
 
-no_offset_by : (offset : ℕ) (zero thirty fifty : Bool) → (offset == 0) ≡ zero → (offset == 30) ≡ thirty → (offset == 50) ≡ fifty
-    → (is_none (if zero then Some Zero else if thirty then Some Thirty else if fifty then Some Fifty else None) ≡ true) ↔ IsNoOffset offset
-no_offset_by offset true thirty fifty e0 e30 e50 = (λ is. absurd (false≢true is), λ no. absurd (no.0 (eqb-true offset 0 e0)))
-no_offset_by offset false true fifty e0 e30 e50 = (λ is. absurd (false≢true is), λ no. absurd (no.1 (eqb-true offset 30 e30)))
-no_offset_by offset false false true e0 e30 e50 = (λ is. absurd (false≢true is), λ no. absurd (no.2 (eqb-true offset 50 e50)))
-no_offset_by offset false false false e0 e30 e50 = (λ is. (apart offset 0 e0, apart offset 30 e30, apart offset 50 e50), λ no. refl)
+no_offset_by : (offset : ℕ) (zero thirty fifty : Bool) → (offset == 0) ≡ zero → (offset == 30) ≡ thirty
+    → (offset == 50) ≡ fifty
+    → (is_none (if zero then Some Zero else if thirty then Some Thirty else if fifty then Some Fifty else None)
+    ≡ true) ↔ IsNoOffset offset
+no_offset_by offset true thirty fifty e0 e30 e50 =
+    (λ is. absurd (false≢true is), λ no. absurd (no.0 (eqb-true offset 0 e0)))
+no_offset_by offset false true fifty e0 e30 e50 =
+    (λ is. absurd (false≢true is), λ no. absurd (no.1 (eqb-true offset 30 e30)))
+no_offset_by offset false false true e0 e30 e50 =
+    (λ is. absurd (false≢true is), λ no. absurd (no.2 (eqb-true offset 50 e50)))
+no_offset_by offset false false false e0 e30 e50 =
+    (λ is. (apart offset 0 e0, apart offset 30 e30, apart offset 50 e50), λ no. refl)
 
 no_offset : (offset : ℕ) → (is_none (offset_at offset) ≡ true) ↔ IsNoOffset offset
 no_offset offset = no_offset_by offset (offset == 0) (offset == 30) (offset == 50) refl refl refl
@@ -61,7 +74,8 @@ shown_by false offset true e = (λ is. absurd (false≢true is), λ no. absurd (
 shown_by false offset false e = (λ is. (refl, apart offset 0 e), λ no. refl)
 
 tx_offset : (confidential : Bool) (offset : ℕ)
-    → ((is_none (offset_at offset) || (not confidential && not (offset == 0))) ≡ true) ↔ (IsNoOffset offset ⊎ ((confidential ≡ false) × (offset ≢ 0)))
+    → ((is_none (offset_at offset) || (not confidential && not (offset == 0))) ≡ true)
+    ↔ (IsNoOffset offset ⊎ ((confidential ≡ false) × (offset ≢ 0)))
 tx_offset confidential offset =
     let no = no_offset offset in
     let shown = shown_by confidential offset (offset == 0) refl in
@@ -79,17 +93,20 @@ tx_offset confidential offset =
 -- ---- each reason
 
 module _ (edition : Edition) (identity : Identity) (c : Config) where
-  by_start : (command : Command) → (has_wrong_start command ≡ true) ↔ IsReasonOf edition identity c command (Named StartRange)
+  by_start : (command : Command)
+      → (has_wrong_start command ≡ true) ↔ IsReasonOf edition identity c command (Named StartRange)
   by_start (TxInstall an key start confidential offset) = (λ is. eqb-true start 0 is, λ is. eq-eqb start 0 is)
   by_start (RxInstall sci an key start offset) = (λ is. eqb-true start 0 is, λ is. eq-eqb start 0 is)
   by_start command = (λ is. absurd (false≢true is), λ no. absurd no)
 
-  by_offset : (command : Command) → (has_wrong_offset command ≡ true) ↔ IsReasonOf edition identity c command (Named OffsetChoice)
+  by_offset : (command : Command)
+      → (has_wrong_offset command ≡ true) ↔ IsReasonOf edition identity c command (Named OffsetChoice)
   by_offset (TxInstall an key start confidential offset) = tx_offset confidential offset
   by_offset (RxInstall sci an key start offset) = no_offset offset
   by_offset command = (λ is. absurd (false≢true is), λ no. absurd no)
 
-  by_own : (command : Command) → (is_own_sci identity command ≡ true) ↔ IsReasonOf edition identity c command (Named OwnSci)
+  by_own : (command : Command)
+      → (is_own_sci identity command ≡ true) ↔ IsReasonOf edition identity c command (Named OwnSci)
   by_own (RxAdd sci) = let same = bytes_eq-Decides sci identity.sci in (λ is. same.0 is, λ is. same.1 is)
   by_own command = (λ is. absurd (false≢true is), λ no. absurd no)
 
@@ -112,30 +129,37 @@ module _ (edition : Edition) (identity : Identity) (c : Config) where
     λ no. refl,
   )
 
-  by_station : (command : Command) → (is_wrong_end_station identity command ≡ true) ↔ IsReasonOf edition identity c command (Named EndStationSci)
+  by_station : (command : Command)
+      → (is_wrong_end_station identity command ≡ true) ↔ IsReasonOf edition identity c command (Named EndStationSci)
   by_station (SetSciMode mode) = station_by mode (is_port_one identity.sci) refl
   by_station command = (λ is. absurd (false≢true is), λ no. absurd no)
 
-  by_channel : (command : Command) → (has_no_channel c command ≡ true) ↔ IsReasonOf edition identity c command (Named NoChannel)
+  by_channel : (command : Command)
+      → (has_no_channel c command ≡ true) ↔ IsReasonOf edition identity c command (Named NoChannel)
   by_channel (RxDrop sci) = is_not (is_among c.channels sci)
   by_channel (RxInstall sci an key start offset) = is_not (is_among c.channels sci)
   by_channel (RxRemove sci an) = is_not (is_among c.channels sci)
   by_channel command = (λ is. absurd (false≢true is), λ no. absurd no)
 
-  by_taken : (command : Command) → (is_channel_taken c command ≡ true) ↔ IsReasonOf edition identity c command (Named ChannelTaken)
+  by_taken : (command : Command)
+      → (is_channel_taken c command ≡ true) ↔ IsReasonOf edition identity c command (Named ChannelTaken)
   by_taken (RxAdd sci) = (λ is. is, λ is. is)
   by_taken command = (λ is. absurd (false≢true is), λ no. absurd no)
 
-  by_full : (command : Command) → (are_channels_full edition c command ≡ true) ↔ IsReasonOf edition identity c command (Named ChannelsFull)
-  by_full (RxAdd sci) = (λ is. leb-true edition.channels (length c.channels) is, λ is. le-leb edition.channels (length c.channels) is)
+  by_full : (command : Command)
+      → (are_channels_full edition c command ≡ true) ↔ IsReasonOf edition identity c command (Named ChannelsFull)
+  by_full (RxAdd sci) =
+      (λ is. leb-true edition.channels (length c.channels) is, λ is. le-leb edition.channels (length c.channels) is)
   by_full command = (λ is. absurd (false≢true is), λ no. absurd no)
 
-  by_slot : (command : Command) → (is_slot_taken c command ≡ true) ↔ IsReasonOf edition identity c command (Named SlotTaken)
+  by_slot : (command : Command)
+      → (is_slot_taken c command ≡ true) ↔ IsReasonOf edition identity c command (Named SlotTaken)
   by_slot (TxInstall an key start confidential offset) = (λ is. is, λ is. is)
   by_slot (RxInstall sci an key start offset) = (λ is. is, λ is. is)
   by_slot command = (λ is. absurd (false≢true is), λ no. absurd no)
 
-  by_empty : (command : Command) → (is_slot_empty c command ≡ true) ↔ IsReasonOf edition identity c command (Named SlotEmpty)
+  by_empty : (command : Command)
+      → (is_slot_empty c command ≡ true) ↔ IsReasonOf edition identity c command (Named SlotEmpty)
   by_empty (TxUse an) = is_empty (c.tx an)
   by_empty (TxRemove an) = is_empty (c.tx an)
   by_empty (RxRemove sci an) = is_empty (c.rx sci an)
@@ -150,14 +174,18 @@ module _ (edition : Edition) (identity : Identity) (c : Config) where
   by_use (TxRemove an) = encoding_by c.encoding an
   by_use command = (λ is. absurd (false≢true is), λ no. absurd no)
 
-  by_spent : (command : Command) → (is_key_spent c command ≡ true) ↔ IsReasonOf edition identity c command (Named KeySpent)
+  by_spent : (command : Command)
+      → (is_key_spent c command ≡ true) ↔ IsReasonOf edition identity c command (Named KeySpent)
   by_spent (TxInstall an key start confidential offset) = (λ is. is, λ is. is)
   by_spent (RxInstall sci an key start offset) = (λ is. is, λ is. is)
   by_spent command = (λ is. absurd (false≢true is), λ no. absurd no)
 
-  by_many : (command : Command) → (are_spent_full c command ≡ true) ↔ IsReasonOf edition identity c command (Named SpentFull)
-  by_many (TxInstall an key start confidential offset) = (λ is. leb-true max_spent (length c.spent_tx) is, λ is. le-leb max_spent (length c.spent_tx) is)
-  by_many (RxInstall sci an key start offset) = (λ is. leb-true max_spent (length c.spent_rx) is, λ is. le-leb max_spent (length c.spent_rx) is)
+  by_many : (command : Command)
+      → (are_spent_full c command ≡ true) ↔ IsReasonOf edition identity c command (Named SpentFull)
+  by_many (TxInstall an key start confidential offset) =
+      (λ is. leb-true max_spent (length c.spent_tx) is, λ is. le-leb max_spent (length c.spent_tx) is)
+  by_many (RxInstall sci an key start offset) =
+      (λ is. leb-true max_spent (length c.spent_rx) is, λ is. le-leb max_spent (length c.spent_rx) is)
   by_many command = (λ is. absurd (false≢true is), λ no. absurd no)
 
   by_key : (command : Command) → (is_long_key edition command ≡ true) ↔ IsReasonOf edition identity c command LongKey
@@ -202,9 +230,11 @@ module _ (edition : Edition) (identity : Identity) (c : Config) where
     Agree [] = Unit {0}
     Agree (row ∷ rows) = (row.1 ≡ test row.0) × Agree rows
 
-    named_by : (refusal : Reason) (b : Bool) (rest : Option Reason) (r : Reason) → b ≡ test refusal → (rest ≡ Some r → test r ≡ true)
+    named_by : (refusal : Reason) (b : Bool) (rest : Option Reason) (r : Reason) → b ≡ test refusal
+        → (rest ≡ Some r → test r ≡ true)
         → cond b (Some refusal) rest ≡ Some r → test r ≡ true
-    named_by refusal true rest r is later e = sym (subst (λ (x : Reason). true ≡ test x) (some_one (Some refusal) refusal r refl e) is)
+    named_by refusal true rest r is later e =
+        sym (subst (λ (x : Reason). true ≡ test x) (some_one (Some refusal) refusal r refl e) is)
     named_by refusal false rest r is later e = later e
 
     first_named : (rows : List (Reason × Bool)) (r : Reason) → Agree rows → first rows ≡ Some r → test r ≡ true
@@ -213,11 +243,14 @@ module _ (edition : Edition) (identity : Identity) (c : Config) where
 
     -- none before it holds
     first_by : (refusal : Reason) (b : Bool) (rows : List (Reason × Bool)) (r : Reason) → b ≡ test refusal
-        → (first rows ≡ Some r → IsFirst (IsReasonOf edition identity c command) (map (λ (row : Reason × Bool). row.0) rows) r)
+        → (first rows ≡ Some r
+        → IsFirst (IsReasonOf edition identity c command) (map (λ (row : Reason × Bool). row.0) rows) r)
         → cond b (Some refusal) (first rows) ≡ Some r
         → (IsReasonOf edition identity c command refusal × (r ≡ refusal))
-        ⊎ ((¬ IsReasonOf edition identity c command refusal) × IsFirst (IsReasonOf edition identity c command) (map (λ (row : Reason × Bool). row.0) rows) r)
-    first_by refusal true rows r is later e = inl ((reason refusal).0 (sym is), sym (some_one (Some refusal) refusal r refl e))
+        ⊎ ((¬ IsReasonOf edition identity c command refusal)
+        × IsFirst (IsReasonOf edition identity c command) (map (λ (row : Reason × Bool). row.0) rows) r)
+    first_by refusal true rows r is later e =
+        inl ((reason refusal).0 (sym is), sym (some_one (Some refusal) refusal r refl e))
     first_by refusal false rows r is later e = inr (λ has. false≢true (is ∙ (reason refusal).1 has), later e)
 
     is_first : (rows : List (Reason × Bool)) (r : Reason) → Agree rows → first rows ≡ Some r
@@ -243,17 +276,21 @@ module _ (edition : Edition) (identity : Identity) (c : Config) where
     no_tests none (Named SpentFull) = none.1.1.1.1.1.1.1.1.1.1.1.0
     no_tests none LongKey = none.1.1.1.1.1.1.1.1.1.1.1.1.0
 
-    is_named : (refusal : Reason) → refusal_of edition identity c command ≡ Some refusal → IsReasonOf edition identity c command refusal
+    is_named : (refusal : Reason) → refusal_of edition identity c command ≡ Some refusal
+        → IsReasonOf edition identity c command refusal
     is_named refusal is = (reason refusal).0 (first_named (refusals edition identity c command) refusal agree is)
 
-    is_held : (refusal : Reason) → IsReasonOf edition identity c command refusal → ¬ (refusal_of edition identity c command ≡ None)
+    is_held : (refusal : Reason) → IsReasonOf edition identity c command refusal
+        → ¬ (refusal_of edition identity c command ≡ None)
     is_held refusal has none =
-        false≢true (sym (no_tests (no-test (refusals edition identity c command) none) refusal) ∙ (reason refusal).1 has)
+        false≢true
+        (sym (no_tests (no-test (refusals edition identity c command) none) refusal) ∙ (reason refusal).1 has)
 
 pub reasons-are-named : ReasonsAreNamed
 reasons-are-named = record {
   named = λ edition identity c command refusal is. is_named edition identity c command refusal is;
   first = λ edition identity c command refusal is.
-      is_first edition identity c command (refusals edition identity c command) refusal (agree edition identity c command) is;
+      is_first edition identity c command (refusals edition identity c command) refusal
+      (agree edition identity c command) is;
   held = λ edition identity c command refusal has. is_held edition identity c command refusal has;
 }

@@ -16,19 +16,23 @@ use Rattle.macs_endpoint.specs.declared.fault.SubmitFault.TheVariants as submit
 use Rattle.macs_endpoint.specs.declared.progress.Step.{Step as Progress}
 use Rattle.macs_endpoint.specs.declared.progress.Step.TheVariants.{Done, Idle, Reserved, Worked}
 use Rattle.macs_endpoint.specs.declared.queue.Waiting.{Waiting}
-use Rattle.macs_endpoint.specs.State.{Advanced, AdvancedLong, Advances, Call, Commands, Protected, Protects, Ran, Receives, Refilled, Refills, RefusedLong, Reply, State, Submits, Submitted}
-use Rattle.macs_endpoint.specs.Step.{AdvanceStep, CommandStep, Ends, IsStopped, Makes, ProtectStep, RefillStep, RunningStep, Step, SubmitStep, TakesUp, state_without_first}
+use Rattle.macs_endpoint.specs.State.{Advanced, AdvancedLong, Advances, Call, Commands, Protected, Protects, Ran}
+use Rattle.macs_endpoint.specs.State.{Receives, Refilled, Refills, RefusedLong, Reply, State, Submits, Submitted}
+use Rattle.macs_endpoint.specs.Step.{AdvanceStep, CommandStep, Ends, IsStopped, Makes, ProtectStep, RefillStep}
+use Rattle.macs_endpoint.specs.Step.{RunningStep, Step, SubmitStep, TakesUp, state_without_first}
 use Rattle.macs_headline.specs.Refused.{IsExact, LimitsAre, RefusalsAreExact, TakesFirst, refusal_at}
 use Rattle.macs_headline.proofs.Accepted.{accepted, no-refusal}
 
 -- ---- reasons
 
-pub refused_by : (why : Option Reason) (config : Config) (reason : Reason) → answer_or_refusal why config ≡ Err reason → why ≡ Some reason
+pub refused_by : (why : Option Reason) (config : Config) (reason : Reason) → answer_or_refusal why config ≡ Err reason
+    → why ≡ Some reason
 refused_by None config reason is = absurd (cc)
 refused_by (Some first) config reason is = let one : first ≡ reason = cc in ap (λ (r : Reason). Some r) one
 
 -- a command that is refused is so for its first reason
-refused_for : (s : State) (c : Command) (reason : Reason) → apply s.edition s.identity s.config c ≡ Err reason → refusal_at s c ≡ Some reason
+refused_for : (s : State) (c : Command) (reason : Reason) → apply s.edition s.identity s.config c ≡ Err reason
+    → refusal_at s c ≡ Some reason
 refused_for s c reason is = refused_by (refusal_of s.edition s.identity s.config c) (config_after s.config c) reason is
 
 -- one that takes effect has none
@@ -37,16 +41,20 @@ made_for s c new makes = (accepted s.edition s.identity s.config c makes.0 makes
 
 -- ---- calls
 
-by_command : (old : State) (c : Command) (result : Result (Unit {0}) CommandFault) (new : State) → CommandStep old c result new
+by_command : (old : State) (c : Command) (result : Result (Unit {0}) CommandFault) (new : State)
+    → CommandStep old c result new
     → IsExact old (Commands c) (Ran result) new
 by_command old c (Ok done) new (none, makes) = (none, made_for old c new makes)
 by_command old c (Err ran.Stopped) new h = absurd h
-by_command old c (Err ran.Disk) new (none, accepts, is) = (none, no-refusal old.edition old.identity old.config c accepts, is)
+by_command old c (Err ran.Disk) new (none, accepts, is) =
+    (none, no-refusal old.edition old.identity old.config c accepts, is)
 by_command old c (Err ran.Busy) new (some, is) = (some, is)
 by_command old c (Err (ran.Refused refusal)) new (none, why, is) = (none, refused_for old c (Named refusal) why, is)
-by_command old c (Err ran.GenerationsSpent) new (none, accepts, is) = (none, no-refusal old.edition old.identity old.config c accepts, is)
+by_command old c (Err ran.GenerationsSpent) new (none, accepts, is) =
+    (none, no-refusal old.edition old.identity old.config c accepts, is)
 
-by_refill : (old : State) (result : Result (Unit {0}) RefillFault) (new : State) → RefillStep old result new → IsExact old Refills (Refilled result) new
+by_refill : (old : State) (result : Result (Unit {0}) RefillFault) (new : State) → RefillStep old result new
+    → IsExact old Refills (Refilled result) new
 by_refill old (Ok done) new (none, is) = (none, is)
 by_refill old (Err refill.Stopped) new h = absurd h
 by_refill old (Err refill.Disk) new (none, is) = (none, is)
@@ -60,10 +68,17 @@ by_submit old c (Err submit.QueueFull) new (many, is) = (many, is)
 by_submit old c (Err submit.TicketsSpent) new (few, spent, is) = (few, spent, is)
 by_submit old c (Err submit.Stopped) new h = absurd h
 
-by_end : (old : State) (w : Waiting) (rest : List Waiting) (ticket : ℕ) (result : Result (Unit {0}) CommandFault) (new : State) → old.waiting ≡ w ∷ rest
+by_end : (old : State) (w : Waiting) (rest : List Waiting) (ticket : ℕ) (result : Result (Unit {0}) CommandFault)
+    (new : State) → old.waiting ≡ w ∷ rest
     → ticket ≡ w.ticket → Ends old w rest result new → IsExact old Advances (Advanced (Ok (Done ticket result))) new
-by_end old w rest ticket (Ok done) new waiting is_ticket makes =
-    (w, rest, waiting, is_ticket, made_for (state_without_first old rest) w.command new makes, ap (λ (s : State). s.in_hand) makes.2)
+by_end old w rest ticket (Ok done) new waiting is_ticket makes = (
+  w,
+  rest,
+  waiting,
+  is_ticket,
+  made_for (state_without_first old rest) w.command new makes,
+  ap (λ (s : State). s.in_hand) makes.2,
+)
 by_end old w rest ticket (Err (ran.Refused refusal)) new waiting is_ticket (idle, why, is) =
     (w, rest, waiting, is_ticket, idle, refused_for old w.command (Named refusal) why, is)
 by_end old w rest ticket (Err ran.GenerationsSpent) new waiting is_ticket (idle, accepts, is) =
@@ -75,24 +90,28 @@ takes_first : (old new : State) → TakesUp old new → TakesFirst old new
 takes_first old new (w, rest, waiting, idle, accepts, is) =
     (w, rest, waiting, idle, no-refusal old.edition old.identity old.config w.command accepts, is)
 
-by_advance : (old : State) (result : Result Progress StepFault) (new : State) → AdvanceStep old result new → IsExact old Advances (Advanced result) new
+by_advance : (old : State) (result : Result Progress StepFault) (new : State) → AdvanceStep old result new
+    → IsExact old Advances (Advanced result) new
 by_advance old (Ok Idle) new is = is
 by_advance old (Ok Reserved) new is = is
 by_advance old (Ok Worked) new (inl is) = inl is
 by_advance old (Ok Worked) new (inr takes) = inr (takes_first old new takes)
-by_advance old (Ok (Done ticket result)) new (w, rest, waiting, is_ticket, ends) = by_end old w rest ticket result new waiting is_ticket ends
+by_advance old (Ok (Done ticket result)) new (w, rest, waiting, is_ticket, ends) =
+    by_end old w rest ticket result new waiting is_ticket ends
 by_advance old (Err advance.GenerationsSpent) new is = is
 by_advance old (Err advance.Disk) new (inl is) = inl is
 by_advance old (Err advance.Disk) new (inr (mid, takes, is)) = inr (mid, takes_first old mid takes, is)
 by_advance old (Err advance.Stopped) new h = absurd h
 
-by_protect : (old : State) (plain : List ℕ) (result : Result ℕ ProtectFault) (out : List ℕ) (new : State) → ProtectStep old plain result out new
+by_protect : (old : State) (plain : List ℕ) (result : Result ℕ ProtectFault) (out : List ℕ) (new : State)
+    → ProtectStep old plain result out new
     → IsExact old (Protects plain) (Protected result out) new
 by_protect old plain (Ok pn) out new (none, goes_out) = none
 by_protect old plain (Err (protect.Tx fault)) out new (why, empty, is) = (why, empty, is)
 by_protect old plain (Err protect.Stopped) out new h = absurd h
 
-by_call : (old : State) (call : Call) (reply : Reply) (new : State) → RunningStep old call reply new → IsExact old call reply new
+by_call : (old : State) (call : Call) (reply : Reply) (new : State) → RunningStep old call reply new
+    → IsExact old call reply new
 by_call old (Commands c) (Ran result) new h = by_command old c result new h
 by_call old Refills (Refilled result) new h = by_refill old result new h
 by_call old (Submits c) (Submitted result) new h = by_submit old c result new h
@@ -105,7 +124,8 @@ by_call old Advances (AdvancedLong ticket) new (w, rest, waiting, is_ticket, (id
 by_call old call reply new h = absurd h
 
 -- an answer that the endpoint is stopped gives no reason
-by_stopped : (old : State) (call : Call) (reply : Reply) (new : State) → IsStopped call reply → IsExact old call reply new
+by_stopped : (old : State) (call : Call) (reply : Reply) (new : State) → IsStopped call reply
+    → IsExact old call reply new
 by_stopped old (Commands c) (Ran (Err ran.Stopped)) new h = tt
 by_stopped old Refills (Refilled (Err refill.Stopped)) new h = tt
 by_stopped old (Submits c) (Submitted (Err submit.Stopped)) new h = tt
@@ -114,7 +134,8 @@ by_stopped old (Protects plain) (Protected (Err protect.Stopped) out) new h = tt
 by_stopped old (Receives frame) reply new h = tt
 by_stopped old call reply new h = absurd h
 
-by_step : (old : State) (call : Call) (reply : Reply) (new : State) → Step old call reply new → IsExact old call reply new
+by_step : (old : State) (call : Call) (reply : Reply) (new : State) → Step old call reply new
+    → IsExact old call reply new
 by_step old call reply new (inl (stopped, answer, is)) = by_stopped old call reply new answer
 by_step old call reply new (inr (running, h)) = by_call old call reply new h
 

@@ -49,13 +49,18 @@ IsNamed at =
     IsErrOf {T = Unit {0}} (Err at) variant.TooSmall
     ⊎ (IsErrOf {T = Unit {0}} (Err at) variant.Disk ⊎ IsErrOf {T = Unit {0}} (Err at) variant.AlreadyFormatted)
 
-module _ {D : Type 0} (disk_of : D → Disk) (sound : (it : D) → IsHonest (disk_of it) → IsSound (now (disk_of it))) (old : D) (is_new : IsNewDisk (disk_of old))
-    (identity : Identity) (mid : D) (left : D) (fault : JournalFault) (opening : IsOpening disk_of mid (Err (record { disk = left; fault = fault }))) where
-  failed_format : (at : JournalFault) → IsFormat disk_of old identity (Err at) mid → IsNamed at → HasFailed (disk_of old) (disk_of left)
-  failed_format at format (inl small) = let few = format.device.small.0 small in let large = is_new.large in absurd (omega (arith, few, large))
+module _ {D : Type 0} (disk_of : D → Disk) (sound : (it : D) → IsHonest (disk_of it) → IsSound (now (disk_of it)))
+    (old : D) (is_new : IsNewDisk (disk_of old))
+    (identity : Identity) (mid : D) (left : D) (fault : JournalFault)
+    (opening : IsOpening disk_of mid (Err (record { disk = left; fault = fault }))) where
+  failed_format : (at : JournalFault) → IsFormat disk_of old identity (Err at) mid → IsNamed at
+      → HasFailed (disk_of old) (disk_of left)
+  failed_format at format (inl small) = let few = format.device.small.0 small in let large = is_new.large in
+      absurd (omega (arith, few, large))
   failed_format at format (inr (inl is)) =
       failed_then (disk_of old) (disk_of mid) (disk_of left)
-      (subst (λ (f : JournalFault). FailsWith (disk_of old) (disk_of mid) f) (same_fault at variant.Disk is) format.device.work.fails) opening.refused.works
+      (subst (λ (f : JournalFault). FailsWith (disk_of old) (disk_of mid) f) (same_fault at variant.Disk is)
+      format.device.work.fails) opening.refused.works
   failed_format at format (inr (inr taken)) =
       let honest : IsHonest (disk_of mid) = format.device.work.works.honest ∙ is_new.honest in
       let closed = is_new.closed (now (disk_of old)).seen (sound old is_new.honest).fit in
@@ -68,13 +73,17 @@ module _ {D : Type 0} (disk_of : D → Disk) (sound : (it : D) → IsHonest (dis
       not-old (now (disk_of mid)).seen last.content last.standing two last.is
 
   -- whatever `format` answered
-  pub day-failed : (result : Result (Unit {0}) JournalFault) → IsFormat disk_of old identity result mid → HasFailed (disk_of old) (disk_of left)
+  pub day-failed : (result : Result (Unit {0}) JournalFault) → IsFormat disk_of old identity result mid
+      → HasFailed (disk_of old) (disk_of left)
   day-failed (Ok done) format =
       let works = format.device.work.works in
       let honest : IsHonest (disk_of mid) = works.honest ∙ is_new.honest in
       let fit = (sound mid honest).fit in
       let for_disk : fault ≡ variant.Disk = elim (opening.opens (opening.refused.works.honest ∙ honest)
-      (λ image may. (formatted_state this_edition identity, new-fits (disk_of mid).sectors image identity (format.kept honest image may).stands))) [
+      (λ image may. (
+        formatted_state this_edition identity,
+        new-fits (disk_of mid).sectors image identity (format.kept honest image may).stands,
+      ))) [
         | inl disk ↦ disk
         | inr spent ↦ absurd (none_spent honest (format.kept honest (now (disk_of mid)).seen fit).format spent)
       ] in
@@ -84,8 +93,10 @@ module _ {D : Type 0} (disk_of : D → Disk) (sound : (it : D) → IsHonest (dis
 
 -- so the disk that is given back
 module _ {D : Type 0} (disk_of : D → Disk) (sound : (it : D) → IsHonest (disk_of it) → IsSound (now (disk_of it))) where
-  pub is-refused-day : (old : D) (identity : Identity) (result : Result (Unit {0}) JournalFault) (mid : D) (refused : RecoverRefused D) → IsNewDisk (disk_of old)
-      → IsFormat disk_of old identity result mid → IsOpening disk_of mid (Err refused) → IsRefusedDay disk_of old identity refused
+  pub is-refused-day : (old : D) (identity : Identity) (result : Result (Unit {0}) JournalFault) (mid : D)
+      (refused : RecoverRefused D) → IsNewDisk (disk_of old)
+      → IsFormat disk_of old identity result mid → IsOpening disk_of mid (Err refused)
+      → IsRefusedDay disk_of old identity refused
   is-refused-day old identity result mid refused is_new format opening =
       let links = link_of (Formatting identity result) mid ∷ link_of (Refusing refused.fault) refused.disk ∷ [] in
       let chain : Chain disk_of old links refused.disk = (format, (opening, refl)) in

@@ -1,5 +1,6 @@
 -- What an edition reads is a configuration of that edition, whose associations have a ceiling.
-use Rattle.std.proofs.Common.{◌≡◌, ◌≤◌, ◌<◌, ℕ, Bool, true, false, cond, nat_lt, List, [], ◌∷◌, length, take, drop, Option, Some, None, is_some, Result, Ok, Err, refl, sym, ◌∙◌, subst}
+use Rattle.std.proofs.Common.{◌≡◌, ◌≤◌, ◌<◌, ℕ, Bool, true, false, cond, nat_lt, List, [], ◌∷◌, length, take, drop}
+use Rattle.std.proofs.Common.{Option, Some, None, is_some, Result, Ok, Err, refl, sym, ◌∙◌, subst}
 use Rattle.std.specs.Prelude.{IsSomeAnd}
 use Rattle.std.specs.Option.{option_and_then, option_map}
 use Rattle.std.proofs.lemmas.Bool.{false≢true, ltb-true}
@@ -17,9 +18,13 @@ use Rattle.macs_journal.specs.Found.{Content}
 use Rattle.macs_record.specs.declared.record.Record.{Record}
 use Rattle.macs_record.specs.declared.record.Record.TheVariants.{RxCeiling, TxCeiling}
 use Rattle.macs_store.specs.Commands.{command_of}
-use Rattle.macs_store.specs.Replay.{accepted_standing, ceilings_with_records, is_raise, meaning_of, replay_of, snapshot_of, snapshot_parts, standing_after_command, standing_after_record, standing_after_records}
+use Rattle.macs_store.specs.Replay.{accepted_standing, ceilings_with_records, is_raise, meaning_of, replay_of}
+use Rattle.macs_store.specs.Replay.{snapshot_of, snapshot_parts, standing_after_command, standing_after_record}
+use Rattle.macs_store.specs.Replay.{standing_after_records}
 use Rattle.macs_store.specs.Snapshot.{snapshot}
-use Rattle.macs_store.specs.Standing.{Ceilings, IsStanding, Standing, ceilings_after, ceilings_with_rx, ceilings_with_tx, no_ceilings, standing_or_refusal, standing_with_rx_ceiling, standing_with_tx_ceiling}
+use Rattle.macs_store.specs.Standing.{Ceilings, IsStanding, Standing, ceilings_after, ceilings_with_rx}
+use Rattle.macs_store.specs.Standing.{ceilings_with_tx, no_ceilings, standing_or_refusal, standing_with_rx_ceiling}
+use Rattle.macs_store.specs.Standing.{standing_with_tx_ceiling}
 use Rattle.macs_store.proofs.Formats.{read-meaning}
 use Rattle.macs_store.proofs.Replaying.{accepted-stands, restored-stands, rx-raised, tx-raised}
 use Rattle.macs_store.proofs.Snapshots.{snapshot-stands}
@@ -27,7 +32,8 @@ use Rattle.macs_headline.proofs.Ledger.{some_one}
 use Rattle.macs_headline.proofs.LookUps.{none-some, then-some}
 
 -- what is made of what there is
-map-some : {X Y : Type 0} (f : X → Y) (o : Option X) (y : Y) → option_map f o ≡ Some y → (x : X) × (o ≡ Some x) × (f x ≡ y)
+map-some : {X Y : Type 0} (f : X → Y) (o : Option X) (y : Y) → option_map f o ≡ Some y
+    → (x : X) × (o ≡ Some x) × (f x ≡ y)
 map-some f None y is = absurd (none-some y is)
 map-some f (Some x) y is = (x, refl, some_one (Some (f x)) (f x) y refl is)
 
@@ -37,7 +43,8 @@ raise_there : (o : Option ℕ) (ceiling : ℕ) → is_raise o ceiling ≡ true �
 raise_there None ceiling is = absurd (false≢true is)
 raise_there (Some old) ceiling is = refl
 
-above_by : (old ceiling : ℕ) (test : Bool) (s after : Standing) → nat_lt old ceiling ≡ test → cond test (Some s) None ≡ Some after → old < ceiling
+above_by : (old ceiling : ℕ) (test : Bool) (s after : Standing) → nat_lt old ceiling ≡ test
+    → cond test (Some s) None ≡ Some after → old < ceiling
 above_by old ceiling true s after is made = ltb-true old ceiling is
 above_by old ceiling false s after is made = absurd (none-some after made)
 
@@ -63,8 +70,10 @@ module _ (edition : Edition) (identity : Identity) where
   by_snapshot : (records : List Record) (s : Standing) → snapshot_of edition identity records ≡ Some s → IsRestored s
   by_snapshot records s is =
       let held = ceilings_with_records no_ceilings records in
-      let mapped = map-some (standing_by held) (option_and_then (λ parts. config_of_parts edition identity parts) (snapshot_parts records)) s is in
-      let parted = then-some (λ (parts : List Part). config_of_parts edition identity parts) (snapshot_parts records) mapped.0 mapped.1 in
+      let mapped = map-some (standing_by held)
+      (option_and_then (λ parts. config_of_parts edition identity parts) (snapshot_parts records)) s is in
+      let parted = then-some (λ (parts : List Part). config_of_parts edition identity parts) (snapshot_parts records)
+      mapped.0 mapped.1 in
       subst (λ (t : Standing). IsRestored t) mapped.2 (record {
         of_edition = refl;
         of_identity = refl;
@@ -76,7 +85,8 @@ module _ (edition : Edition) (identity : Identity) where
   by_raise true s t gives is = subst (λ (u : Standing). IsRestored u) (some_one (Some s) s t refl is) (gives refl)
   by_raise false s t gives is = absurd (none-some t is)
 
-  by_result : (s t : Standing) (command : Command) (made : Result Config Reason) → apply s.edition s.identity s.config command ≡ made → IsRestored s
+  by_result : (s t : Standing) (command : Command) (made : Result Config Reason)
+      → apply s.edition s.identity s.config command ≡ made → IsRestored s
       → accepted_standing (standing_or_refusal s command made) ≡ Some t → IsRestored t
   by_result s t command (Ok config) made was is =
       let next : Standing = record s { config = config; ceilings = ceilings_after s.identity command s.ceilings } in
@@ -85,7 +95,8 @@ module _ (edition : Edition) (identity : Identity) where
         of_identity = was.of_identity;
         config = apply-keeps edition identity s.config config command was.config
             ((λ i. apply (sym was.of_edition i) (sym was.of_identity i) s.config command) ∙ made);
-        stands = accepted-stands s command s.identity config (ceilings_after s.identity command s.ceilings) refl made refl was.stands;
+        stands = accepted-stands s command s.identity config (ceilings_after s.identity command s.ceilings) refl made
+            refl was.stands;
       })
   by_result s t command (Err refusal) made was is = absurd (none-some t is)
 
@@ -94,20 +105,24 @@ module _ (edition : Edition) (identity : Identity) where
   by_command s t (Some command) was is = by_result s t command (apply s.edition s.identity s.config command) refl was is
 
   by_record : (s t : Standing) (r : Record) → IsRestored s → standing_after_record s r ≡ Some t → IsRestored t
-  by_record s t (TxCeiling an ceiling) was is = by_raise (is_raise (s.ceilings.tx an) ceiling) (standing_with_tx_ceiling s an ceiling) t
+  by_record s t (TxCeiling an ceiling) was is =
+      by_raise (is_raise (s.ceilings.tx an) ceiling) (standing_with_tx_ceiling s an ceiling) t
       (λ raises. record {
         of_edition = was.of_edition;
         of_identity = was.of_identity;
         config = was.config;
-        stands = tx-raised s.edition s.identity s.config s.ceilings (ceilings_with_tx s.ceilings an (Some ceiling)) an ceiling
+        stands = tx-raised s.edition s.identity s.config s.ceilings
+            (ceilings_with_tx s.ceilings an (Some ceiling)) an ceiling
             (raise_there (s.ceilings.tx an) ceiling raises) refl was.stands;
       }) is
-  by_record s t (RxCeiling sci an ceiling) was is = by_raise (is_raise (s.ceilings.rx sci an) ceiling) (standing_with_rx_ceiling s sci an ceiling) t
+  by_record s t (RxCeiling sci an ceiling) was is =
+      by_raise (is_raise (s.ceilings.rx sci an) ceiling) (standing_with_rx_ceiling s sci an ceiling) t
       (λ raises. record {
         of_edition = was.of_edition;
         of_identity = was.of_identity;
         config = was.config;
-        stands = rx-raised s.edition s.identity s.config s.ceilings (ceilings_with_rx s.ceilings sci an (Some ceiling)) sci an ceiling
+        stands = rx-raised s.edition s.identity s.config s.ceilings (ceilings_with_rx s.ceilings sci an (Some ceiling))
+            sci an ceiling
             (raise_there (s.ceilings.rx sci an) ceiling raises) refl was.stands;
       }) is
   by_record s t r was is = by_command s t (command_of r) was is
@@ -118,25 +133,31 @@ module _ (edition : Edition) (identity : Identity) where
       let next = then-some (λ (next : Standing). standing_after_records next rs) (standing_after_record s r) t is in
       by_records next.0 t rs (by_record s next.0 r was next.1) next.2
 
-  pub restored : (count : ℕ) (records : List Record) (s : Standing) → replay_of edition identity count records ≡ Some s → IsRestored s
+  pub restored : (count : ℕ) (records : List Record) (s : Standing) → replay_of edition identity count records ≡ Some s
+      → IsRestored s
   restored count records s is =
-      let first = then-some (λ (next : Standing). standing_after_records next (drop count records)) (snapshot_of edition identity (take count records)) s is in
+      let first = then-some (λ (next : Standing). standing_after_records next (drop count records))
+      (snapshot_of edition identity (take count records)) s is in
       by_records first.0 s (drop count records) (by_snapshot (take count records) first.0 first.1) first.2
 
   -- it has as many channels as the edition takes, and keys that it takes
   pub taken : (count : ℕ) (records : List Record) (s : Standing) → replay_of edition identity count records ≡ Some s
-      → (length s.config.channels ≤ edition.channels) × ((an : ℕ) (sa : TxSa) → s.config.tx an ≡ Some sa → takes_key edition sa.key ≡ true)
+      → (length s.config.channels ≤ edition.channels)
+      × ((an : ℕ) (sa : TxSa) → s.config.tx an ≡ Some sa → takes_key edition sa.key ≡ true)
       × ((sci : List ℕ) (an : ℕ) (sa : RxSa) → s.config.rx sci an ≡ Some sa → takes_key edition sa.key ≡ true)
   taken count records s is =
       let c = (restored count records s is).config in
       (c.channels_fit, c.tx_taken, c.rx_taken)
 
 -- a snapshot of what a content means stands for that
-pub snapshot-read : (edition : Edition) (c : Content) (s : Standing) → meaning_of edition c ≡ Some s → ((an : ℕ) → 4 ≤ an → s.config.tx an ≡ None)
-    → ((sci : List ℕ) (an : ℕ) → 4 ≤ an → s.config.rx sci an ≡ None) → snapshot_of edition s.identity (snapshot s) ≡ Some s
+pub snapshot-read : (edition : Edition) (c : Content) (s : Standing) → meaning_of edition c ≡ Some s
+    → ((an : ℕ) → 4 ≤ an → s.config.tx an ≡ None)
+    → ((sci : List ℕ) (an : ℕ) → 4 ≤ an → s.config.rx sci an ≡ None)
+    → snapshot_of edition s.identity (snapshot s) ≡ Some s
 snapshot-read edition c s means tx rx =
     let is = restored edition c.head.identity c.head.count c.records s (read-meaning edition c s means).1 in
     let config : IsConfig s.edition s.identity s.config =
     subst (λ (e : Edition). IsConfig e s.identity s.config) (sym is.of_edition)
     (subst (λ (i : Identity). IsConfig edition i s.config) (sym is.of_identity) is.config) in
-    subst (λ (e : Edition). snapshot_of e s.identity (snapshot s) ≡ Some s) is.of_edition (snapshot-stands s config is.stands tx rx)
+    subst (λ (e : Edition). snapshot_of e s.identity (snapshot s) ≡ Some s) is.of_edition
+    (snapshot-stands s config is.stands tx rx)

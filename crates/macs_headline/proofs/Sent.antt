@@ -15,7 +15,8 @@ use Rattle.macs_headline.proofs.Lists.{contains-cases, none-twice}
 use Rattle.macs_headline.proofs.Ledger.{IsLedger, ledger-installed, ledger-kept, ledger-logged, some_one}
 use Rattle.macs_headline.proofs.Places.{put-that, put-this}
 use Rattle.macs_headline.proofs.Accepted.{accepted, spent-pushed, tx-unspent}
-use Rattle.macs_headline.proofs.Effects.{Commanded, Core, Effect, Given, Held, NoEffect, Sent, core_after_command, core_after_frame, use_of}
+use Rattle.macs_headline.proofs.Effects.{Commanded, Core, Effect, Given, Held, NoEffect, Sent, core_after_command}
+use Rattle.macs_headline.proofs.Effects.{core_after_frame, use_of}
 
 abbrev pub key_of : Option TxSa → Option (List ℕ)
 key_of None = None
@@ -38,7 +39,8 @@ module _ (edition : Edition) where
       → IsSoundTx (core_after_command old c (config_after old.config c))
   by_command old (TxInstall an key start confidential offset) ok is = record {
     apart = is.apart;
-    ledger = ledger-installed tx_fingerprint (tx_keys old.config.tx) _ old.config.spent_tx _ old.next _ (IsUsed old.used) an (octets_of_key key) start
+    ledger = ledger-installed tx_fingerprint (tx_keys old.config.tx) _ old.config.spent_tx _ old.next _
+        (IsUsed old.used) an (octets_of_key key) start
         (tx-unspent edition old.identity old.config an key start confidential offset ok)
         (λ print here. among-before old.config.spent_tx (tx_fingerprint (octets_of_key key) ∷ []) print here)
         (spent-pushed old.config.spent_tx (tx_fingerprint (octets_of_key key)))
@@ -49,10 +51,12 @@ module _ (edition : Edition) where
         is.ledger;
   }
   by_command old (TxRemove an) ok is =
-      let gone : (p : ℕ) → p ≡ an → key_of (put old.config.tx an None p) ≡ None = λ p same. ap key_of (put-this old.config.tx an p None same) in
+      let gone : (p : ℕ) → p ≡ an
+      → key_of (put old.config.tx an None p) ≡ None = λ p same. ap key_of (put-this old.config.tx an p None same) in
       record {
         apart = is.apart;
-        ledger = ledger-kept tx_fingerprint (tx_keys old.config.tx) (tx_keys (put old.config.tx an None)) old.config.spent_tx old.config.spent_tx
+        ledger = ledger-kept tx_fingerprint (tx_keys old.config.tx) (tx_keys (put old.config.tx an None))
+            old.config.spent_tx old.config.spent_tx
             old.next (put old.next an None) (IsUsed old.used)
             (λ p k has. elim (cases_eq p an) [
               | inl same ↦ let none = gone p same in absurd (cc)
@@ -67,13 +71,15 @@ module _ (edition : Edition) where
       }
   by_command old c ok is = record { apart = is.apart; ledger = is.ledger }
 
-  by_frame : (old : Core) (an : ℕ) (sa : TxSa) (pn : ℕ) → old.config.tx an ≡ Some sa → old.next an ≡ Some pn → IsSoundTx old
+  by_frame : (old : Core) (an : ℕ) (sa : TxSa) (pn : ℕ) → old.config.tx an ≡ Some sa → old.next an ≡ Some pn
+      → IsSoundTx old
       → IsSoundTx (core_after_frame old an sa pn)
   by_frame old an sa pn is_sa is_pn is =
       let keys = tx_keys old.config.tx in
       let later = put old.next an (Some (pn + 1)) in
       let is_key : keys an ≡ Some sa.key = ap key_of is_sa in
-      let raised = ledger-kept tx_fingerprint keys keys old.config.spent_tx old.config.spent_tx old.next later (IsUsed old.used)
+      let raised =
+      ledger-kept tx_fingerprint keys keys old.config.spent_tx old.config.spent_tx old.next later (IsUsed old.used)
       (λ p k has. has)
       (λ print here. here)
       (λ p k m has before. elim (cases_eq p an) [
@@ -92,7 +98,8 @@ module _ (edition : Edition) where
             let is_m : here.0 ≡ pn = some_one (old.next an) here.0 pn here.1 is_pn in
             omega (arith, low, is_m))
             is.apart;
-        ledger = ledger-logged tx_fingerprint keys old.config.spent_tx later (IsUsed old.used) (IsUsed (use_of sa.key pn ∷ old.used)) an sa.key pn (pn + 1)
+        ledger = ledger-logged tx_fingerprint keys old.config.spent_tx later (IsUsed old.used)
+            (IsUsed (use_of sa.key pn ∷ old.used)) an sa.key pn (pn + 1)
             is_key (put-this old.next an an _ refl) (omega arith)
             (λ k i used. elim (contains-cases (use_of sa.key pn) old.used (use_of k i) used) [
               | inl now ↦ inl (ap (λ (u : Use). u.key) now, ap (λ (u : Use). u.pn) now)
@@ -105,7 +112,11 @@ module _ (edition : Edition) where
   tx-effect old new (NoEffect same) is = subst IsSoundTx (sym same) is
   tx-effect old new (Commanded c config ok same) is =
       let a = accepted edition old.identity old.config c config ok in
-      subst IsSoundTx (sym (same ∙ ap (λ (config : Config). core_after_command old c config) a.1)) (by_command old c a.0 is)
-  tx-effect old new (Sent an sa pn is_sa is_pn same) is = subst IsSoundTx (sym same) (by_frame old an sa pn is_sa is_pn is)
-  tx-effect old new (Held sci an n pn is_n same) is = subst IsSoundTx (sym same) (record { apart = is.apart; ledger = is.ledger })
-  tx-effect old new (Given sci an sa n pn is_sa is_n in_time same) is = subst IsSoundTx (sym same) (record { apart = is.apart; ledger = is.ledger })
+      subst IsSoundTx (sym (same ∙ ap (λ (config : Config). core_after_command old c config) a.1))
+      (by_command old c a.0 is)
+  tx-effect old new (Sent an sa pn is_sa is_pn same) is =
+      subst IsSoundTx (sym same) (by_frame old an sa pn is_sa is_pn is)
+  tx-effect old new (Held sci an n pn is_n same) is =
+      subst IsSoundTx (sym same) (record { apart = is.apart; ledger = is.ledger })
+  tx-effect old new (Given sci an sa n pn is_sa is_n in_time same) is =
+      subst IsSoundTx (sym same) (record { apart = is.apart; ledger = is.ledger })

@@ -1,5 +1,6 @@
 -- SL of a frame that goes out.
-use Rattle.std.proofs.Common.{◌≡◌, ◌≤◌, ◌+◌, ◌-◌, inl, inr, ℕ, true, false, List, [], ◌∷◌, ◌++◌, length, take, drop, get_or, refl, ◌∙◌, ap, sym, arith, append_assoc, length-drop, length-take}
+use Rattle.std.proofs.Common.{◌≡◌, ◌≤◌, ◌+◌, ◌-◌, inl, inr, ℕ, true, false, List, [], ◌∷◌, ◌++◌, length, take, drop}
+use Rattle.std.proofs.Common.{get_or, refl, ◌∙◌, ap, sym, arith, append_assoc, length-drop, length-take}
 use Rattle.std.specs.Prelude.{if◌then◌else◌, nat_lt, slice_index}
 use Rattle.std.proofs.lemmas.Bool.{cases_lt, le-ltb, lt-ltb}
 use Rattle.std.proofs.lemmas.List.{get_or-append_right}
@@ -10,12 +11,14 @@ use Rattle.macs_frame.specs.Protection.{header_of, protected_frame, short_of, us
 
 -- what is after the addresses
 behind_addresses : (a rest : List ℕ) (k : ℕ) → length a ≡ 12 → get_or (a ++ rest) (12 + k) 0 ≡ get_or rest k 0
-behind_addresses a rest k h = get_or-append_right a rest 12 (12 + k) 0 h (omega arith) ∙ ap (λ (n : ℕ). get_or rest n 0) (omega arith)
+behind_addresses a rest k h = get_or-append_right a rest 12 (12 + k) 0 h (omega arith)
+    ∙ ap (λ (n : ℕ). get_or rest n 0) (omega arith)
 
 -- addresses, SecTAG, octets in the clear, ciphertext and ICV
 grouped : (a w clear c i : List ℕ) → a ++ w ++ clear ++ c ++ i ≡ a ++ (w ++ ((clear ++ c) ++ i))
 grouped a w clear c i =
-    ap (λ (l : List ℕ). l ++ i) (append_assoc (a ++ w) clear c) ∙ append_assoc (a ++ w) (clear ++ c) i ∙ append_assoc a w ((clear ++ c) ++ i)
+    ap (λ (l : List ℕ). l ++ i) (append_assoc (a ++ w) clear c) ∙ append_assoc (a ++ w) (clear ++ c) i
+    ∙ append_assoc a w ((clear ++ c) ++ i)
 
 module _ (key sci : List ℕ) (tag : SecTag) (offset : ℕ) (plain : List ℕ) (long : 14 ≤ length plain) where
   short_written : slice_index (protected_frame key sci tag offset plain) 15 ≡ short_of (length (user_data plain))
@@ -43,6 +46,7 @@ short_by n long = elim (cases_lt n 60) [
 ]
 
 pub short-length : (key sci : List ℕ) (tag : SecTag) (offset : ℕ) (plain : List ℕ) → 14 ≤ length plain
-    → slice_index (protected_frame key sci tag offset plain) 15 ≡ (if nat_lt (length plain) 60 then length plain - 12 else 0)
+    → slice_index (protected_frame key sci tag offset plain) 15
+    ≡ (if nat_lt (length plain) 60 then length plain - 12 else 0)
 short-length key sci tag offset plain long =
     short_written key sci tag offset plain long ∙ ap short_of (length-drop 12 plain) ∙ short_by (length plain) long

@@ -1,5 +1,6 @@
 -- What holds of every state of every life: through calls, and through restarts.
-use Rattle.std.proofs.Common.{◌≡◌, ◌≤◌, ◌+◌, ◌/◌, inl, inr, ℕ, refl, sym, ap, subst, arith, List, [], ◌∷◌, Bool, true, false, cond}
+use Rattle.std.proofs.Common.{◌≡◌, ◌≤◌, ◌+◌, ◌/◌, inl, inr, ℕ, refl, sym, ap, subst, arith, List, [], ◌∷◌, Bool, true}
+use Rattle.std.proofs.Common.{false, cond}
 use Rattle.std.specs.Prelude.{Option, Some, None, ◌&&◌, not, is_ok}
 use Rattle.std.specs.Option.{option_map}
 use Rattle.macs_config.specs.Apply.{apply}
@@ -7,9 +8,11 @@ use Rattle.macs_config.specs.Config.{Edition, tx_fingerprint}
 use Rattle.macs_config.specs.Identity.{Identity}
 use Rattle.macs_config.specs.declared.command.Command.{Command}
 use Rattle.macs_rxsc.specs.Receive.{Numbers, first_numbers}
-use Rattle.macs_endpoint.specs.State.{Advances, Call, Commands, Protects, Receives, Refills, State, Submits, state_with_in_hand}
+use Rattle.macs_endpoint.specs.State.{Advances, Call, Commands, Protects, Receives, Refills, State, Submits}
+use Rattle.macs_endpoint.specs.State.{state_with_in_hand}
 use Rattle.macs_endpoint.specs.Step.{Exchange, Steps}
-use Rattle.macs_endpoint.specs.Restart.{Restart, Resumes, RxRises, TxRises, state_during, state_taking, state_taking_alone, state_taking_first}
+use Rattle.macs_endpoint.specs.Restart.{Restart, Resumes, RxRises, TxRises, state_during, state_taking}
+use Rattle.macs_endpoint.specs.Restart.{state_taking_alone, state_taking_first}
 use Rattle.macs_endpoint.specs.declared.queue.Waiting.{Waiting}
 use Rattle.macs_headline.specs.History.{formatted_state, state_at_end}
 use Rattle.macs_headline.specs.Windows.{IsWithinWindow}
@@ -34,11 +37,13 @@ sound-effect edition old new effect is = record {
   window = window-effect edition old new effect is.window;
 }
 
-pub sound-steps : (old : State) (exchanges : List Exchange) (new : State) → Steps old exchanges new → IsSound (core old) → IsSound (core new)
+pub sound-steps : (old : State) (exchanges : List Exchange) (new : State) → Steps old exchanges new → IsSound (core old)
+    → IsSound (core new)
 sound-steps old [] new steps is = subst (λ (s : State). IsSound (core s)) (sym steps) is
 sound-steps old (e ∷ es) new steps is =
     let mid = steps.0 in
-    sound-steps mid es new steps.2 (sound-effect old.edition (core old) (core mid) (effect-of old e.call e.reply mid steps.1) is)
+    sound-steps mid es new steps.2
+    (sound-effect old.edition (core old) (core mid) (effect-of old e.call e.reply mid steps.1) is)
 
 -- a command that is under way changes nothing else
 either_core : (b : Bool) (x y s : State) → core x ≡ core s → core y ≡ core s → core (cond b x y) ≡ core s
@@ -46,13 +51,15 @@ either_core true x y s is other = is
 either_core false x y s is other = other
 
 taking_core : (s : State) (c : Command) → core (state_taking s c) ≡ core s
-taking_core s c = either_core (not s.stopped && is_ok (apply s.edition s.identity s.config c)) (state_with_in_hand s c) s s refl refl
+taking_core s c =
+    either_core (not s.stopped && is_ok (apply s.edition s.identity s.config c)) (state_with_in_hand s c) s s refl refl
 
 alone_core : (s : State) (c : Command) (waiting : List Waiting) → core (state_taking_alone s c waiting) ≡ core s
 alone_core s c [] = taking_core s c
 alone_core s c (first ∷ rest) = refl
 
-first_core : (s : State) (in_hand : Option Command) (waiting : List Waiting) → core (state_taking_first s in_hand waiting) ≡ core s
+first_core : (s : State) (in_hand : Option Command) (waiting : List Waiting)
+    → core (state_taking_first s in_hand waiting) ≡ core s
 first_core s None [] = refl
 first_core s None (first ∷ rest) = taking_core s first.command
 first_core s (Some c) waiting = refl
@@ -69,18 +76,22 @@ pub end-core : (s : State) (cut : Option Call) → core (state_at_end s cut) ≡
 end-core s None = refl
 end-core s (Some call) = during_core s call
 
-either_edition : (b : Bool) (x y s : State) → x.edition ≡ s.edition → y.edition ≡ s.edition → (cond b x y).edition ≡ s.edition
+either_edition : (b : Bool) (x y s : State) → x.edition ≡ s.edition → y.edition ≡ s.edition
+    → (cond b x y).edition ≡ s.edition
 either_edition true x y s is other = is
 either_edition false x y s is other = other
 
 taking_edition : (s : State) (c : Command) → (state_taking s c).edition ≡ s.edition
-taking_edition s c = either_edition (not s.stopped && is_ok (apply s.edition s.identity s.config c)) (state_with_in_hand s c) s s refl refl
+taking_edition s c = either_edition (not s.stopped && is_ok (apply s.edition s.identity s.config c))
+    (state_with_in_hand s c) s s refl refl
 
-alone_edition : (s : State) (c : Command) (waiting : List Waiting) → (state_taking_alone s c waiting).edition ≡ s.edition
+alone_edition : (s : State) (c : Command) (waiting : List Waiting)
+    → (state_taking_alone s c waiting).edition ≡ s.edition
 alone_edition s c [] = taking_edition s c
 alone_edition s c (first ∷ rest) = refl
 
-first_edition : (s : State) (in_hand : Option Command) (waiting : List Waiting) → (state_taking_first s in_hand waiting).edition ≡ s.edition
+first_edition : (s : State) (in_hand : Option Command) (waiting : List Waiting)
+    → (state_taking_first s in_hand waiting).edition ≡ s.edition
 first_edition s None [] = refl
 first_edition s None (first ∷ rest) = taking_edition s first.command
 first_edition s (Some c) waiting = refl
@@ -99,7 +110,8 @@ end-edition s (Some call) = during_edition s call
 
 -- ---- numbers rise
 
-pub tx-rise : (block : ℕ) (old new : Option ℕ) (m : ℕ) → TxRises block old new → old ≡ Some m → (l : ℕ) × (new ≡ Some l) × (m ≤ l) × (l ≤ m + (block + block / 2))
+pub tx-rise : (block : ℕ) (old new : Option ℕ) (m : ℕ) → TxRises block old new → old ≡ Some m
+    → (l : ℕ) × (new ≡ Some l) × (m ≤ l) × (l ≤ m + (block + block / 2))
 tx-rise block None new m up is = absurd (cc)
 tx-rise block (Some n) new m up is =
     let one : n ≡ m = cc in
@@ -107,7 +119,8 @@ tx-rise block (Some n) new m up is =
     let high : up.0 ≤ n + (block + block / 2) = up.3 in
     (up.0, up.1, omega (arith, one, low), omega (arith, one, high))
 
-rx_rise : (block : ℕ) (old new : Option Numbers) (m : ℕ) → RxRises block old new → option_map (λ (n : Numbers). n.next) old ≡ Some m
+rx_rise : (block : ℕ) (old new : Option Numbers) (m : ℕ) → RxRises block old new
+    → option_map (λ (n : Numbers). n.next) old ≡ Some m
     → (l : ℕ) × (option_map (λ (n : Numbers). n.next) new ≡ Some l) × (m ≤ l)
 rx_rise block None new m up is = absurd (cc)
 rx_rise block (Some n) new m up is =
@@ -115,22 +128,26 @@ rx_rise block (Some n) new m up is =
     let low : n.next ≤ up.0 = up.2 in
     (up.0, ap (option_map (λ (n : Numbers). n.next)) up.1, omega (arith, one, low))
 
-rx_level : (block window : ℕ) (old new : Option Numbers) (n : Numbers) → RxRises block old new → new ≡ Some n → IsWithinWindow window n
+rx_level : (block window : ℕ) (old new : Option Numbers) (n : Numbers) → RxRises block old new → new ≡ Some n
+    → IsWithinWindow window n
 rx_level block window None new n up is = absurd (cc)
 rx_level block window (Some m) new n up is =
     let one : first_numbers up.0 ≡ n = some_one new _ n up.1 is in
     subst (λ (n : Numbers). IsWithinWindow window n) one (omega arith, omega arith)
 
-raised : (c : Core) (next : ℕ → Option ℕ) (numbers : List ℕ → ℕ → Option Numbers) → ((an : ℕ) → TxRises c.identity.tx_block (c.next an) (next an))
+raised : (c : Core) (next : ℕ → Option ℕ) (numbers : List ℕ → ℕ → Option Numbers)
+    → ((an : ℕ) → TxRises c.identity.tx_block (c.next an) (next an))
     → ((sci : List ℕ) (an : ℕ) → RxRises c.identity.rx_block (c.numbers sci an) (numbers sci an))
     → IsSound c → IsSound (record c { next = next; numbers = numbers })
 raised c next numbers tx rx is = record {
   tx = record {
     apart = is.tx.apart;
-    ledger = ledger-kept tx_fingerprint (tx_keys c.config.tx) (tx_keys c.config.tx) c.config.spent_tx c.config.spent_tx c.next next (IsUsed c.used)
+    ledger = ledger-kept tx_fingerprint (tx_keys c.config.tx) (tx_keys c.config.tx) c.config.spent_tx c.config.spent_tx
+        c.next next (IsUsed c.used)
         (λ p k has. has)
         (λ print here. here)
-        (λ p k m has before. let up = tx-rise c.identity.tx_block (c.next p) (next p) m (tx p) before in (up.0, up.1, up.2))
+        (λ p k m has before. let up = tx-rise c.identity.tx_block (c.next p) (next p) m (tx p) before in
+        (up.0, up.1, up.2))
         is.tx.ledger;
   };
   rx = ledger-kept print_of (rx_keys c.config.rx) (rx_keys c.config.rx) c.config.spent_rx c.config.spent_rx
@@ -139,21 +156,38 @@ raised c next numbers tx rx is = record {
       (λ print here. here)
       (λ p k m has before. rx_rise c.identity.rx_block (c.numbers p.0 p.1) (numbers p.0 p.1) m (rx p.0 p.1) before)
       is.rx;
-  window = λ sci an n has. rx_level c.identity.rx_block c.config.replay.window (c.numbers sci an) (numbers sci an) n (rx sci an) has;
+  window = λ sci an n has.
+      rx_level c.identity.rx_block c.config.replay.window (c.numbers sci an) (numbers sci an) n (rx sci an) has;
 }
 
 -- ---- restarts
 
 sound_resumes : (old new : State) → Resumes old new → IsSound (core old) → IsSound (core new)
 sound_resumes old new up is =
-    let same : core new ≡ record { identity = old.identity; config = old.config; next = new.next; numbers = new.numbers; used = old.logs.used; given = old.logs.given } =
-    (λ i. record { identity = up.identity i; config = up.config i; next = new.next; numbers = new.numbers; used = (up.logs i).used; given = (up.logs i).given }) in
+    let same : core new ≡ record {
+      identity = old.identity;
+      config = old.config;
+      next = new.next;
+      numbers = new.numbers;
+      used = old.logs.used;
+      given = old.logs.given;
+    } =
+    (λ i. record {
+      identity = up.identity i;
+      config = up.config i;
+      next = new.next;
+      numbers = new.numbers;
+      used =
+          (up.logs i).used;
+      given = (up.logs i).given;
+    }) in
     subst IsSound (sym same) (raised (core old) new.next new.numbers up.next up.numbers is)
 
 pub sound-restart : (old new : State) → Restart old new → IsSound (core old) → IsSound (core new)
 sound-restart old new (inl up) is = sound_resumes old new up is
 sound-restart old new (inr (c, mid, hand, makes, up)) is =
-    sound_resumes mid new up (sound-effect old.edition (core old) (core mid) (Commanded c makes.0 makes.1 (ap core makes.2)) is)
+    sound_resumes mid new up
+    (sound-effect old.edition (core old) (core mid) (Commanded c makes.0 makes.1 (ap core makes.2)) is)
 
 -- ---- a disk that was formatted just now
 

@@ -6,7 +6,9 @@ use Rattle.macs_store.specs.Keeps.{IsSpent}
 use Rattle.macs_store.specs.Value.{StoreValue, generation, used_slots}
 use Rattle.macs_endpoint.specs.Advancing.{BeginsWith, GoesOn, Piece, ToKeep, ToRaise, next_piece}
 use Rattle.macs_endpoint.specs.Calls.{IsCall}
-use Rattle.macs_endpoint.specs.State.{Advanced, AdvancedLong, Advances, Call, Commands, Protected, Protects, Ran, Received, Receives, Refilled, Refills, RefusedLong, Reply, State, Submits, Submitted, no_logs}
+use Rattle.macs_endpoint.specs.State.{Advanced, AdvancedLong, Advances, Call, Commands, Protected, Protects, Ran}
+use Rattle.macs_endpoint.specs.State.{Received, Receives, Refilled, Refills, RefusedLong, Reply, State, Submits}
+use Rattle.macs_endpoint.specs.State.{Submitted, no_logs}
 use Rattle.macs_endpoint.specs.Step.{Step}
 use Rattle.macs_endpoint.specs.Value.{EndpointValue, state_of}
 use Rattle.macs_endpoint.specs.declared.fault.CommandFault.TheVariants as ran
@@ -40,14 +42,16 @@ module _ {D : Type 0} (disk_of : D → Disk) where
   at_end : (s : StoreValue D) → IsSpent s → AtEnd s
   at_end s spent = (spent.1, spent.2)
 
-  running : (old new : State) (result : Result Progress StepFault) → TellsSpent (Advanced result) → Step old Advances (Advanced result) new
+  running : (old new : State) (result : Result Progress StepFault) → TellsSpent (Advanced result)
+      → Step old Advances (Advanced result) new
       → old.stopped ≡ false
   running old new (Err step.GenerationsSpent) tells (inl (stopped, answer, is)) = absurd answer
   running old new (Ok (Done ticket (Err ran.GenerationsSpent))) tells (inl (stopped, answer, is)) = absurd answer
   running old new result tells (inl (stopped, answer, is)) = absurd tells
   running old new result tells (inr (runs, h)) = runs
 
-  begun : (old new : EndpointValue D) (piece : Option Piece) (result : Result Progress StepFault) → TellsSpent (Advanced result)
+  begun : (old new : EndpointValue D) (piece : Option Piece) (result : Result Progress StepFault)
+      → TellsSpent (Advanced result)
       → BeginsWith old piece result new → IsSpent old.store
   begun old new None (Err step.GenerationsSpent) tells begins = absurd begins
   begun old new (Some (ToRaise raise)) (Err step.GenerationsSpent) tells begins = begins
@@ -57,22 +61,26 @@ module _ {D : Type 0} (disk_of : D → Disk) where
   begun old new (Some (ToKeep first)) (Ok (Done ticket (Err ran.GenerationsSpent))) tells begins = begins
   begun old new piece result tells begins = absurd tells
 
-  going_on : (old new : EndpointValue D) (result : Result Progress StepFault) → TellsSpent (Advanced result) → GoesOn old result new → IsSpent old.store
+  going_on : (old new : EndpointValue D) (result : Result Progress StepFault) → TellsSpent (Advanced result)
+      → GoesOn old result new → IsSpent old.store
   going_on old new (Err step.GenerationsSpent) tells goes = absurd goes
   going_on old new (Ok (Done ticket (Err ran.GenerationsSpent))) tells goes = absurd goes
   going_on old new result tells goes = absurd tells
 
-  before : (old new : EndpointValue D) (result : Result Progress StepFault) → TellsSpent (Advanced result) → IsCall disk_of old Advances (Advanced result) new
+  before : (old new : EndpointValue D) (result : Result Progress StepFault) → TellsSpent (Advanced result)
+      → IsCall disk_of old Advances (Advanced result) new
       → AtEnd old.store
   before old new result tells call =
       let stepped = call.behaves.step no_logs in
-      let does = call.behaves.advances (running (state_of old no_logs) (state_of new stepped.0) result tells stepped.1) in
+      let does =
+      call.behaves.advances (running (state_of old no_logs) (state_of new stepped.0) result tells stepped.1) in
       at_end old.store (elim (in_hand_or_not old.store.hand) [
         | inl idle ↦ begun old new (next_piece old) result tells (does.begins idle)
         | inr busy ↦ going_on old new result tells (does.goes_on busy)
       ])
 
-  by_call : (old new : EndpointValue D) (call : Call) (reply : Reply) → IsReplyOf call reply → TellsSpent reply → IsCall disk_of old call reply new
+  by_call : (old new : EndpointValue D) (call : Call) (reply : Reply) → IsReplyOf call reply → TellsSpent reply
+      → IsCall disk_of old call reply new
       → AtEnd new.store
   by_call old new (Commands c) (Ran (Err ran.GenerationsSpent)) is tells call = at_end new.store call.behaves.limited
   by_call old new (Commands c) (Ran result) is tells call = absurd tells
@@ -93,4 +101,5 @@ module _ {D : Type 0} (disk_of : D → Disk) where
   pub spent-are-spent : SpentAreSpent disk_of
   spent-are-spent last after call reply is_call tells =
       let stepped = is_call.behaves.step no_logs in
-      by_call last after call reply (replies-are-of-calls (state_of last no_logs) (state_of after stepped.0) call reply stepped.1) tells is_call
+      by_call last after call reply
+      (replies-are-of-calls (state_of last no_logs) (state_of after stepped.0) call reply stepped.1) tells is_call

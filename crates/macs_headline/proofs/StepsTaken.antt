@@ -1,5 +1,6 @@
 -- The steps that an endpoint may take, in a program of any edition.
-use Rattle.std.proofs.Common.{◌≡◌, ◌≤◌, ◌<◌, ◌⊎◌, inl, inr, ℕ, Bool, true, false, cond, List, Result, Ok, Err, refl, sym, ap, subst, arith}
+use Rattle.std.proofs.Common.{◌≡◌, ◌≤◌, ◌<◌, ◌⊎◌, inl, inr, ℕ, Bool, true, false, cond, List, Result, Ok, Err, refl}
+use Rattle.std.proofs.Common.{sym, ap, subst, arith}
 use Rattle.std.specs.Prelude.{Option, Some, nat_lt}
 use Rattle.std.proofs.lemmas.Bool.{ltb-false, ltb-true}
 use Rattle.macs_fields.proofs.FirstRefusal.{none-first}
@@ -25,8 +26,11 @@ use Rattle.macs_endpoint.specs.declared.fault.SubmitFault.{SubmitFault}
 use Rattle.macs_endpoint.specs.declared.fault.SubmitFault.TheVariants as submit
 use Rattle.macs_endpoint.specs.declared.progress.Step.{Step as Progress}
 use Rattle.macs_endpoint.specs.declared.progress.Step.TheVariants.{Done, Idle, Reserved, Worked}
-use Rattle.macs_endpoint.specs.State.{Advanced, AdvancedLong, Advances, Call, Commands, Protected, Protects, Ran, Received, Receives, Refilled, Refills, RefusedLong, Reply, State, Submits, Submitted, rx_side}
-use Rattle.macs_endpoint.specs.Step.{AdvanceStep, CommandStep, IsStopped, ProtectStep, RefillStep, RunningStep, Step, SubmitStep, TakesUp, state_after_delivery, state_after_hold}
+use Rattle.macs_endpoint.specs.State.{Advanced, AdvancedLong, Advances, Call, Commands, Protected, Protects, Ran}
+use Rattle.macs_endpoint.specs.State.{Received, Receives, Refilled, Refills, RefusedLong, Reply, State, Submits}
+use Rattle.macs_endpoint.specs.State.{Submitted, rx_side}
+use Rattle.macs_endpoint.specs.Step.{AdvanceStep, CommandStep, IsStopped, ProtectStep, RefillStep, RunningStep, Step}
+use Rattle.macs_endpoint.specs.Step.{SubmitStep, TakesUp, state_after_delivery, state_after_hold}
 use Rattle.macs_headline.specs.Deliveries.{IsInTime, IsVerifiedAnswer}
 use Rattle.macs_headline.specs.Received.{IsTimely, TheseAreTimely, TimelyAreDelivered}
 use Rattle.macs_headline.specs.Refused.{IsExact, TakesFirst, refusal_at}
@@ -37,15 +41,18 @@ use Rattle.macs_headline.proofs.Deliveries.{verified-kind}
 
 -- ---- answers that say all
 
-refused_for : (s : State) (c : Command) (reason : Reason) → refusal_at s c ≡ Some reason → apply s.edition s.identity s.config c ≡ Err reason
+refused_for : (s : State) (c : Command) (reason : Reason) → refusal_at s c ≡ Some reason
+    → apply s.edition s.identity s.config c ≡ Err reason
 refused_for s c reason why = ap (λ (o : Option Reason). answer_or_refusal o (config_after s.config c)) why
 
-by_command : (old : State) (c : Command) (result : Result (Unit {0}) CommandFault) (new : State) → IsToldWhole (Commands c) (Ran result)
+by_command : (old : State) (c : Command) (result : Result (Unit {0}) CommandFault) (new : State)
+    → IsToldWhole (Commands c) (Ran result)
     → IsExact old (Commands c) (Ran result) new → CommandStep old c result new
 by_command old c (Ok done) new whole h = absurd whole
 by_command old c (Err ran.Stopped) new whole h = absurd (whole refl)
 by_command old c (Err ran.Busy) new whole (some, is) = (some, is)
-by_command old c (Err (ran.Refused refusal)) new whole (none, why, is) = (none, refused_for old c (Named refusal) why, is)
+by_command old c (Err (ran.Refused refusal)) new whole (none, why, is) =
+    (none, refused_for old c (Named refusal) why, is)
 by_command old c (Err ran.GenerationsSpent) new whole (none, why, is) = (none, accepts-unrefused old c why, is)
 by_command old c (Err ran.Disk) new whole (none, why, is) = (none, accepts-unrefused old c why, is)
 
@@ -57,7 +64,8 @@ by_refill old (Err refill.Busy) new whole h = h
 by_refill old (Err refill.GenerationsSpent) new whole h = h
 by_refill old (Err refill.Disk) new whole h = h
 
-by_submit : (old : State) (c : Command) (result : Result ℕ SubmitFault) (new : State) → IsToldWhole (Submits c) (Submitted result)
+by_submit : (old : State) (c : Command) (result : Result ℕ SubmitFault) (new : State)
+    → IsToldWhole (Submits c) (Submitted result)
     → IsExact old (Submits c) (Submitted result) new → SubmitStep old c result new
 by_submit old c (Ok ticket) new whole h = absurd whole
 by_submit old c (Err submit.QueueFull) new whole h = h
@@ -67,7 +75,8 @@ by_submit old c (Err submit.Stopped) new whole h = absurd (whole refl)
 takes_up : (old new : State) → TakesFirst old new → TakesUp old new
 takes_up old new (w, rest, waiting, idle, why, is) = (w, rest, waiting, idle, accepts-unrefused old w.command why, is)
 
-by_end : (old : State) (ticket : ℕ) (result : Result (Unit {0}) CommandFault) (new : State) → IsToldWhole Advances (Advanced (Ok (Done ticket result)))
+by_end : (old : State) (ticket : ℕ) (result : Result (Unit {0}) CommandFault) (new : State)
+    → IsToldWhole Advances (Advanced (Ok (Done ticket result)))
     → IsExact old Advances (Advanced (Ok (Done ticket result))) new → AdvanceStep old (Ok (Done ticket result)) new
 by_end old ticket (Ok done) new whole h = absurd whole
 by_end old ticket (Err (ran.Refused refusal)) new whole (w, rest, waiting, is_ticket, idle, why, is) =
@@ -89,12 +98,14 @@ by_advance old (Err advance.Disk) new whole (inr (mid, takes, is)) = inr (mid, t
 by_advance old (Err advance.Stopped) new whole h = absurd (whole refl)
 
 by_protect : (old : State) (plain : List ℕ) (result : Result ℕ ProtectFault) (out : List ℕ) (new : State)
-    → IsToldWhole (Protects plain) (Protected result out) → IsExact old (Protects plain) (Protected result out) new → ProtectStep old plain result out new
+    → IsToldWhole (Protects plain) (Protected result out) → IsExact old (Protects plain) (Protected result out) new
+    → ProtectStep old plain result out new
 by_protect old plain (Ok pn) out new whole h = absurd whole
 by_protect old plain (Err (protect.Tx fault)) out new whole h = h
 by_protect old plain (Err protect.Stopped) out new whole h = absurd (whole refl)
 
-by_call : (old : State) (call : Call) (reply : Reply) (new : State) → IsToldWhole call reply → IsExact old call reply new → RunningStep old call reply new
+by_call : (old : State) (call : Call) (reply : Reply) (new : State) → IsToldWhole call reply
+    → IsExact old call reply new → RunningStep old call reply new
 by_call old (Commands c) (Ran result) new whole h = by_command old c result new whole h
 by_call old Refills (Refilled result) new whole h = by_refill old result new whole h
 by_call old (Submits c) (Submitted result) new whole h = by_submit old c result new whole h
@@ -107,19 +118,23 @@ by_call old call reply new whole h = absurd whole
 
 -- ---- an endpoint that is stopped
 
-stopped_command : (c : Command) (result : Result (Unit {0}) CommandFault) → TellsStopped (Ran result) → IsStopped (Commands c) (Ran result)
+stopped_command : (c : Command) (result : Result (Unit {0}) CommandFault) → TellsStopped (Ran result)
+    → IsStopped (Commands c) (Ran result)
 stopped_command c (Err ran.Stopped) tells = tt
 stopped_command c result tells = absurd tells
 
-stopped_refill : (result : Result (Unit {0}) RefillFault) → TellsStopped (Refilled result) → IsStopped Refills (Refilled result)
+stopped_refill : (result : Result (Unit {0}) RefillFault) → TellsStopped (Refilled result)
+    → IsStopped Refills (Refilled result)
 stopped_refill (Err refill.Stopped) tells = tt
 stopped_refill result tells = absurd tells
 
-stopped_submit : (c : Command) (result : Result ℕ SubmitFault) → TellsStopped (Submitted result) → IsStopped (Submits c) (Submitted result)
+stopped_submit : (c : Command) (result : Result ℕ SubmitFault) → TellsStopped (Submitted result)
+    → IsStopped (Submits c) (Submitted result)
 stopped_submit c (Err submit.Stopped) tells = tt
 stopped_submit c result tells = absurd tells
 
-stopped_advance : (result : Result Progress StepFault) → TellsStopped (Advanced result) → IsStopped Advances (Advanced result)
+stopped_advance : (result : Result Progress StepFault) → TellsStopped (Advanced result)
+    → IsStopped Advances (Advanced result)
 stopped_advance (Err advance.Stopped) tells = tt
 stopped_advance result tells = absurd tells
 
@@ -148,25 +163,37 @@ stopped_call call reply is tells = absurd is
 
 module _ (s : State) (frame plain sci : List ℕ) (numbers : Numbers) (timely : IsTimely s frame plain sci numbers) where
   abbrev arrival : Arrival
-  arrival = record { sci = sci; an = (tag_of frame).an; pn = (tag_of frame).pn; sa = timely.sa; numbers = numbers; plain = plain }
+  arrival = record {
+    sci = sci;
+    an = (tag_of frame).an;
+    pn = (tag_of frame).pn;
+    sa = timely.sa;
+    numbers = numbers;
+    plain = plain;
+  }
 
   not_late : s.config.replay.on ≡ true → ¬ ((tag_of frame).pn < numbers.lowest)
   not_late on late = let from = timely.guarded on in omega (arith, from, late)
 
   there : Arrives (rx_side s) frame arrival
-  there = arrives (rx_side s) frame timely.verified.parts (timely.verified.tag, timely.verified.not_for_kay) sci timely.named timely.sa numbers
+  there = arrives (rx_side s) frame timely.verified.parts (timely.verified.tag, timely.verified.not_for_kay) sci
+      timely.named timely.sa numbers
       timely.association timely.are_numbers not_late plain timely.verified
 
-  kind_by : (late : Bool) (pn lowest : ℕ) (kind : Kind) → nat_lt pn lowest ≡ late → IsInTime lowest pn kind → kind ≡ cond late Delayed AsOk
+  kind_by : (late : Bool) (pn lowest : ℕ) (kind : Kind) → nat_lt pn lowest ≡ late → IsInTime lowest pn kind
+      → kind ≡ cond late Delayed AsOk
   kind_by true pn lowest kind is (inl (below, is_kind)) = is_kind
-  kind_by true pn lowest kind is (inr (above, is_kind)) = let below = ltb-true pn lowest is in absurd (omega (arith, above, below))
-  kind_by false pn lowest kind is (inl (below, is_kind)) = let above = ltb-false pn lowest is in absurd (omega (arith, above, below))
+  kind_by true pn lowest kind is (inr (above, is_kind)) = let below = ltb-true pn lowest is in
+      absurd (omega (arith, above, below))
+  kind_by false pn lowest kind is (inl (below, is_kind)) = let above = ltb-false pn lowest is in
+      absurd (omega (arith, above, below))
   kind_by false pn lowest kind is (inr (above, is_kind)) = is_kind
 
   delivers : (kind : Kind) → s.stopped ≡ false → IsInTime numbers.lowest (tag_of frame).pn kind
       → Step s (Receives frame) (Received (Ok (Delivered kind)) plain) (state_after_delivery s arrival)
   delivers kind running in_time =
-      let is_kind = kind_by (nat_lt (tag_of frame).pn numbers.lowest) (tag_of frame).pn numbers.lowest kind refl in_time in
+      let is_kind =
+      kind_by (nat_lt (tag_of frame).pn numbers.lowest) (tag_of frame).pn numbers.lowest kind refl in_time in
       inr (running, inr (arrival, there, inr (ap (λ (k : Kind). Delivered k) is_kind, refl, refl)))
 
   becomes : (new : State) (out : List ℕ) (verdict : Verdict) → Step s (Receives frame) (Received (Ok verdict) out) new
@@ -178,7 +205,8 @@ module _ (s : State) (frame plain sci : List ℕ) (numbers : Numbers) (timely : 
       let same = arrives_once (rx_side s) frame a arrival also there in
       inr (held, subst (λ (a : Arrival). a.numbers.next ≤ a.pn) same above)
   becomes new out verdict (inr (running, inr (a, also, inr (delivered, is_out, is)))) =
-      inl (subst (λ (v : Verdict). IsVerifiedAnswer (Ok v)) (sym delivered) (verified-kind (nat_lt a.pn a.numbers.lowest)))
+      inl (subst (λ (v : Verdict). IsVerifiedAnswer (Ok v)) (sym delivered)
+      (verified-kind (nat_lt a.pn a.numbers.lowest)))
 
 pub these-are-timely : TheseAreTimely
 these-are-timely s frame plain sci sa numbers named association are_numbers verified guarded = record {
@@ -191,7 +219,8 @@ these-are-timely s frame plain sci sa numbers named association are_numbers veri
 }
 
 pub timely-are-delivered : TimelyAreDelivered
-timely-are-delivered s new frame plain sci out numbers verdict timely step = becomes s frame plain sci numbers timely new out verdict step
+timely-are-delivered s new frame plain sci out numbers verdict timely step =
+    becomes s frame plain sci numbers timely new out verdict step
 
 -- ---- all
 
@@ -202,11 +231,15 @@ steps-are-taken = record {
   done = λ s w rest config running waiting ok. inr (running, (w, rest, waiting, refl, (config, ok, refl)));
   told = λ s new call reply running whole exact. inr (running, by_call s call reply new whole exact);
   sent = λ s plain o running none is. inr (running, (none, (o, is, refl, refl, refl)));
-  delivered = λ s frame plain sci numbers kind running timely in_time.
-      (state_after_delivery s (arrival s frame plain sci numbers timely), delivers s frame plain sci numbers timely kind running in_time);
+  delivered = λ s frame plain sci numbers kind running timely in_time. (
+    state_after_delivery s (arrival s frame plain sci numbers timely),
+    delivers s frame plain sci numbers timely kind running in_time,
+  );
   held = λ s frame plain sci numbers running timely above.
-      let a = arrival s frame plain sci numbers timely in
-      (state_after_hold s a, inr (running, inr (a, there s frame plain sci numbers timely, inl (refl, above, refl, refl))));
+      let a = arrival s frame plain sci numbers timely in (
+        state_after_hold s a,
+        inr (running, inr (a, there s frame plain sci numbers timely, inl (refl, above, refl, refl))),
+      );
   settled = λ s frame step running is_first. inr (running, inl (step, is_first, refl, refl, refl));
   stopped = λ s call reply stopped is tells. inl (stopped, stopped_call call reply is tells, refl);
 }

@@ -18,8 +18,11 @@ use Rattle.macs_endpoint.specs.declared.progress.Step.{Step as Progress}
 use Rattle.macs_endpoint.specs.declared.progress.Step.TheVariants.{Done, Worked}
 use Rattle.macs_endpoint.specs.declared.queue.Waiting.{Waiting}
 use Rattle.macs_endpoint.specs.Restart.{opened_state}
-use Rattle.macs_endpoint.specs.State.{Advanced, AdvancedLong, Advances, Call, Commands, Protected, Protects, Ran, Received, Receives, Refilled, Refills, RefusedLong, Reply, State, Submits, Submitted}
-use Rattle.macs_endpoint.specs.Step.{AdvanceStep, CommandStep, Ends, Exchange, IsStopped, ProtectStep, ReceiveStep, RefillStep, RunningStep, Step, Steps, SubmitStep, TakesUp}
+use Rattle.macs_endpoint.specs.State.{Advanced, AdvancedLong, Advances, Call, Commands, Protected, Protects, Ran}
+use Rattle.macs_endpoint.specs.State.{Received, Receives, Refilled, Refills, RefusedLong, Reply, State, Submits}
+use Rattle.macs_endpoint.specs.State.{Submitted}
+use Rattle.macs_endpoint.specs.Step.{AdvanceStep, CommandStep, Ends, Exchange, IsStopped, ProtectStep, ReceiveStep}
+use Rattle.macs_endpoint.specs.Step.{RefillStep, RunningStep, Step, Steps, SubmitStep, TakesUp}
 use Rattle.macs_headline.specs.History.{logs_of}
 use Rattle.macs_headline.specs.Stopping.{HadFault, StoppedStays, TellsFault, TellsStopped}
 use Rattle.macs_headline.proofs.Lists.{contains-cases, contains-first, contains-later, contains-none}
@@ -31,31 +34,41 @@ record StopsAs (old : State) (reply : Reply) (new : State) : Type 0 where
   stops : TellsFault reply → new.stopped ≡ true
   only : new.stopped ≡ true → (old.stopped ≡ true) ⊎ TellsFault reply
 
-goes_on : (old : State) (reply : Reply) (new : State) → new.stopped ≡ old.stopped → ¬ TellsFault reply → StopsAs old reply new
+goes_on : (old : State) (reply : Reply) (new : State) → new.stopped ≡ old.stopped → ¬ TellsFault reply
+    → StopsAs old reply new
 goes_on old reply new same never = record { stops = λ told. absurd (never told); only = λ is. inl (sym same ∙ is) }
 
 stops_so : (old : State) (reply : Reply) (new : State) → new.stopped ≡ true → TellsFault reply → StopsAs old reply new
 stops_so old reply new is told = record { stops = λ same. is; only = λ same. inr told }
 
-by_command : (old : State) (c : Command) (result : Result (Unit {0}) CommandFault) (new : State) → CommandStep old c result new → StopsAs old (Ran result) new
-by_command old c (Ok done) new (none, makes) = goes_on old (Ran (Ok done)) new (ap (λ (s : State). s.stopped) makes.2) (λ told. told)
+by_command : (old : State) (c : Command) (result : Result (Unit {0}) CommandFault) (new : State)
+    → CommandStep old c result new → StopsAs old (Ran result) new
+by_command old c (Ok done) new (none, makes) =
+    goes_on old (Ran (Ok done)) new (ap (λ (s : State). s.stopped) makes.2) (λ told. told)
 by_command old c (Err ran.Stopped) new h = absurd h
-by_command old c (Err ran.Disk) new (none, accepts, is) = stops_so old (Ran (Err ran.Disk)) new (ap (λ (s : State). s.stopped) is) tt
-by_command old c (Err ran.Busy) new (some, is) = goes_on old (Ran (Err ran.Busy)) new (ap (λ (s : State). s.stopped) is) (λ told. told)
+by_command old c (Err ran.Disk) new (none, accepts, is) =
+    stops_so old (Ran (Err ran.Disk)) new (ap (λ (s : State). s.stopped) is) tt
+by_command old c (Err ran.Busy) new (some, is) =
+    goes_on old (Ran (Err ran.Busy)) new (ap (λ (s : State). s.stopped) is) (λ told. told)
 by_command old c (Err (ran.Refused refusal)) new (none, why, is) =
     goes_on old (Ran (Err (ran.Refused refusal))) new (ap (λ (s : State). s.stopped) is) (λ told. told)
 by_command old c (Err ran.GenerationsSpent) new (none, accepts, is) =
     goes_on old (Ran (Err ran.GenerationsSpent)) new (ap (λ (s : State). s.stopped) is) (λ told. told)
 
-by_refill : (old : State) (result : Result (Unit {0}) RefillFault) (new : State) → RefillStep old result new → StopsAs old (Refilled result) new
-by_refill old (Ok done) new (none, is) = goes_on old (Refilled (Ok done)) new (ap (λ (s : State). s.stopped) is) (λ told. told)
+by_refill : (old : State) (result : Result (Unit {0}) RefillFault) (new : State) → RefillStep old result new
+    → StopsAs old (Refilled result) new
+by_refill old (Ok done) new (none, is) =
+    goes_on old (Refilled (Ok done)) new (ap (λ (s : State). s.stopped) is) (λ told. told)
 by_refill old (Err refill.Stopped) new h = absurd h
-by_refill old (Err refill.Disk) new (none, is) = stops_so old (Refilled (Err refill.Disk)) new (ap (λ (s : State). s.stopped) is) tt
-by_refill old (Err refill.Busy) new (some, is) = goes_on old (Refilled (Err refill.Busy)) new (ap (λ (s : State). s.stopped) is) (λ told. told)
+by_refill old (Err refill.Disk) new (none, is) =
+    stops_so old (Refilled (Err refill.Disk)) new (ap (λ (s : State). s.stopped) is) tt
+by_refill old (Err refill.Busy) new (some, is) =
+    goes_on old (Refilled (Err refill.Busy)) new (ap (λ (s : State). s.stopped) is) (λ told. told)
 by_refill old (Err refill.GenerationsSpent) new (none, is) =
     goes_on old (Refilled (Err refill.GenerationsSpent)) new (ap (λ (s : State). s.stopped) is) (λ told. told)
 
-by_submit : (old : State) (c : Command) (result : Result ℕ SubmitFault) (new : State) → SubmitStep old c result new → StopsAs old (Submitted result) new
+by_submit : (old : State) (c : Command) (result : Result ℕ SubmitFault) (new : State) → SubmitStep old c result new
+    → StopsAs old (Submitted result) new
 by_submit old c (Ok ticket) new (few, left, is_ticket, is) =
     goes_on old (Submitted (Ok ticket)) new (ap (λ (s : State). s.stopped) is) (λ told. told)
 by_submit old c (Err submit.QueueFull) new (many, is) =
@@ -67,37 +80,49 @@ by_submit old c (Err submit.Stopped) new h = absurd h
 taken_up : (old new : State) → TakesUp old new → new.stopped ≡ old.stopped
 taken_up old new (first, rest, waiting, idle, accepts, is) = ap (λ (s : State). s.stopped) is
 
-by_end : (old : State) (first : Waiting) (rest : List Waiting) (result : Result (Unit {0}) CommandFault) (new : State) → Ends old first rest result new
+by_end : (old : State) (first : Waiting) (rest : List Waiting) (result : Result (Unit {0}) CommandFault) (new : State)
+    → Ends old first rest result new
     → new.stopped ≡ old.stopped
 by_end old first rest (Ok done) new makes = ap (λ (s : State). s.stopped) makes.2
 by_end old first rest (Err (ran.Refused refusal)) new (idle, why, is) = ap (λ (s : State). s.stopped) is
 by_end old first rest (Err ran.GenerationsSpent) new (idle, accepts, is) = ap (λ (s : State). s.stopped) is
 by_end old first rest (Err fault) new h = absurd h
 
-by_advance : (old : State) (result : Result Progress StepFault) (new : State) → AdvanceStep old result new → StopsAs old (Advanced result) new
-by_advance old (Ok Worked) new (inl is) = goes_on old (Advanced (Ok Worked)) new (ap (λ (s : State). s.stopped) is) (λ told. told)
-by_advance old (Ok Worked) new (inr takes) = goes_on old (Advanced (Ok Worked)) new (taken_up old new takes) (λ told. told)
+by_advance : (old : State) (result : Result Progress StepFault) (new : State) → AdvanceStep old result new
+    → StopsAs old (Advanced result) new
+by_advance old (Ok Worked) new (inl is) =
+    goes_on old (Advanced (Ok Worked)) new (ap (λ (s : State). s.stopped) is) (λ told. told)
+by_advance old (Ok Worked) new (inr takes) =
+    goes_on old (Advanced (Ok Worked)) new (taken_up old new takes) (λ told. told)
 by_advance old (Ok (Done ticket result)) new (first, rest, waiting, is_ticket, ends) =
     goes_on old (Advanced (Ok (Done ticket result))) new (by_end old first rest result new ends) (λ told. told)
-by_advance old (Err advance.Disk) new (inl is) = stops_so old (Advanced (Err advance.Disk)) new (ap (λ (s : State). s.stopped) is) tt
-by_advance old (Err advance.Disk) new (inr (mid, takes, is)) = stops_so old (Advanced (Err advance.Disk)) new (ap (λ (s : State). s.stopped) is) tt
+by_advance old (Err advance.Disk) new (inl is) =
+    stops_so old (Advanced (Err advance.Disk)) new (ap (λ (s : State). s.stopped) is) tt
+by_advance old (Err advance.Disk) new (inr (mid, takes, is)) =
+    stops_so old (Advanced (Err advance.Disk)) new (ap (λ (s : State). s.stopped) is) tt
 by_advance old (Err advance.Stopped) new h = absurd h
 by_advance old result new is = goes_on old (Advanced result) new (ap (λ (s : State). s.stopped) is) (λ told. told)
 
-by_protect : (old : State) (plain : List ℕ) (result : Result ℕ ProtectFault) (out : List ℕ) (new : State) → ProtectStep old plain result out new
+by_protect : (old : State) (plain : List ℕ) (result : Result ℕ ProtectFault) (out : List ℕ) (new : State)
+    → ProtectStep old plain result out new
     → new.stopped ≡ old.stopped
 by_protect old plain (Ok pn) out new (none, (o, is_o, is_pn, is_out, is)) = ap (λ (s : State). s.stopped) is
 by_protect old plain (Err (protect.Tx fault)) out new (why, empty, is) = ap (λ (s : State). s.stopped) is
 by_protect old plain (Err protect.Stopped) out new h = absurd h
 
-by_receive : (old : State) (frame : List ℕ) (result : Result Verdict Stopped) (out : List ℕ) (new : State) → ReceiveStep old frame result out new
+by_receive : (old : State) (frame : List ℕ) (result : Result Verdict Stopped) (out : List ℕ) (new : State)
+    → ReceiveStep old frame result out new
     → new.stopped ≡ old.stopped
-by_receive old frame (Ok verdict) out new (inl (step, is_first, is_verdict, is_out, is)) = ap (λ (s : State). s.stopped) is
-by_receive old frame (Ok verdict) out new (inr (a, there, inl (is_verdict, above, is_out, is))) = ap (λ (s : State). s.stopped) is
-by_receive old frame (Ok verdict) out new (inr (a, there, inr (is_verdict, is_out, is))) = ap (λ (s : State). s.stopped) is
+by_receive old frame (Ok verdict) out new (inl (step, is_first, is_verdict, is_out, is)) =
+    ap (λ (s : State). s.stopped) is
+by_receive old frame (Ok verdict) out new (inr (a, there, inl (is_verdict, above, is_out, is))) =
+    ap (λ (s : State). s.stopped) is
+by_receive old frame (Ok verdict) out new (inr (a, there, inr (is_verdict, is_out, is))) =
+    ap (λ (s : State). s.stopped) is
 by_receive old frame (Err stopped) out new h = absurd h
 
-by_call : (old : State) (call : Call) (reply : Reply) (new : State) → RunningStep old call reply new → StopsAs old reply new
+by_call : (old : State) (call : Call) (reply : Reply) (new : State) → RunningStep old call reply new
+    → StopsAs old reply new
 by_call old (Commands c) (Ran result) new h = by_command old c result new h
 by_call old Refills (Refilled result) new h = by_refill old result new h
 by_call old (Submits c) (Submitted result) new h = by_submit old c result new h
@@ -106,7 +131,8 @@ by_call old (Protects plain) (Protected result out) new h =
     goes_on old (Protected result out) new (by_protect old plain result out new h) (λ told. told)
 by_call old (Receives frame) (Received result out) new h =
     goes_on old (Received result out) new (by_receive old frame result out new h) (λ told. told)
-by_call old (Commands c) RefusedLong new (none, why, is) = goes_on old RefusedLong new (ap (λ (s : State). s.stopped) is) (λ told. told)
+by_call old (Commands c) RefusedLong new (none, why, is) =
+    goes_on old RefusedLong new (ap (λ (s : State). s.stopped) is) (λ told. told)
 by_call old Advances (AdvancedLong ticket) new (first, rest, waiting, is_ticket, (idle, why, is)) =
     goes_on old (AdvancedLong ticket) new (ap (λ (s : State). s.stopped) is) (λ told. told)
 by_call old call reply new h = absurd h
@@ -128,12 +154,14 @@ tells_stopped (Receives frame) (Received (Err stopped) out) h = h
 tells_stopped call reply h = absurd h
 
 -- each call of it is so answered, and it stays as it is
-stays : (old : State) (call : Call) (reply : Reply) (new : State) → Step old call reply new → old.stopped ≡ true → TellsStopped reply × (new ≡ old)
+stays : (old : State) (call : Call) (reply : Reply) (new : State) → Step old call reply new → old.stopped ≡ true
+    → TellsStopped reply × (new ≡ old)
 stays old call reply new (inl (stopped, answer, is)) already = (tells_stopped call reply answer, is)
 stays old call reply new (inr (running, h)) already = absurd (false≢true (sym running ∙ already))
 
 -- one that runs does not answer so
-not_running : (old : State) (call : Call) (reply : Reply) (new : State) → TellsStopped reply → RunningStep old call reply new → ⊥
+not_running : (old : State) (call : Call) (reply : Reply) (new : State) → TellsStopped reply
+    → RunningStep old call reply new → ⊥
 not_running old (Commands c) (Ran (Err ran.Stopped)) new told h = h
 not_running old Refills (Refilled (Err refill.Stopped)) new told h = h
 not_running old (Submits c) (Submitted (Err submit.Stopped)) new told h = h
@@ -150,28 +178,33 @@ not_running old (Commands c) RefusedLong new told h = told
 not_running old Advances (AdvancedLong ticket) new told h = told
 not_running old call reply new told h = h
 
-was_stopped : (old : State) (call : Call) (reply : Reply) (new : State) → Step old call reply new → TellsStopped reply → old.stopped ≡ true
+was_stopped : (old : State) (call : Call) (reply : Reply) (new : State) → Step old call reply new → TellsStopped reply
+    → old.stopped ≡ true
 was_stopped old call reply new (inl (stopped, answer, is)) told = stopped
 was_stopped old call reply new (inr (running, h)) told = absurd (not_running old call reply new told h)
 
 -- ---- calls of a life
 
-stay : (old : State) (exchanges : List Exchange) (new : State) → Steps old exchanges new → old.stopped ≡ true → new.stopped ≡ true
+stay : (old : State) (exchanges : List Exchange) (new : State) → Steps old exchanges new → old.stopped ≡ true
+    → new.stopped ≡ true
 stay old [] new same stopped = ap (λ (s : State). s.stopped) same ∙ stopped
 stay old (e ∷ exchanges) new (mid, step, steps) stopped =
     stay mid exchanges new steps (ap (λ (s : State). s.stopped) (stays old e.call e.reply mid step stopped).1 ∙ stopped)
 
 -- one after another that reported a fault
-stopped_by : (old : State) (exchanges : List Exchange) (new : State) → Steps old exchanges new → HadFault exchanges → new.stopped ≡ true
+stopped_by : (old : State) (exchanges : List Exchange) (new : State) → Steps old exchanges new → HadFault exchanges
+    → new.stopped ≡ true
 stopped_by old [] new same had = absurd (contains-none had.0 had.1)
-stopped_by old (first ∷ exchanges) new (mid, step, steps) (e, among, told) = elim (contains-cases first exchanges e among) [
-  | inl here ↦ stay mid exchanges new steps
-      ((by_step old first.call first.reply mid step).stops (subst (λ (x : Exchange). TellsFault x.reply) here told))
-  | inr later ↦ stopped_by mid exchanges new steps (e, later, told)
-]
+stopped_by old (first ∷ exchanges) new (mid, step, steps) (e, among, told) =
+    elim (contains-cases first exchanges e among) [
+      | inl here ↦ stay mid exchanges new steps
+          ((by_step old first.call first.reply mid step).stops (subst (λ (x : Exchange). TellsFault x.reply) here told))
+      | inr later ↦ stopped_by mid exchanges new steps (e, later, told)
+    ]
 
 -- a stopped endpoint was stopped at first, or a call of it reported a fault
-fault_of : (old : State) (exchanges : List Exchange) (new : State) → Steps old exchanges new → new.stopped ≡ true → (old.stopped ≡ true) ⊎ HadFault exchanges
+fault_of : (old : State) (exchanges : List Exchange) (new : State) → Steps old exchanges new → new.stopped ≡ true
+    → (old.stopped ≡ true) ⊎ HadFault exchanges
 fault_of old [] new same stopped = inl (sym (ap (λ (s : State). s.stopped) same) ∙ stopped)
 fault_of old (e ∷ exchanges) new (mid, step, steps) stopped = elim (fault_of mid exchanges new steps stopped) [
   | inl here ↦ elim ((by_step old e.call e.reply mid step).only here) [

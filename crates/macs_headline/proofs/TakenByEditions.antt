@@ -1,5 +1,6 @@
 -- What an edition takes.
-use Rattle.std.proofs.Common.{◌≡◌, ◌∙◌, ◌&&◌, ◌⊎◌, ◌≤◌, inl, inr, ℕ, Bool, true, false, cond, nat_le, List, [], ◌∷◌, length, Option, Some, None, bytes_eq, refl, sym, ap}
+use Rattle.std.proofs.Common.{◌≡◌, ◌∙◌, ◌&&◌, ◌⊎◌, ◌≤◌, inl, inr, ℕ, Bool, true, false, cond, nat_le, List, [], ◌∷◌}
+use Rattle.std.proofs.Common.{length, Option, Some, None, bytes_eq, refl, sym, ap}
 use Rattle.std.proofs.lemmas.Bool.{false≢true, leb-true, lt-leb}
 use Rattle.macs_fields.specs.First.{first}
 use Rattle.macs_config.specs.Apply.{Named, Reason, are_channels_full, refusals}
@@ -24,7 +25,8 @@ HasRow (row ∷ rows) r = ((row.0 ≡ r) × (row.1 ≡ true)) ⊎ HasRow rows r
 none_first : (r : Reason) → ◌≡◌ {A = Option Reason} None (Some r) → ⊥
 none_first r is = cc
 
-row_by : (refusal : Reason) (test : Bool) (rows : List (Reason × Bool)) (r : Reason) → (first rows ≡ Some r → HasRow rows r)
+row_by : (refusal : Reason) (test : Bool) (rows : List (Reason × Bool)) (r : Reason)
+    → (first rows ≡ Some r → HasRow rows r)
     → cond test (Some refusal) (first rows) ≡ Some r → ((refusal ≡ r) × (test ≡ true)) ⊎ HasRow rows r
 row_by refusal true rows r later is = inl (some_one (Some refusal) refusal r refl is, refl)
 row_by refusal false rows r later is = inr (later is)
@@ -33,7 +35,8 @@ first_row : (rows : List (Reason × Bool)) (r : Reason) → first rows ≡ Some 
 first_row [] r is = absurd (none_first r is)
 first_row (row ∷ rows) r is = row_by row.0 row.1 rows r (first_row rows r) is
 
-channels_row : (edition : Edition) (identity : Identity) (c : Config) (command : Command) → HasRow (refusals edition identity c command) (Named ChannelsFull)
+channels_row : (edition : Edition) (identity : Identity) (c : Config) (command : Command)
+    → HasRow (refusals edition identity c command) (Named ChannelsFull)
     → are_channels_full edition c command ≡ true
 channels_row edition identity c command (inl (is, test)) = absurd (cc)
 channels_row edition identity c command (inr (inl (is, test))) = absurd (cc)
@@ -44,11 +47,16 @@ channels_row edition identity c command (inr (inr (inr (inr (inr (inl (is, test)
 channels_row edition identity c command (inr (inr (inr (inr (inr (inr (inl (is, test)))))))) = test
 channels_row edition identity c command (inr (inr (inr (inr (inr (inr (inr (inl (is, test))))))))) = absurd (cc)
 channels_row edition identity c command (inr (inr (inr (inr (inr (inr (inr (inr (inl (is, test)))))))))) = absurd (cc)
-channels_row edition identity c command (inr (inr (inr (inr (inr (inr (inr (inr (inr (inl (is, test))))))))))) = absurd (cc)
-channels_row edition identity c command (inr (inr (inr (inr (inr (inr (inr (inr (inr (inr (inl (is, test)))))))))))) = absurd (cc)
-channels_row edition identity c command (inr (inr (inr (inr (inr (inr (inr (inr (inr (inr (inr (inl (is, test))))))))))))) = absurd (cc)
-channels_row edition identity c command (inr (inr (inr (inr (inr (inr (inr (inr (inr (inr (inr (inr (inl (is, test)))))))))))))) = absurd (cc)
-channels_row edition identity c command (inr (inr (inr (inr (inr (inr (inr (inr (inr (inr (inr (inr (inr h))))))))))))) = absurd h
+channels_row edition identity c command
+    (inr (inr (inr (inr (inr (inr (inr (inr (inr (inl (is, test))))))))))) = absurd (cc)
+channels_row edition identity c command
+    (inr (inr (inr (inr (inr (inr (inr (inr (inr (inr (inl (is, test)))))))))))) = absurd (cc)
+channels_row edition identity c command
+    (inr (inr (inr (inr (inr (inr (inr (inr (inr (inr (inr (inl (is, test))))))))))))) = absurd (cc)
+channels_row edition identity c command
+    (inr (inr (inr (inr (inr (inr (inr (inr (inr (inr (inr (inr (inl (is, test)))))))))))))) = absurd (cc)
+channels_row edition identity c command
+    (inr (inr (inr (inr (inr (inr (inr (inr (inr (inr (inr (inr (inr h))))))))))))) = absurd h
 
 -- ---- channels
 
@@ -58,7 +66,8 @@ full_is edition c (RxAdd sci) is = (sci, refl, leb-true edition.channels (length
 full_is edition c command is = absurd (false≢true is)
 
 never_full : (own taken full : Bool) → full ≡ false
-    → cond own (Some (Named OwnSci)) (cond taken (Some (Named ChannelTaken)) (cond full (Some (Named ChannelsFull)) None)) ≡ Some (Named ChannelsFull) → ⊥
+    → cond own (Some (Named OwnSci)) (cond taken (Some (Named ChannelTaken))
+    (cond full (Some (Named ChannelsFull)) None)) ≡ Some (Named ChannelsFull) → ⊥
 never_full true taken full free is = cc
 never_full false true full free is = cc
 never_full false false true free is = cc
@@ -70,17 +79,20 @@ editions-take = record {
       never_full (bytes_eq sci identity.sci) (has_channel c sci) (nat_le edition.channels (length c.channels))
       (lt-leb edition.channels (length c.channels) few);
   full = λ edition identity c command is.
-      full_is edition c command (channels_row edition identity c command (first_row (refusals edition identity c command) (Named ChannelsFull) is));
+      full_is edition c command (channels_row edition identity c command
+      (first_row (refusals edition identity c command) (Named ChannelsFull) is));
   long_keys = λ edition identity c command is takes. never-long edition takes identity c command is;
   short_keys = short-keys;
   short_taken = short-taken;
-  two_read = λ edition identity count records two. ap (λ (b : Bool). cond (b && true) (replay_of edition identity count records) None) two;
+  two_read = λ edition identity count records two.
+      ap (λ (b : Bool). cond (b && true) (replay_of edition identity count records) None) two;
   formats = λ edition identity count records two short.
       ap (λ (b : Bool). cond (b && true) (replay_of edition identity count records) None) two
       ∙ sym (ap (λ (b : Bool). cond b (replay_of edition identity count records) None) (all-short records short));
   long_records = λ edition identity count records r among long.
       ap (λ (b : Bool). cond b (replay_of edition identity count records) None) (one-long records r among long);
-  one_format = λ edition identity count records one. ap (λ (b : Bool). cond (b && true) (replay_of edition identity count records) None) one;
+  one_format = λ edition identity count records one.
+      ap (λ (b : Bool). cond (b && true) (replay_of edition identity count records) None) one;
   kept = kept-records;
   tx_kept = λ s after an sa start made. ap accepted_standing made;
   rx_kept = λ s after sci an sa start made. ap accepted_standing made;

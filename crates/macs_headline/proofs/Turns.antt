@@ -1,14 +1,17 @@
 -- What the endpoint's own laws count and ask for is counted and built call by call.
-use Rattle.std.proofs.Common.{◌≡◌, ◌≢◌, ◌≤◌, ◌+◌, ◌==◌, inl, inr, ℕ, Bool, true, false, cond, List, [], ◌∷◌, Result, Ok, Err, refl, ap, ◌∙◌, arith}
+use Rattle.std.proofs.Common.{◌≡◌, ◌≢◌, ◌≤◌, ◌+◌, ◌==◌, inl, inr, ℕ, Bool, true, false, cond, List, [], ◌∷◌, Result, Ok}
+use Rattle.std.proofs.Common.{Err, refl, ap, ◌∙◌, arith}
 use Rattle.std.specs.Prelude.{Option, Some, None}
 use Rattle.std.proofs.lemmas.Bool.{cases_eq, eq-eqb, ne_eqb}
 use Rattle.macs_aes.specs.declared.keys.Key.{Key}
 use Rattle.macs_config.specs.declared.command.Command.{Command}
 use Rattle.macs_config.specs.declared.command.Command.TheVariants.{RxDrop, RxInstall, RxRemove, TxInstall, TxRemove}
 use Rattle.macs_store.specs.Value.{standing_in}
-use Rattle.macs_endpoint.specs.WorkThroughCalls.{IsNotDone, IsNotReserved, commands_done, commands_in_reply, reservations_in_reply, reservations_made, steps_in_call, steps_made}
+use Rattle.macs_endpoint.specs.WorkThroughCalls.{IsNotDone, IsNotReserved, commands_done, commands_in_reply}
+use Rattle.macs_endpoint.specs.WorkThroughCalls.{reservations_in_reply, reservations_made, steps_in_call, steps_made}
 use Rattle.macs_endpoint.specs.Rooms.{SparesRx, SparesTx, frames_in_reply, frames_sent}
-use Rattle.macs_endpoint.specs.State.{Advanced, Advances, Call, Commands, Protected, Protects, Receives, Refilled, Refills, Reply, Submits}
+use Rattle.macs_endpoint.specs.State.{Advanced, Advances, Call, Commands, Protected, Protects, Receives, Refilled}
+use Rattle.macs_endpoint.specs.State.{Refills, Reply, Submits}
 use Rattle.macs_endpoint.specs.declared.fault.CommandFault.{CommandFault}
 use Rattle.macs_endpoint.specs.declared.fault.RefillFault.TheVariants as refill
 use Rattle.macs_endpoint.specs.declared.fault.StepFault.TheVariants as step
@@ -21,12 +24,14 @@ no_step : (call : Call) → call ≢ Advances → steps_in_call call ≡ 0
 no_step Advances other = absurd (other refl)
 no_step call other = refl
 
-none_reserved : (reply : Reply) → reply ≢ Advanced (Ok Reserved) → reply ≢ Advanced (Err step.GenerationsSpent) → reservations_in_reply reply ≡ 0
+none_reserved : (reply : Reply) → reply ≢ Advanced (Ok Reserved) → reply ≢ Advanced (Err step.GenerationsSpent)
+    → reservations_in_reply reply ≡ 0
 none_reserved (Advanced (Ok Reserved)) made spent = absurd (made refl)
 none_reserved (Advanced (Err step.GenerationsSpent)) made spent = absurd (spent refl)
 none_reserved reply made spent = refl
 
-none_done : (reply : Reply) → ((ticket : ℕ) (result : Result (Unit {0}) CommandFault) → reply ≢ Advanced (Ok (Done ticket result)))
+none_done : (reply : Reply)
+    → ((ticket : ℕ) (result : Result (Unit {0}) CommandFault) → reply ≢ Advanced (Ok (Done ticket result)))
     → commands_in_reply reply ≡ 0
 none_done (Advanced (Ok (Done ticket result))) other = absurd (other ticket result refl)
 none_done reply other = refl
@@ -39,17 +44,21 @@ few_sent : (encoding : Option ℕ) (an : ℕ) (reply : Reply) → frames_in_repl
 few_sent (Some encoding) an (Protected (Ok pn) out) = one_or_none (encoding == an)
 few_sent encoding an reply = omega arith
 
-none_sent : (encoding : Option ℕ) (an : ℕ) (reply : Reply) → ((pn : ℕ) (out : List ℕ) → reply ≢ Protected (Ok pn) out) → frames_in_reply encoding an reply ≡ 0
+none_sent : (encoding : Option ℕ) (an : ℕ) (reply : Reply) → ((pn : ℕ) (out : List ℕ) → reply ≢ Protected (Ok pn) out)
+    → frames_in_reply encoding an reply ≡ 0
 none_sent (Some encoding) an (Protected (Ok pn) out) other = absurd (other pn out refl)
 none_sent encoding an reply other = refl
 
-sent_under : (encoding : Option ℕ) (an pn : ℕ) (out : List ℕ) (reply : Reply) → reply ≡ Protected (Ok pn) out → encoding ≡ Some an
+sent_under : (encoding : Option ℕ) (an pn : ℕ) (out : List ℕ) (reply : Reply) → reply ≡ Protected (Ok pn) out
+    → encoding ≡ Some an
     → frames_in_reply encoding an reply ≡ 1
 sent_under encoding an pn out reply is same =
-    ap (λ (r : Reply). frames_in_reply encoding an r) is ∙ ap (λ (e : Option ℕ). frames_in_reply e an (Protected (Ok pn) out)) same
+    ap (λ (r : Reply). frames_in_reply encoding an r) is
+    ∙ ap (λ (e : Option ℕ). frames_in_reply e an (Protected (Ok pn) out)) same
     ∙ ap (λ (b : Bool). cond b 1 0) (eq-eqb an an refl)
 
-sent_under_another : (encoding : Option ℕ) (an : ℕ) (reply : Reply) → encoding ≢ Some an → frames_in_reply encoding an reply ≡ 0
+sent_under_another : (encoding : Option ℕ) (an : ℕ) (reply : Reply) → encoding ≢ Some an
+    → frames_in_reply encoding an reply ≡ 0
 sent_under_another (Some encoding) an (Protected (Ok pn) out) differ =
     ap (λ (b : Bool). cond b 1 0) (ne_eqb encoding an (λ same. differ (ap Some same)))
 sent_under_another encoding an reply differ = refl
@@ -63,8 +72,10 @@ turns-are-counted {D} = record {
   not_reserved = λ turn turns made spent. let none = none_reserved turn.reply made spent in omega (arith, none);
   done = λ turn turns ticket result is. ap (λ (reply : Reply). commands_in_reply reply + commands_done turns) is;
   not_done = λ turn turns other. let none = none_done turn.reply other in omega (arith, none);
-  sent = λ an e turn turns. let few = few_sent (standing_in e.store).config.encoding an turn.reply in omega (arith, few);
-  not_sent = λ an e turn turns other. let none = none_sent (standing_in e.store).config.encoding an turn.reply other in omega (arith, none);
+  sent = λ an e turn turns. let few = few_sent (standing_in e.store).config.encoding an turn.reply in
+      omega (arith, few);
+  not_sent = λ an e turn turns other. let none = none_sent (standing_in e.store).config.encoding an turn.reply other in
+      omega (arith, none);
   sent_under = λ an pn out e turn turns is same.
       let one = sent_under (standing_in e.store).config.encoding an pn out turn.reply is same in omega (arith, one);
   sent_under_another = λ an e turn turns differ.
@@ -75,7 +86,8 @@ turns-are-counted {D} = record {
 -- ---- what is asked for of one call
 
 spares_tx : (an : ℕ) (made : Option Command)
-    → ((key : Key) (start : ℕ) (confidential : Bool) (offset : ℕ) → made ≢ Some (TxInstall an key start confidential offset)) → made ≢ Some (TxRemove an)
+    → ((key : Key) (start : ℕ) (confidential : Bool) (offset : ℕ)
+    → made ≢ Some (TxInstall an key start confidential offset)) → made ≢ Some (TxRemove an)
     → SparesTx an made
 spares_tx an (Some (TxInstall installed key start confidential offset)) no_install no_remove =
     λ same. no_install key start confidential offset (λ i. Some (TxInstall (same i) key start confidential offset))
@@ -85,17 +97,19 @@ spares_tx an made no_install no_remove = tt
 spares_rx : (sci : List ℕ) (an : ℕ) (made : Option Command) → made ≢ Some (RxDrop sci) → made ≢ Some (RxRemove sci an)
     → ((key : Key) (start offset : ℕ) → made ≢ Some (RxInstall sci an key start offset)) → SparesRx sci an made
 spares_rx sci an (Some (RxDrop dropped)) no_drop no_remove no_install = λ same. no_drop (λ i. Some (RxDrop (same i)))
-spares_rx sci an (Some (RxInstall channel installed key start offset)) no_drop no_remove no_install = elim (cases_eq installed an) [
-  | inl one ↦ inl (λ same. no_install key start offset (λ i. Some (RxInstall (same i) (one i) key start offset)))
-  | inr other ↦ inr other
-]
+spares_rx sci an (Some (RxInstall channel installed key start offset)) no_drop no_remove no_install =
+    elim (cases_eq installed an) [
+      | inl one ↦ inl (λ same. no_install key start offset (λ i. Some (RxInstall (same i) (one i) key start offset)))
+      | inr other ↦ inr other
+    ]
 spares_rx sci an (Some (RxRemove channel removed)) no_drop no_remove no_install = elim (cases_eq removed an) [
   | inl one ↦ inl (λ same. no_remove (λ i. Some (RxRemove (same i) (one i))))
   | inr other ↦ inr other
 ]
 spares_rx sci an made no_drop no_remove no_install = tt
 
-is_not_done : (reply : Reply) → ((ticket : ℕ) (result : Result (Unit {0}) CommandFault) → reply ≢ Advanced (Ok (Done ticket result))) → IsNotDone reply
+is_not_done : (reply : Reply) → ((ticket : ℕ) (result : Result (Unit {0}) CommandFault)
+    → reply ≢ Advanced (Ok (Done ticket result))) → IsNotDone reply
 is_not_done (Advanced (Ok (Done ticket result))) other = absurd (other ticket result refl)
 is_not_done reply other = tt
 
@@ -111,7 +125,8 @@ turns-are-built {D} = record {
   tx_none = λ an e. tt;
   tx_stays = λ an e turn turns no_install no_remove later. (spares_tx an _ no_install no_remove, later);
   rx_none = λ sci an e. tt;
-  rx_stays = λ sci an e turn turns no_drop no_remove no_install later. (spares_rx sci an _ no_drop no_remove no_install, later);
+  rx_stays = λ sci an e turn turns no_drop no_remove no_install later.
+      (spares_rx sci an _ no_drop no_remove no_install, later);
   lasts_none = λ e. tt;
   lasts = λ e turn turns works runs later. (works, runs, later);
   done_none = tt;

@@ -1,5 +1,7 @@
--- The verdict on a received frame: each step that settles one is a reason of its own, in the words of the frame's octets.
-use Rattle.std.proofs.Common.{◌≡◌, ◌↔◌, ◌&&◌, ◌||◌, ◌<◌, ◌++◌, inl, inr, ℕ, Bool, true, false, cond, List, [], ◌∷◌, map, Option, Some, None, Ok, refl, sym, ◌∙◌, ap, subst}
+-- The verdict on a received frame: each step that settles one is a reason of its own, in the words of the frame's
+-- octets.
+use Rattle.std.proofs.Common.{◌≡◌, ◌↔◌, ◌&&◌, ◌||◌, ◌<◌, ◌++◌, inl, inr, ℕ, Bool, true, false, cond, List, [], ◌∷◌, map}
+use Rattle.std.proofs.Common.{Option, Some, None, Ok, refl, sym, ◌∙◌, ap, subst}
 use Rattle.std.specs.Prelude.{IsSomeAnd, if◌then◌else◌, nat_lt, slice_range}
 use Rattle.std.specs.Option.{option_and_then}
 use Rattle.std.proofs.lemmas.Bool.{false≢true}
@@ -7,17 +9,23 @@ use Rattle.macs_fields.specs.First.{IsFirst, NoneHolds}
 use Rattle.macs_frame.specs.Opening.{named_sci}
 use Rattle.macs_frame.specs.Tag.{IsGoodTag, changed, control, end_station, has_sci, sci_of, tag_of}
 use Rattle.macs_frame.specs.declared.tag.ScName.TheVariants.{EndStation, Explicit, Implicit}
-use Rattle.macs_frame.specs.declared.tag.TagFault.TheVariants.{Runt as IsRunt, Oversize as IsOversize, NoTag as HasNoTag, BadTag as HasBadTag, ForKay as IsForKay}
-use Rattle.macs_rxsc.specs.Receive.{BelowLowest, NoAssociation, NoChannel, NotVerified, Numbers, RxStep, RxStepHolds, Tag, association_of, channel_of, is_strict, numbers_of, rx_steps, verdict_at}
+use Rattle.macs_frame.specs.declared.tag.TagFault.TheVariants.{Runt as IsRunt, Oversize as IsOversize}
+use Rattle.macs_frame.specs.declared.tag.TagFault.TheVariants.{NoTag as HasNoTag, BadTag as HasBadTag}
+use Rattle.macs_frame.specs.declared.tag.TagFault.TheVariants.{ForKay as IsForKay}
+use Rattle.macs_rxsc.specs.Receive.{BelowLowest, NoAssociation, NoChannel, NotVerified, Numbers, RxStep, RxStepHolds}
+use Rattle.macs_rxsc.specs.Receive.{Tag, association_of, channel_of, is_strict, numbers_of, rx_steps, verdict_at}
 use Rattle.macs_rxsc.specs.declared.verdict.Kind.{Kind}
-use Rattle.macs_rxsc.specs.declared.verdict.Kind.TheVariants.{Delayed, Invalid, Ok as AsOk, UnknownSci, Untagged, UnusedSa}
+use Rattle.macs_rxsc.specs.declared.verdict.Kind.TheVariants.{Delayed, Invalid, Ok as AsOk, UnknownSci, Untagged}
+use Rattle.macs_rxsc.specs.declared.verdict.Kind.TheVariants.{UnusedSa}
 use Rattle.macs_rxsc.specs.declared.verdict.Reason.{Reason}
-use Rattle.macs_rxsc.specs.declared.verdict.Reason.TheVariants.{BadTag, ForKay, Late, NoSci, NoTag, NotUsingSa, NotValid, Oversize, Runt}
+use Rattle.macs_rxsc.specs.declared.verdict.Reason.TheVariants.{BadTag, ForKay, Late, NoSci, NoTag, NotUsingSa}
+use Rattle.macs_rxsc.specs.declared.verdict.Reason.TheVariants.{NotValid, Oversize, Runt}
 use Rattle.macs_rxsc.specs.declared.verdict.Verdict.{Verdict}
 use Rattle.macs_rxsc.specs.declared.verdict.Verdict.TheVariants.{Delivered, Discarded}
 use Rattle.macs_endpoint.specs.State.{Received, Receives, State, rx_side}
 use Rattle.macs_endpoint.specs.Step.{Step}
-use Rattle.macs_headline.specs.Verdicts.{BareFramesAre, BreaksNoRule, IsCauseOf, VerdictsAreNamed, causes_in_order, reason_told}
+use Rattle.macs_headline.specs.Verdicts.{BareFramesAre, BreaksNoRule, IsCauseOf, VerdictsAreNamed, causes_in_order}
+use Rattle.macs_headline.specs.Verdicts.{reason_told}
 use Rattle.macs_headline.proofs.OctetBits.{octet-bits}
 use Rattle.macs_headline.proofs.Ledger.{some_one}
 use Rattle.macs_headline.proofs.LookUps.{no-one, some-and, some-none, then-none, then-some}
@@ -43,14 +51,20 @@ rules frame =
       },
       λ good. record {
         whole = good.whole;
-        good_control = record { version_clear = good.version; single_copy_clear = good.single_copy; one_name = names.1 good.one_name };
+        good_control = record {
+          version_clear = good.version;
+          single_copy_clear = good.single_copy;
+          one_name =
+              names.1 good.one_name;
+        };
         reserved_clear = good.short;
         numbered = good.number;
         agrees = good.agrees;
       },
     )
 
-named_in : (sc es : Bool) (frame : List ℕ) → named_sci frame (if sc then Explicit (sci_of frame) else if es then EndStation else Implicit)
+named_in : (sc es : Bool) (frame : List ℕ)
+    → named_sci frame (if sc then Explicit (sci_of frame) else if es then EndStation else Implicit)
     ≡ (if sc then Some (slice_range frame 20 28) else if es then Some (slice_range frame 6 12 ++ 0 ∷ 1 ∷ []) else None)
 named_in true es frame = refl
 named_in false true frame = refl
@@ -88,12 +102,16 @@ module _ (s : State) (frame : List ℕ) where
   late = (
     λ is.
         let at = some-and (numbers_of (rx_side s) frame) (λ (n : Numbers). (tag_of frame).pn < n.lowest) is.1 in
-        let there = then-some (λ (sci : List ℕ). s.numbers sci (tag_of frame).an) (channel_of (rx_side s) frame) at.0 at.1 in
+        let there =
+        then-some (λ (sci : List ℕ). s.numbers sci (tag_of frame).an) (channel_of (rx_side s) frame) at.0 at.1 in
         (is.0, there.0, at.0, (channels-are-named s frame there.0).0 there.1, there.2, at.2),
     λ is.
         let at : numbers_of (rx_side s) frame ≡ Some is.2 =
-        ap (option_and_then (λ (sci : List ℕ). s.numbers sci (tag_of frame).an)) ((channels-are-named s frame is.1).1 is.3) ∙ is.4 in
-        (is.0, subst (λ (o : Option Numbers). IsSomeAnd o (λ (n : Numbers). (tag_of frame).pn < n.lowest)) (sym at) is.5),
+        ap (option_and_then (λ (sci : List ℕ). s.numbers sci (tag_of frame).an))
+        ((channels-are-named s frame is.1).1 is.3) ∙ is.4 in (
+          is.0,
+          subst (λ (o : Option Numbers). IsSomeAnd o (λ (n : Numbers). (tag_of frame).pn < n.lowest)) (sym at) is.5,
+        ),
   )
 
   not_verified : RxStepHolds (rx_side s) frame NotVerified ↔ IsCauseOf s frame NotValid
@@ -108,7 +126,8 @@ module _ (s : State) (frame : List ℕ) where
           verified = verified;
         }),
     λ none plain it.
-        let there = then-some (λ (c : List ℕ). s.config.rx c (tag_of frame).an) (channel_of (rx_side s) frame) it.sa it.is_association in
+        let there = then-some (λ (c : List ℕ). s.config.rx c (tag_of frame).an) (channel_of (rx_side s) frame) it.sa
+        it.is_association in
         let same : there.0 ≡ it.sci = some_one (channel_of (rx_side s) frame) there.0 it.sci there.1 it.is_channel in
         none it.sci plain it.sa ((channels-are-named s frame it.sci).0 it.is_channel)
         (subst (λ (c : List ℕ). s.config.rx c (tag_of frame).an ≡ Some it.sa) same there.2) it.verified,
@@ -131,7 +150,8 @@ module _ (s : State) (frame : List ℕ) where
   first_cause (k ∷ ks) step (inl (holds, is)) = inl ((cause k).0 holds, ap reason_at is)
   first_cause (k ∷ ks) step (inr (not_this, later)) = inr (λ has. not_this ((cause k).1 has), first_cause ks step later)
 
-  no_cause : (steps : List RxStep) → NoneHolds (RxStepHolds (rx_side s) frame) steps → NoneHolds (IsCauseOf s frame) (map reason_at steps)
+  no_cause : (steps : List RxStep) → NoneHolds (RxStepHolds (rx_side s) frame) steps
+      → NoneHolds (IsCauseOf s frame) (map reason_at steps)
   no_cause [] none = tt
   no_cause (k ∷ ks) none = (λ has. none.0 ((cause k).1 has), no_cause ks none.1)
 
@@ -157,23 +177,29 @@ verified_told : (late : Bool) → reason_told (Delivered (cond late Delayed AsOk
 verified_told true = refl
 verified_told false = refl
 
-is_first : (s new : State) (frame out : List ℕ) (verdict : Verdict) (reason : Reason) → Step s (Receives frame) (Received (Ok verdict) out) new
+is_first : (s new : State) (frame out : List ℕ) (verdict : Verdict) (reason : Reason)
+    → Step s (Receives frame) (Received (Ok verdict) out) new
     → reason_told verdict ≡ Some reason → IsFirst (IsCauseOf s frame) causes_in_order reason
 is_first s new frame out verdict reason (inl (stopped, answer, same)) told = absurd answer
 is_first s new frame out verdict reason (inr (running, inl (step, found, is_verdict, is_out, same))) told =
-    let one = some_one (reason_told verdict) reason (reason_at step) told (ap reason_told is_verdict ∙ told_at s frame step) in
-    subst (λ (r : Reason). IsFirst (IsCauseOf s frame) causes_in_order r) (sym one) (first_cause s frame rx_steps step found)
+    let one = some_one (reason_told verdict) reason (reason_at step) told
+    (ap reason_told is_verdict ∙ told_at s frame step) in
+    subst (λ (r : Reason). IsFirst (IsCauseOf s frame) causes_in_order r) (sym one)
+    (first_cause s frame rx_steps step found)
 is_first s new frame out verdict reason (inr (running, inr (a, there, inl (held, above, is_out, is)))) told =
     absurd (some-none (reason_told verdict) reason told (ap reason_told held))
 is_first s new frame out verdict reason (inr (running, inr (a, there, inr (delivered, is_out, is)))) told =
-    absurd (some-none (reason_told verdict) reason told (ap reason_told delivered ∙ verified_told (nat_lt a.pn a.numbers.lowest)))
+    absurd (some-none (reason_told verdict) reason told
+    (ap reason_told delivered ∙ verified_told (nat_lt a.pn a.numbers.lowest)))
 
-has_none : (s new : State) (frame out : List ℕ) (verdict : Verdict) → Step s (Receives frame) (Received (Ok verdict) out) new
+has_none : (s new : State) (frame out : List ℕ) (verdict : Verdict)
+    → Step s (Receives frame) (Received (Ok verdict) out) new
     → reason_told verdict ≡ None → NoneHolds (IsCauseOf s frame) causes_in_order
 has_none s new frame out verdict (inl (stopped, answer, same)) none = absurd answer
 has_none s new frame out verdict (inr (running, inl (step, found, is_verdict, is_out, same))) none =
     absurd (some-none (reason_told verdict) (reason_at step) (ap reason_told is_verdict ∙ told_at s frame step) none)
-has_none s new frame out verdict (inr (running, inr (a, there, arrives))) none = no_cause s frame rx_steps there.unsettled
+has_none s new frame out verdict (inr (running, inr (a, there, arrives))) none =
+    no_cause s frame rx_steps there.unsettled
 
 pub verdicts-are-named : VerdictsAreNamed
 verdicts-are-named = record {

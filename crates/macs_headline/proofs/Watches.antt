@@ -1,5 +1,6 @@
 -- A watch: no frame is delivered twice, though power was lost in between.
-use Rattle.std.proofs.Common.{◌≡◌, ◌≢◌, ◌≤◌, ◌⊎◌, arith, inl, inr, ℕ, true, List, [], ◌∷◌, ◌++◌, None, Result, Ok, Err, is_ok, refl, sym, ◌∙◌, ap, subst, map}
+use Rattle.std.proofs.Common.{◌≡◌, ◌≢◌, ◌≤◌, ◌⊎◌, arith, inl, inr, ℕ, true, List, [], ◌∷◌, ◌++◌, None, Result, Ok, Err}
+use Rattle.std.proofs.Common.{is_ok, refl, sym, ◌∙◌, ap, subst, map}
 use Rattle.std.specs.Prelude.{Contains, Option, Some}
 use Rattle.std.specs.List.{AllByRecursion}
 use Rattle.macs_fields.specs.Fields.{octets_of}
@@ -38,7 +39,8 @@ use Rattle.macs_headline.specs.Deliveries.{IsInTime, IsVerifiedAnswer, IsVerifie
 use Rattle.macs_headline.specs.Endings.{LosesPower}
 use Rattle.macs_headline.specs.History.{Formats, Life, Serves}
 use Rattle.macs_headline.specs.Moments.{Moment}
-use Rattle.macs_headline.specs.Watches.{IsEvening, IsMorning, IsRefusedWatchMorning, IsWatchFrame, evening_turns, watch_install}
+use Rattle.macs_headline.specs.Watches.{IsEvening, IsMorning, IsRefusedWatchMorning, IsWatchFrame, evening_turns}
+use Rattle.macs_headline.specs.Watches.{watch_install}
 use Rattle.macs_headline.specs.declared.watch.Evening.{Evening}
 use Rattle.macs_headline.specs.declared.watch.Morning.{Morning}
 use Rattle.macs_headline.proofs.Chains.{deeds-are-histories, new-deeds-are-histories}
@@ -55,7 +57,8 @@ none_some : {X : Type 0} (x : X) → ◌≡◌ {A = Option X} None (Some x) → 
 none_some x is = cc
 
 -- an answer that a frame is delivered as verified has a kind
-verified_as : (answer : Result Verdict Stopped) → IsVerifiedAnswer answer → (kind : Kind) × IsVerifiedKind kind × (answer ≡ Ok (Delivered kind))
+verified_as : (answer : Result Verdict Stopped) → IsVerifiedAnswer answer
+    → (kind : Kind) × IsVerifiedKind kind × (answer ≡ Ok (Delivered kind))
 verified_as (Ok (Delivered kind)) is = (kind, is, refl)
 verified_as (Ok (Discarded reason)) is = absurd is
 verified_as (Ok HeldBack) is = absurd is
@@ -66,7 +69,8 @@ in_time : (lowest pn : ℕ) (kind : Kind) → IsInTime lowest pn kind → lowest
 in_time lowest pn kind (inl (below, late)) over = absurd (omega (arith, below, over))
 in_time lowest pn kind (inr (above, is)) over = is
 
-verified_of : (frame out : List ℕ) (a b : RxSa) (at sci : List ℕ) → a ≡ b → at ≡ sci → Verified frame a.key at (octets_of a.offset) out
+verified_of : (frame out : List ℕ) (a b : RxSa) (at sci : List ℕ) → a ≡ b → at ≡ sci
+    → Verified frame a.key at (octets_of a.offset) out
     → Verified frame b.key sci (octets_of b.offset) out
 verified_of frame out a b at sci same is verified =
     subst (λ (s : List ℕ). Verified frame b.key s (octets_of b.offset) out) is
@@ -74,10 +78,12 @@ verified_of frame out a b at sci same is verified =
 
 -- the third and the fifth of some answers
 third : (a b x e : Exchange) (rest : List Exchange) → x ≡ e → Contains (a ∷ b ∷ x ∷ rest) e
-third a b x e rest is = subst (Contains (a ∷ b ∷ x ∷ rest)) is (contains-later a (b ∷ x ∷ rest) x (contains-later b (x ∷ rest) x (contains-first x rest)))
+third a b x e rest is = subst (Contains (a ∷ b ∷ x ∷ rest)) is
+    (contains-later a (b ∷ x ∷ rest) x (contains-later b (x ∷ rest) x (contains-first x rest)))
 
 fifth : (a b c d x e : Exchange) (rest : List Exchange) → x ≡ e → Contains (a ∷ b ∷ c ∷ d ∷ x ∷ rest) e
-fifth a b c d x e rest is = contains-later a (b ∷ c ∷ d ∷ x ∷ rest) e (contains-later b (c ∷ d ∷ x ∷ rest) e (third c d x e rest is))
+fifth a b c d x e rest is =
+    contains-later a (b ∷ c ∷ d ∷ x ∷ rest) e (contains-later b (c ∷ d ∷ x ∷ rest) e (third c d x e rest is))
 
 -- ---- histories in which one receive association is installed at most
 
@@ -91,7 +97,8 @@ module _ (identity : Identity) (sci : List ℕ) (an : ℕ) (key : Key) where
 
   -- there is none but it, and replay protection is on with window 0
   record IsOurConfig (c : Config) : Type 0 where
-    ours : (at : List ℕ) (number : ℕ) (sa : RxSa) → c.rx at number ≡ Some sa → (at ≡ sci) × (number ≡ an) × (sa ≡ our_association)
+    ours : (at : List ℕ) (number : ℕ) (sa : RxSa) → c.rx at number ≡ Some sa
+        → (at ≡ sci) × (number ≡ an) × (sa ≡ our_association)
     replay : c.replay ≡ record { on = true; window = 0 }
 
   by_default : IsOurConfig default
@@ -99,10 +106,12 @@ module _ (identity : Identity) (sci : List ℕ) (an : ℕ) (key : Key) where
 
   after_ours : (old : Config) (c : Command) → IsOurCommand c → IsOurConfig old → IsOurConfig (config_after old c)
   after_ours old c (inl is) ours =
-      subst (λ (c : Command). IsOurConfig (config_after old c)) (sym is) (record { ours = ours.ours; replay = ours.replay })
+      subst (λ (c : Command). IsOurConfig (config_after old c)) (sym is)
+      (record { ours = ours.ours; replay = ours.replay })
   after_ours old c (inr is) ours = subst (λ (c : Command). IsOurConfig (config_after old c)) (sym is) (record {
     ours = λ at number sa there. elim (cases_place at number sci an) [
-      | inl same ↦ (same.0, same.1, some_one _ sa our_association there (put_rx-this old.rx sci an at number _ same.0 same.1))
+      | inl same ↦
+          (same.0, same.1, some_one _ sa our_association there (put_rx-this old.rx sci an at number _ same.0 same.1))
       | inr apart ↦ ours.ours at number sa (sym (put_rx-that old.rx sci an at number _ apart) ∙ there)
     ];
     replay = ours.replay;
@@ -117,15 +126,20 @@ module _ (identity : Identity) (sci : List ℕ) (an : ℕ) (key : Key) where
   abbrev IsOurLife : Life → Type 0
   IsOurLife life = alone.IsOurLife identity IsOurCommand IsOurConfig by_default after_ours life
 
-  our-moment : (sectors : ℕ) (s : State) (m : Moment sectors s) → AllByRecursion IsOurLife m.lives → AreOurCalls m.exchanges → IsOurs s
-  our-moment sectors s m lives calls = alone.our-moment identity IsOurCommand IsOurConfig by_default after_ours sectors s m lives calls
+  our-moment : (sectors : ℕ) (s : State) (m : Moment sectors s) → AllByRecursion IsOurLife m.lives
+      → AreOurCalls m.exchanges → IsOurs s
+  our-moment sectors s m lives calls =
+      alone.our-moment identity IsOurCommand IsOurConfig by_default after_ours sectors s m lives calls
 
-  our-answer : (sectors : ℕ) (lives : List Life) (e : Exchange) (logs : Logs) (was : WasAnswered sectors lives e logs) → AllByRecursion IsOurLife lives
+  our-answer : (sectors : ℕ) (lives : List Life) (e : Exchange) (logs : Logs) (was : WasAnswered sectors lives e logs)
+      → AllByRecursion IsOurLife lives
       → IsOurs was.at
-  our-answer sectors lives e logs was its = alone.our-answer identity IsOurCommand IsOurConfig by_default after_ours sectors lives e logs was its
+  our-answer sectors lives e logs was its =
+      alone.our-answer identity IsOurCommand IsOurConfig by_default after_ours sectors lives e logs was its
 
   -- a frame that is delivered in such a state
-  watched : (s : State) (frame out : List ℕ) (kind : Kind) (new : State) (answer : Result Verdict Stopped) → answer ≡ Ok (Delivered kind) → IsOurs s
+  watched : (s : State) (frame out : List ℕ) (kind : Kind) (new : State) (answer : Result Verdict Stopped)
+      → answer ≡ Ok (Delivered kind) → IsOurs s
       → IsVerifiedDelivery s frame kind out new → IsWatchFrame sci an (octets_of_key key) frame answer out
   watched s frame out kind new answer is ours d =
       let its = ours.config_is.ours d.sci (tag_of frame).an d.sa d.association in
@@ -135,11 +149,14 @@ module _ (identity : Identity) (sci : List ℕ) (an : ℕ) (key : Key) where
         as_ok = subst (λ (k : Kind). answer ≡ Ok (Delivered k)) as_ok is;
         number = its.1;
         verified = verified_of frame out d.sa our_association d.sci sci its.2 its.0 d.verified;
-        only = λ other verified. d.only other (verified_of frame other our_association d.sa sci d.sci (sym its.2) (sym its.0) verified);
+        only = λ other verified.
+            d.only other (verified_of frame other our_association d.sa sci d.sci (sym its.2) (sym its.0) verified);
       }
 
-  module _ (sectors : ℕ) {D : Type 0} (lives : List Life) (image : Image) (turns : List (Transition D)) (first last after : EndpointValue D)
-      (frame : List ℕ) (kind : Kind) (out : List ℕ) (w : IsDeliveredOnce sectors lives image turns first last after frame kind out)
+  module _ (sectors : ℕ) {D : Type 0} (lives : List Life) (image : Image) (turns : List (Transition D))
+      (first last after : EndpointValue D)
+      (frame : List ℕ) (kind : Kind) (out : List ℕ)
+      (w : IsDeliveredOnce sectors lives image turns first last after frame kind out)
       (its : AllByRecursion IsOurLife lives) (calls : AreOurCalls (map exchange_of turns)) where
     lives_ours : AllByRecursion IsOurLife w.at.moment.lives
     lives_ours = subst (AllByRecursion IsOurLife) (sym w.at.after_lives) its
@@ -150,43 +167,55 @@ module _ (identity : Identity) (sci : List ℕ) (an : ℕ) (key : Key) where
     now_ours : IsOurs (state_of last w.at.logs)
     now_ours = our-moment sectors (state_of last w.at.logs) w.at.moment lives_ours calls_ours
 
-    delivered-frame : (answer : Result Verdict Stopped) → answer ≡ Ok (Delivered kind) → IsWatchFrame sci an (octets_of_key key) frame answer out
-    delivered-frame answer is = watched (state_of last w.at.logs) frame out kind (state_of after w.later) answer is now_ours w.delivery
+    delivered-frame : (answer : Result Verdict Stopped) → answer ≡ Ok (Delivered kind)
+        → IsWatchFrame sci an (octets_of_key key) frame answer out
+    delivered-frame answer is =
+        watched (state_of last w.at.logs) frame out kind (state_of after w.later) answer is now_ours w.delivery
 
     -- its number is another than that of each frame that was delivered before
     delivered-apart : (earlier given : List ℕ) (was : Kind) → IsVerifiedKind was
-        → Contains (exchanges_of_lives (lives ++ Serves this_edition image (map exchange_of turns) None ∷ [])) (delivering earlier was given)
+        → Contains (exchanges_of_lives (lives ++ Serves this_edition image (map exchange_of turns) None ∷ []))
+        (delivering earlier was given)
         → (tag_of earlier).pn ≢ (tag_of frame).pn
     delivered-apart earlier given was is_was here =
         let m = w.at.moment in
         let e = delivering earlier was given in
         let among : Contains (exchanges_of_lives (lives_at m)) e =
-        subst (λ (exchanges : List Exchange). Contains (exchanges_of_lives (m.lives ++ Serves m.edition m.image exchanges None ∷ [])) e) (sym w.at.calls)
-        (subst (λ (before : List Life). Contains (exchanges_of_lives (before ++ Serves m.edition m.image (map exchange_of turns) None ∷ [])) e)
+        subst (λ (exchanges : List Exchange).
+        Contains (exchanges_of_lives (m.lives ++ Serves m.edition m.image exchanges None ∷ [])) e) (sym w.at.calls)
+        (subst (λ (before : List Life).
+        Contains (exchanges_of_lives (before ++ Serves m.edition m.image (map exchange_of turns) None ∷ [])) e)
         (sym w.at.after_lives)
-        (subst (λ (edition : Edition). Contains (exchanges_of_lives (lives ++ Serves edition m.image (map exchange_of turns) None ∷ [])) e)
+        (subst (λ (edition : Edition).
+        Contains (exchanges_of_lives (lives ++ Serves edition m.image (map exchange_of turns) None ∷ [])) e)
         (sym w.at.of_edition)
-        (subst (λ (image : Image). Contains (exchanges_of_lives (lives ++ Serves this_edition image (map exchange_of turns) None ∷ [])) e)
+        (subst (λ (image : Image).
+        Contains (exchanges_of_lives (lives ++ Serves this_edition image (map exchange_of turns) None ∷ [])) e)
         (sym w.at.opened) here))) in
         let replay = now_ours.config_is.replay in
-        let other = w.once (ap (λ (r : Replay). r.on) replay) (ap (λ (r : Replay). r.window) replay) earlier given was is_was among in
+        let other = w.once (ap (λ (r : Replay). r.on) replay) (ap (λ (r : Replay). r.window) replay) earlier given was
+        is_was among in
         let ours = our-answer sectors (lives_at m) e w.at.logs other.answered
         (all-on IsOurLife m.lives (Serves m.edition m.image m.exchanges None) lives_ours calls_ours) in
-        let before = ours.config_is.ours other.delivery.sci (tag_of earlier).an other.delivery.sa other.delivery.association in
+        let before =
+        ours.config_is.ours other.delivery.sci (tag_of earlier).an other.delivery.sa other.delivery.association in
         let this = now_ours.config_is.ours w.delivery.sci (tag_of frame).an w.delivery.sa w.delivery.association in
         other.other (before.0 ∙ sym this.0) (ap (λ (sa : RxSa). sa.key) (before.2 ∙ sym this.2))
 
 -- ---- the watch
 
-module _ {D : Type 0} (disk_of : D → Disk) (sound : (it : D) → IsHonest (disk_of it) → IsSound (now (disk_of it))) (identity : Identity) (sci : List ℕ) (an : ℕ)
+module _ {D : Type 0} (disk_of : D → Disk) (sound : (it : D) → IsHonest (disk_of it) → IsSound (now (disk_of it)))
+    (identity : Identity) (sci : List ℕ) (an : ℕ)
     (key : Key) (old mid : D) (is_new : IsNewDisk (disk_of old)) (formatted : Result (Unit {0}) JournalFault)
-    (format : IsFormat disk_of old identity formatted mid) (start : EndpointValue D) (opening : IsOpening disk_of mid (Ok start)) (frame out : List ℕ)
+    (format : IsFormat disk_of old identity formatted mid) (start : EndpointValue D)
+    (opening : IsOpening disk_of mid (Ok start)) (frame out : List ℕ)
     (evening : Evening) (left : D) (e : IsEvening disk_of start sci an key frame out evening left) where
   abbrev before : List Life
   before = Formats this_edition identity (is_ok formatted) ∷ []
 
   has_before : HasHistory this_edition (disk_of mid) before
-  has_before = new-deeds-are-histories disk_of sound old mid (record { deed = Formatting identity formatted; after = mid } ∷ []) is_new (format, refl)
+  has_before = new-deeds-are-histories disk_of sound old mid
+      (record { deed = Formatting identity formatted; after = mid } ∷ []) is_new (format, refl)
 
   -- the calls before the frame was handed in again
   abbrev refilled : List (Transition D)
@@ -206,10 +235,13 @@ module _ {D : Type 0} (disk_of : D → Disk) (sound : (it : D) → IsHonest (dis
       (opening, (one.0, one.1, (two.0, two.1, (three.0, three.1, (four.0, four.1, refl)))))
 
   received_once : (kind : Kind) → IsVerifiedKind kind → evening.received ≡ Ok (Delivered kind)
-      → IsDeliveredOnce (disk_of mid).sectors before (now (disk_of mid)).seen refilled start e.four e.last frame kind out
+      → IsDeliveredOnce (disk_of mid).sectors before (now (disk_of mid)).seen refilled start e.four e.last
+      frame kind out
   received_once kind is_kind is =
-      frames-are-delivered-once disk_of sound mid before start e.four e.last refilled frame kind out is_kind has_before lived
-      (subst (λ (r : Result Verdict Stopped). IsCall disk_of e.four (Receives frame) (Received r out) e.last) is e.lives.2.2.2.2.1)
+      frames-are-delivered-once disk_of sound mid before start e.four e.last refilled frame kind out is_kind
+      has_before lived
+      (subst (λ (r : Result Verdict Stopped). IsCall disk_of e.four (Receives frame) (Received r out) e.last) is
+      e.lives.2.2.2.2.1)
 
   before_ours : AllByRecursion (IsOurLife identity sci an key) before
   before_ours = (refl, tt)
@@ -233,10 +265,12 @@ module _ {D : Type 0} (disk_of : D → Disk) (sound : (it : D) → IsHonest (dis
   receives = record { call = Receives frame; reply = Received evening.received out }
 
   -- what the frame of the evening gives
-  pub evening-frame : IsVerifiedAnswer evening.received → IsWatchFrame sci an (octets_of_key key) frame evening.received out
+  pub evening-frame : IsVerifiedAnswer evening.received
+      → IsWatchFrame sci an (octets_of_key key) frame evening.received out
   evening-frame is =
       let v = verified_as evening.received is in
-      delivered-frame identity sci an key (disk_of mid).sectors before (now (disk_of mid)).seen refilled start e.four e.last frame v.0 out
+      delivered-frame identity sci an key (disk_of mid).sectors before (now (disk_of mid)).seen refilled start e.four
+      e.last frame v.0 out
       (received_once v.0 v.1 v.2) before_ours refilled_ours evening.received v.2
 
   -- the calls before it was handed in first
@@ -253,20 +287,25 @@ module _ {D : Type 0} (disk_of : D → Disk) (sound : (it : D) → IsHonest (dis
       (opening, (one.0, one.1, (two.0, two.1, refl)))
 
   tried_once : (kind : Kind) → IsVerifiedKind kind → evening.tried ≡ Ok (Delivered kind)
-      → IsDeliveredOnce (disk_of mid).sectors before (now (disk_of mid)).seen installed start e.two e.three frame kind e.early
+      → IsDeliveredOnce (disk_of mid).sectors before (now (disk_of mid)).seen installed start e.two e.three frame
+      kind e.early
   tried_once kind is_kind is =
-      frames-are-delivered-once disk_of sound mid before start e.two e.three installed frame kind e.early is_kind has_before lived_early
-      (subst (λ (r : Result Verdict Stopped). IsCall disk_of e.two (Receives frame) (Received r e.early) e.three) is e.lives.2.2.1)
+      frames-are-delivered-once disk_of sound mid before start e.two e.three installed frame kind e.early is_kind
+      has_before lived_early
+      (subst (λ (r : Result Verdict Stopped). IsCall disk_of e.two (Receives frame) (Received r e.early) e.three) is
+      e.lives.2.2.1)
 
   installed_ours : AreOurCalls identity sci an key (map exchange_of installed)
   installed_ours = (inl refl, (inr refl, tt))
 
   -- what it gives where it is delivered at once
-  pub early-frame : IsVerifiedAnswer evening.tried → (early : List ℕ) × IsWatchFrame sci an (octets_of_key key) frame evening.tried early
+  pub early-frame : IsVerifiedAnswer evening.tried
+      → (early : List ℕ) × IsWatchFrame sci an (octets_of_key key) frame evening.tried early
   early-frame is =
       let v = verified_as evening.tried is in (
         e.early,
-        delivered-frame identity sci an key (disk_of mid).sectors before (now (disk_of mid)).seen installed start e.two e.three frame v.0 e.early
+        delivered-frame identity sci an key (disk_of mid).sectors before (now (disk_of mid)).seen installed start e.two
+            e.three frame v.0 e.early
             (tried_once v.0 v.1 v.2) before_ours installed_ours evening.tried v.2,
       )
 
@@ -275,8 +314,10 @@ module _ {D : Type 0} (disk_of : D → Disk) (sound : (it : D) → IsHonest (dis
   evening-once tried is =
       let t = verified_as evening.tried tried in
       let v = verified_as evening.received is in
-      let same : tries ≡ delivering frame t.0 e.early = (λ i. record { call = Receives frame; reply = Received (t.2 i) e.early }) in
-      delivered-apart identity sci an key (disk_of mid).sectors before (now (disk_of mid)).seen refilled start e.four e.last frame v.0 out
+      let same : tries ≡ delivering frame t.0 e.early =
+      (λ i. record { call = Receives frame; reply = Received (t.2 i) e.early }) in
+      delivered-apart identity sci an key (disk_of mid).sectors before (now (disk_of mid)).seen refilled start e.four
+      e.last frame v.0 out
       (received_once v.0 v.1 v.2) before_ours refilled_ours frame e.early t.0 t.1
       (third adds installs tries (delivering frame t.0 e.early) (refills ∷ []) same) refl
 
@@ -291,7 +332,8 @@ module _ {D : Type 0} (disk_of : D → Disk) (sound : (it : D) → IsHonest (dis
     both = Formats this_edition identity (is_ok formatted) ∷ evening_life ∷ []
 
     abbrev links : List (Link D)
-    links = record { deed = Living start all e.last None; after = left } ∷ record { deed = PassingOn; after = lost } ∷ []
+    links =
+        record { deed = Living start all e.last None; after = left } ∷ record { deed = PassingOn; after = lost } ∷ []
 
     has_both : HasHistory this_edition (disk_of lost) both
     has_both = deeds-are-histories disk_of sound mid lost before links has_before (
@@ -322,25 +364,31 @@ module _ {D : Type 0} (disk_of : D → Disk) (sound : (it : D) → IsHonest (dis
         | inl disk ↦ disk.0
         | inr later ↦ elim later [
           | inl blank ↦ absurd (blank.2 this_edition (now (disk_of mid)).seen (map exchange_of all) None
-              (contains-later (Formats this_edition identity (is_ok formatted)) (evening_life ∷ []) evening_life (contains-first evening_life [])))
-          | inr spent ↦ absurd (never-spent disk_of sound mid before has_before start all e.last (opening, e.lives) left lost e.given loses
+              (contains-later (Formats this_edition identity (is_ok formatted)) (evening_life ∷ []) evening_life
+              (contains-first evening_life [])))
+          | inr spent ↦ absurd (never-spent disk_of sound mid before has_before start all e.last (opening, e.lives)
+              left lost e.given loses
               refused.fault spent)
         ]
       ];
     }
 
-    module _ (again : EndpointValue D) (opening_again : IsOpening disk_of lost (Ok again)) (next second : List ℕ) (morning : Morning) (finally : D)
+    module _ (again : EndpointValue D) (opening_again : IsOpening disk_of lost (Ok again)) (next second : List ℕ)
+        (morning : Morning) (finally : D)
         (m : IsMorning disk_of again next second morning finally) where
       abbrev again_refilled : List (Transition D)
       again_refilled = record { call = Refills; reply = Refilled morning.refilled; after = m.one } ∷ []
 
       received_again : (kind : Kind) → IsVerifiedKind kind → morning.received ≡ Ok (Delivered kind)
-          → IsDeliveredOnce (disk_of lost).sectors both (now (disk_of lost)).seen again_refilled again m.one m.last next kind second
+          → IsDeliveredOnce (disk_of lost).sectors both (now (disk_of lost)).seen again_refilled again m.one m.last
+          next kind second
       received_again kind is_kind is =
           let one = m.lives in
-          frames-are-delivered-once disk_of sound lost both again m.one m.last again_refilled next kind second is_kind has_both
+          frames-are-delivered-once disk_of sound lost both again m.one m.last again_refilled next kind second
+          is_kind has_both
           (opening_again, (one.0, one.1, refl))
-          (subst (λ (r : Result Verdict Stopped). IsCall disk_of m.one (Receives next) (Received r second) m.last) is one.2.1)
+          (subst (λ (r : Result Verdict Stopped).
+          IsCall disk_of m.one (Receives next) (Received r second) m.last) is one.2.1)
 
       both_ours : AllByRecursion (IsOurLife identity sci an key) both
       both_ours = (refl, ((inl refl, (inr refl, (tt, (tt, (tt, tt))))), tt))
@@ -349,27 +397,36 @@ module _ {D : Type 0} (disk_of : D → Disk) (sound : (it : D) → IsHonest (dis
       again_ours = (tt, tt)
 
       -- what the frame of the morning gives
-      pub morning-frame : IsVerifiedAnswer morning.received → IsWatchFrame sci an (octets_of_key key) next morning.received second
+      pub morning-frame : IsVerifiedAnswer morning.received
+          → IsWatchFrame sci an (octets_of_key key) next morning.received second
       morning-frame is =
           let v = verified_as morning.received is in
-          delivered-frame identity sci an key (disk_of lost).sectors both (now (disk_of lost)).seen again_refilled again m.one m.last next v.0 second
+          delivered-frame identity sci an key (disk_of lost).sectors both (now (disk_of lost)).seen again_refilled again
+          m.one m.last next v.0 second
           (received_again v.0 v.1 v.2) both_ours again_ours morning.received v.2
 
       -- and that of the evening has another number, where it was delivered
-      pub watch-apart : IsVerifiedAnswer evening.tried ⊎ IsVerifiedAnswer evening.received → IsVerifiedAnswer morning.received
+      pub watch-apart : IsVerifiedAnswer evening.tried ⊎ IsVerifiedAnswer evening.received
+          → IsVerifiedAnswer morning.received
           → (tag_of frame).pn ≢ (tag_of next).pn
       watch-apart (inl tried) is =
           let t = verified_as evening.tried tried in
           let v = verified_as morning.received is in
-          let same : tries ≡ delivering frame t.0 e.early = (λ i. record { call = Receives frame; reply = Received (t.2 i) e.early }) in
-          let rest : List Exchange = refills ∷ receives ∷ record { call = Refills; reply = Refilled morning.refilled } ∷ [] in
-          delivered-apart identity sci an key (disk_of lost).sectors both (now (disk_of lost)).seen again_refilled again m.one m.last next v.0 second
-          (received_again v.0 v.1 v.2) both_ours again_ours frame e.early t.0 t.1 (third adds installs tries (delivering frame t.0 e.early) rest same)
+          let same : tries ≡ delivering frame t.0 e.early =
+          (λ i. record { call = Receives frame; reply = Received (t.2 i) e.early }) in
+          let rest : List Exchange =
+          refills ∷ receives ∷ record { call = Refills; reply = Refilled morning.refilled } ∷ [] in
+          delivered-apart identity sci an key (disk_of lost).sectors both (now (disk_of lost)).seen again_refilled again
+          m.one m.last next v.0 second
+          (received_again v.0 v.1 v.2) both_ours again_ours frame e.early t.0 t.1
+          (third adds installs tries (delivering frame t.0 e.early) rest same)
       watch-apart (inr received) is =
           let t = verified_as evening.received received in
           let v = verified_as morning.received is in
-          let same : receives ≡ delivering frame t.0 out = (λ i. record { call = Receives frame; reply = Received (t.2 i) out }) in
+          let same : receives ≡ delivering frame t.0 out =
+          (λ i. record { call = Receives frame; reply = Received (t.2 i) out }) in
           let rest : List Exchange = record { call = Refills; reply = Refilled morning.refilled } ∷ [] in
-          delivered-apart identity sci an key (disk_of lost).sectors both (now (disk_of lost)).seen again_refilled again m.one m.last next v.0 second
+          delivered-apart identity sci an key (disk_of lost).sectors both (now (disk_of lost)).seen again_refilled again
+          m.one m.last next v.0 second
           (received_again v.0 v.1 v.2) both_ours again_ours frame out t.0 t.1
           (fifth adds installs tries refills receives (delivering frame t.0 out) rest same)

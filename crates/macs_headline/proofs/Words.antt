@@ -1,20 +1,25 @@
 -- The words of the laws that say what may be say no more.
-use Rattle.std.proofs.Common.{◌≡◌, ◌⊎◌, ◌+◌, inl, inr, ℕ, Bool, true, false, List, [], Result, Ok, refl, sym, ◌∙◌, ap, subst}
+use Rattle.std.proofs.Common.{◌≡◌, ◌⊎◌, ◌+◌, inl, inr, ℕ, Bool, true, false, List, [], Result, Ok, refl, sym, ◌∙◌, ap}
+use Rattle.std.proofs.Common.{subst}
 use Rattle.std.specs.Prelude.{Option, Some}
 use Rattle.std.proofs.lemmas.Bool.{false≢true}
 use Rattle.macs_aes.specs.declared.keys.Key.{Key}
 use Rattle.macs_frame.specs.Tag.{changed, control, tag_of}
-use Rattle.macs_frame.specs.declared.tag.TagFault.TheVariants.{Runt as IsRunt, Oversize as IsOversize, NoTag as HasNoTag, BadTag as HasBadTag, ForKay as IsForKay}
+use Rattle.macs_frame.specs.declared.tag.TagFault.TheVariants.{Runt as IsRunt, Oversize as IsOversize}
+use Rattle.macs_frame.specs.declared.tag.TagFault.TheVariants.{NoTag as HasNoTag, BadTag as HasBadTag}
+use Rattle.macs_frame.specs.declared.tag.TagFault.TheVariants.{ForKay as IsForKay}
 use Rattle.macs_config.specs.Apply.{Reason as RefusalReason}
 use Rattle.macs_config.specs.Config.{Config}
 use Rattle.macs_config.specs.declared.command.Command.{Command}
-use Rattle.macs_config.specs.declared.command.Command.TheVariants.{RxAdd, RxDrop, RxInstall, RxRemove, SetReplay, SetSciMode, SetValidate, TxInstall, TxRemove, TxUse}
+use Rattle.macs_config.specs.declared.command.Command.TheVariants.{RxAdd, RxDrop, RxInstall, RxRemove, SetReplay}
+use Rattle.macs_config.specs.declared.command.Command.TheVariants.{SetSciMode, SetValidate, TxInstall, TxRemove, TxUse}
 use Rattle.macs_config.specs.declared.command.SciMode.{SciMode}
 use Rattle.macs_config.specs.declared.command.Validate.{Validate}
 use Rattle.macs_config.specs.declared.command.Validate.TheVariants.{Check, Strict}
 use Rattle.macs_disk.specs.Disk.{Disk}
 use Rattle.macs_journal.specs.Found.{Content}
-use Rattle.macs_rxsc.specs.Receive.{BelowLowest, NoAssociation, NoChannel, NotVerified, Numbers, RxSide, RxStep, Tag, channel_of}
+use Rattle.macs_rxsc.specs.Receive.{BelowLowest, NoAssociation, NoChannel, NotVerified, Numbers, RxSide, RxStep, Tag}
+use Rattle.macs_rxsc.specs.Receive.{channel_of}
 use Rattle.macs_rxsc.specs.declared.verdict.Kind.{Kind}
 use Rattle.macs_rxsc.specs.declared.verdict.Kind.TheVariants.{Invalid, UnknownSci, Untagged, UnusedSa}
 use Rattle.macs_rxsc.specs.declared.verdict.Reason.{Reason}
@@ -23,7 +28,9 @@ use Rattle.macs_rxsc.specs.declared.verdict.Verdict.{Verdict}
 use Rattle.macs_rxsc.specs.declared.verdict.Verdict.TheVariants.{Delivered, Discarded}
 use Rattle.macs_store.specs.Standing.{Standing, standing_or_refusal}
 use Rattle.macs_endpoint.specs.Queue.{first_command}
-use Rattle.macs_endpoint.specs.State.{Advanced, AdvancedLong, Advances, Call, Commands, Protected, Protects, Ran, Received, Receives, RefusedLong, Refilled, Refills, Reply, State, Submits, Submitted, rx_side}
+use Rattle.macs_endpoint.specs.State.{Advanced, AdvancedLong, Advances, Call, Commands, Protected, Protects, Ran}
+use Rattle.macs_endpoint.specs.State.{Received, Receives, RefusedLong, Refilled, Refills, Reply, State, Submits}
+use Rattle.macs_endpoint.specs.State.{Submitted, rx_side}
 use Rattle.macs_endpoint.specs.declared.fault.CommandFault.{CommandFault}
 use Rattle.macs_endpoint.specs.declared.fault.ProtectFault.{ProtectFault}
 use Rattle.macs_endpoint.specs.declared.fault.RefillFault.{RefillFault}
@@ -69,7 +76,8 @@ on_encoding (TxUse an) is = (an, refl)
 on_encoding c is = absurd is
 
 on_tx : (c : Command) (an : ℕ) → IsOnTx c an → (c ≡ TxRemove an)
-    ⊎ ((key : Key) × (start : ℕ) × (confidential : Bool) × (offset : ℕ) × (c ≡ TxInstall an key start confidential offset))
+    ⊎ ((key : Key) × (start : ℕ) × (confidential : Bool) × (offset : ℕ)
+    × (c ≡ TxInstall an key start confidential offset))
 on_tx (TxInstall at key start confidential offset) an is =
     inr (key, start, confidential, offset, ap (λ (k : ℕ). TxInstall k key start confidential offset) is)
 on_tx (TxRemove at) an is = inl (ap (λ (k : ℕ). TxRemove k) is)
@@ -83,18 +91,24 @@ on_channel c sci is = absurd is
 on_rx : (c : Command) (sci : List ℕ) (an : ℕ) → IsOnRx c sci an → (c ≡ RxDrop sci)
     ⊎ ((c ≡ RxRemove sci an) ⊎ ((key : Key) × (start : ℕ) × (offset : ℕ) × (c ≡ RxInstall sci an key start offset)))
 on_rx (RxDrop at) sci an is = inl (ap (λ (s : List ℕ). RxDrop s) is)
-on_rx (RxInstall at number key start offset) sci an is = inr (inr (key, start, offset, (λ i. RxInstall (is.0 i) (is.1 i) key start offset)))
+on_rx (RxInstall at number key start offset) sci an is =
+    inr (inr (key, start, offset, (λ i. RxInstall (is.0 i) (is.1 i) key start offset)))
 on_rx (RxRemove at number) sci an is = inr (inl (λ i. RxRemove (is.0 i) (is.1 i)))
 on_rx c sci an is = absurd is
 
 sets_next : (c : Command) (an : ℕ) (later : Option ℕ) → SetsNext c an later → IsOnTx c an
-sets_next c an later (inl (key, start, confidential, offset, is, is_later)) = subst (λ (c : Command). IsOnTx c an) (sym is) refl
+sets_next c an later (inl (key, start, confidential, offset, is, is_later)) =
+    subst (λ (c : Command). IsOnTx c an) (sym is) refl
 sets_next c an later (inr (is, is_later)) = subst (λ (c : Command). IsOnTx c an) (sym is) refl
 
-sets_numbers : (c : Command) (sci : List ℕ) (an : ℕ) (old later : Option Numbers) → SetsNumbers c sci an old later → IsOnRx c sci an ⊎ IsOnReplay c
-sets_numbers c sci an old later (inl (key, start, offset, is, is_later)) = inl (subst (λ (c : Command). IsOnRx c sci an) (sym is) (refl, refl))
-sets_numbers c sci an old later (inr (inl (inl is, is_later))) = inl (subst (λ (c : Command). IsOnRx c sci an) (sym is) (refl, refl))
-sets_numbers c sci an old later (inr (inl (inr is, is_later))) = inl (subst (λ (c : Command). IsOnRx c sci an) (sym is) refl)
+sets_numbers : (c : Command) (sci : List ℕ) (an : ℕ) (old later : Option Numbers) → SetsNumbers c sci an old later
+    → IsOnRx c sci an ⊎ IsOnReplay c
+sets_numbers c sci an old later (inl (key, start, offset, is, is_later)) =
+    inl (subst (λ (c : Command). IsOnRx c sci an) (sym is) (refl, refl))
+sets_numbers c sci an old later (inr (inl (inl is, is_later))) =
+    inl (subst (λ (c : Command). IsOnRx c sci an) (sym is) (refl, refl))
+sets_numbers c sci an old later (inr (inl (inr is, is_later))) =
+    inl (subst (λ (c : Command). IsOnRx c sci an) (sym is) refl)
 sets_numbers c sci an old later (inr (inr (on, window, is, is_later))) = inr (subst IsOnReplay (sym is) tt)
 
 pub command-words : CommandWords
@@ -116,18 +130,21 @@ command-words = record {
 -- ---- calls
 
 goes_out : (s : State) (call : Call) (reply : Reply) (an : ℕ) → GoesOutUnder s call reply an
-    → (plain : List ℕ) × (out : List ℕ) × (pn : ℕ) × (call ≡ Protects plain) × (reply ≡ Protected (Ok pn) out) × (s.config.encoding ≡ Some an)
+    → (plain : List ℕ) × (out : List ℕ) × (pn : ℕ) × (call ≡ Protects plain) × (reply ≡ Protected (Ok pn) out)
+    × (s.config.encoding ≡ Some an)
 goes_out s (Protects plain) (Protected (Ok pn) out) an is = (plain, out, pn, refl, refl, is)
 goes_out s call reply an is = absurd is
 
 comes_in : (s : State) (call : Call) (reply : Reply) (sci : List ℕ) (an : ℕ) → ComesInUnder s call reply sci an
-    → (frame : List ℕ) × (out : List ℕ) × (verdict : Verdict) × (call ≡ Receives frame) × (reply ≡ Received (Ok verdict) out)
+    → (frame : List ℕ) × (out : List ℕ) × (verdict : Verdict) × (call ≡ Receives frame)
+    × (reply ≡ Received (Ok verdict) out)
     × (channel_of (rx_side s) frame ≡ Some sci) × ((tag_of frame).an ≡ an)
 comes_in s (Receives frame) (Received (Ok verdict) out) sci an is = (frame, out, verdict, refl, refl, is.0, is.1)
 comes_in s call reply sci an is = absurd is
 
 may_begin : (cut : Option Call) (waiting : List Waiting) (command : Command) → MayBegin cut waiting command
-    → ((cut ≡ Some Advances) × (first_command waiting ≡ Some command)) ⊎ ((cut ≡ Some (Commands command)) × (waiting ≡ []))
+    → ((cut ≡ Some Advances) × (first_command waiting ≡ Some command))
+    ⊎ ((cut ≡ Some (Commands command)) × (waiting ≡ []))
 may_begin (Some Advances) waiting command is = inl (refl, is)
 may_begin (Some (Commands given)) [] command is = inr (ap (λ (c : Command). Some (Commands c)) is, refl)
 may_begin cut waiting command is = absurd is
@@ -154,7 +171,8 @@ call-words = record {
 
 -- ---- replies
 
-by_ran : (call : Call) (result : Result (Unit {0}) CommandFault) → IsReplyOf call (Ran result) → (c : Command) × (call ≡ Commands c)
+by_ran : (call : Call) (result : Result (Unit {0}) CommandFault) → IsReplyOf call (Ran result)
+    → (c : Command) × (call ≡ Commands c)
 by_ran (Commands c) result is = (c, refl)
 by_ran call result is = absurd is
 
@@ -162,7 +180,8 @@ by_refilled : (call : Call) (result : Result (Unit {0}) RefillFault) → IsReply
 by_refilled Refills result is = refl
 by_refilled call result is = absurd is
 
-by_submitted : (call : Call) (result : Result ℕ SubmitFault) → IsReplyOf call (Submitted result) → (c : Command) × (call ≡ Submits c)
+by_submitted : (call : Call) (result : Result ℕ SubmitFault) → IsReplyOf call (Submitted result)
+    → (c : Command) × (call ≡ Submits c)
 by_submitted (Submits c) result is = (c, refl)
 by_submitted call result is = absurd is
 
@@ -170,11 +189,13 @@ by_advanced : (call : Call) (result : Result Progress StepFault) → IsReplyOf c
 by_advanced Advances result is = refl
 by_advanced call result is = absurd is
 
-by_protected : (call : Call) (result : Result ℕ ProtectFault) (out : List ℕ) → IsReplyOf call (Protected result out) → (plain : List ℕ) × (call ≡ Protects plain)
+by_protected : (call : Call) (result : Result ℕ ProtectFault) (out : List ℕ) → IsReplyOf call (Protected result out)
+    → (plain : List ℕ) × (call ≡ Protects plain)
 by_protected (Protects plain) result out is = (plain, refl)
 by_protected call result out is = absurd is
 
-by_received : (call : Call) (result : Result Verdict Stopped) (out : List ℕ) → IsReplyOf call (Received result out) → (frame : List ℕ) × (call ≡ Receives frame)
+by_received : (call : Call) (result : Result Verdict Stopped) (out : List ℕ) → IsReplyOf call (Received result out)
+    → (frame : List ℕ) × (call ≡ Receives frame)
 by_received (Receives frame) result out is = (frame, refl)
 by_received call result out is = absurd is
 
@@ -206,32 +227,42 @@ never_both validate strict check = let both : Strict ≡ Check = sym strict ∙ 
 clear_or_set : (is_changed : Bool) → is_changed ≡ true → is_changed ≡ false → ⊥
 clear_or_set is_changed set clear = false≢true (sym clear ∙ set)
 
-unless_one : (validate : Validate) (is_changed : Bool) (reason : Reason) (kind : Kind) (a b : Verdict) → IsDiscardedUnless validate is_changed reason kind a
+unless_one : (validate : Validate) (is_changed : Bool) (reason : Reason) (kind : Kind) (a b : Verdict)
+    → IsDiscardedUnless validate is_changed reason kind a
     → IsDiscardedUnless validate is_changed reason kind b → a ≡ b
 unless_one validate is_changed reason kind a b (inl (why, is)) (inl (because, js)) = is ∙ sym js
-unless_one validate is_changed reason kind a b (inl (inl strict, is)) (inr (check, clear, js)) = absurd (never_both validate strict check)
-unless_one validate is_changed reason kind a b (inl (inr set, is)) (inr (check, clear, js)) = absurd (clear_or_set is_changed set clear)
-unless_one validate is_changed reason kind a b (inr (check, clear, is)) (inl (inl strict, js)) = absurd (never_both validate strict check)
-unless_one validate is_changed reason kind a b (inr (check, clear, is)) (inl (inr set, js)) = absurd (clear_or_set is_changed set clear)
+unless_one validate is_changed reason kind a b (inl (inl strict, is)) (inr (check, clear, js)) =
+    absurd (never_both validate strict check)
+unless_one validate is_changed reason kind a b (inl (inr set, is)) (inr (check, clear, js)) =
+    absurd (clear_or_set is_changed set clear)
+unless_one validate is_changed reason kind a b (inr (check, clear, is)) (inl (inl strict, js)) =
+    absurd (never_both validate strict check)
+unless_one validate is_changed reason kind a b (inr (check, clear, is)) (inl (inr set, js)) =
+    absurd (clear_or_set is_changed set clear)
 unless_one validate is_changed reason kind a b (inr (check, clear, is)) (inr (also, too, js)) = is ∙ sym js
 
-untagged_one : (validate : Validate) (a b : Verdict) → ((validate ≡ Strict) × (a ≡ Discarded NoTag)) ⊎ ((validate ≡ Check) × (a ≡ Delivered Untagged))
+untagged_one : (validate : Validate) (a b : Verdict)
+    → ((validate ≡ Strict) × (a ≡ Discarded NoTag)) ⊎ ((validate ≡ Check) × (a ≡ Delivered Untagged))
     → ((validate ≡ Strict) × (b ≡ Discarded NoTag)) ⊎ ((validate ≡ Check) × (b ≡ Delivered Untagged)) → a ≡ b
 untagged_one validate a b (inl (strict, is)) (inl (also, js)) = is ∙ sym js
 untagged_one validate a b (inl (strict, is)) (inr (check, js)) = absurd (never_both validate strict check)
 untagged_one validate a b (inr (check, is)) (inl (strict, js)) = absurd (never_both validate strict check)
 untagged_one validate a b (inr (check, is)) (inr (also, js)) = is ∙ sym js
 
-one_verdict : (side : RxSide) (frame : List ℕ) (step : RxStep) (a b : Verdict) → IsVerdictOf side frame step a → IsVerdictOf side frame step b → a ≡ b
+one_verdict : (side : RxSide) (frame : List ℕ) (step : RxStep) (a b : Verdict) → IsVerdictOf side frame step a
+    → IsVerdictOf side frame step b → a ≡ b
 one_verdict side frame (Tag IsRunt) a b is js = is ∙ sym js
 one_verdict side frame (Tag IsOversize) a b is js = is ∙ sym js
 one_verdict side frame (Tag HasNoTag) a b is js = untagged_one side.validate a b is js
 one_verdict side frame (Tag HasBadTag) a b is js = is ∙ sym js
 one_verdict side frame (Tag IsForKay) a b is js = is ∙ sym js
-one_verdict side frame NoChannel a b is js = unless_one side.validate (changed (control frame)) NoSci UnknownSci a b is js
-one_verdict side frame NoAssociation a b is js = unless_one side.validate (changed (control frame)) NotUsingSa UnusedSa a b is js
+one_verdict side frame NoChannel a b is js =
+    unless_one side.validate (changed (control frame)) NoSci UnknownSci a b is js
+one_verdict side frame NoAssociation a b is js =
+    unless_one side.validate (changed (control frame)) NotUsingSa UnusedSa a b is js
 one_verdict side frame BelowLowest a b is js = is ∙ sym js
-one_verdict side frame NotVerified a b is js = unless_one side.validate (changed (control frame)) NotValid Invalid a b is js
+one_verdict side frame NotVerified a b is js =
+    unless_one side.validate (changed (control frame)) NotValid Invalid a b is js
 
 one_content : (before a b : Content) (s : Standing) → IsBegunAnew before a s → IsBegunAnew before b s → a ≡ b
 one_content before a b s is js = λ i. record {

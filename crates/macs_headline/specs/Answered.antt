@@ -23,8 +23,8 @@ lives_at m = m.lives ++ Serves m.edition m.image m.exchanges None ∷ []
 abbrev pub MomentsAreHistories : ℕ → Type 0
 MomentsAreHistories sectors = (s : State) (m : Moment sectors s) → IsHistory sectors (lives_at m) (Formatted s)
 
--- In these lives a call was answered so: it is among their answers. It was at this moment of them: after the lives and the calls before it. It was a step of the endpoint, and
--- these logs hold all that was used and delivered by then.
+-- In these lives a call was answered so: it is among their answers. It was at this moment of them: after the lives and
+-- the calls before it. It was a step of the endpoint, and these logs hold all that was used and delivered by then.
 pub record WasAnswered (sectors : ℕ) (lives : List Life) (e : Exchange) (logs : Logs) : Type 0 where
   pub among : Contains (exchanges_of_lives lives) e
   pub at : State
@@ -39,5 +39,6 @@ pub record WasAnswered (sectors : ℕ) (lives : List Life) (e : Exchange) (logs 
 
 -- so was each call that is among the answers of a history
 abbrev pub AnswersAreHeld : ℕ → Type 0
-AnswersAreHeld sectors = (lives : List Life) (past : Past) → IsHistory sectors lives past → (e : Exchange) → Contains (exchanges_of_lives lives) e
+AnswersAreHeld sectors = (lives : List Life) (past : Past) → IsHistory sectors lives past → (e : Exchange)
+    → Contains (exchanges_of_lives lives) e
     → WasAnswered sectors lives e (logs_of past)

@@ -15,7 +15,8 @@ pub record WasWritten (sectors : ℕ) (lives : List Life) (logs : Logs) (u : Use
   pub frame : IsStandardFrame answered.at plain u.pn out answered.after
   pub key : frame.sa.key ≡ u.key
 
--- A number that was delivered as some kind, for an SCI and a key: in these lives `receive` so delivered a frame with it, which verified under them.
+-- A number that was delivered as some kind, for an SCI and a key: in these lives `receive` so delivered a frame with
+-- it, which verified under them.
 pub record WasDelivered (sectors : ℕ) (lives : List Life) (logs : Logs) (d : Delivery) : Type 0 where
   pub frame : List ℕ
   pub out : List ℕ
@@ -33,4 +34,5 @@ pub record AreAnswers (sectors : ℕ) (lives : List Life) (logs : Logs) : Type 0
 
 -- so is each of the logs of every history
 abbrev pub LogsAreAnswers : ℕ → Type 0
-LogsAreAnswers sectors = (lives : List Life) (past : Past) → IsHistory sectors lives past → AreAnswers sectors lives (logs_of past)
+LogsAreAnswers sectors = (lives : List Life) (past : Past) → IsHistory sectors lives past
+    → AreAnswers sectors lives (logs_of past)

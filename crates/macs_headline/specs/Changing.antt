@@ -12,13 +12,15 @@ use Rattle.macs_config.specs.Identity.{Identity}
 use Rattle.macs_config.specs.declared.association.RxSa.{RxSa}
 use Rattle.macs_config.specs.declared.association.TxSa.{TxSa}
 use Rattle.macs_config.specs.declared.command.Command.{Command}
-use Rattle.macs_config.specs.declared.command.Command.TheVariants.{RxAdd, RxDrop, RxInstall, RxRemove, SetReplay, SetSciMode, SetValidate, TxInstall, TxRemove, TxUse}
+use Rattle.macs_config.specs.declared.command.Command.TheVariants.{RxAdd, RxDrop, RxInstall, RxRemove, SetReplay}
+use Rattle.macs_config.specs.declared.command.Command.TheVariants.{SetSciMode, SetValidate, TxInstall, TxRemove, TxUse}
 use Rattle.macs_config.specs.declared.command.SciMode.TheVariants.{Explicit}
 use Rattle.macs_config.specs.declared.command.Validate.TheVariants.{Strict}
 
 -- ---- what an endpoint is formatted with
 
--- Validation is strict, replay protection is on with window 0, SecTAGs have the SCI spelled out, and there is no association, no receive channel and no spent key.
+-- Validation is strict, replay protection is on with window 0, SecTAGs have the SCI spelled out, and there is no
+-- association, no receive channel and no spent key.
 pub record IsFirstConfiguration : Type 0 where
   pub validate : default.validate ≡ Strict
   pub on : default.replay.on ≡ true
@@ -33,10 +35,12 @@ pub record IsFirstConfiguration : Type 0 where
 
 -- ---- what a command does
 
--- an association protects as an install asks: under its key, with confidentiality from its offset on, or with integrity alone
+-- an association protects as an install asks: under its key, with confidentiality from its offset on, or with integrity
+-- alone
 abbrev pub IsTxAsked : Key → Bool → ℕ → TxSa → Type 0
 IsTxAsked key confidential offset sa =
-    (sa.key ≡ octets_of_key key) × (is_confidential sa.protection ≡ confidential) × (octets_of (offset_of sa.protection) ≡ offset)
+    (sa.key ≡ octets_of_key key) × (is_confidential sa.protection ≡ confidential)
+    × (octets_of (offset_of sa.protection) ≡ offset)
 
 -- and one validates so
 abbrev pub IsRxAsked : Key → ℕ → RxSa → Type 0
@@ -47,7 +51,8 @@ abbrev pub IsDone : Command → Config → Type 0
 IsDone (SetValidate validate) new = new.validate ≡ validate
 IsDone (SetReplay on window) new = (new.replay.on ≡ on) × (new.replay.window ≡ window)
 IsDone (SetSciMode mode) new = new.mode ≡ mode
-IsDone (TxInstall an key start confidential offset) new = IsSomeAnd (new.tx an) (λ sa. IsTxAsked key confidential offset sa)
+IsDone (TxInstall an key start confidential offset) new =
+    IsSomeAnd (new.tx an) (λ sa. IsTxAsked key confidential offset sa)
 IsDone (TxUse an) new = new.encoding ≡ Some an
 IsDone (TxRemove an) new = new.tx an ≡ None
 IsDone (RxAdd sci) new = is_among new.channels sci ≡ true
@@ -96,8 +101,8 @@ IsOnRx (RxInstall at number key start offset) sci an = (at ≡ sci) × (number �
 IsOnRx (RxRemove at number) sci an = (at ≡ sci) × (number ≡ an)
 IsOnRx command sci an = ⊥
 
--- A command does what it says, and leaves all that it does not name as it was: of the receive channels, which there are. (Their order is in no clause; spent
--- keys are those of the law `spent_for_good` of `macs_config`.)
+-- A command does what it says, and leaves all that it does not name as it was: of the receive channels, which there
+-- are. (Their order is in no clause; spent keys are those of the law `spent_for_good` of `macs_config`.)
 pub record ChangesAsNamed (old : Config) (command : Command) (new : Config) : Type 0 where
   pub done : IsDone command new
   pub validate : ¬ IsOnValidate command → new.validate ≡ old.validate
@@ -110,14 +115,15 @@ pub record ChangesAsNamed (old : Config) (command : Command) (new : Config) : Ty
 
 -- so does each that is not refused
 abbrev pub CommandsChange : Type 0
-CommandsChange = (edition : Edition) (identity : Identity) (old new : Config) (command : Command) → apply edition identity old command ≡ Ok new
+CommandsChange = (edition : Edition) (identity : Identity) (old new : Config) (command : Command)
+    → apply edition identity old command ≡ Ok new
     → ChangesAsNamed old command new
 
 -- ---- spent keys
 
--- What is kept of a spent key: on the transmit side the SHA-256 of the key, on the receive side that of the SCI and the key, so that a key may serve another
--- SCI. An SCI or a fingerprint is among others where one of them is the same, octet by octet. The octets of a key are those that it was given as, in
--- their order.
+-- What is kept of a spent key: on the transmit side the SHA-256 of the key, on the receive side that of the SCI and the
+-- key, so that a key may serve another SCI. An SCI or a fingerprint is among others where one of them is the same,
+-- octet by octet. The octets of a key are those that it was given as, in their order.
 pub record PrintsAre : Type 0 where
   pub transmit : (key : List ℕ) → tx_fingerprint key ≡ sha256 key
   pub receive : (sci key : List ℕ) → rx_fingerprint sci key ≡ sha256 (sci ++ key)

@@ -1,5 +1,6 @@
 -- The headline on commands.
-use Rattle.std.specs.Prelude.{◌≡◌, ◌⊎◌, ◌==◌, ◌++◌, if◌then◌else◌, ℕ, List, [], ◌∷◌, Contains, option_to_list, Option, Some, None, Ok, Err}
+use Rattle.std.specs.Prelude.{◌≡◌, ◌⊎◌, ◌==◌, ◌++◌, if◌then◌else◌, ℕ, List, [], ◌∷◌, Contains, option_to_list, Option}
+use Rattle.std.specs.Prelude.{Some, None, Ok, Err}
 use Rattle.macs_config.specs.Apply.{apply}
 use Rattle.macs_config.specs.Config.{Config, Edition}
 use Rattle.macs_config.specs.Identity.{Identity}
@@ -9,7 +10,8 @@ use Rattle.macs_store.specs.Found.{StandingIs}
 use Rattle.macs_store.specs.Standing.{Standing}
 use Rattle.macs_endpoint.specs.Queue.{first_command, with_waiting}
 use Rattle.macs_endpoint.specs.Restart.{Fits}
-use Rattle.macs_endpoint.specs.State.{Advanced, AdvancedLong, Advances, Call, Commands, Ran, Reply, State, Submits, Submitted}
+use Rattle.macs_endpoint.specs.State.{Advanced, AdvancedLong, Advances, Call, Commands, Ran, Reply, State, Submits}
+use Rattle.macs_endpoint.specs.State.{Submitted}
 use Rattle.macs_endpoint.specs.Step.{Exchange}
 use Rattle.macs_endpoint.specs.declared.fault.CommandFault.TheVariants as ran
 use Rattle.macs_endpoint.specs.declared.progress.Step.TheVariants.{Done}
@@ -29,13 +31,15 @@ abbrev pub without_first : ℕ → List Waiting → List Waiting
 without_first ticket [] = []
 without_first ticket (first ∷ rest) = if first.ticket == ticket then rest else first ∷ rest
 
--- The command that this answer acknowledges, if it acknowledges one: that of the call, or the first of these that wait, by its ticket.
+-- The command that this answer acknowledges, if it acknowledges one: that of the call, or the first of these that wait,
+-- by its ticket.
 abbrev pub acknowledged_by : List Waiting → Call → Reply → List Command
 acknowledged_by waiting (Commands command) (Ran (Ok done)) = command ∷ []
 acknowledged_by waiting Advances (Advanced (Ok (Done ticket (Ok done)))) = first_under ticket waiting
 acknowledged_by waiting call reply = []
 
--- the commands that wait after a call, where these waited before it: one more under the ticket that is answered, or one less, by its ticket
+-- the commands that wait after a call, where these waited before it: one more under the ticket that is answered, or one
+-- less, by its ticket
 abbrev pub waiting_after : List Waiting → Call → Reply → List Waiting
 waiting_after waiting (Submits command) (Submitted (Ok ticket)) = with_waiting waiting ticket command
 waiting_after waiting Advances (Advanced (Ok (Done ticket result))) = without_first ticket waiting
@@ -52,7 +56,8 @@ acknowledged_from waiting (e ∷ exchanges) =
 abbrev pub acknowledged_commands : List Exchange → List Command
 acknowledged_commands exchanges = acknowledged_from [] exchanges
 
--- those whose work on the disk began: the acknowledged ones, and then the one that is under way at the end of the life, if one is
+-- those whose work on the disk began: the acknowledged ones, and then the one that is under way at the end of the life,
+-- if one is
 abbrev pub accepted_commands : List Exchange → (in_hand : Option Command) → List Command
 accepted_commands exchanges in_hand = acknowledged_commands exchanges ++ option_to_list in_hand
 
@@ -71,14 +76,15 @@ waiting_at_end exchanges = waiting_from [] exchanges
 abbrev pub failing : Command → Exchange
 failing command = record { call = Commands command; reply = Ran (Err ran.Disk) }
 
--- A call of this life was given the command, and work on it may have begun: it is the first of those that wait at the end; or none waits there, and it was
--- given to `command`, which answered Disk or is the call that was cut short.
+-- A call of this life was given the command, and work on it may have begun: it is the first of those that wait at the
+-- end; or none waits there, and it was given to `command`, which answered Disk or is the call that was cut short.
 abbrev pub WasHandedIn : List Exchange → (cut : Option Call) → Command → Type 0
 WasHandedIn exchanges cut command =
     (first_command (waiting_at_end exchanges) ≡ Some command)
     ⊎ ((waiting_at_end exchanges ≡ []) × (Contains exchanges (failing command) ⊎ (cut ≡ Some (Commands command))))
 
--- At whatever moment a life ends, in the middle of a call or not: what is under way there was so given to a call of that life.
+-- At whatever moment a life ends, in the middle of a call or not: what is under way there was so given to a call of
+-- that life.
 abbrev pub InHandWasGiven : ℕ → Type 0
 InHandWasGiven sectors = (last : State) (m : Moment sectors last) (cut : Option Call) (command : Command)
     → (state_at_end last cut).in_hand ≡ Some command → WasHandedIn m.exchanges cut command
@@ -97,28 +103,34 @@ CommandsMake edition identity old (command ∷ commands) new =
 abbrev pub IsPrefix : {X : Type 0} → (xs ys : List X) → Type 0
 IsPrefix {X} xs ys = (rest : List X) × (xs ++ rest ≡ ys)
 
--- What is found after a life that itself found `before` and ended with this command under way, or none: the configuration after some of its
--- commands, a prefix of those that were accepted that holds every acknowledged one.
-pub record FindsPrefix (before : Standing) (exchanges : List Exchange) (in_hand : Option Command) (after : Standing) : Type 0 where
+-- What is found after a life that itself found `before` and ended with this command under way, or none: the
+-- configuration after some of its commands, a prefix of those that were accepted that holds every acknowledged one.
+pub record FindsPrefix (before : Standing) (exchanges : List Exchange) (in_hand : Option Command)
+    (after : Standing) : Type 0 where
   pub identity : after.identity ≡ before.identity
   pub kept : List Command
   pub acknowledged : IsPrefix (acknowledged_commands exchanges) kept
   pub accepted : IsPrefix kept (accepted_commands exchanges in_hand)
   pub made : CommandsMake before.edition before.identity before.config kept after.config
 
--- Where nothing was under way at its end, one configuration is found after a life, under one identity: each acknowledged command took effect, and no other did.
--- Where a command was under way, it is that configuration, or what the command makes of it.
+-- Where nothing was under way at its end, one configuration is found after a life, under one identity: each
+-- acknowledged command took effect, and no other did. Where a command was under way, it is that configuration, or what
+-- the command makes of it.
 pub record FindsOne : Type 0 where
-  pub none_in_hand : (before a b : Standing) (exchanges : List Exchange) → FindsPrefix before exchanges None a → FindsPrefix before exchanges None b
+  pub none_in_hand : (before a b : Standing) (exchanges : List Exchange) → FindsPrefix before exchanges None a
+      → FindsPrefix before exchanges None b
       → (a.config ≡ b.config) × (a.identity ≡ b.identity)
-  pub one_in_hand : (before without after : Standing) (exchanges : List Exchange) (command : Command) → FindsPrefix before exchanges None without
+  pub one_in_hand : (before without after : Standing) (exchanges : List Exchange) (command : Command)
+      → FindsPrefix before exchanges None without
       → FindsPrefix before exchanges (Some command) after
-      → ((after.config ≡ without.config) ⊎ (apply before.edition before.identity without.config command ≡ Ok after.config))
+      → ((after.config ≡ without.config)
+      ⊎ (apply before.edition before.identity without.config command ≡ Ok after.config))
       × (after.identity ≡ without.identity)
 
--- At whatever moment a life ends, in the middle of a call or not, and whatever edition opens the disk next: in every image that it may come
--- upon it finds such a prefix.
+-- At whatever moment a life ends, in the middle of a call or not, and whatever edition opens the disk next: in every
+-- image that it may come upon it finds such a prefix.
 abbrev pub CommandsKept : ℕ → Type 0
-CommandsKept sectors = (last : State) (m : Moment sectors last) (cut : Option Call) (later : Edition) (image : Image) (after : Standing)
+CommandsKept sectors =
+    (last : State) (m : Moment sectors last) (cut : Option Call) (later : Edition) (image : Image) (after : Standing)
     → Fits later sectors image (state_at_end last cut) → StandingIs later sectors image (Ok after)
     → FindsPrefix m.life.found m.exchanges (state_at_end last cut).in_hand after

@@ -13,10 +13,12 @@ use Rattle.macs_headline.specs.Commands.{CommandsMake, IsPrefix, WasHandedIn, ac
 use Rattle.macs_headline.specs.History.{Formats, Life, Past, Refuses, Serves, state_at_end}
 use Rattle.macs_headline.specs.Moments.{IsFoundAfter, Moment}
 
--- The commands of a life that are kept: a prefix of those that were accepted that holds every acknowledged one. The one under way is the one at its end, which
--- comes after a moment of some history, with this edition, this image and these answers, whatever lives came before it; if there was one, it was given to a call of
--- this life, and work on it had begun, or may have in the call that was cut short.
-pub record AreKept (sectors : ℕ) (edition : Edition) (image : Image) (exchanges : List Exchange) (cut : Option Call) (kept : List Command) : Type 0 where
+-- The commands of a life that are kept: a prefix of those that were accepted that holds every acknowledged one. The one
+-- under way is the one at its end, which comes after a moment of some history, with this edition, this image and these
+-- answers, whatever lives came before it; if there was one, it was given to a call of this life, and work on it had
+-- begun, or may have in the call that was cut short.
+pub record AreKept (sectors : ℕ) (edition : Edition) (image : Image) (exchanges : List Exchange) (cut : Option Call)
+    (kept : List Command) : Type 0 where
   pub last : State
   pub moment : Moment sectors last
   pub of_edition : moment.edition ≡ edition
@@ -31,10 +33,12 @@ pub record AreKept (sectors : ℕ) (edition : Edition) (image : Image) (exchange
 
 -- on a disk of so many sectors this image stands for the configuration
 abbrev pub StandsFor : ℕ → Edition → Image → Config → Type 0
-StandsFor sectors edition image config = (found : Standing) × StandingIs edition sectors image (Ok found) × (found.config ≡ config)
+StandsFor sectors edition image config = (found : Standing) × StandingIs edition sectors image (Ok found)
+    × (found.config ≡ config)
 
--- These lives make new of a configuration. Each in which an endpoint served opened an image that stands for the configuration so far, and makes of it what
--- the commands make that are kept of this life, which its edition accepts at their turns. A `format` and an opening that is refused make nothing.
+-- These lives make new of a configuration. Each in which an endpoint served opened an image that stands for the
+-- configuration so far, and makes of it what the commands make that are kept of this life, which its edition accepts at
+-- their turns. A `format` and an opening that is refused make nothing.
 abbrev pub LivesMake : ℕ → Identity → (old : Config) → List Life → (new : Config) → Type 0
 LivesMake sectors identity old [] new = new ≡ old
 LivesMake sectors identity old (Formats edition given is_ok ∷ lives) new = LivesMake sectors identity old lives new
@@ -43,12 +47,14 @@ LivesMake sectors identity old (Serves edition image exchanges cut ∷ lives) ne
     StandsFor sectors edition image old × (kept : List Command) × AreKept sectors edition image exchanges cut kept
     × (mid : Config) × CommandsMake edition identity old kept mid × LivesMake sectors identity mid lives new
 
--- What is found after lives has the identity that a `format` was given which answered Ok, where one did; and it is the configuration that the lives make of
--- the one that an endpoint is formatted with.
+-- What is found after lives has the identity that a `format` was given which answered Ok, where one did; and it is the
+-- configuration that the lives make of the one that an endpoint is formatted with.
 pub record IsMadeByLives (sectors : ℕ) (lives : List Life) (found : Standing) : Type 0 where
-  pub identity : (edition : Edition) (given : Identity) → Contains lives (Formats edition given true) → found.identity ≡ given
+  pub identity : (edition : Edition) (given : Identity) → Contains lives (Formats edition given true)
+      → found.identity ≡ given
   pub made : LivesMake sectors found.identity default lives found.config
 
 -- Whatever edition opens the disk after a history, it finds such a configuration in every image that it may come upon.
 abbrev pub ConfigurationIs : ℕ → Type 0
-ConfigurationIs sectors = (past : Past) (found : Standing) (f : IsFoundAfter sectors past found) → IsMadeByLives sectors f.lives found
+ConfigurationIs sectors = (past : Past) (found : Standing) (f : IsFoundAfter sectors past found)
+    → IsMadeByLives sectors f.lives found

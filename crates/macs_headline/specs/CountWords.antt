@@ -1,6 +1,7 @@
 -- The headline on counters: which count is of which answer, that an answer adds to its own count alone, and what is
 -- counted of each channel.
-use Rattle.std.specs.Prelude.{◌≡◌, ◌≢◌, ◌+◌, ◌-◌, ◌^◌, min, ℕ, Bool, true, false, List, [], ◌∷◌, map, replicate, Option, Some, None, Result, Ok}
+use Rattle.std.specs.Prelude.{◌≡◌, ◌≢◌, ◌+◌, ◌-◌, ◌^◌, min, ℕ, Bool, true, false, List, [], ◌∷◌, map, replicate, Option}
+use Rattle.std.specs.Prelude.{Some, None, Result, Ok}
 use Rattle.std.specs.Prelude.{Err}
 use Rattle.macs_config.specs.Config.{is_among}
 use Rattle.macs_config.specs.Numbers.{one_more}
@@ -41,9 +42,9 @@ is_counted_by_channel (Discarded reason.Late) = true
 is_counted_by_channel (Discarded reason.NotValid) = true
 is_counted_by_channel verdict = false
 
--- The count of a fault, of a verdict, and of a verdict on frames that name one channel, is the counter of its name. Each
--- verdict with a counter of a channel is counted there.
--- Before the first call, and of a channel that was just added, each is 0. A count rises to 2^64 - 1 and stays there.
+-- The count of a fault, of a verdict, and of a verdict on frames that name one channel, is the counter of its name.
+-- Each verdict with a counter of a channel is counted there. Before the first call, and of a channel that was just
+-- added, each is 0. A count rises to 2^64 - 1 and stays there.
 pub record CountsAreNamed : Type 0 where
   pub faults : (c : TxCounters) → (fault_count fault.Runt c ≡ c.runt) × (fault_count fault.TooLong c ≡ c.too_long)
       × (fault_count fault.ForeignSource c ≡ c.foreign_source) × (fault_count fault.NoEncodingSa c ≡ c.no_encoding_sa)
@@ -65,7 +66,8 @@ pub record CountsAreNamed : Type 0 where
       × (channel_count_of (Discarded reason.NotUsingSa) c ≡ c.not_using_sa)
       × (channel_count_of (Discarded reason.Late) c ≡ c.late)
       × (channel_count_of (Discarded reason.NotValid) c ≡ c.not_valid)
-  pub counted_by_channel : map is_counted_by_channel (Delivered kind.Ok ∷ Delivered kind.Delayed ∷ Delivered kind.Invalid
+  pub counted_by_channel : map is_counted_by_channel
+      (Delivered kind.Ok ∷ Delivered kind.Delayed ∷ Delivered kind.Invalid
       ∷ Delivered kind.UnusedSa ∷ Discarded reason.NotUsingSa ∷ Discarded reason.Late ∷ Discarded reason.NotValid ∷ [])
       ≡ replicate 7 true
   pub none_sent : (no_tx_counts.protected ≡ 0) × ((at : TxFault) → fault_count at no_tx_counts ≡ 0)
@@ -75,9 +77,9 @@ pub record CountsAreNamed : Type 0 where
 
 -- A fault that is answered adds to its own count alone, and so does a verdict; `counters` says by how much. Of a
 -- channel, a verdict that is counted for it adds one where the frame names it, and nothing else changes; the counts of
--- the others stay. A channel that an opening finds, or a command adds, begins at 0; one that is dropped no longer counts.
--- Where `protect` does not answer, what is sent is not counted, nor where it answers Stopped; so with `receive`, whose
--- verdicts and channels stay then.
+-- the others stay. A channel that an opening finds, or a command adds, begins at 0; one that is dropped no longer
+-- counts. Where `protect` does not answer, what is sent is not counted, nor where it answers Stopped; so with
+-- `receive`, whose verdicts and channels stay then.
 pub record CountsRiseAlone {D : Type 0} (disk_of : D → Disk) : Type 0 where
   pub at_first : (disk : D) (first : EndpointValue D) (sci : List ℕ) → IsOpening disk_of disk (Ok first)
       → (is_among (standing_in first.store).config.channels sci ≡ true

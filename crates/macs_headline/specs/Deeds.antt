@@ -1,4 +1,5 @@
--- What is done with a disk, by the contracts of `format`, of `Endpoint::open` and of an endpoint's calls, and which lives it makes.
+-- What is done with a disk, by the contracts of `format`, of `Endpoint::open` and of an endpoint's calls, and which
+-- lives it makes.
 use Rattle.std.specs.Prelude.{◌≡◌, ◌≤◌, ◌++◌, ℕ, false, is_ok, List, [], ◌∷◌, map, Option, Some, None, Result, Ok, Err}
 use Rattle.macs_config.specs.Config.{this_edition}
 use Rattle.macs_config.specs.Identity.{Identity}
@@ -16,9 +17,10 @@ use Rattle.macs_headline.specs.History.{Formats, Life, Refuses, Serves}
 
 -- ---- how a program ends
 
--- Calls that began at `since` and would have led to `ran` end at a moment on the way, and another disk has the medium from then on. Whatever
--- happened to the sectors that were pending, a power loss leaves nothing of it that it could not have left at that moment. That the power is lost
--- is one way to end so; that the program is killed, or lets go of its disk, are others.
+-- Calls that began at `since` and would have led to `ran` end at a moment on the way, and another disk has the medium
+-- from then on. Whatever happened to the sectors that were pending, a power loss leaves nothing of it that it could not
+-- have left at that moment. That the power is lost is one way to end so; that the program is killed, or lets go of its
+-- disk, are others.
 pub record IsPassedOn (ran : Disk) (since : ℕ) (new : Disk) : Type 0 where
   pub moment : ℕ
   pub later : since ≤ moment
@@ -29,8 +31,9 @@ pub record IsPassedOn (ran : Disk) (since : ℕ) (new : Disk) : Type 0 where
 
 -- ---- deeds
 
--- What is done with a disk: a `format`, answered or cut short; an opening that is refused, or cut short; the life of an endpoint, from its
--- opening to the end of its last call or into a call that is cut short; or nothing, while the medium is passed on to another disk
+-- What is done with a disk: a `format`, answered or cut short; an opening that is refused, or cut short; the life of an
+-- endpoint, from its opening to the end of its last call or into a call that is cut short; or nothing, while the medium
+-- is passed on to another disk
 pub data Deed (D : Type 0) : Type 0 where
   Formatting : (identity : Identity) (result : Result (Unit {0}) JournalFault) → Deed D
   FormattingCut : (identity : Identity) → Deed D
@@ -48,8 +51,8 @@ disk_after_opening disk_of (Err refused) = disk_of refused.disk
 abbrev pub LivesFrom : {D : Type 0} → (D → Disk) → D → EndpointValue D → List (Transition D) → EndpointValue D → Type 0
 LivesFrom disk_of disk first turns last = IsOpening disk_of disk (Ok first) × Lives disk_of first turns last
 
--- A deed leads from a disk to a disk. What is cut short would have been answered, and the medium is passed on at some moment of it. Where no call
--- is cut short, an endpoint gives its device as it is.
+-- A deed leads from a disk to a disk. What is cut short would have been answered, and the medium is passed on at some
+-- moment of it. Where no call is cut short, an endpoint gives its device as it is.
 abbrev pub Does : {D : Type 0} → (D → Disk) → D → Deed D → D → Type 0
 Does disk_of old (Formatting identity result) new = IsFormat disk_of old identity result new
 Does {D} disk_of old (FormattingCut identity) new =
@@ -92,4 +95,5 @@ lives_of_deed seen PassingOn = []
 -- those of deeds, beginning with this disk
 abbrev pub lives_of_links : {D : Type 0} → (D → Disk) → D → List (Link D) → List Life
 lives_of_links disk_of old [] = []
-lives_of_links disk_of old (link ∷ links) = lives_of_deed (now (disk_of old)).seen link.deed ++ lives_of_links disk_of link.after links
+lives_of_links disk_of old (link ∷ links) =
+    lives_of_deed (now (disk_of old)).seen link.deed ++ lives_of_links disk_of link.after links

@@ -1,5 +1,7 @@
--- The headline on editions: what an endpoint of one edition does, one of an edition that takes as much or more does too.
-use Rattle.std.specs.Prelude.{◌≡◌, ◌≢◌, ◌<◌, ◌≤◌, ◌⊎◌, true, false, ℕ, List, Contains, length, Option, Some, None, IfSome, IsSomeAnd, Ok, Err}
+-- The headline on editions: what an endpoint of one edition does, one of an edition that takes as much or more does
+-- too.
+use Rattle.std.specs.Prelude.{◌≡◌, ◌≢◌, ◌<◌, ◌≤◌, ◌⊎◌, true, false, ℕ, List, Contains, length, Option, Some, None}
+use Rattle.std.specs.Prelude.{IfSome, IsSomeAnd, Ok, Err}
 use Rattle.macs_aes.specs.Keys.{octets_of_key}
 use Rattle.macs_config.specs.Apply.{IsCommand, LongKey, Named, Reason, apply, refusal_of}
 use Rattle.macs_config.specs.Config.{Config, Edition, IsUpTo, takes_key}
@@ -24,7 +26,8 @@ use Rattle.macs_store.specs.Commands.{command_of}
 use Rattle.macs_store.specs.Found.{StandingIs}
 use Rattle.macs_store.specs.Replay.{meaning_of, reading_of, replay_of, snapshot_of, standing_after_record}
 use Rattle.macs_store.specs.Snapshot.{snapshot}
-use Rattle.macs_store.specs.Standing.{Standing, accept, new_standing, standing_with_rx_ceiling, standing_with_tx_ceiling}
+use Rattle.macs_store.specs.Standing.{Standing, accept, new_standing, standing_with_rx_ceiling}
+use Rattle.macs_store.specs.Standing.{standing_with_tx_ceiling}
 use Rattle.macs_endpoint.specs.Restart.{Restart}
 use Rattle.macs_endpoint.specs.State.{Advanced, AdvancedLong, Call, Ran, RefusedLong, Reply, State}
 use Rattle.macs_endpoint.specs.Step.{Step}
@@ -50,14 +53,19 @@ TellsEdition RefusedLong = Unit {0}
 TellsEdition (AdvancedLong ticket) = Unit {0}
 TellsEdition reply = ⊥
 
--- What an endpoint of an edition does, one of a larger edition does too: each step, but for a refusal for what the edition does not take; each command that a
--- call has begun which is cut short; and each restart, in programs of no smaller editions.
+-- What an endpoint of an edition does, one of a larger edition does too: each step, but for a refusal for what the
+-- edition does not take; each command that a call has begun which is cut short; and each restart, in programs of no
+-- smaller editions.
 pub record EditionsAlike : Type 0 where
-  pub steps : (large : Edition) (old new : State) (call : Call) (reply : Reply) → IsUpTo old.edition large → ¬ TellsEdition reply → Step old call reply new
+  pub steps : (large : Edition) (old new : State) (call : Call) (reply : Reply) → IsUpTo old.edition large
+      → ¬ TellsEdition reply → Step old call reply new
       → Step (with_edition old large) call reply (with_edition new large)
-  pub cuts : (large : Edition) (s : State) (cut : Option Call) (command : Command) → IsUpTo s.edition large → s.in_hand ≡ None
-      → (state_at_end s cut).in_hand ≡ Some command → state_at_end (with_edition s large) cut ≡ with_edition (state_at_end s cut) large
-  pub restarts : (large later : Edition) (old new : State) → IsUpTo old.edition large → IsUpTo large later → Restart old new
+  pub cuts : (large : Edition) (s : State) (cut : Option Call) (command : Command) → IsUpTo s.edition large
+      → s.in_hand ≡ None
+      → (state_at_end s cut).in_hand ≡ Some command
+      → state_at_end (with_edition s large) cut ≡ with_edition (state_at_end s cut) large
+  pub restarts : (large later : Edition) (old new : State) → IsUpTo old.edition large → IsUpTo large later
+      → Restart old new
       → Restart (with_edition old large) (with_edition new later)
 
 -- the key that a command installs
@@ -74,37 +82,50 @@ HasLongKey (recorded.TxInstall an sa start) = length sa.key ≢ 16
 HasLongKey (recorded.RxInstall sci an sa start) = length sa.key ≢ 16
 HasLongKey r = ⊥
 
--- What an edition takes. ChannelsFull is answered to a command that adds a channel alone, and only where as many exist as the edition takes. LongKey is
--- answered to no command in range where it takes long keys, and else a command that installs is accepted with a key of 16 octets alone; it is answered to none
--- with a key of 16 octets. Areas of format two are read by their records alone, where the edition reads them, so as those of format one where no record is of a
--- long key, and else not; an area of format one with a record of a long key stands for nothing. A record of a command that it accepts stands for what the
--- command makes, whatever is installed; so does one of an association that a command asks for. What it reads, in a snapshot or after it, has no more channels
--- than it takes, and no key that it does not take.
+-- What an edition takes. ChannelsFull is answered to a command that adds a channel alone, and only where as many exist
+-- as the edition takes. LongKey is answered to no command in range where it takes long keys, and else a command that
+-- installs is accepted with a key of 16 octets alone; it is answered to none with a key of 16 octets. Areas of format
+-- two are read by their records alone, where the edition reads them, so as those of format one where no record is of a
+-- long key, and else not; an area of format one with a record of a long key stands for nothing. A record of a command
+-- that it accepts stands for what the command makes, whatever is installed; so does one of an association that a
+-- command asks for. What it reads, in a snapshot or after it, has no more channels than it takes, and no key that it
+-- does not take.
 pub record EditionsTake : Type 0 where
-  pub channels : (edition : Edition) (identity : Identity) (c : Config) (sci : List ℕ) → length c.channels < edition.channels
+  pub channels : (edition : Edition) (identity : Identity) (c : Config) (sci : List ℕ)
+      → length c.channels < edition.channels
       → ¬ (refusal_of edition identity c (RxAdd sci) ≡ Some (Named ChannelsFull))
-  pub full : (edition : Edition) (identity : Identity) (c : Config) (command : Command) → refusal_of edition identity c command ≡ Some (Named ChannelsFull)
+  pub full : (edition : Edition) (identity : Identity) (c : Config) (command : Command)
+      → refusal_of edition identity c command ≡ Some (Named ChannelsFull)
       → (sci : List ℕ) × (command ≡ RxAdd sci) × (edition.channels ≤ length c.channels)
-  pub long_keys : (edition : Edition) (identity : Identity) (c : Config) (command : Command) → IsCommand command → edition.long_keys ≡ true
+  pub long_keys : (edition : Edition) (identity : Identity) (c : Config) (command : Command) → IsCommand command
+      → edition.long_keys ≡ true
       → ¬ (refusal_of edition identity c command ≡ Some LongKey)
-  pub short_keys : (edition : Edition) (identity : Identity) (c new : Config) (command : Command) → edition.long_keys ≡ false
+  pub short_keys : (edition : Edition) (identity : Identity) (c new : Config) (command : Command)
+      → edition.long_keys ≡ false
       → apply edition identity c command ≡ Ok new → IfSome (key_in command) (λ key. length key ≡ 16)
-  pub short_taken : (edition : Edition) (identity : Identity) (c : Config) (command : Command) → IfSome (key_in command) (λ key. length key ≡ 16)
+  pub short_taken : (edition : Edition) (identity : Identity) (c : Config) (command : Command)
+      → IfSome (key_in command) (λ key. length key ≡ 16)
       → ¬ (refusal_of edition identity c command ≡ Some LongKey)
-  pub two_read : (edition : Edition) (identity : Identity) (count : ℕ) (records : List Record) → edition.format_two ≡ true
+  pub two_read : (edition : Edition) (identity : Identity) (count : ℕ) (records : List Record)
+      → edition.format_two ≡ true
       → reading_of edition Two identity count records ≡ replay_of edition identity count records
-  pub formats : (edition : Edition) (identity : Identity) (count : ℕ) (records : List Record) → edition.format_two ≡ true
+  pub formats : (edition : Edition) (identity : Identity) (count : ℕ) (records : List Record)
+      → edition.format_two ≡ true
       → ((r : Record) → Contains records r → ¬ HasLongKey r)
       → reading_of edition Two identity count records ≡ reading_of edition One identity count records
-  pub long_records : (edition : Edition) (identity : Identity) (count : ℕ) (records : List Record) (r : Record) → Contains records r → HasLongKey r
+  pub long_records : (edition : Edition) (identity : Identity) (count : ℕ) (records : List Record) (r : Record)
+      → Contains records r → HasLongKey r
       → reading_of edition One identity count records ≡ None
-  pub one_format : (edition : Edition) (identity : Identity) (count : ℕ) (records : List Record) → edition.format_two ≡ false
+  pub one_format : (edition : Edition) (identity : Identity) (count : ℕ) (records : List Record)
+      → edition.format_two ≡ false
       → reading_of edition Two identity count records ≡ None
-  pub kept : (s after : Standing) (record_kept : Record) (command : Command) → command_of record_kept ≡ Some command → accept s command ≡ Ok after
+  pub kept : (s after : Standing) (record_kept : Record) (command : Command) → command_of record_kept ≡ Some command
+      → accept s command ≡ Ok after
       → standing_after_record s record_kept ≡ Some after
   pub tx_kept : (s after : Standing) (an : ℕ) (sa : TxSa) (start : ℕ) → accept s (tx_install an sa start) ≡ Ok after
       → standing_after_record s (recorded.TxInstall an sa start) ≡ Some after
-  pub rx_kept : (s after : Standing) (sci : List ℕ) (an : ℕ) (sa : RxSa) (start : ℕ) → accept s (rx_install sci an sa start) ≡ Ok after
+  pub rx_kept : (s after : Standing) (sci : List ℕ) (an : ℕ) (sa : RxSa) (start : ℕ)
+      → accept s (rx_install sci an sa start) ≡ Ok after
       → standing_after_record s (recorded.RxInstall sci an sa start) ≡ Some after
   pub replayed : (edition : Edition) (identity : Identity) (count : ℕ) (records : List Record) (s : Standing)
       → replay_of edition identity count records ≡ Some s → (length s.config.channels ≤ edition.channels)
@@ -115,37 +136,52 @@ pub record EditionsTake : Type 0 where
 abbrev pub content_in : Format → Content → Content
 content_in format c = record c { head = record c.head { format = format } }
 
--- How an edition reads a disk, whatever is installed. A journal that is found stands for what its content means; and with the head of either format in its
--- place, the same content is found in that format. A new one of format one means a new endpoint. With one record more, which its format has, a content means
--- what the record makes of what it meant; and a journal that starts over, with records that stand for what it meant, means that: in format two, where the
--- edition reads it, and in format one, where no record has a long key. A snapshot of what a content means, whose associations are at the numbers 0 to 3, is
--- such records. A record that raises the ceiling of an association does so, and one that does not raise it is refused.
+-- How an edition reads a disk, whatever is installed. A journal that is found stands for what its content means; and
+-- with the head of either format in its place, the same content is found in that format. A new one of format one means
+-- a new endpoint. With one record more, which its format has, a content means what the record makes of what it meant;
+-- and a journal that starts over, with records that stand for what it meant, means that: in format two, where the
+-- edition reads it, and in format one, where no record has a long key. A snapshot of what a content means, whose
+-- associations are at the numbers 0 to 3, is such records. A record that raises the ceiling of an association does so,
+-- and one that does not raise it is refused.
 pub record EditionsRead : Type 0 where
-  pub stands : (edition : Edition) (sectors : ℕ) (image : Image) (c : Content) (s : Standing) → least_sectors ≤ sectors → HasJournal image c
+  pub stands : (edition : Edition) (sectors : ℕ) (image : Image) (c : Content) (s : Standing) → least_sectors ≤ sectors
+      → HasJournal image c
       → meaning_of edition c ≡ Some s → StandingIs edition sectors image (Ok s)
   pub either_format : (image : Image) (c : Content) (format : Format) → HasJournal image c
-      → HasJournal (put_sector image (head_body c.area) (head_sector_of (content_in format c).head)) (content_in format c)
+      → HasJournal (put_sector image (head_body c.area) (head_sector_of (content_in format c).head))
+      (content_in format c)
   pub new_one : (edition : Edition) (identity : Identity)
-      → meaning_of edition (record (first_content identity) { head = record (first_head identity) { format = One } }) ≡ Some (new_standing edition identity)
+      → meaning_of edition (record (first_content identity) { head = record (first_head identity) { format = One } })
+      ≡ Some (new_standing edition identity)
   pub one_more : (edition : Edition) (c : Content) (r : Record) (s after : Standing) → c.head.count ≤ length c.records
-      → (c.head.format ≡ Two) ⊎ (¬ HasLongKey r) → meaning_of edition c ≡ Some s → standing_after_record s r ≡ Some after
+      → (c.head.format ≡ Two) ⊎ (¬ HasLongKey r) → meaning_of edition c ≡ Some s
+      → standing_after_record s r ≡ Some after
       → meaning_of edition (content_with_record c r) ≡ Some after
-  pub anew : (edition : Edition) (c : Content) (s : Standing) (records : List Record) → edition.format_two ≡ true → meaning_of edition c ≡ Some s
+  pub anew : (edition : Edition) (c : Content) (s : Standing) (records : List Record) → edition.format_two ≡ true
+      → meaning_of edition c ≡ Some s
       → snapshot_of edition s.identity records ≡ Some s → meaning_of edition (compacted c records) ≡ Some s
-  pub anew_one : (edition : Edition) (c : Content) (s : Standing) (records : List Record) → ((r : Record) → Contains records r → ¬ HasLongKey r)
-      → meaning_of edition c ≡ Some s → snapshot_of edition s.identity records ≡ Some s → meaning_of edition (content_in One (compacted c records)) ≡ Some s
-  pub snapshot : (edition : Edition) (c : Content) (s : Standing) → meaning_of edition c ≡ Some s → ((an : ℕ) → 4 ≤ an → s.config.tx an ≡ None)
-      → ((sci : List ℕ) (an : ℕ) → 4 ≤ an → s.config.rx sci an ≡ None) → snapshot_of edition s.identity (snapshot s) ≡ Some s
+  pub anew_one : (edition : Edition) (c : Content) (s : Standing) (records : List Record)
+      → ((r : Record) → Contains records r → ¬ HasLongKey r)
+      → meaning_of edition c ≡ Some s → snapshot_of edition s.identity records ≡ Some s
+      → meaning_of edition (content_in One (compacted c records)) ≡ Some s
+  pub snapshot : (edition : Edition) (c : Content) (s : Standing) → meaning_of edition c ≡ Some s
+      → ((an : ℕ) → 4 ≤ an → s.config.tx an ≡ None)
+      → ((sci : List ℕ) (an : ℕ) → 4 ≤ an → s.config.rx sci an ≡ None)
+      → snapshot_of edition s.identity (snapshot s) ≡ Some s
   pub tx_raised : (s : Standing) (an old ceiling : ℕ) → s.ceilings.tx an ≡ Some old → old < ceiling
       → standing_after_record s (recorded.TxCeiling an ceiling) ≡ Some (standing_with_tx_ceiling s an ceiling)
   pub rx_raised : (s : Standing) (sci : List ℕ) (an old ceiling : ℕ) → s.ceilings.rx sci an ≡ Some old → old < ceiling
       → standing_after_record s (recorded.RxCeiling sci an ceiling) ≡ Some (standing_with_rx_ceiling s sci an ceiling)
-  pub tx_rises : (s after : Standing) (an ceiling : ℕ) → standing_after_record s (recorded.TxCeiling an ceiling) ≡ Some after
+  pub tx_rises : (s after : Standing) (an ceiling : ℕ)
+      → standing_after_record s (recorded.TxCeiling an ceiling) ≡ Some after
       → IsSomeAnd (s.ceilings.tx an) (λ old. old < ceiling)
-  pub rx_rises : (s after : Standing) (sci : List ℕ) (an ceiling : ℕ) → standing_after_record s (recorded.RxCeiling sci an ceiling) ≡ Some after
+  pub rx_rises : (s after : Standing) (sci : List ℕ) (an ceiling : ℕ)
+      → standing_after_record s (recorded.RxCeiling sci an ceiling) ≡ Some after
       → IsSomeAnd (s.ceilings.rx sci an) (λ old. old < ceiling)
 
--- an edition is larger than another one that takes no more channels, long keys only where it does, and areas of format two only where it does
+-- an edition is larger than another one that takes no more channels, long keys only where it does, and areas of format
+-- two only where it does
 abbrev pub TheseAreLarger : Type 0
-TheseAreLarger = (small large : Edition) → small.channels ≤ large.channels → (small.long_keys ≡ true → large.long_keys ≡ true)
+TheseAreLarger = (small large : Edition) → small.channels ≤ large.channels
+    → (small.long_keys ≡ true → large.long_keys ≡ true)
     → (small.format_two ≡ true → large.format_two ≡ true) → IsUpTo small large

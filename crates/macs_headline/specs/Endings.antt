@@ -1,5 +1,6 @@
 -- The ways in which a program may end, each of which passes the medium of its disk on.
-use Rattle.std.specs.Prelude.{◌≡◌, ◌≤◌, ◌<◌, ◌^◌, ◌&&◌, not, if◌then◌else◌, ℕ, Bool, true, false, List, length, get_or, Result}
+use Rattle.std.specs.Prelude.{◌≡◌, ◌≤◌, ◌<◌, ◌^◌, ◌&&◌, not, if◌then◌else◌, ℕ, Bool, true, false, List, length, get_or}
+use Rattle.std.specs.Prelude.{Result}
 use Rattle.macs_disk.specs.Disk.{Disk, IsDeviceCall, IsHonest, LeftSince, MayLeave, Reads, Syncs, Works, now}
 use Rattle.macs_disk.specs.States.{DiskState, Image, IsImage, settled_state}
 use Rattle.macs_disk.specs.declared.disk.DeviceFault.{DeviceFault}
@@ -19,8 +20,8 @@ abbrev pub TheseArePassedOn : Type 0
 TheseArePassedOn = (ran new : Disk) (since moment : ℕ) → since ≤ moment → moment ≤ ran.clock → IsAlike ran new
     → ((image : Image) → MayLeave new image → IsImage (ran.past moment) image) → IsPassedOn ran since new
 
--- The power goes at some moment of calls that began at `since` and would have led to `ran`: the disk holds one of the images of that moment,
--- and nothing is pending.
+-- The power goes at some moment of calls that began at `since` and would have led to `ran`: the disk holds one of the
+-- images of that moment, and nothing is pending.
 pub record LosesPower (ran : Disk) (since : ℕ) (new : Disk) : Type 0 where
   pub image : Image
   pub left : LeftSince ran since image
@@ -31,12 +32,15 @@ pub record LosesPower (ran : Disk) (since : ℕ) (new : Disk) : Type 0 where
 abbrev pub PowerLossesPassOn : Type 0
 PowerLossesPassOn = (old new : Disk) (since : ℕ) → LosesPower old since new → IsPassedOn old since new
 
--- The program is killed at some moment since, inside a call or between two, and no power is lost: what was pending is still pending.
+-- The program is killed at some moment since, inside a call or between two, and no power is lost: what was pending is
+-- still pending.
 abbrev pub KillingsPassOn : Type 0
-KillingsPassOn = (old new : Disk) (since moment : ℕ) → since ≤ moment → moment ≤ old.clock → IsAlike old new → now new ≡ old.past moment
+KillingsPassOn = (old new : Disk) (since moment : ℕ) → since ≤ moment → moment ≤ old.clock → IsAlike old new
+    → now new ≡ old.past moment
     → IsPassedOn old since new
 
--- The program lets go of its disk, or ends after its last call, and another disk opens the medium as it is, with what is pending.
+-- The program lets go of its disk, or ends after its last call, and another disk opens the medium as it is, with what
+-- is pending.
 abbrev pub DroppedPassOn : Type 0
 DroppedPassOn = (old new : Disk) → IsAlike old new → now new ≡ now old → IsPassedOn old old.clock new
 
@@ -48,22 +52,27 @@ state_written_back written state = record {
   pending = λ i. state.pending i && not (written i);
 }
 
--- A sector that reaches the medium is as a sync leaves it: durable as it is read, and not pending. Each other one is as it was. What is read stays.
+-- A sector that reaches the medium is as a sync leaves it: durable as it is read, and not pending. Each other one is as
+-- it was. What is read stays.
 pub record WritesBackAsSyncs : Type 0 where
   pub reached : (written : ℕ → Bool) (state : DiskState) (i : ℕ) → written i ≡ true
-      → ((state_written_back written state).durable i ≡ state.seen i) × ((state_written_back written state).pending i ≡ false)
+      → ((state_written_back written state).durable i ≡ state.seen i)
+      × ((state_written_back written state).pending i ≡ false)
   pub others : (written : ℕ → Bool) (state : DiskState) (i : ℕ) → written i ≡ false
-      → ((state_written_back written state).durable i ≡ state.durable i) × ((state_written_back written state).pending i ≡ state.pending i)
+      → ((state_written_back written state).durable i ≡ state.durable i)
+      × ((state_written_back written state).pending i ≡ state.pending i)
   pub read : (written : ℕ → Bool) (state : DiskState) (i : ℕ) → (state_written_back written state).seen i ≡ state.seen i
 
 -- Some of the pending sectors reach the medium meanwhile, all of them, or none.
 abbrev pub WrittenBackPassOn : {D : Type 0} → (D → Disk) → Type 0
-WrittenBackPassOn {D} disk_of = (old : D) (new : Disk) (written : ℕ → Bool) → IsHonest (disk_of old) → IsAlike (disk_of old) new
+WrittenBackPassOn {D} disk_of = (old : D) (new : Disk) (written : ℕ → Bool) → IsHonest (disk_of old)
+    → IsAlike (disk_of old) new
     → now new ≡ state_written_back written (now (disk_of old)) → IsPassedOn (disk_of old) (disk_of old).clock new
 
 -- The owner reads a sector between two lives, or tries to.
 abbrev pub ReadsPassOn : {D : Type 0} → (D → Disk) → Type 0
-ReadsPassOn {D} disk_of = (old new : D) (at : ℕ) (into : List ℕ) (result : Result (Unit {0}) DeviceFault) → IsHonest (disk_of old)
+ReadsPassOn {D} disk_of = (old new : D) (at : ℕ) (into : List ℕ) (result : Result (Unit {0}) DeviceFault)
+    → IsHonest (disk_of old)
     → IsDeviceCall (disk_of old) (disk_of new) result → Reads (now (disk_of old)) (now (disk_of new)) at into result
     → IsPassedOn (disk_of old) (disk_of old).clock (disk_of new)
 
@@ -92,9 +101,11 @@ TheseAreImages = (state : DiskState) (image : Image) → ((i : ℕ) → state.pe
 
 -- What ended in calls that came before others ended in the earlier ones: each end fits the work of its own moment.
 abbrev pub EndsAreEarlier : Type 0
-EndsAreEarlier = (old ran new : Disk) (since : ℕ) → Works old ran → (p : IsPassedOn ran since new) → (from : ℕ) → from ≤ p.moment → p.moment ≤ old.clock
+EndsAreEarlier = (old ran new : Disk) (since : ℕ) → Works old ran → (p : IsPassedOn ran since new) → (from : ℕ)
+    → from ≤ p.moment → p.moment ≤ old.clock
     → IsPassedOn old from new
 
 -- One of these comes after another.
 abbrev pub PassedOnAgain : Type 0
-PassedOnAgain = (old mid new : Disk) (since : ℕ) → IsPassedOn old since mid → IsPassedOn mid mid.clock new → IsPassedOn old since new
+PassedOnAgain = (old mid new : Disk) (since : ℕ) → IsPassedOn old since mid → IsPassedOn mid mid.clock new
+    → IsPassedOn old since new

@@ -11,7 +11,8 @@ use Rattle.macs_config.specs.declared.association.Protection.TheVariants.{Confid
 use Rattle.macs_config.specs.declared.association.RxSa.{RxSa}
 use Rattle.macs_config.specs.declared.association.TxSa.{TxSa}
 use Rattle.macs_config.specs.declared.command.Command.{Command}
-use Rattle.macs_config.specs.declared.command.Command.TheVariants.{RxAdd, RxInstall, RxRemove, SetReplay, SetValidate, TxInstall, TxUse}
+use Rattle.macs_config.specs.declared.command.Command.TheVariants.{RxAdd, RxInstall, RxRemove, SetReplay, SetValidate}
+use Rattle.macs_config.specs.declared.command.Command.TheVariants.{TxInstall, TxUse}
 use Rattle.macs_config.specs.declared.command.Validate.TheVariants.{Check, Strict}
 
 -- how many sectors the disk has
@@ -110,7 +111,8 @@ unguard = SetReplay false 3
 abbrev pub guard : Command
 guard = SetReplay true 3
 
--- each of the two keys that are installed, once more, for an association of another number: the own key for association 1
+-- each of the two keys that are installed, once more, for an association of another number: the own key for association
+-- 1
 abbrev pub install_own_again : Command
 install_own_again = TxInstall 1 (Short own_key) 1 true 0
 

@@ -16,12 +16,14 @@ use Rattle.macs_journal.specs.declared.hand.Hand.{Hand}
 use Rattle.macs_journal.specs.declared.hand.Hand.TheVariants as hand
 use Rattle.macs_journal.specs.declared.place.Place.{Place}
 use Rattle.macs_headline.specs.Example.{example_sectors}
-use Rattle.macs_headline.specs.ExampleDisk.{checked, narrow_content, narrow_image, full_content, full_image, full_snapshot, last_content, last_image, widened}
+use Rattle.macs_headline.specs.ExampleDisk.{checked, narrow_content, narrow_image, full_content, full_image}
+use Rattle.macs_headline.specs.ExampleDisk.{full_snapshot, last_content, last_image, widened}
 use Rattle.macs_headline.specs.Images.{image_with_next_body}
 
 -- a disk of the example on which so many calls led through these states
 abbrev pub disk_through : (ℕ → DiskState) → (calls : ℕ) → Disk
-disk_through states calls = record { sectors = example_sectors; past = states; clock = calls; failures = 0; honest = true; worn = false }
+disk_through states calls =
+    record { sectors = example_sectors; past = states; clock = calls; failures = 0; honest = true; worn = false }
 
 -- the place after a content
 abbrev pub place_behind : Content → Place
@@ -29,7 +31,8 @@ place_behind c = record { area = c.area; head = c.head; free = length c.records 
 
 -- one device call leads from a state to the next: a write to a sector, or a sync
 abbrev pub IsOneCall : DiskState → DiskState → Type 0
-IsOneCall old new = ((at : ℕ) × (octets : List ℕ) × (new ≡ state_after_write old at octets)) ⊎ (new ≡ state_after_sync old)
+IsOneCall old new = ((at : ℕ) × (octets : List ℕ) × (new ≡ state_after_write old at octets))
+    ⊎ (new ≡ state_after_sync old)
 
 -- a disk held this image, with nothing pending, and each call since then was one device call
 pub record IsRun (image : Image) (disk : Disk) : Type 0 where
@@ -38,13 +41,14 @@ pub record IsRun (image : Image) (disk : Disk) : Type 0 where
 
 -- ---- an append
 
--- An append to a disk that holds this image, with nothing pending: before its first device call, and after each of three. The body is written; it is
--- durable; the gate is written.
+-- An append to a disk that holds this image, with nothing pending: before its first device call, and after each of
+-- three. The body is written; it is durable; the gate is written.
 abbrev pub append_states : Image → Content → Record → ℕ → DiskState
 append_states image c r zero = settled_state image
 append_states image c r (suc zero) = state_after_write (settled_state image) (free_body c) (sector_of r)
 append_states image c r (suc (suc zero)) = settled_state (image_with_next_body image c r)
-append_states image c r (suc (suc (suc n))) = state_after_write (settled_state (image_with_next_body image c r)) (free_gate c) open_gate
+append_states image c r (suc (suc (suc n))) =
+    state_after_write (settled_state (image_with_next_body image c r)) (free_gate c) open_gate
 
 -- and what is under way then: the call that is left makes the gate durable
 abbrev pub append_in_hand : Record → Hand
@@ -77,7 +81,8 @@ state_after_writes s (w ∷ ws) = state_after_writes (state_after_write s w.at w
 -- the bodies of these records, to the slots of an area from a place on
 unfoldable pub body_writes : (area place : ℕ) → List Record → List Write
 body_writes area place [] = []
-body_writes area place (r ∷ rs) = record { at = slot_body area place; octets = sector_of r } ∷ body_writes area (place + 1) rs
+body_writes area place (r ∷ rs) =
+    record { at = slot_body area place; octets = sector_of r } ∷ body_writes area (place + 1) rs
 
 -- what is written in the other area before its head gate: the body of the next head, and those of the snapshot
 abbrev pub writes_anew : Content → List Record → List Write
@@ -85,10 +90,11 @@ writes_anew c records =
     record { at = head_body (other_area c.area); octets = head_sector_of (next_head c.head (length records)) }
     ∷ body_writes (other_area c.area) 0 records
 
--- A compaction of a disk that holds this image, with nothing pending and no gate of the other area open: before its first device call, and after so
--- many. 257 reads of gates and a sync change nothing. Then each call writes.
+-- A compaction of a disk that holds this image, with nothing pending and no gate of the other area open: before its
+-- first device call, and after so many. 257 reads of gates and a sync change nothing. Then each call writes.
 abbrev pub compaction_states : Image → Content → List Record → (calls : ℕ) → DiskState
-compaction_states image c records calls = state_after_writes (settled_state image) (take (calls - 258) (writes_anew c records))
+compaction_states image c records calls =
+    state_after_writes (settled_state image) (take (calls - 258) (writes_anew c records))
 
 -- power fails in the compaction of the full area, when three bodies are written
 abbrev pub compacting_disk : Disk

@@ -10,7 +10,8 @@ use Rattle.macs_journal.specs.Found.{Content, content_with_record}
 use Rattle.macs_store.specs.Snapshot.{snapshot}
 use Rattle.macs_headline.specs.Example.{example_identity, own_sa, peer_sa, peer_sci}
 use Rattle.macs_headline.specs.ExampleStanding.{full_standing}
-use Rattle.macs_headline.specs.Images.{compacted_image, content_with_records, formatted_image, image_while_compacted, image_with_record, image_with_records}
+use Rattle.macs_headline.specs.Images.{compacted_image, content_with_records, formatted_image, image_while_compacted}
+use Rattle.macs_headline.specs.Images.{image_with_record, image_with_records}
 
 -- ---- formatted
 

@@ -19,15 +19,22 @@ use Rattle.macs_rxsc.specs.declared.verdict.Reason.TheVariants.{Late}
 use Rattle.macs_rxsc.specs.declared.verdict.Verdict.{Verdict}
 use Rattle.macs_rxsc.specs.declared.verdict.Verdict.TheVariants.{Delivered, Discarded, HeldBack}
 use Rattle.macs_store.specs.Found.{StandingIs, StandsFor}
-use Rattle.macs_endpoint.specs.State.{Advanced, Advances, Call, Commands, Delivery, Protects, Protected, Ran, Received, Receives, Refilled, Refills, Reply, State, Submits, Submitted, Use}
+use Rattle.macs_endpoint.specs.State.{Advanced, Advances, Call, Commands, Delivery, Protects, Protected, Ran, Received}
+use Rattle.macs_endpoint.specs.State.{Receives, Refilled, Refills, Reply, State, Submits, Submitted, Use}
 use Rattle.macs_endpoint.specs.Step.{Exchange}
 use Rattle.macs_endpoint.specs.declared.fault.CommandFault.TheVariants as ran
 use Rattle.macs_endpoint.specs.declared.fault.ProtectFault.{ProtectFault}
 use Rattle.macs_endpoint.specs.declared.fault.ProtectFault.TheVariants as protect
 use Rattle.macs_endpoint.specs.declared.progress.Step.TheVariants.{Done, Reserved, Worked}
-use Rattle.macs_headline.specs.Example.{add_peer, check_only, example_identity, example_plain, example_sectors, guard, install_own, install_own_again, install_peer, install_peer_again, later_edition, narrow, own_frame, own_key, peer_frame, peer_key, peer_sci, remove_peer, stay_strict, unguard, use_own, widen}
-use Rattle.macs_headline.specs.ExampleCuts.{IsRun, append_in_hand, compacting_disk, compaction_in_hand, killed_disk, place_behind, torn_image, widening_disk, working_disk}
-use Rattle.macs_headline.specs.ExampleDisk.{anew_content, anew_image, checked, cut_image, ended_content, ended_image, narrow_content, narrow_image, full_content, last_content, last_image, new_image, served_content, served_image, widened}
+use Rattle.macs_headline.specs.Example.{add_peer, check_only, example_identity, example_plain, example_sectors, guard}
+use Rattle.macs_headline.specs.Example.{install_own, install_own_again, install_peer, install_peer_again, later_edition}
+use Rattle.macs_headline.specs.Example.{narrow, own_frame, own_key, peer_frame, peer_key, peer_sci, remove_peer}
+use Rattle.macs_headline.specs.Example.{stay_strict, unguard, use_own, widen}
+use Rattle.macs_headline.specs.ExampleCuts.{IsRun, append_in_hand, compacting_disk, compaction_in_hand, killed_disk}
+use Rattle.macs_headline.specs.ExampleCuts.{place_behind, torn_image, widening_disk, working_disk}
+use Rattle.macs_headline.specs.ExampleDisk.{anew_content, anew_image, checked, cut_image, ended_content, ended_image}
+use Rattle.macs_headline.specs.ExampleDisk.{narrow_content, narrow_image, full_content, last_content, last_image}
+use Rattle.macs_headline.specs.ExampleDisk.{new_image, served_content, served_image, widened}
 use Rattle.macs_headline.specs.ExampleStanding.{checked_standing, full_standing, last_standing}
 use Rattle.macs_headline.specs.Binding.{HasHistory}
 use Rattle.macs_headline.specs.Deeds.{IsPassedOn}
@@ -80,9 +87,10 @@ received verdict out = answered (Receives (peer_frame 5)) (Received (Ok verdict)
 
 -- ---- the lives
 
--- Frames go out between the steps of a reservation, until none has a number; and one between the steps of `add_peer`, which waited. A frame of the
--- peer is held back until its number is reserved, and then delivered twice, within a replay window of 1. Then the power goes between two steps of
--- `widen`: its third device call wrote its gate, which is pending.
+-- Frames go out between the steps of a reservation, until none has a number; and one between the steps of `add_peer`,
+-- which waited. A frame of the peer is held back until its number is reserved, and then delivered twice, within a
+-- replay window of 1. Then the power goes between two steps of `widen`: its third device call wrote its gate, which is
+-- pending.
 abbrev pub first_exchanges : List Exchange
 first_exchanges =
     obeyed install_own ∷ obeyed use_own
@@ -93,14 +101,15 @@ first_exchanges =
     ∷ submitted 2 widen ∷ worked ∷ sent 6 ∷ worked ∷ worked
     ∷ []
 
--- The next frame goes out with number 9; an association in use is not removed; neither key is installed again. The peer's frame is late; without
--- replay protection it is Delayed, and with it late again. A command is given until the area is full. Then the power goes in `remove_peer`, while the
--- journal starts over.
+-- The next frame goes out with number 9; an association in use is not removed; neither key is installed again. The
+-- peer's frame is late; without replay protection it is Delayed, and with it late again. A command is given until the
+-- area is full. Then the power goes in `remove_peer`, while the journal starts over.
 abbrev pub second_exchanges : List Exchange
 second_exchanges =
     unsent (protect.Tx NoNumber) ∷ refilled ∷ sent 9
     ∷ refused (TxRemove 0) InUse ∷ refused install_own_again KeySpent ∷ refused install_peer_again KeySpent
-    ∷ received (Discarded Late) [] ∷ obeyed unguard ∷ received (Delivered Delayed) example_plain ∷ obeyed guard ∷ received (Discarded Late) []
+    ∷ received (Discarded Late) [] ∷ obeyed unguard ∷ received (Delivered Delayed) example_plain ∷ obeyed guard
+    ∷ received (Discarded Late) []
     ∷ replicate 244 (obeyed stay_strict)
 
 -- The journal starts over with `remove_peer`; frame 13 goes out; a device call fails in `check_only`.
@@ -110,8 +119,8 @@ third_exchanges =
     ∷ answered (Commands check_only) (Ran (Err ran.Disk)) ∷ unsent protect.Stopped
     ∷ []
 
--- `check_only` is asked for again. The program is killed in its fourth step, and no power is lost: its gate, which is pending, is read as it was
--- written.
+-- `check_only` is asked for again. The program is killed in its fourth step, and no power is lost: its gate, which is
+-- pending, is read as it was written.
 abbrev pub fourth_exchanges : List Exchange
 fourth_exchanges = submitted 1 check_only ∷ worked ∷ worked ∷ worked ∷ []
 
@@ -119,8 +128,8 @@ fourth_exchanges = submitted 1 check_only ∷ worked ∷ worked ∷ worked ∷ [
 abbrev pub last_exchanges : List Exchange
 last_exchanges = unsent (protect.Tx NoNumber) ∷ refilled ∷ sent 17 ∷ obeyed guard ∷ []
 
--- `format` cut short, an opening that finds nothing, `format`, an opening that a failed device call refuses; the four lives, with a `format`
--- by mistake between them; and a life of a later edition
+-- `format` cut short, an opening that finds nothing, `format`, an opening that a failed device call refuses; the four
+-- lives, with a `format` by mistake between them; and a life of a later edition
 abbrev pub example_lives : List Life
 example_lives =
     Formats this_edition example_identity false
@@ -147,22 +156,25 @@ own_use pn = record { key = own_key; pn = pn }
 abbrev pub peer_delivery : Kind → Delivery
 peer_delivery kind = record { sci = peer_sci; key = peer_key; pn = 5; kind = kind }
 
--- This is a history: nine frames went out under one key, one frame was delivered twice in one life and once in the next, and the journal started over.
--- Where a life was cut short its disk had work under way, as a journal has it, and was left so: a power loss may leave the image that the next life
--- opens, and the killed program left what reads give, with the gate pending. While the journal starts over its disk stands for what it stood for,
--- however many bodies are written. Before the later edition opens it, its disk has this history to both editions. The life before the last found the disk
--- without the command that failed, and the last one finds it.
+-- This is a history: nine frames went out under one key, one frame was delivered twice in one life and once in the
+-- next, and the journal started over. Where a life was cut short its disk had work under way, as a journal has it, and
+-- was left so: a power loss may leave the image that the next life opens, and the killed program left what reads give,
+-- with the gate pending. While the journal starts over its disk stands for what it stood for, however many bodies are
+-- written. Before the later edition opens it, its disk has this history to both editions. The life before the last
+-- found the disk without the command that failed, and the last one finds it.
 pub record IsWorkedHistory : Type 0 where
   pub last : State
   pub history : IsHistory example_sectors example_lives (Formatted last)
   pub used : last.logs.used ≡ map own_use (17 ∷ 13 ∷ 9 ∷ 6 ∷ 5 ∷ 4 ∷ 3 ∷ 2 ∷ 1 ∷ [])
   pub given : last.logs.given ≡ map peer_delivery (Delayed ∷ AsOk ∷ AsOk ∷ [])
-  pub widening : IsHolding widening_disk (place_behind narrow_content) (append_in_hand widened) narrow_content served_content
+  pub widening : IsHolding widening_disk (place_behind narrow_content) (append_in_hand widened) narrow_content
+      served_content
   pub widening_calls : IsRun narrow_image widening_disk
   pub left_open : MayLeave widening_disk served_image
   pub full : length full_content.records ≡ slots
   pub compacting : IsHolding compacting_disk (place_behind full_content) compaction_in_hand full_content anew_content
-  pub torn : (head first second : List ℕ) → IsSector head → IsSector first → IsSector second → MayLeave compacting_disk (torn_image head first second)
+  pub torn : (head first second : List ℕ) → IsSector head → IsSector first → IsSector second
+      → MayLeave compacting_disk (torn_image head first second)
   pub left_torn : MayLeave compacting_disk (cut_image 2)
   pub cut : (count : ℕ) → StandsFor this_edition (cut_image count) full_standing
   pub anew : (anew_content.area ≡ 1) × (anew_content.head.generation ≡ 2) × HasJournal anew_image anew_content

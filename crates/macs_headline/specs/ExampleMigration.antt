@@ -1,4 +1,5 @@
--- A disk that the first edition of the program formatted: what it is to this one, whose opening starts its journal over.
+-- A disk that the first edition of the program formatted: what it is to this one, whose opening starts its journal
+-- over.
 use Rattle.std.specs.Prelude.{◌≡◌, true, List, [], ◌∷◌, ◌++◌, fold, map, replicate, take, length, None, Some, Ok}
 use Rattle.macs_aes.specs.declared.keys.Key.TheVariants.{Long}
 use Rattle.macs_config.specs.Apply.{config_after}
@@ -32,11 +33,15 @@ use Rattle.macs_store.specs.Standing.{Standing, ceilings_with_rx, ceilings_with_
 use Rattle.macs_endpoint.specs.State.{Commands, RefusedLong, State}
 use Rattle.macs_endpoint.specs.Step.{Exchange}
 use Rattle.macs_headline.specs.Binding.{HasHistory}
-use Rattle.macs_headline.specs.Example.{add_peer, example_identity, example_plain, example_sectors, install_own, install_own_again, install_peer, install_peer_again, own_key, own_sa, peer_sa, peer_sci, stay_strict, use_own}
+use Rattle.macs_headline.specs.Example.{add_peer, example_identity, example_plain, example_sectors, install_own}
+use Rattle.macs_headline.specs.Example.{install_own_again, install_peer, install_peer_again, own_key, own_sa, peer_sa}
+use Rattle.macs_headline.specs.Example.{peer_sci, stay_strict, use_own}
 use Rattle.macs_headline.specs.ExampleCuts.{compaction_states, disk_through, place_behind}
-use Rattle.macs_headline.specs.ExampleLives.{answered, obeyed, own_use, peer_delivery, received, refilled, refused, sent}
+use Rattle.macs_headline.specs.ExampleLives.{answered, obeyed, own_use, peer_delivery, received, refilled, refused}
+use Rattle.macs_headline.specs.ExampleLives.{sent}
 use Rattle.macs_headline.specs.History.{Formats, Formatted, IsHistory, Life, Serves}
-use Rattle.macs_headline.specs.Images.{blank_image, compacted_image, content_with_records, image_while_compacted, image_with_area, image_with_open_head, image_with_records}
+use Rattle.macs_headline.specs.Images.{blank_image, compacted_image, content_with_records, image_while_compacted}
+use Rattle.macs_headline.specs.Images.{image_with_area, image_with_open_head, image_with_records}
 
 -- ---- formatted by the first edition
 
@@ -58,7 +63,8 @@ old_image = image_with_open_head (image_with_area blank_image 0 old_head (defaul
 abbrev pub install_long : Command
 install_long = TxInstall 0 (Long (replicate 32 7)) 1 true 0
 
--- That is refused for the length of the key. The endpoint's own association is installed, under a key of 128 bits, and a frame goes out.
+-- That is refused for the length of the key. The endpoint's own association is installed, under a key of 128 bits, and
+-- a frame goes out.
 abbrev pub old_exchanges : List Exchange
 old_exchanges = answered (Commands install_long) RefusedLong ∷ obeyed install_own ∷ obeyed use_own ∷ sent 1 ∷ []
 
@@ -93,17 +99,26 @@ used_config = fold config_after default (install_own ∷ use_own ∷ [])
 -- what it stands for to an edition
 abbrev pub used_standing : Edition → Standing
 used_standing edition =
-    record { edition = edition; identity = example_identity; config = used_config; ceilings = ceilings_with_tx no_ceilings 0 (Some 5) }
+    record {
+      edition = edition;
+      identity = example_identity;
+      config = used_config;
+      ceilings =
+          ceilings_with_tx no_ceilings 0 (Some 5);
+    }
 
 -- as a snapshot
 abbrev pub used_records : List Record
-used_records = settings_record used_config ∷ kept.TxSa 0 own_sa 5 ∷ kept.Spent Transmit (tx_fingerprint own_key ∷ []) ∷ []
+used_records =
+    settings_record used_config ∷ kept.TxSa 0 own_sa 5 ∷ kept.Spent Transmit (tx_fingerprint own_key ∷ []) ∷ []
 
--- An opening by this edition is cut short: the bodies of the head and of the first two records are written, and the head gate is not.
+-- An opening by this edition is cut short: the bodies of the head and of the first two records are written, and the
+-- head gate is not.
 abbrev pub begun_image : Image
 begun_image = image_while_compacted used_image used_content 3 (take 2 used_records)
 
--- The disk then, from the call on that is next to find it: 257 reads of gates and a sync changed nothing, and three writes followed.
+-- The disk then, from the call on that is next to find it: 257 reads of gates and a sync changed nothing, and three
+-- writes followed.
 abbrev pub beginning_disk : Disk
 beginning_disk = disk_through (compaction_states used_image used_content used_records) 261
 
@@ -121,8 +136,8 @@ migrated_image = compacted_image begun_image used_content used_records
 
 -- ---- lives of this edition
 
--- After that opening a frame goes out under the key of 128 bits, with number 5. The peer's association is installed, under one of 256 bits; its frame is
--- held back until its number is reserved, and then delivered. Then the power goes.
+-- After that opening a frame goes out under the key of 128 bits, with number 5. The peer's association is installed,
+-- under one of 256 bits; its frame is held back until its number is reserved, and then delivered. Then the power goes.
 abbrev pub long_exchanges : List Exchange
 long_exchanges =
     refilled ∷ sent 5 ∷ obeyed add_peer ∷ obeyed install_peer
@@ -131,7 +146,8 @@ long_exchanges =
 
 -- the records of that
 abbrev pub long_records : List Record
-long_records = kept.TxCeiling 0 9 ∷ kept.RxAdd peer_sci ∷ kept.RxInstall peer_sci 0 peer_sa 1 ∷ kept.RxCeiling peer_sci 0 9 ∷ []
+long_records =
+    kept.TxCeiling 0 9 ∷ kept.RxAdd peer_sci ∷ kept.RxInstall peer_sci 0 peer_sa 1 ∷ kept.RxCeiling peer_sci 0 9 ∷ []
 
 -- the journal with them, of format two
 abbrev pub long_content : Content
@@ -151,7 +167,8 @@ long_standing = record {
   edition = this_edition;
   identity = example_identity;
   config = long_config;
-  ceilings = ceilings_with_rx (ceilings_with_rx (ceilings_with_tx (ceilings_with_tx no_ceilings 0 (Some 5)) 0 (Some 9)) peer_sci 0 (Some 1)) peer_sci 0
+  ceilings = ceilings_with_rx (ceilings_with_rx (ceilings_with_tx (ceilings_with_tx no_ceilings 0 (Some 5)) 0 (Some 9))
+      peer_sci 0 (Some 1)) peer_sci 0
       (Some 9);
 }
 
@@ -159,7 +176,8 @@ long_standing = record {
 abbrev pub front_exchanges : List Exchange
 front_exchanges = refused install_own_again KeySpent ∷ refused install_peer_again KeySpent ∷ refilled ∷ sent 9 ∷ []
 
--- Then a command is given until the area is full, and the power goes in the next one, when the journal has started over.
+-- Then a command is given until the area is full, and the power goes in the next one, when the journal has started
+-- over.
 abbrev pub spent_exchanges : List Exchange
 spent_exchanges = front_exchanges ++ replicate 248 (obeyed stay_strict)
 
@@ -188,9 +206,11 @@ filled_standing = record {
 abbrev pub filled_snapshot : List Record
 filled_snapshot = snapshot filled_standing
 
--- the gates of the first area that read open are closed: that of its head of format one, and those of the two records after its snapshot
+-- the gates of the first area that read open are closed: that of its head of format one, and those of the two records
+-- after its snapshot
 abbrev pub closed_image : Image
-closed_image = put_sector (put_sector (put_sector filled_image (gate 0 0) closed_gate) (gate 0 2) closed_gate) (gate 0 3) closed_gate
+closed_image = put_sector (put_sector (put_sector filled_image (gate 0 0) closed_gate) (gate 0 2) closed_gate)
+    (gate 0 3) closed_gate
 
 -- and the journal starts over there
 abbrev pub again_content : Content
@@ -212,12 +232,15 @@ later_lives =
     ∷ Serves this_edition again_image again_exchanges None
     ∷ []
 
--- Such is each honest disk of that size with that image and nothing pending. It has that history to the edition that formatted it, and so to this one. To this
--- one it is one to start over. Three bodies into that it still has that history, whatever a power loss leaves of it; and once it is done it stands for what it
--- stood for, in the second area and in format two. So lives of this edition go on from it: after the first of them keys of both lengths are side by side, and
--- the journal starts over once more, in the first area. Over all of them four frames went out under the short key, and one was delivered under the long one.
+-- Such is each honest disk of that size with that image and nothing pending. It has that history to the edition that
+-- formatted it, and so to this one. To this one it is one to start over. Three bodies into that it still has that
+-- history, whatever a power loss leaves of it; and once it is done it stands for what it stood for, in the second area
+-- and in format two. So lives of this edition go on from it: after the first of them keys of both lengths are side by
+-- side, and the journal starts over once more, in the first area. Over all of them four frames went out under the short
+-- key, and one was delivered under the long one.
 pub record IsWorkedMigration : Type 0 where
-  pub as_old : (disk : Disk) → IsHonest disk → disk.sectors ≡ example_sectors → now disk ≡ settled_state used_image → IsOldDisk disk
+  pub as_old : (disk : Disk) → IsHonest disk → disk.sectors ≡ example_sectors → now disk ≡ settled_state used_image
+      → IsOldDisk disk
   pub formatted : (disk : Disk) → IsOldDisk disk → HasHistory first_edition disk old_lives
   pub ours : (disk : Disk) → IsOldDisk disk → HasHistory this_edition disk old_lives
   pub old : IsToMigrate this_edition used_image used_content (used_standing this_edition)
@@ -226,11 +249,13 @@ pub record IsWorkedMigration : Type 0 where
   pub left_begun : MayLeave beginning_disk begun_image
   pub begun : HasJournal begun_image used_content
   pub anew : HasJournal migrated_image (compacted used_content (snapshot (used_standing this_edition)))
-  pub moved : (migrated_content.area ≡ 1) × (migrated_content.head.format ≡ Two) × HasJournal migrated_image migrated_content
+  pub moved : (migrated_content.area ≡ 1) × (migrated_content.head.format ≡ Two)
+      × HasJournal migrated_image migrated_content
   pub alike : StandAlike this_edition used_image migrated_image
   pub stood : StandingIs this_edition example_sectors long_image (Ok long_standing)
   pub full : length filled_content.records ≡ 256
-  pub again : (again_content.area ≡ 0) × (again_content.head.generation ≡ 3) × (again_content.head.format ≡ Two) × HasJournal again_image again_content
+  pub again : (again_content.area ≡ 0) × (again_content.head.generation ≡ 3) × (again_content.head.format ≡ Two)
+      × HasJournal again_image again_content
   pub last : State
   pub history : IsHistory example_sectors (old_lives ++ later_lives) (Formatted last)
   pub used : last.logs.used ≡ map own_use (13 ∷ 9 ∷ 5 ∷ 1 ∷ [])

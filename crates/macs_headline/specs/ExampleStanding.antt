@@ -3,7 +3,8 @@ use Rattle.std.specs.Prelude.{[], ◌∷◌, fold, Some}
 use Rattle.macs_config.specs.Apply.{config_after}
 use Rattle.macs_config.specs.Config.{Config, Edition, default, this_edition}
 use Rattle.macs_store.specs.Standing.{Standing, ceilings_with_rx, ceilings_with_tx, no_ceilings}
-use Rattle.macs_headline.specs.Example.{add_peer, check_only, example_identity, install_own, install_peer, narrow, peer_sci, remove_peer, use_own, widen}
+use Rattle.macs_headline.specs.Example.{add_peer, check_only, example_identity, install_own, install_peer, narrow}
+use Rattle.macs_headline.specs.Example.{peer_sci, remove_peer, use_own, widen}
 
 -- the configuration after the first life, the command that was cut short included
 abbrev pub served_config : Config
@@ -29,4 +30,5 @@ last_standing edition = record {
 
 -- and at last, with the command in which the program was killed
 abbrev pub checked_standing : Edition → Standing
-checked_standing edition = record (last_standing edition) { config = config_after (config_after served_config remove_peer) check_only }
+checked_standing edition =
+    record (last_standing edition) { config = config_after (config_after served_config remove_peer) check_only }

@@ -60,8 +60,8 @@ abbrev pub IsGiven : (sci : List ℕ) (an : ℕ) (key frame : List ℕ) → Resu
 IsGiven sci an key frame answer out = (answer ≡ Ok (Delivered AsOk)) × ((tag_of frame).an ≡ an)
     × Verified frame key sci 0 out × ((other : List ℕ) → Verified frame key sci 0 other → other ≡ out)
 
--- And what that of a watch says: each of its three answers that is one of a verified frame is so. At most one of the two
--- in the evening is, and where one is, and that of the morning, the two frames have two numbers.
+-- And what that of a watch says: each of its three answers that is one of a verified frame is so. At most one of the
+-- two in the evening is, and where one is, and that of the morning, the two frames have two numbers.
 pub record WatchWords (D : Type 0) : Type 0 where
   pub tried : (sci : List ℕ) (an : ℕ) (key evening first morning second : List ℕ) (watch : Watch D) (kind : Kind)
       → IsWatch sci an key evening first morning second watch → IsVerifiedKind kind

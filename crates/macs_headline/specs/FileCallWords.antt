@@ -1,15 +1,19 @@
 -- The headline on calls of a file that behaves: what a sync, a write, a read and a rereading may leave, and no more.
-use Rattle.std.specs.Prelude.{◌≡◌, ◌↔◌, ◌≤◌, ◌+◌, ◌*◌, ◌<◌, ◌^◌, ℕ, true, false, List, length, take, get_or, Result, Ok, Err}
-use Rattle.macs_disk.specs.Files.{ClaimsFile, FileState, IsClaimed, IsFileImage, IsSure, ReadsFile, RereadsFile, SyncsFile}
-use Rattle.macs_disk.specs.Files.{WritesAll, WritesFile, file_after_sync, file_after_write, file_in_doubt, file_reread, file_showing, file_synced, values_from}
+use Rattle.std.specs.Prelude.{◌≡◌, ◌↔◌, ◌≤◌, ◌+◌, ◌*◌, ◌<◌, ◌^◌, ℕ, true, false, List, length, take, get_or, Result, Ok}
+use Rattle.std.specs.Prelude.{Err}
+use Rattle.macs_disk.specs.Files.{ClaimsFile, FileState, IsClaimed, IsFileImage, IsSure, ReadsFile, RereadsFile}
+use Rattle.macs_disk.specs.Files.{SyncsFile}
+use Rattle.macs_disk.specs.Files.{WritesAll, WritesFile, file_after_sync, file_after_write, file_in_doubt, file_reread}
+use Rattle.macs_disk.specs.Files.{file_showing, file_synced, values_from}
 
 -- After a sync that fails the file is in doubt, and shows, has durably and has pending what it did: so it may show what
 -- no power loss leaves. A sync that succeeds makes durable what is shown where the file was sure, and where it was in
 -- doubt any of its images, and the file stays in doubt. So it does through writes; of one in doubt a read gives
--- anything. A write of one that is sure writes the first of its octets, as many as it answers; one that fails any octets
--- there, no more than as many, maybe none. A read changes nothing, and gives what is shown. A claim that fails, too,
--- changes nothing. A rereading that fails may leave anything shown, and nothing else changed. Only a clean file that is claimed shows what is durable once it is read again. A power loss leaves what is
--- durable in a block that is not pending, and any octets in one that is.
+-- anything. A write of one that is sure writes the first of its octets, as many as it answers; one that fails any
+-- octets there, no more than as many, maybe none. A read changes nothing, and gives what is shown. A claim that fails,
+-- too, changes nothing. A rereading that fails may leave anything shown, and nothing else changed. Only a clean file
+-- that is claimed shows what is durable once it is read again. A power loss leaves what is durable in a block that is
+-- not pending, and any octets in one that is.
 pub record FileCallWords : Type 0 where
   pub failed_sync : (old new : FileState) (error : ℕ) → SyncsFile {T = ℕ} {E = ℕ} old new (Err error)
       ↔ (new ≡ file_in_doubt old)

@@ -1,4 +1,5 @@
--- The headline on what fits: which images an opening may come upon after a life, whatever is installed, and in programs of which editions.
+-- The headline on what fits: which images an opening may come upon after a life, whatever is installed, and in programs
+-- of which editions.
 use Rattle.std.specs.Prelude.{◌≡◌, ◌≤◌, ◌^◌, ℕ, List, Contains, Some, None, IsSomeAnd, Ok}
 use Rattle.macs_config.specs.Config.{Edition, IsUpTo}
 use Rattle.macs_config.specs.Identity.{Identity}
@@ -15,12 +16,14 @@ use Rattle.macs_endpoint.specs.Step.{Makes}
 use Rattle.macs_headline.specs.History.{Blank, FitsPast, Formatted}
 use Rattle.macs_headline.specs.Numbers.{IsMoved, IsSkipped}
 
--- An image fits a state that stands for its identity and its configuration, in a program of no smaller edition, with numbers that moved no further than a
--- restart moves them, and none where there was none. What fits the state after the command under way fits the state. A program may come upon each image that fits
--- the state in which the lives ended; and while the disk is not formatted for sure, upon each in which no head gate is open, and upon each that stands to that program
--- for a new endpoint of an identity that was handed in.
+-- An image fits a state that stands for its identity and its configuration, in a program of no smaller edition, with
+-- numbers that moved no further than a restart moves them, and none where there was none. What fits the state after the
+-- command under way fits the state. A program may come upon each image that fits the state in which the lives ended;
+-- and while the disk is not formatted for sure, upon each in which no head gate is open, and upon each that stands to
+-- that program for a new endpoint of an identity that was handed in.
 pub record RestartsFit (sectors : ℕ) : Type 0 where
-  pub kept : (s : State) (edition : Edition) (image : Image) (found : Standing) → StandingIs edition sectors image (Ok found) → IsUpTo s.edition edition
+  pub kept : (s : State) (edition : Edition) (image : Image) (found : Standing)
+      → StandingIs edition sectors image (Ok found) → IsUpTo s.edition edition
       → found.identity ≡ s.identity → found.config ≡ s.config
       → ((an : ℕ) → s.next an ≡ None → found.ceilings.tx an ≡ None)
       → ((an next : ℕ) → s.next an ≡ Some next
@@ -29,10 +32,15 @@ pub record RestartsFit (sectors : ℕ) : Type 0 where
       → ((sci : List ℕ) (an : ℕ) (old : Numbers) → s.numbers sci an ≡ Some old
       → IsSomeAnd (found.ceilings.rx sci an) (λ later. IsMoved s.identity.rx_block old (first_numbers later)))
       → Fits edition sectors image s
-  pub carried : (s mid : State) (command : Command) (edition : Edition) (image : Image) → s.in_hand ≡ Some command → Makes s command mid
+  pub carried : (s mid : State) (command : Command) (edition : Edition) (image : Image) → s.in_hand ≡ Some command
+      → Makes s command mid
       → Fits edition sectors image mid → Fits edition sectors image s
-  pub come_upon : (s : State) (edition : Edition) (image : Image) → Fits edition sectors image s → FitsPast edition sectors (Formatted s) image
-  pub come_upon_none : (identities : List Identity) (edition : Edition) (image : Image) → least_sectors ≤ sectors → IsNotFormatted image
+  pub come_upon : (s : State) (edition : Edition) (image : Image) → Fits edition sectors image s
+      → FitsPast edition sectors (Formatted s) image
+  pub come_upon_none : (identities : List Identity) (edition : Edition) (image : Image) → least_sectors ≤ sectors
+      → IsNotFormatted image
       → FitsPast edition sectors (Blank identities) image
-  pub come_upon_new : (identities : List Identity) (identity : Identity) (edition : Edition) (image : Image) → Contains identities identity
-      → StandingIs edition sectors image (Ok (new_standing edition identity)) → FitsPast edition sectors (Blank identities) image
+  pub come_upon_new : (identities : List Identity) (identity : Identity) (edition : Edition) (image : Image)
+      → Contains identities identity
+      → StandingIs edition sectors image (Ok (new_standing edition identity))
+      → FitsPast edition sectors (Blank identities) image

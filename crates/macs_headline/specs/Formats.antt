@@ -1,4 +1,5 @@
--- The headline on `format`: once it answered Ok, and once an opening succeeded, it no longer answers Ok, and no opening finds the disk without a journal.
+-- The headline on `format`: once it answered Ok, and once an opening succeeded, it no longer answers Ok, and no opening
+-- finds the disk without a journal.
 use Rattle.std.specs.Prelude.{◌≡◌, ◌⊎◌, ◌++◌, ℕ, true, List, ◌∷◌, Contains, Option}
 use Rattle.macs_config.specs.Config.{Edition}
 use Rattle.macs_config.specs.Identity.{Identity}
@@ -13,15 +14,19 @@ use Rattle.macs_headline.specs.Openings.{IsSpentFor}
 -- In these lives no `format` answered Ok, and no opening succeeded.
 pub record AreUnformatted (lives : List Life) : Type 0 where
   pub no_format : (edition : Edition) (identity : Identity) → ¬ Contains lives (Formats edition identity true)
-  pub no_opening : (edition : Edition) (image : Image) (exchanges : List Exchange) (cut : Option Call) → ¬ Contains lives (Serves edition image exchanges cut)
+  pub no_opening : (edition : Edition) (image : Image) (exchanges : List Exchange) (cut : Option Call)
+      → ¬ Contains lives (Serves edition image exchanges cut)
 
 -- so are the lives before a `format` that answers Ok
 abbrev pub FormatsOnce : ℕ → Type 0
-FormatsOnce sectors = (lives : List Life) (past : Past) → IsHistory sectors lives past → (before after : List Life) (edition : Edition) (identity : Identity)
+FormatsOnce sectors = (lives : List Life) (past : Past) → IsHistory sectors lives past
+    → (before after : List Life) (edition : Edition) (identity : Identity)
     → before ++ Formats edition identity true ∷ after ≡ lives → AreUnformatted before
 
--- An opening is refused as Disk; or as NotFormatted, and then no `format` of the lives before it answered Ok, and no opening of them succeeded; or since a
--- journal of a format that the edition starts over is in the last generation.
+-- An opening is refused as Disk; or as NotFormatted, and then no `format` of the lives before it answered Ok, and no
+-- opening of them succeeded; or since a journal of a format that the edition starts over is in the last generation.
 abbrev pub RefusedByHistory : ℕ → Type 0
-RefusedByHistory sectors = (lives : List Life) (past : Past) → IsHistory sectors lives past → (edition : Edition) (image : Image) (fault : JournalFault) (new : Past)
-    → Leads sectors past (Refuses edition image fault) new → (fault ≡ Disk) ⊎ (((fault ≡ NotFormatted) × AreUnformatted lives) ⊎ IsSpentFor edition image fault)
+RefusedByHistory sectors = (lives : List Life) (past : Past) → IsHistory sectors lives past
+    → (edition : Edition) (image : Image) (fault : JournalFault) (new : Past)
+    → Leads sectors past (Refuses edition image fault) new
+    → (fault ≡ Disk) ⊎ (((fault ≡ NotFormatted) × AreUnformatted lives) ⊎ IsSpentFor edition image fault)

@@ -22,11 +22,13 @@ blank_image i = zero_sector
 -- the bodies of these records, in the slots of an area from a place on
 unfoldable pub image_with_bodies : Image → (area place : ℕ) → List Record → Image
 image_with_bodies image area place [] = image
-image_with_bodies image area place (r ∷ rs) = image_with_bodies (put_sector image (slot_body area place) (sector_of r)) area (place + 1) rs
+image_with_bodies image area place (r ∷ rs) =
+    image_with_bodies (put_sector image (slot_body area place) (sector_of r)) area (place + 1) rs
 
 -- the bodies of an area's head and of its first slots; its head gate is as it was
 unfoldable pub image_with_area : Image → (area : ℕ) → Head → List Record → Image
-image_with_area image area head records = image_with_bodies (put_sector image (head_body area) (head_sector_of head)) area 0 records
+image_with_area image area head records =
+    image_with_bodies (put_sector image (head_body area) (head_sector_of head)) area 0 records
 
 -- the head gate of an area opened
 unfoldable pub image_with_open_head : Image → (area : ℕ) → Image
@@ -63,10 +65,12 @@ content_with_records c rs = record c { records = c.records ++ rs }
 
 -- ---- a journal that starts over
 
--- The body of the next head and the first bodies of a snapshot are written in the other area, of so many records in all.
+-- The body of the next head and the first bodies of a snapshot are written in the other area, of so many records in
+-- all.
 abbrev pub image_while_compacted : Image → Content → (count : ℕ) → List Record → Image
 image_while_compacted image c count written = image_with_area image (other_area c.area) (next_head c.head count) written
 
 -- all of them are, and its head gate is opened
 abbrev pub compacted_image : Image → Content → List Record → Image
-compacted_image image c records = image_with_open_head (image_while_compacted image c (length records) records) (other_area c.area)
+compacted_image image c records =
+    image_with_open_head (image_while_compacted image c (length records) records) (other_area c.area)

@@ -1,5 +1,6 @@
 -- The headline on ceilings that are needed, in which order they are raised, and whose turn it is after a call.
-use Rattle.std.specs.Prelude.{◌≡◌, ◌≢◌, ◌<◌, ◌≤◌, ◌⊎◌, ◌-◌, ◌/◌, ◌^◌, ◌++◌, ℕ, true, false, List, [], ◌∷◌, Contains, Option, Some}
+use Rattle.std.specs.Prelude.{◌≡◌, ◌≢◌, ◌<◌, ◌≤◌, ◌⊎◌, ◌-◌, ◌/◌, ◌^◌, ◌++◌, ℕ, true, false, List, [], ◌∷◌, Contains}
+use Rattle.std.specs.Prelude.{Option, Some}
 use Rattle.std.specs.Prelude.{None, Result, Ok, Err}
 use Rattle.macs_config.specs.Apply.{apply}
 use Rattle.macs_config.specs.Config.{Config, Edition, IsConfig, comes_before, is_ascending}
@@ -31,8 +32,8 @@ use Rattle.macs_endpoint.specs.declared.turn.Turn.TheVariants.{Command as Comman
 -- block beyond the greatest number seen; and that number has reached the ceiling, or half a block at most is left below
 -- it. The association that frames go out under needs one where half a block at most is left below a ceiling that is
 -- below 2^32. The transmit side comes first, and then receive associations: by channels in their order, of one channel
--- by their numbers. Channels that ascend do so from each SCI to the next, by the first octet in which two differ. They stay
--- so after each command.
+-- by their numbers. Channels that ascend do so from each SCI to the next, by the first octet in which two differ. They
+-- stay so after each command.
 pub record NeedsAreInOrder : Type 0 where
   pub receive : (block an ceiling : ℕ) (sci : List ℕ) (n : Numbers) (need : Need)
       → needs.need_of block sci an (Some n) (Some ceiling) ≡ Some need

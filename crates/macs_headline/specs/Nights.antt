@@ -24,16 +24,18 @@ use Rattle.macs_headline.specs.declared.night.Night.{Night}
 abbrev pub night_install : ℕ → Key → Command
 night_install an key = TxInstall an key 1 true 0
 
--- A frame is the standard's (IEEE Std 802.1AE-2018, clauses 9 and 10): the protected frame of the plain one under that association, with this packet
--- number, 1 to 2^32 - 1.
+-- A frame is the standard's (IEEE Std 802.1AE-2018, clauses 9 and 10): the protected frame of the plain one under that
+-- association, with this packet number, 1 to 2^32 - 1.
 pub record IsNightFrame (identity : Identity) (an : ℕ) (key plain : List ℕ) (pn : ℕ) (out : List ℕ) : Type 0 where
   pub least : 1 ≤ pn
   pub most : pn < 2 ^ 32
   pub frame : out ≡ protected_frame key identity.sci
       (record { an = an; pn = pn; name = Explicit identity.sci; encrypted = true; changed = true }) 0 plain
 
--- Each frame that was written is the standard's, and where two were, one before the power loss and one after it, they have two numbers.
-pub record IsNight {D : Type 0} (identity : Identity) (an : ℕ) (key evening first morning second : List ℕ) (night : Night D) : Type 0 where
+-- Each frame that was written is the standard's, and where two were, one before the power loss and one after it, they
+-- have two numbers.
+pub record IsNight {D : Type 0} (identity : Identity) (an : ℕ) (key evening first morning second : List ℕ)
+    (night : Night D) : Type 0 where
   pub before : (pn : ℕ) → night.sent ≡ Ok pn → IsNightFrame identity an key evening pn first
   pub behind : (pn : ℕ) → night.sent_again ≡ Ok pn → IsNightFrame identity an key morning pn second
   pub apart : (one other : ℕ) → night.sent ≡ Ok one → night.sent_again ≡ Ok other → one ≢ other
@@ -41,12 +43,15 @@ pub record IsNight {D : Type 0} (identity : Identity) (an : ℕ) (key evening fi
 -- ---- an opening that is refused
 
 -- The disk was formatted, and its first opening was refused: then a device call failed, or the disk is worn.
-pub record IsRefusedEvening {D : Type 0} (disk_of : D → Disk) (old : D) (identity : Identity) (refused : RecoverRefused D) : Type 0 where
+pub record IsRefusedEvening {D : Type 0} (disk_of : D → Disk) (old : D) (identity : Identity)
+    (refused : RecoverRefused D) : Type 0 where
   pub day : IsRefusedDay disk_of old identity refused
   pub failed : ((disk_of old).failures < (disk_of refused.disk).failures) ⊎ ((disk_of refused.disk).worn ≡ true)
 
--- The disk was formatted and opened, the endpoint answered its three calls and gave the disk back, power was lost, and the second opening was refused as Disk.
-pub record IsRefusedMorning {D : Type 0} (disk_of : D → Disk) (old : D) (identity : Identity) (an : ℕ) (key : Key) (evening out : List ℕ)
+-- The disk was formatted and opened, the endpoint answered its three calls and gave the disk back, power was lost, and
+-- the second opening was refused as Disk.
+pub record IsRefusedMorning {D : Type 0} (disk_of : D → Disk) (old : D) (identity : Identity) (an : ℕ) (key : Key)
+    (evening out : List ℕ)
     (refused : RecoverRefused D) : Type 0 where
   pub formatted : Result (Unit {0}) JournalFault
   pub installed : Result (Unit {0}) CommandFault
@@ -72,6 +77,7 @@ pub record IsRefusedMorning {D : Type 0} (disk_of : D → Disk) (old : D) (ident
   pub for_disk : refused.fault ≡ DiskFault
 
 -- the one or the other
-abbrev pub IsRefusedNight : {D : Type 0} → (D → Disk) → D → Identity → (an : ℕ) → Key → (evening out : List ℕ) → RecoverRefused D → Type 0
+abbrev pub IsRefusedNight : {D : Type 0} → (D → Disk) → D → Identity → (an : ℕ) → Key → (evening out : List ℕ)
+    → RecoverRefused D → Type 0
 IsRefusedNight disk_of old identity an key evening out refused =
     IsRefusedEvening disk_of old identity refused ⊎ IsRefusedMorning disk_of old identity an key evening out refused

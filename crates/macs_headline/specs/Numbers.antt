@@ -1,5 +1,6 @@
 -- The headline on packet numbers.
-use Rattle.std.specs.Prelude.{◌≡◌, ◌≢◌, ◌<◌, ◌≤◌, ◌+◌, ◌/◌, ◌^◌, ◌++◌, ℕ, Bool, max, min, true, List, ◌∷◌, AllPairs, Some, None, IsSome, IsSomeAnd, Ok}
+use Rattle.std.specs.Prelude.{◌≡◌, ◌≢◌, ◌<◌, ◌≤◌, ◌+◌, ◌/◌, ◌^◌, ◌++◌, ℕ, Bool, max, min, true, List, ◌∷◌, AllPairs}
+use Rattle.std.specs.Prelude.{Some, None, IsSome, IsSomeAnd, Ok}
 use Rattle.macs_aes.specs.declared.keys.Key.{Key}
 use Rattle.macs_config.specs.Config.{Edition, is_spent, rx_fingerprint, tx_fingerprint}
 use Rattle.macs_config.specs.declared.association.RxSa.{RxSa}
@@ -27,7 +28,8 @@ pub record AreHeldIn (old new : Logs) : Type 0 where
 
 -- no life, and no moment of one, forgets what was used and delivered before
 abbrev pub NothingForgotten : ℕ → Type 0
-NothingForgotten sectors = (old new : Past) (lives : List Life) → LeadOn sectors old lives new → AreHeldIn (logs_of old) (logs_of new)
+NothingForgotten sectors = (old new : Past) (lives : List Life) → LeadOn sectors old lives new
+    → AreHeldIn (logs_of old) (logs_of new)
 
 -- ---- no number twice
 
@@ -41,33 +43,39 @@ UsedOnce sectors = (s : State) → Moment sectors s → HasNoneTwice s.logs.used
 
 -- nor at the end of a history; the frame of a `protect` that is cut short is in no list
 abbrev pub UsedOnceAtEnd : ℕ → Type 0
-UsedOnceAtEnd sectors = (lives : List Life) (past : Past) → IsHistory sectors lives past → HasNoneTwice (logs_of past).used
+UsedOnceAtEnd sectors = (lives : List Life) (past : Past) → IsHistory sectors lives past
+    → HasNoneTwice (logs_of past).used
 
--- Where replay protection is on with window 0, no call delivers as Ok or Delayed what was delivered so in any life on an association of
--- the same SCI and key.
+-- Where replay protection is on with window 0, no call delivers as Ok or Delayed what was delivered so in any life on
+-- an association of the same SCI and key.
 abbrev pub GivenApart : ℕ → Type 0
 GivenApart sectors = (s : State) → Moment sectors s → s.config.replay.on ≡ true → s.config.replay.window ≡ 0
-    → (call : Call) (reply : Reply) (new : State) (d : Delivery) → Step s call reply new → new.logs.given ≡ d ∷ s.logs.given
+    → (call : Call) (reply : Reply) (new : State) (d : Delivery) → Step s call reply new
+    → new.logs.given ≡ d ∷ s.logs.given
     → ¬ WasGiven s.logs d.sci d.key d.pn
 
--- Whatever the window, no call delivers as Ok what was delivered before this life on an association of the same SCI and key.
+-- Whatever the window, no call delivers as Ok what was delivered before this life on an association of the same SCI and
+-- key.
 abbrev pub OkApart : ℕ → Type 0
 OkApart sectors = (s : State) (m : Moment sectors s) (call : Call) (reply : Reply) (new : State) (d : Delivery)
-    → Step s call reply new → new.logs.given ≡ d ∷ s.logs.given → d.kind ≡ AsOk → ¬ WasGiven (logs_of m.past) d.sci d.key d.pn
+    → Step s call reply new → new.logs.given ≡ d ∷ s.logs.given → d.kind ≡ AsOk
+    → ¬ WasGiven (logs_of m.past) d.sci d.key d.pn
 
 -- ---- what is found is above what was used
 
 -- The key is spent on the transmit side, and each association that has it begins above this number.
 pub record IsBeyondTx (found : Standing) (key : List ℕ) (pn : ℕ) : Type 0 where
   pub spent : is_spent found.config.spent_tx (tx_fingerprint key) ≡ true
-  pub below : (an : ℕ) (sa : TxSa) → found.config.tx an ≡ Some sa → sa.key ≡ key → IsSomeAnd (found.ceilings.tx an) (λ next. pn < next)
+  pub below : (an : ℕ) (sa : TxSa) → found.config.tx an ≡ Some sa → sa.key ≡ key
+      → IsSomeAnd (found.ceilings.tx an) (λ next. pn < next)
 
 -- in every image, of each number that was used before
 abbrev pub UsedBelow : ℕ → Type 0
 UsedBelow sectors = (past : Past) (found : Standing) → IsFoundAfter sectors past found
     → (key : List ℕ) (pn : ℕ) → WasUsed (logs_of past) key pn → IsBeyondTx found key pn
 
--- The key is spent for this SCI on the receive side, and each association of the SCI that has it begins above this number.
+-- The key is spent for this SCI on the receive side, and each association of the SCI that has it begins above this
+-- number.
 pub record IsBeyondRx (found : Standing) (sci key : List ℕ) (pn : ℕ) : Type 0 where
   pub spent : is_spent found.config.spent_rx (rx_fingerprint sci key) ≡ true
   pub below : (an : ℕ) (sa : RxSa) → found.config.rx sci an ≡ Some sa → sa.key ≡ key
@@ -80,21 +88,23 @@ GivenBelow sectors = (past : Past) (found : Standing) → IsFoundAfter sectors p
 
 -- ---- and not far above
 
--- How far a restart moves the next packet number of a transmit association: it does not fall, and at most a block and a half of its numbers are skipped.
+-- How far a restart moves the next packet number of a transmit association: it does not fall, and at most a block and a
+-- half of its numbers are skipped.
 abbrev pub IsSkipped : ℕ → ℕ → ℕ → Type 0
 IsSkipped block next later = (next ≤ later) × (later ≤ next + (block + block / 2))
 
--- So far is that of each transmit association moved that a restart keeps, whatever state it is a restart of: it has a next packet number again, which is at
--- most 2^32, one more than the last packet number.
+-- So far is that of each transmit association moved that a restart keeps, whatever state it is a restart of: it has a
+-- next packet number again, which is at most 2^32, one more than the last packet number.
 abbrev pub SkipsFew : ℕ → Type 0
 SkipsFew sectors = (s : State) (edition : Edition) (image : Image) (found : Standing) → Fits edition sectors image s
     → StandingIs edition sectors image (Ok found) → (an : ℕ) (before after : TxSa) (next : ℕ)
     → s.config.tx an ≡ Some before → found.config.tx an ≡ Some after → s.next an ≡ Some next
-    → IsSomeAnd ((opened_state found s.logs).next an) (λ later. IsSkipped s.identity.tx_block next later × (later ≤ 2 ^ 32))
+    → IsSomeAnd ((opened_state found s.logs).next an)
+    (λ later. IsSkipped s.identity.tx_block next later × (later ≤ 2 ^ 32))
 
--- How far a restart moves the numbers of a receive association: next and lowest become one number. It is no smaller than next was, and at most that or, where
--- it is greater, a block beyond the greatest number that was seen, as far as 2^32, one more than the last packet number; where none was seen it is what next
--- was. None is seen yet.
+-- How far a restart moves the numbers of a receive association: next and lowest become one number. It is no smaller
+-- than next was, and at most that or, where it is greater, a block beyond the greatest number that was seen, as far as
+-- 2^32, one more than the last packet number; where none was seen it is what next was. None is seen yet.
 pub record IsMoved (block : ℕ) (old new : Numbers) : Type 0 where
   pub level : new.lowest ≡ new.next
   pub rises : old.next ≤ new.next
@@ -102,21 +112,26 @@ pub record IsMoved (block : ℕ) (old new : Numbers) : Type 0 where
   pub seen : (last : ℕ) → old.seen ≡ Some last → new.next ≤ max old.next (min (last + block) (2 ^ 32))
   pub fresh : new.seen ≡ None
 
--- So are those of each receive association moved that a restart keeps, whatever state it is a restart of: it has numbers again.
+-- So are those of each receive association moved that a restart keeps, whatever state it is a restart of: it has
+-- numbers again.
 abbrev pub SkipsFewReceived : ℕ → Type 0
-SkipsFewReceived sectors = (s : State) (edition : Edition) (image : Image) (found : Standing) → Fits edition sectors image s
+SkipsFewReceived sectors = (s : State) (edition : Edition) (image : Image) (found : Standing)
+    → Fits edition sectors image s
     → StandingIs edition sectors image (Ok found) → (sci : List ℕ) (an : ℕ) (before after : RxSa) (old : Numbers)
     → s.config.rx sci an ≡ Some before → found.config.rx sci an ≡ Some after → s.numbers sci an ≡ Some old
     → IsSomeAnd ((opened_state found s.logs).numbers sci an) (λ new. IsMoved s.identity.rx_block old new)
 
--- An association that the command under way installs, and that an opening finds, begins where the command says: a transmit association with that next packet
--- number, or one at most a block and a half above, and at most 2^32; a receive association with next and lowest there, and nothing seen.
+-- An association that the command under way installs, and that an opening finds, begins where the command says: a
+-- transmit association with that next packet number, or one at most a block and a half above, and at most 2^32; a
+-- receive association with next and lowest there, and nothing seen.
 abbrev pub BeginAsAsked : ℕ → Type 0
 BeginAsAsked sectors = (s : State) (edition : Edition) (image : Image) (found : Standing) → Fits edition sectors image s
     → StandingIs edition sectors image (Ok found)
-    → ((an : ℕ) (key : Key) (start : ℕ) (confidential : Bool) (offset : ℕ) → s.in_hand ≡ Some (TxInstall an key start confidential offset)
+    → ((an : ℕ) (key : Key) (start : ℕ) (confidential : Bool) (offset : ℕ)
+    → s.in_hand ≡ Some (TxInstall an key start confidential offset)
     → s.config.tx an ≡ None → IsSome (found.config.tx an)
-    → IsSomeAnd ((opened_state found s.logs).next an) (λ later. IsSkipped s.identity.tx_block start later × (later ≤ 2 ^ 32)))
+    → IsSomeAnd ((opened_state found s.logs).next an)
+    (λ later. IsSkipped s.identity.tx_block start later × (later ≤ 2 ^ 32)))
     × ((sci : List ℕ) (an : ℕ) (key : Key) (start offset : ℕ) → s.in_hand ≡ Some (RxInstall sci an key start offset)
     → s.config.rx sci an ≡ None → IsSome (found.config.rx sci an)
     → (opened_state found s.logs).numbers sci an ≡ Some (record { next = start; lowest = start; seen = None }))

@@ -24,10 +24,10 @@ use Rattle.macs_record.specs.declared.kind.Kind.TheVariants as kinds
 use Rattle.macs_record.specs.declared.record.Record.{Record}
 use Rattle.macs_record.specs.declared.record.Record.TheVariants as records
 
--- Each kind of record has its own number, and the two kinds of a record with a key are told apart by whether that has 16
--- octets. A sector is a mark, the number, the fields in order, and zeros; numbers are big-endian. A head has its own
--- mark, the version of its format, its generation, how many records its snapshot has, the SCI and both blocks. A gate is
--- open by its mark, and closed as zeros.
+-- Each kind of record has its own number, and the two kinds of a record with a key are told apart by whether that has
+-- 16 octets. A sector is a mark, the number, the fields in order, and zeros; numbers are big-endian. A head has its own
+-- mark, the version of its format, its generation, how many records its snapshot has, the SCI and both blocks. A gate
+-- is open by its mark, and closed as zeros.
 pub record OctetWords : Type 0 where
   pub numbers : map kind_number (kinds.Settings ∷ kinds.TxSa ∷ kinds.Channel ∷ kinds.RxSa ∷ kinds.Spent
       ∷ kinds.SetValidate ∷ kinds.SetReplay ∷ kinds.SetSciMode ∷ kinds.TxInstall ∷ kinds.TxUse ∷ kinds.TxRemove
@@ -73,7 +73,8 @@ pub record OctetWords : Type 0 where
       × (mode_octet EndStation ≡ 1) × (mode_octet Implicit ≡ 2) × (encoding_octet None ≡ 0xff)
       × (encoding_octet (Some an) ≡ an) × (role_octet Transmit ≡ 0) × (role_octet Receive ≡ 1)
       × (replay_octets replay ≡ flag_octet replay.on ∷ to_be_bytes w32 replay.window)
-      × (protection_octets Integrity ≡ 0 ∷ 0 ∷ []) × (protection_octets (Confidentiality offset) ≡ 1 ∷ octets_of offset ∷ [])
+      × (protection_octets Integrity ≡ 0 ∷ 0 ∷ [])
+      × (protection_octets (Confidentiality offset) ≡ 1 ∷ octets_of offset ∷ [])
   pub head : (head : Head) → head_octets head ≡ (0x4d ∷ 0x53 ∷ 0x45 ∷ 0x43 ∷ 0x48 ∷ 0x45 ∷ 0x41 ∷ 0x44 ∷ [])
       ++ (to_be_bytes w32 (version_of head.format) ++ (to_be_bytes w64 head.generation ++ (to_be_bytes w32 head.count
       ++ (head.identity.sci ++ (to_be_bytes w32 head.identity.tx_block ++ to_be_bytes w32 head.identity.rx_block)))))

@@ -1,5 +1,6 @@
 -- What the words say that give the reason why an opening is refused, what it leaves, and which sectors are written.
-use Rattle.std.specs.Prelude.{◌≡◌, ◌≢◌, ◌⊎◌, ◌↔◌, ◌≤◌, ◌<◌, ◌+◌, ◌*◌, ◌-◌, ◌^◌, ◌==◌, if◌then◌else◌, ℕ, true, length, Some, None, Ok}
+use Rattle.std.specs.Prelude.{◌≡◌, ◌≢◌, ◌⊎◌, ◌↔◌, ◌≤◌, ◌<◌, ◌+◌, ◌*◌, ◌-◌, ◌^◌, ◌==◌, if◌then◌else◌, ℕ, true, length}
+use Rattle.std.specs.Prelude.{Some, None, Ok}
 use Rattle.macs_config.specs.Config.{Edition, this_edition}
 use Rattle.macs_disk.specs.Disk.{Disk, MayLeave, now}
 use Rattle.macs_disk.specs.States.{DiskState, Image, IsImage, settled_state}
@@ -13,7 +14,8 @@ use Rattle.macs_journal.specs.Recovery.{IsLeftBy, IsRecoverName}
 use Rattle.macs_journal.specs.Rewriting.{HasNewGates}
 use Rattle.macs_journal.specs.Work.{FailsWith}
 use Rattle.macs_journal.specs.declared.fault.JournalFault.{JournalFault}
-use Rattle.macs_journal.specs.declared.fault.JournalFault.TheVariants.{BadJournal, Disk as DiskFault, GenerationsSpent, NotFormatted, TooSmall}
+use Rattle.macs_journal.specs.declared.fault.JournalFault.TheVariants.{BadJournal, Disk as DiskFault, GenerationsSpent}
+use Rattle.macs_journal.specs.declared.fault.JournalFault.TheVariants.{NotFormatted, TooSmall}
 use Rattle.macs_store.specs.Found.{IsUnfitTo, StandingIs, StandsFor}
 use Rattle.macs_store.specs.Keeps.{most_with_change}
 use Rattle.macs_store.specs.Opening.{IsOpenName}
@@ -22,56 +24,76 @@ use Rattle.macs_store.specs.Snapshot.{snapshot}
 use Rattle.macs_store.specs.Standing.{Standing}
 use Rattle.macs_headline.specs.Binding.{IsUnwritten, StandsAsRead}
 
--- Where nothing is written, the disk is at each moment as it was, or all that reads gave is durable and nothing is pending; and an image that is left at any
--- moment on the way could be left before, or is what reads give. What stands for the same as what was read stands for whatever that stands for.
+-- Where nothing is written, the disk is at each moment as it was, or all that reads gave is durable and nothing is
+-- pending; and an image that is left at any moment on the way could be left before, or is what reads give. What stands
+-- for the same as what was read stands for whatever that stands for.
 pub record OpeningWords : Type 0 where
-  pub unwritten : (old new : Disk) (k : ℕ) (image : Image) → IsUnwritten old new → old.clock ≤ k → k ≤ new.clock → IsImage (new.past k) image
+  pub unwritten : (old new : Disk) (k : ℕ) (image : Image) → IsUnwritten old new → old.clock ≤ k → k ≤ new.clock
+      → IsImage (new.past k) image
       → MayLeave old image ⊎ ((i : ℕ) → image i ≡ (now old).seen i)
   pub each_moment : (old new : Disk) (k : ℕ) → IsUnwritten old new → old.clock ≤ k → k ≤ new.clock
       → (new.past k ≡ now old) ⊎ (new.past k ≡ settled_state (now old).seen)
-  pub as_read : (old : Disk) (image : Image) (s : Standing) → StandsAsRead old image → StandsFor this_edition (now old).seen s
+  pub as_read : (old : Disk) (image : Image) (s : Standing) → StandsAsRead old image
+      → StandsFor this_edition (now old).seen s
       → StandsFor this_edition image s
 
--- Why an edition does not open a disk of so many sectors with this image: it is too small; no head gate is open; what is there is no journal, or its records
--- mean nothing to the edition; or it is a journal of format one that means something, in generation 2^64 - 1, and the edition reads areas of format two. One
--- of these at most is so, and where the image stands for something only the last.
+-- Why an edition does not open a disk of so many sectors with this image: it is too small; no head gate is open; what
+-- is there is no journal, or its records mean nothing to the edition; or it is a journal of format one that means
+-- something, in generation 2^64 - 1, and the edition reads areas of format two. One of these at most is so, and where
+-- the image stands for something only the last.
 pub record RefusalWords : Type 0 where
-  pub one : (edition : Edition) (sectors : ℕ) (image : Image) (a b : JournalFault) → IsUnfitTo edition sectors image a → IsUnfitTo edition sectors image b
+  pub one : (edition : Edition) (sectors : ℕ) (image : Image) (a b : JournalFault) → IsUnfitTo edition sectors image a
+      → IsUnfitTo edition sectors image b
       → a ≡ b
-  pub named : (edition : Edition) (sectors : ℕ) (image : Image) (fault : JournalFault) → IsUnfitTo edition sectors image fault
+  pub named : (edition : Edition) (sectors : ℕ) (image : Image) (fault : JournalFault)
+      → IsUnfitTo edition sectors image fault
       → (fault ≡ TooSmall) ⊎ ((fault ≡ NotFormatted) ⊎ ((fault ≡ BadJournal) ⊎ (fault ≡ GenerationsSpent)))
-  pub small : (edition : Edition) (sectors : ℕ) (image : Image) → IsUnfitTo edition sectors image TooSmall ↔ (sectors < least_sectors)
+  pub small : (edition : Edition) (sectors : ℕ) (image : Image)
+      → IsUnfitTo edition sectors image TooSmall ↔ (sectors < least_sectors)
   pub blank : (edition : Edition) (sectors : ℕ) (image : Image) → IsUnfitTo edition sectors image NotFormatted
       ↔ ((least_sectors ≤ sectors) × IsNotFormatted image)
   pub bad : (edition : Edition) (sectors : ℕ) (image : Image) → IsUnfitTo edition sectors image BadJournal
-      ↔ ((least_sectors ≤ sectors) × (IsBadJournal image ⊎ ((c : Content) × HasJournal image c × (meaning_of edition c ≡ None))))
+      ↔ ((least_sectors ≤ sectors)
+      × (IsBadJournal image ⊎ ((c : Content) × HasJournal image c × (meaning_of edition c ≡ None))))
   pub last : (edition : Edition) (sectors : ℕ) (image : Image) → IsUnfitTo edition sectors image GenerationsSpent
-      ↔ ((least_sectors ≤ sectors) × (c : Content) × (s : Standing) × HasJournal image c × (meaning_of edition c ≡ Some s) × (c.head.format ≡ One)
+      ↔ ((least_sectors ≤ sectors) × (c : Content) × (s : Standing) × HasJournal image c
+      × (meaning_of edition c ≡ Some s) × (c.head.format ≡ One)
       × (edition.format_two ≡ true) × (c.head.generation ≡ 2 ^ 64 - 1))
-  pub standing : (edition : Edition) (sectors : ℕ) (image : Image) (fault : JournalFault) (s : Standing) → IsUnfitTo edition sectors image fault
+  pub standing : (edition : Edition) (sectors : ℕ) (image : Image) (fault : JournalFault) (s : Standing)
+      → IsUnfitTo edition sectors image fault
       → StandingIs edition sectors image (Ok s) → fault ≡ GenerationsSpent
 
--- Which sectors a `format` writes to: 0, 1 and 2, which are for the head, its gate and the first record, and each gate of the first area that reads open.
--- Those of a journal that starts over in an area: its first two, the bodies of so many slots, and each gate of it that reads open. An opening is refused for
--- what `RefusalWords` names, or as Disk; where it writes nothing the disk is as it was if it is too small, as a sync leaves it if that is refused which is on
--- it, and one or the other if a device call failed; and no failed call is counted unless one is reported. While a journal starts over, each image that is left
--- before its head gate is written has the journal as it was. The gates of an area that starts over are open at the head, and closed where they read open. To
--- keep a change takes 4 device calls at most; or, where all 256 slots are used, 523 and one for each record of a snapshot.
+-- Which sectors a `format` writes to: 0, 1 and 2, which are for the head, its gate and the first record, and each gate
+-- of the first area that reads open. Those of a journal that starts over in an area: its first two, the bodies of so
+-- many slots, and each gate of it that reads open. An opening is refused for what `RefusalWords` names, or as Disk;
+-- where it writes nothing the disk is as it was if it is too small, as a sync leaves it if that is refused which is on
+-- it, and one or the other if a device call failed; and no failed call is counted unless one is reported. While a
+-- journal starts over, each image that is left before its head gate is written has the journal as it was. The gates of
+-- an area that starts over are open at the head, and closed where they read open. To keep a change takes 4 device calls
+-- at most; or, where all 256 slots are used, 523 and one for each record of a snapshot.
 pub record JournalWords : Type 0 where
-  pub format_writes : (seen : Image) (i : ℕ) → FormatWrites seen i → (i ≤ 2) ⊎ ((k : ℕ) × (k < 257) × (i ≡ 2 * k + 1) × IsOpen (seen i))
+  pub format_writes : (seen : Image) (i : ℕ) → FormatWrites seen i
+      → (i ≤ 2) ⊎ ((k : ℕ) × (k < 257) × (i ≡ 2 * k + 1) × IsOpen (seen i))
   pub compact_writes : (seen : Image) (area count i : ℕ) → CompactWrites seen area count i
       → ((i ≡ 514 * area) ⊎ (i ≡ 514 * area + 1))
-      ⊎ (((j : ℕ) × (j < count) × (i ≡ 514 * area + 2 + 2 * j)) ⊎ ((k : ℕ) × (k < 257) × (i ≡ 514 * area + 1 + 2 * k) × IsOpen (seen i)))
+      ⊎ (((j : ℕ) × (j < count) × (i ≡ 514 * area + 2 + 2 * j))
+      ⊎ ((k : ℕ) × (k < 257) × (i ≡ 514 * area + 1 + 2 * k) × IsOpen (seen i)))
   pub recover_names : (name : JournalFault) → IsRecoverName name
       → (name ≡ TooSmall) ⊎ ((name ≡ DiskFault) ⊎ ((name ≡ NotFormatted) ⊎ (name ≡ BadJournal)))
   pub open_names : (name : JournalFault) → IsOpenName name
-      → (name ≡ TooSmall) ⊎ ((name ≡ DiskFault) ⊎ ((name ≡ NotFormatted) ⊎ ((name ≡ BadJournal) ⊎ (name ≡ GenerationsSpent))))
-  pub left_by : (fault : JournalFault) (old new : DiskState) → IsLeftBy fault old new → (new ≡ old) ⊎ (new ≡ settled_state old.seen)
+      → (name ≡ TooSmall)
+      ⊎ ((name ≡ DiskFault) ⊎ ((name ≡ NotFormatted) ⊎ ((name ≡ BadJournal) ⊎ (name ≡ GenerationsSpent))))
+  pub left_by : (fault : JournalFault) (old new : DiskState) → IsLeftBy fault old new
+      → (new ≡ old) ⊎ (new ≡ settled_state old.seen)
   pub left_small : (old new : DiskState) → IsLeftBy TooSmall old new → new ≡ old
-  pub left_read : (fault : JournalFault) (old new : DiskState) → fault ≢ TooSmall → fault ≢ DiskFault → IsLeftBy fault old new → new ≡ settled_state old.seen
-  pub failures : (old new : Disk) (fault : JournalFault) → fault ≢ DiskFault → FailsWith old new fault → new.failures ≡ old.failures
-  pub until : (old new : Disk) (limit k : ℕ) (c : Content) (image : Image) → FindsUntil old new limit c → old.clock ≤ k → k ≤ new.clock → k < limit
+  pub left_read : (fault : JournalFault) (old new : DiskState) → fault ≢ TooSmall → fault ≢ DiskFault
+      → IsLeftBy fault old new → new ≡ settled_state old.seen
+  pub failures : (old new : Disk) (fault : JournalFault) → fault ≢ DiskFault → FailsWith old new fault
+      → new.failures ≡ old.failures
+  pub until : (old new : Disk) (limit k : ℕ) (c : Content) (image : Image) → FindsUntil old new limit c → old.clock ≤ k
+      → k ≤ new.clock → k < limit
       → IsImage (new.past k) image → HasJournal image c
   pub new_gates : (old new : Image) (area slot : ℕ) → HasNewGates old new area → IsOpen (new (514 * area + 1))
       × (slot < 256 → IsOpen (old (514 * area + 3 + 2 * slot)) → new (514 * area + 3 + 2 * slot) ≡ closed_gate)
-  pub most_calls : (used : ℕ) (s : Standing) → most_with_change used s ≤ (if used == 256 then 523 + length (snapshot s) else 4)
+  pub most_calls : (used : ℕ) (s : Standing)
+      → most_with_change used s ≤ (if used == 256 then 523 + length (snapshot s) else 4)

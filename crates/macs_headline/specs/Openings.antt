@@ -17,10 +17,12 @@ use Rattle.macs_headline.specs.Moments.{IsFoundAfter}
 abbrev pub IsSpentFor : Edition → Image → JournalFault → Type 0
 IsSpentFor edition image fault = (fault ≡ GenerationsSpent) × IsAtLast edition image
 
--- That is answered as GenerationsSpent, and is a journal of format one, in generation 2^64 - 1, and the edition reads areas of format two.
+-- That is answered as GenerationsSpent, and is a journal of format one, in generation 2^64 - 1, and the edition reads
+-- areas of format two.
 abbrev pub SpentAreLast : Type 0
 SpentAreLast = (edition : Edition) (image : Image) (fault : JournalFault) → IsSpentFor edition image fault
-    → (fault ≡ GenerationsSpent) × (c : Content) × HasJournal image c × (c.head.format ≡ One) × (edition.format_two ≡ true) × (c.head.generation ≡ 2 ^ 64 - 1)
+    → (fault ≡ GenerationsSpent) × (c : Content) × HasJournal image c × (c.head.format ≡ One)
+    × (edition.format_two ≡ true) × (c.head.generation ≡ 2 ^ 64 - 1)
 
 -- once `format` has answered Ok, only for a device call that failed, or for that
 abbrev pub RefusedForDiskOrSpent : ℕ → Type 0
@@ -29,17 +31,22 @@ RefusedForDiskOrSpent sectors = (s : State) (edition : Edition) (image : Image) 
 
 -- before that also where no head gate is open
 abbrev pub RefusedForDiskOrBlank : ℕ → Type 0
-RefusedForDiskOrBlank sectors = (identities : List Identity) (edition : Edition) (image : Image) (fault : JournalFault) (new : Past)
-    → Leads sectors (Blank identities) (Refuses edition image fault) new → (fault ≡ Disk) ⊎ ((fault ≡ NotFormatted) ⊎ IsSpentFor edition image fault)
+RefusedForDiskOrBlank sectors =
+    (identities : List Identity) (edition : Edition) (image : Image) (fault : JournalFault) (new : Past)
+    → Leads sectors (Blank identities) (Refuses edition image fault) new
+    → (fault ≡ Disk) ⊎ ((fault ≡ NotFormatted) ⊎ IsSpentFor edition image fault)
 
--- A program of any edition may come upon the same images later, and upon no others; and what was used and delivered is the same.
+-- A program of any edition may come upon the same images later, and upon no others; and what was used and delivered is
+-- the same.
 pub record AreAsBefore (sectors : ℕ) (old new : Past) : Type 0 where
   pub images : (later : Edition) (image : Image) → FitsPast later sectors new image ↔ FitsPast later sectors old image
   pub logs : logs_of new ≡ logs_of old
 
--- so it is after an opening that was refused, and after a `format` of a disk that is formatted, whatever edition either was of
+-- so it is after an opening that was refused, and after a `format` of a disk that is formatted, whatever edition either
+-- was of
 pub record NothingChanges (sectors : ℕ) : Type 0 where
-  pub refused : (old : Past) (edition : Edition) (image : Image) (fault : JournalFault) (new : Past) → Leads sectors old (Refuses edition image fault) new
+  pub refused : (old : Past) (edition : Edition) (image : Image) (fault : JournalFault) (new : Past)
+      → Leads sectors old (Refuses edition image fault) new
       → AreAsBefore sectors old new
   pub formatted : (s : State) (edition : Edition) (identity : Identity) (is_ok : Bool) (new : Past)
       → Leads sectors (Formatted s) (Formats edition identity is_ok) new → AreAsBefore sectors (Formatted s) new

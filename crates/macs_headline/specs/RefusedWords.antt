@@ -17,32 +17,40 @@ use Rattle.macs_headline.specs.History.{Formats, Refuses}
 use Rattle.macs_headline.specs.Nights.{IsRefusedEvening, IsRefusedMorning, IsRefusedNight}
 use Rattle.macs_headline.specs.Watches.{IsEvening, IsRefusedWatch, IsRefusedWatchMorning, evening_turns}
 
--- A day that is refused is a `format` and an opening that is refused, and so is its history; in the evening a device call failed then, or the disk is worn. An
--- opening of the morning is refused as Disk alone, after the calls of the evening, each answered, and the power loss. A
--- night and a watch are refused in the evening or in the morning, and so in no other way.
+-- A day that is refused is a `format` and an opening that is refused, and so is its history; in the evening a device
+-- call failed then, or the disk is worn. An opening of the morning is refused as Disk alone, after the calls of the
+-- evening, each answered, and the power loss. A night and a watch are refused in the evening or in the morning, and so
+-- in no other way.
 pub record RefusedWords {D : Type 0} (disk_of : D → Disk) : Type 0 where
   pub day : (old : D) (identity : Identity) (refused : RecoverRefused D) (i : IsRefusedDay disk_of old identity refused)
-      → Chain disk_of old (link_of (Formatting identity i.formatted) i.between ∷ link_of (Refusing refused.fault) refused.disk ∷ []) refused.disk
+      → Chain disk_of old (link_of (Formatting identity i.formatted) i.between
+      ∷ link_of (Refusing refused.fault) refused.disk ∷ []) refused.disk
       × HasHistory this_edition (disk_of refused.disk)
-      (Formats this_edition identity (is_ok i.formatted) ∷ Refuses this_edition (now (disk_of i.between)).seen refused.fault ∷ [])
-  pub evening : (old : D) (identity : Identity) (refused : RecoverRefused D) → IsRefusedEvening disk_of old identity refused
+      (Formats this_edition identity (is_ok i.formatted)
+      ∷ Refuses this_edition (now (disk_of i.between)).seen refused.fault ∷ [])
+  pub evening : (old : D) (identity : Identity) (refused : RecoverRefused D)
+      → IsRefusedEvening disk_of old identity refused
       → IsRefusedDay disk_of old identity refused
       × (((disk_of old).failures < (disk_of refused.disk).failures) ⊎ ((disk_of refused.disk).worn ≡ true))
   pub morning : (old : D) (identity : Identity) (an : ℕ) (key : Key) (evening out : List ℕ) (refused : RecoverRefused D)
       (i : IsRefusedMorning disk_of old identity an key evening out refused)
       → (refused.fault ≡ DiskFault)
       × (map exchange_of i.turns ≡ exchange_with (Commands (TxInstall an key 1 true 0)) (Ran i.installed)
-      ∷ exchange_with (Commands (TxUse an)) (Ran i.chosen) ∷ exchange_with (Protects evening) (Protected i.sent out) ∷ [])
+      ∷ exchange_with (Commands (TxUse an)) (Ran i.chosen)
+      ∷ exchange_with (Protects evening) (Protected i.sent out) ∷ [])
       × LosesPower (disk_of i.left) (disk_of i.left).clock (disk_of i.lost)
-      × Chain disk_of old (link_of (Formatting identity i.formatted) i.between ∷ link_of (Living i.first i.turns i.last None) i.left
+      × Chain disk_of old
+      (link_of (Formatting identity i.formatted) i.between ∷ link_of (Living i.first i.turns i.last None) i.left
       ∷ link_of PassingOn i.lost ∷ link_of (Refusing refused.fault) refused.disk ∷ []) refused.disk
-  pub watch : (old : D) (identity : Identity) (sci : List ℕ) (an : ℕ) (key : Key) (frame out : List ℕ) (refused : RecoverRefused D)
+  pub watch : (old : D) (identity : Identity) (sci : List ℕ) (an : ℕ) (key : Key) (frame out : List ℕ)
+      (refused : RecoverRefused D)
       (i : IsRefusedWatchMorning disk_of old identity sci an key frame out refused)
       → (refused.fault ≡ DiskFault)
       × (s : IsEvening disk_of i.start sci an key frame out i.evening i.left)
       × LosesPower (disk_of i.left) (disk_of i.left).clock (disk_of i.lost)
       × Chain disk_of old (link_of (Formatting identity i.formatted) i.between
-      ∷ link_of (Living i.start (evening_turns sci an key frame s.early out i.evening s.one s.two s.three s.four s.last) s.last None) i.left
+      ∷ link_of (Living i.start
+      (evening_turns sci an key frame s.early out i.evening s.one s.two s.three s.four s.last) s.last None) i.left
       ∷ link_of PassingOn i.lost ∷ link_of (Refusing refused.fault) refused.disk ∷ []) refused.disk
   pub either_night : (old : D) (identity : Identity) (an : ℕ) (key : Key) (evening out : List ℕ)
       (refused : RecoverRefused D) → IsRefusedNight disk_of old identity an key evening out refused

@@ -43,15 +43,15 @@ use Rattle.macs_endpoint.specs.declared.progress.Step.TheVariants.{Reserved}
 
 -- After an opening nothing is under way, nothing waits, no ticket is given, and no ceiling is being raised. A `format`
 -- that is refused is so for a disk that is too small, for a failed device call, or for an open head gate; that leaves
--- the disk as a sync does. A step that ends a reservation raises the ceiling that was under way. A command that a device
--- call fails leaves the standing before, with the reservation under way or without. One that is kept where all 256 slots are used
--- is in the next generation, after a snapshot; where no more is kept, the calls of the reservation under way are all,
--- and whatever it is answered, those and the 523 of a journal that starts over, with one for each record of a snapshot.
--- Of a refill that a device call fails those calls are all, or the ceilings before it are raised; of one that is not
--- all the work, as many as that takes. A `format` that is answered Ok counts no failed device call. One leaves each
--- sector alone but those that it writes to, and all of them where a head gate reads open. So does an opening that
--- starts the journal over, in its other area, done or refused, and so does each compaction; and until that writes the
--- new head gate a power loss leaves the journal as it was.
+-- the disk as a sync does. A step that ends a reservation raises the ceiling that was under way. A command that a
+-- device call fails leaves the standing before, with the reservation under way or without. One that is kept where all
+-- 256 slots are used is in the next generation, after a snapshot; where no more is kept, the calls of the reservation
+-- under way are all, and whatever it is answered, those and the 523 of a journal that starts over, with one for each
+-- record of a snapshot. Of a refill that a device call fails those calls are all, or the ceilings before it are raised;
+-- of one that is not all the work, as many as that takes. A `format` that is answered Ok counts no failed device call.
+-- One leaves each sector alone but those that it writes to, and all of them where a head gate reads open. So does an
+-- opening that starts the journal over, in its other area, done or refused, and so does each compaction; and until that
+-- writes the new head gate a power loss leaves the journal as it was.
 pub record CallsLeave {D : Type 0} (disk_of : D → Disk) : Type 0 where
   pub opened : (disk : D) (first : EndpointValue D) → IsOpening disk_of disk (Ok first) → IsIdle first.store
       × (first.reserving ≡ None) × (first.in_hand ≡ None)

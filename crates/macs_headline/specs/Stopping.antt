@@ -30,7 +30,9 @@ TellsStopped (Protected (Err protect.Stopped) out) = out ≡ []
 TellsStopped (Received (Err stopped) out) = out ≡ []
 TellsStopped reply = ⊥
 
--- A call is so answered exactly where one of the life before it was answered that a device call failed; and then it changes nothing.
+-- A call is so answered exactly where one of the life before it was answered that a device call failed; and then it
+-- changes nothing.
 abbrev pub StoppedStays : ℕ → Type 0
-StoppedStays sectors = (s : State) (m : Moment sectors s) (call : Call) (reply : Reply) (new : State) → Step s call reply new
+StoppedStays sectors = (s : State) (m : Moment sectors s) (call : Call) (reply : Reply) (new : State)
+    → Step s call reply new
     → (HadFault m.exchanges ↔ TellsStopped reply) × (TellsStopped reply → new ≡ s)

@@ -34,8 +34,8 @@ abbrev pub AreInOrder : ℕ → List ℕ → Type 0
 AreInOrder last [] = Unit {0}
 AreInOrder last (ticket ∷ tickets) = (ticket ≡ last + 1) × AreInOrder ticket tickets
 
--- The tickets of a life are given in order from 1. Those that are done with, and then those of the commands that wait, are those that were given: so
--- each is answered at most once, in that order, and none is lost.
+-- The tickets of a life are given in order from 1. Those that are done with, and then those of the commands that wait,
+-- are those that were given: so each is answered at most once, in that order, and none is lost.
 pub record AreTicketsKept (exchanges : List Exchange) (waiting : List Waiting) : Type 0 where
   pub in_order : AreInOrder 0 (tickets_given exchanges)
   pub kept : tickets_done exchanges ++ tickets_of waiting ≡ tickets_given exchanges

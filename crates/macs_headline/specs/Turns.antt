@@ -1,10 +1,11 @@
--- The endpoint's own laws on turns, on work that lasts and on numbers that are left: what they count they count call by call, and what they ask for is built
--- call by call, from each call and its answer.
+-- The endpoint's own laws on turns, on work that lasts and on numbers that are left: what they count they count call by
+-- call, and what they ask for is built call by call, from each call and its answer.
 use Rattle.std.specs.Prelude.{◌≡◌, ◌≢◌, ◌≤◌, ◌+◌, false, ℕ, Bool, List, [], ◌∷◌, Some, None, IsSome, Result, Ok, Err}
 use Rattle.macs_aes.specs.declared.keys.Key.{Key}
 use Rattle.macs_config.specs.declared.command.Command.TheVariants.{RxDrop, RxInstall, RxRemove, TxInstall, TxRemove}
 use Rattle.macs_store.specs.Value.{IsIdle, standing_in}
-use Rattle.macs_endpoint.specs.WorkThroughCalls.{Lasts, Needs, NoneDone, NoneReserved, commands_done, reservations_made, steps_made}
+use Rattle.macs_endpoint.specs.WorkThroughCalls.{Lasts, Needs, NoneDone, NoneReserved, commands_done, reservations_made}
+use Rattle.macs_endpoint.specs.WorkThroughCalls.{steps_made}
 use Rattle.macs_endpoint.specs.Lives.{Transition}
 use Rattle.macs_endpoint.specs.Needed.{raise_in}
 use Rattle.macs_endpoint.specs.Rooms.{IsEncodingAn, RxStays, TxStays, frames_sent}
@@ -15,11 +16,14 @@ use Rattle.macs_endpoint.specs.declared.fault.RefillFault.TheVariants as refill
 use Rattle.macs_endpoint.specs.declared.fault.StepFault.TheVariants as step
 use Rattle.macs_endpoint.specs.declared.progress.Step.TheVariants.{Done, Reserved}
 
--- Of calls, one more is counted where the first is a step; where its answer says that a reservation used its turn, made or refused; where it says that a
--- submitted command is done with, kept or refused; and where a frame went out under the association, which is the encoding one then. Else no more than of the others.
+-- Of calls, one more is counted where the first is a step; where its answer says that a reservation used its turn, made
+-- or refused; where it says that a submitted command is done with, kept or refused; and where a frame went out under
+-- the association, which is the encoding one then. Else no more than of the others.
 pub record TurnsAreCounted (D : Type 0) : Type 0 where
-  pub stepped : (turn : Transition D) (turns : List (Transition D)) → turn.call ≡ Advances → steps_made (turn ∷ turns) ≡ 1 + steps_made turns
-  pub no_step : (turn : Transition D) (turns : List (Transition D)) → turn.call ≢ Advances → steps_made (turn ∷ turns) ≡ steps_made turns
+  pub stepped : (turn : Transition D) (turns : List (Transition D)) → turn.call ≡ Advances
+      → steps_made (turn ∷ turns) ≡ 1 + steps_made turns
+  pub no_step : (turn : Transition D) (turns : List (Transition D)) → turn.call ≢ Advances
+      → steps_made (turn ∷ turns) ≡ steps_made turns
   pub reserved : (turn : Transition D) (turns : List (Transition D)) → turn.reply ≡ Advanced (Ok Reserved)
       → reservations_made (turn ∷ turns) ≡ 1 + reservations_made turns
   pub refused : (turn : Transition D) (turns : List (Transition D)) → turn.reply ≡ Advanced (Err step.GenerationsSpent)
@@ -34,17 +38,21 @@ pub record TurnsAreCounted (D : Type 0) : Type 0 where
   pub sent : (an : ℕ) (e : EndpointValue D) (turn : Transition D) (turns : List (Transition D))
       → frames_sent an e (turn ∷ turns) ≤ 1 + frames_sent an turn.after turns
   pub not_sent : (an : ℕ) (e : EndpointValue D) (turn : Transition D) (turns : List (Transition D))
-      → ((pn : ℕ) (out : List ℕ) → turn.reply ≢ Protected (Ok pn) out) → frames_sent an e (turn ∷ turns) ≡ frames_sent an turn.after turns
+      → ((pn : ℕ) (out : List ℕ) → turn.reply ≢ Protected (Ok pn) out)
+      → frames_sent an e (turn ∷ turns) ≡ frames_sent an turn.after turns
   pub sent_under : (an pn : ℕ) (out : List ℕ) (e : EndpointValue D) (turn : Transition D) (turns : List (Transition D))
       → turn.reply ≡ Protected (Ok pn) out → (standing_in e.store).config.encoding ≡ Some an
       → frames_sent an e (turn ∷ turns) ≡ 1 + frames_sent an turn.after turns
   pub sent_under_another : (an : ℕ) (e : EndpointValue D) (turn : Transition D) (turns : List (Transition D))
-      → (standing_in e.store).config.encoding ≢ Some an → frames_sent an e (turn ∷ turns) ≡ frames_sent an turn.after turns
+      → (standing_in e.store).config.encoding ≢ Some an
+      → frames_sent an e (turn ∷ turns) ≡ frames_sent an turn.after turns
   pub none_sent : (an : ℕ) (e : EndpointValue D) → frames_sent an e [] ≡ 0
 
--- An association stays over no calls, and over one more that neither installs it, removes it, nor drops its channel. Work lasts over no calls, and over one more
--- before which it is under way, and after which the endpoint runs. No command is done with, a ceiling is needed, and none is raised, by no calls, and by one more
--- whose answer says so, or before which one is needed. An association is the one that frames go out under where it is so configured and has a number.
+-- An association stays over no calls, and over one more that neither installs it, removes it, nor drops its channel.
+-- Work lasts over no calls, and over one more before which it is under way, and after which the endpoint runs. No
+-- command is done with, a ceiling is needed, and none is raised, by no calls, and by one more whose answer says so, or
+-- before which one is needed. An association is the one that frames go out under where it is so configured and has a
+-- number.
 pub record TurnsAreBuilt (D : Type 0) : Type 0 where
   pub tx_none : (an : ℕ) (e : EndpointValue D) → TxStays an e []
   pub tx_stays : (an : ℕ) (e : EndpointValue D) (turn : Transition D) (turns : List (Transition D))
@@ -56,18 +64,24 @@ pub record TurnsAreBuilt (D : Type 0) : Type 0 where
   pub rx_stays : (sci : List ℕ) (an : ℕ) (e : EndpointValue D) (turn : Transition D) (turns : List (Transition D))
       → command_made (state_of e no_logs) turn.call turn.reply ≢ Some (RxDrop sci)
       → command_made (state_of e no_logs) turn.call turn.reply ≢ Some (RxRemove sci an)
-      → ((key : Key) (start offset : ℕ) → command_made (state_of e no_logs) turn.call turn.reply ≢ Some (RxInstall sci an key start offset))
+      → ((key : Key) (start offset : ℕ)
+      → command_made (state_of e no_logs) turn.call turn.reply ≢ Some (RxInstall sci an key start offset))
       → RxStays sci an turn.after turns → RxStays sci an e (turn ∷ turns)
   pub lasts_none : (e : EndpointValue D) → Lasts e []
-  pub lasts : (e : EndpointValue D) (turn : Transition D) (turns : List (Transition D)) → ¬ IsIdle e.store → is_stopped turn.after ≡ false
+  pub lasts : (e : EndpointValue D) (turn : Transition D) (turns : List (Transition D)) → ¬ IsIdle e.store
+      → is_stopped turn.after ≡ false
       → Lasts turn.after turns → Lasts e (turn ∷ turns)
   pub done_none : NoneDone {D = D} []
   pub not_done : (turn : Transition D) (turns : List (Transition D))
-      → ((ticket : ℕ) (result : Result (Unit {0}) CommandFault) → turn.reply ≢ Advanced (Ok (Done ticket result))) → NoneDone turns → NoneDone (turn ∷ turns)
+      → ((ticket : ℕ) (result : Result (Unit {0}) CommandFault) → turn.reply ≢ Advanced (Ok (Done ticket result)))
+      → NoneDone turns → NoneDone (turn ∷ turns)
   pub needs_none : (e : EndpointValue D) → Needs e []
-  pub needs : (e : EndpointValue D) (turn : Transition D) (turns : List (Transition D)) → raise_in e ≢ None → Needs turn.after turns → Needs e (turn ∷ turns)
+  pub needs : (e : EndpointValue D) (turn : Transition D) (turns : List (Transition D)) → raise_in e ≢ None
+      → Needs turn.after turns → Needs e (turn ∷ turns)
   pub reserved_none : NoneReserved {D = D} []
   pub not_reserved : (turn : Transition D) (turns : List (Transition D)) → turn.reply ≢ Advanced (Ok Reserved)
-      → turn.reply ≢ Advanced (Err step.GenerationsSpent) → turn.reply ≢ Refilled (Err refill.GenerationsSpent) → NoneReserved turns
+      → turn.reply ≢ Advanced (Err step.GenerationsSpent) → turn.reply ≢ Refilled (Err refill.GenerationsSpent)
+      → NoneReserved turns
       → NoneReserved (turn ∷ turns)
-  pub encoding : (e : EndpointValue D) (an : ℕ) → (standing_in e.store).config.encoding ≡ Some an → IsSome ((state_of e no_logs).next an) → IsEncodingAn e an
+  pub encoding : (e : EndpointValue D) (an : ℕ) → (standing_in e.store).config.encoding ≡ Some an
+      → IsSome ((state_of e no_logs).next an) → IsEncodingAn e an

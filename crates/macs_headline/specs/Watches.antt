@@ -32,28 +32,35 @@ use Rattle.macs_headline.specs.declared.watch.Watch.{Watch}
 abbrev pub watch_install : List ℕ → ℕ → Key → Command
 watch_install sci an key = RxInstall sci an key 1 0
 
--- A frame is delivered as Ok: it has the number of the association, verifies under its key and SCI (IEEE Std 802.1AE-2018, clause 10), and gives its plain
--- frame and no other.
-pub record IsWatchFrame (sci : List ℕ) (an : ℕ) (key frame : List ℕ) (answer : Result Verdict Stopped) (out : List ℕ) : Type 0 where
+-- A frame is delivered as Ok: it has the number of the association, verifies under its key and SCI (IEEE Std
+-- 802.1AE-2018, clause 10), and gives its plain frame and no other.
+pub record IsWatchFrame (sci : List ℕ) (an : ℕ) (key frame : List ℕ) (answer : Result Verdict Stopped)
+    (out : List ℕ) : Type 0 where
   pub as_ok : answer ≡ Ok (Delivered AsOk)
   pub number : (tag_of frame).an ≡ an
   pub verified : Verified frame key sci (octets_of Zero) out
   pub only : (other : List ℕ) → Verified frame key sci (octets_of Zero) other → other ≡ out
 
--- What is delivered as verified is so delivered, in the evening at each of the two times. The frame of the evening is so at most once, though it is handed in
--- twice; and where it was, the frame of the morning, after the power loss, is so only with another packet number: the same frame is not.
-pub record IsWatch {D : Type 0} (sci : List ℕ) (an : ℕ) (key evening first morning second : List ℕ) (watch : Watch D) : Type 0 where
+-- What is delivered as verified is so delivered, in the evening at each of the two times. The frame of the evening is
+-- so at most once, though it is handed in twice; and where it was, the frame of the morning, after the power loss, is
+-- so only with another packet number: the same frame is not.
+pub record IsWatch {D : Type 0} (sci : List ℕ) (an : ℕ) (key evening first morning second : List ℕ)
+    (watch : Watch D) : Type 0 where
   pub before : IsVerifiedAnswer watch.evening.received → IsWatchFrame sci an key evening watch.evening.received first
-  pub tried : IsVerifiedAnswer watch.evening.tried → (early : List ℕ) × IsWatchFrame sci an key evening watch.evening.tried early
+  pub tried : IsVerifiedAnswer watch.evening.tried
+      → (early : List ℕ) × IsWatchFrame sci an key evening watch.evening.tried early
   pub behind : IsVerifiedAnswer watch.morning.received → IsWatchFrame sci an key morning watch.morning.received second
   pub once : IsVerifiedAnswer watch.evening.tried → ¬ IsVerifiedAnswer watch.evening.received
-  pub apart : IsVerifiedAnswer watch.evening.tried ⊎ IsVerifiedAnswer watch.evening.received → IsVerifiedAnswer watch.morning.received
+  pub apart : IsVerifiedAnswer watch.evening.tried ⊎ IsVerifiedAnswer watch.evening.received
+      → IsVerifiedAnswer watch.morning.received
       → (tag_of evening).pn ≢ (tag_of morning).pn
 
 -- ---- the calls of the two lives
 
--- those of the evening, with what they answered and the endpoint after each; `early` was in `out` when the frame was first handed in
-abbrev pub evening_turns : {D : Type 0} → (sci : List ℕ) (an : ℕ) (key : Key) (frame early out : List ℕ) → Evening → (one two three four last : EndpointValue D)
+-- those of the evening, with what they answered and the endpoint after each; `early` was in `out` when the frame was
+-- first handed in
+abbrev pub evening_turns : {D : Type 0} → (sci : List ℕ) (an : ℕ) (key : Key) (frame early out : List ℕ) → Evening
+    → (one two three four last : EndpointValue D)
     → List (Transition D)
 evening_turns sci an key frame early out evening one two three four last =
     record { call = Commands (RxAdd sci); reply = Ran evening.added; after = one }
@@ -64,7 +71,8 @@ evening_turns sci an key frame early out evening one two three four last =
     ∷ []
 
 -- An endpoint answered them and gave its disk back, as their contracts say.
-pub record IsEvening {D : Type 0} (disk_of : D → Disk) (start : EndpointValue D) (sci : List ℕ) (an : ℕ) (key : Key) (frame out : List ℕ) (evening : Evening)
+pub record IsEvening {D : Type 0} (disk_of : D → Disk) (start : EndpointValue D) (sci : List ℕ) (an : ℕ) (key : Key)
+    (frame out : List ℕ) (evening : Evening)
     (left : D) : Type 0 where
   pub early : List ℕ
   pub one : EndpointValue D
@@ -76,14 +84,16 @@ pub record IsEvening {D : Type 0} (disk_of : D → Disk) (start : EndpointValue 
   pub given : left ≡ device_in last
 
 -- and those of the morning
-abbrev pub morning_turns : {D : Type 0} → (frame out : List ℕ) → Morning → (one last : EndpointValue D) → List (Transition D)
+abbrev pub morning_turns : {D : Type 0} → (frame out : List ℕ) → Morning → (one last : EndpointValue D)
+    → List (Transition D)
 morning_turns frame out morning one last =
     record { call = Refills; reply = Refilled morning.refilled; after = one }
     ∷ record { call = Receives frame; reply = Received morning.received out; after = last }
     ∷ []
 
 -- a morning is a life of two calls, a refill and a receive of this frame, after which the program gives its disk back
-pub record IsMorning {D : Type 0} (disk_of : D → Disk) (start : EndpointValue D) (frame out : List ℕ) (morning : Morning) (left : D) : Type 0 where
+pub record IsMorning {D : Type 0} (disk_of : D → Disk) (start : EndpointValue D) (frame out : List ℕ)
+    (morning : Morning) (left : D) : Type 0 where
   pub one : EndpointValue D
   pub last : EndpointValue D
   pub lives : Lives disk_of start (morning_turns frame out morning one last) last
@@ -91,9 +101,10 @@ pub record IsMorning {D : Type 0} (disk_of : D → Disk) (start : EndpointValue 
 
 -- ---- an opening that is refused
 
--- The disk was formatted and opened, the endpoint answered the calls of the evening and gave the disk back, power was lost, and the second opening was refused
--- as Disk.
-pub record IsRefusedWatchMorning {D : Type 0} (disk_of : D → Disk) (old : D) (identity : Identity) (sci : List ℕ) (an : ℕ) (key : Key)
+-- The disk was formatted and opened, the endpoint answered the calls of the evening and gave the disk back, power was
+-- lost, and the second opening was refused as Disk.
+pub record IsRefusedWatchMorning {D : Type 0} (disk_of : D → Disk) (old : D) (identity : Identity) (sci : List ℕ)
+    (an : ℕ) (key : Key)
     (frame out : List ℕ) (refused : RecoverRefused D) : Type 0 where
   pub formatted : Result (Unit {0}) JournalFault
   pub between : D
@@ -106,7 +117,8 @@ pub record IsRefusedWatchMorning {D : Type 0} (disk_of : D → Disk) (old : D) (
   pub chain : Chain disk_of old (
       link_of (Formatting identity formatted) between
       ∷ link_of
-      (Living start (evening_turns sci an key frame served.early out evening served.one served.two served.three served.four served.last) served.last None) left
+      (Living start (evening_turns sci an key frame served.early out evening served.one served.two served.three
+      served.four served.last) served.last None) left
       ∷ link_of PassingOn lost
       ∷ link_of (Refusing refused.fault) refused.disk
       ∷ []
@@ -114,6 +126,8 @@ pub record IsRefusedWatchMorning {D : Type 0} (disk_of : D → Disk) (old : D) (
   pub for_disk : refused.fault ≡ DiskFault
 
 -- that, or the first opening was refused, where a device call failed or the disk is worn
-abbrev pub IsRefusedWatch : {D : Type 0} → (D → Disk) → D → Identity → (sci : List ℕ) → (an : ℕ) → Key → (evening out : List ℕ) → RecoverRefused D → Type 0
+abbrev pub IsRefusedWatch : {D : Type 0} → (D → Disk) → D → Identity → (sci : List ℕ) → (an : ℕ) → Key
+    → (evening out : List ℕ) → RecoverRefused D → Type 0
 IsRefusedWatch disk_of old identity sci an key evening out refused =
-    IsRefusedEvening disk_of old identity refused ⊎ IsRefusedWatchMorning disk_of old identity sci an key evening out refused
+    IsRefusedEvening disk_of old identity refused
+    ⊎ IsRefusedWatchMorning disk_of old identity sci an key evening out refused

@@ -24,10 +24,11 @@ pub struct Day<D: SectorDisk> {
     pub disk: D,
 }
 
-/// Formats a new disk, opens it, asks for a command and submits another, as that an association is installed
-/// and that frames go out under it, makes a step, gives a plain frame, makes another step, and gives the disk
-/// back with what the calls answered: that is its history. A disk whose opening is refused is given back with
-/// the fault: then a failed device call was counted, or the disk is worn, and that is its history.
+/// Formats a new disk, opens it, asks for a command and submits another, as that an association is
+/// installed and that frames go out under it, makes a step, gives a plain frame, makes another
+/// step, and gives the disk back with what the calls answered: that is its history. A disk whose
+/// opening is refused is given back with the fault: then a failed device call was counted, or the
+/// disk is worn, and that is its history.
 pub fn a_day<D: SectorDisk>(
     mut disk: D,
     identity: &Identity,
@@ -37,9 +38,11 @@ pub fn a_day<D: SectorDisk>(
     out: &mut FrameBuf,
 ) -> Result<Day<D>, OpenRefused<D>>
     requires new { IsNewDisk (D.disk disk) }
-    ensures opened { IfOk result (λ day. IsDay D.disk disk identity.now install select plain.now out.new.items day) }
+    ensures opened { IfOk result
+        (λ day. IsDay D.disk disk identity.now install select plain.now out.new.items day) }
     // Refused only where a failed device call was counted, or the disk is worn.
-    ensures failed { IfErr result (λ refused. ((D.disk disk).failures < (D.disk refused.disk).failures) ⊎ ((D.disk refused.disk).worn ≡ true)) }
+    ensures failed { IfErr result (λ refused. ((D.disk disk).failures
+        < (D.disk refused.disk).failures) ⊎ ((D.disk refused.disk).worn ≡ true)) }
     ensures refused { IfErr result (λ refused. IsRefusedDay D.disk disk identity.now refused) }
 {
     let formatted = format(&mut disk, identity);

@@ -2,9 +2,11 @@
 
 ghost use Rattle.std.specs.Prelude.{◌≡◌, ◌≤◌, ℕ, Bool, true, List, [], ◌∷◌, IsTrue};
 ghost use Rattle.macs_disk.specs.Disk.{Disk, IsHonest, LeftSince, MayLeave, disk_after_loss};
-ghost use Rattle.macs_disk.specs.FileDisks.{IsBlank, IsFoundAgain, IsFoundAs, IsLeftAsShown, IsOpened, disk_in_file};
+ghost use Rattle.macs_disk.specs.FileDisks.{IsBlank, IsFoundAgain, IsFoundAs, IsLeftAsShown};
+ghost use Rattle.macs_disk.specs.FileDisks.{IsOpened, disk_in_file};
 ghost use Rattle.macs_disk.specs.FileDisks.{file_left, layout_of, state_in_file};
-ghost use Rattle.macs_disk.specs.Files.{Behaves, FileState, HasNothingNew, IsClaimed, IsSure, Settles};
+ghost use Rattle.macs_disk.specs.Files.{Behaves, FileState, HasNothingNew, IsClaimed, IsSure};
+ghost use Rattle.macs_disk.specs.Files.{Settles};
 ghost use Rattle.macs_disk.specs.Layouts.{suits};
 ghost use Rattle.macs_disk.specs.Memory.{blank_memory};
 ghost use Rattle.macs_disk.specs.States.{Image, IsImage};
@@ -14,23 +16,33 @@ ghost use Rattle.macs_disk.specs.declared.layout.Layout.TheVariants.{Packed, Spa
 ghost use Rattle.macs_journal.specs.Areas.{least_sectors};
 ghost use Rattle.macs_fields.specs.First.{IsFirst, NoneHolds};
 ghost use Rattle.macs_headline.specs.Answered.{AnswersAreHeld, MomentsAreHistories};
-ghost use Rattle.macs_headline.specs.Binding.{CallsAreDeeds, ChainsAnswer, ChainsKeepSizes, ChainsTell, CutDeliveriesAreBelow, CutFramesAreBelow};
+ghost use Rattle.macs_headline.specs.Binding.{CallsAreDeeds, ChainsAnswer, ChainsKeepSizes};
+ghost use Rattle.macs_headline.specs.Binding.{ChainsTell, CutDeliveriesAreBelow, CutFramesAreBelow};
 ghost use Rattle.macs_headline.specs.Binding.{DeedsAreHistories, EndsAreCuts, FittingHaveHistories};
-ghost use Rattle.macs_headline.specs.Binding.{FaultsAreFailures, FramesAreDeliveredOnce, FramesAreWrittenOnce};
-ghost use Rattle.macs_headline.specs.Binding.{FusesChangeNone, IdleFindsNoWork, IsNewDisk, LargerFind, LargerGoOn, RefusalsAreOne};
-ghost use Rattle.macs_headline.specs.Binding.{LivesAreMoments, LivesFit, LivesFitUnbegun, LivesKeepCommands};
-ghost use Rattle.macs_headline.specs.Binding.{LivesAreDeeds, LivesEndExactly, LivesKeepTickets, TheseAreNew};
+ghost use Rattle.macs_headline.specs.Binding.{FaultsAreFailures, FramesAreDeliveredOnce};
+ghost use Rattle.macs_headline.specs.Binding.{FramesAreWrittenOnce};
+ghost use Rattle.macs_headline.specs.Binding.{FusesChangeNone, IdleFindsNoWork, IsNewDisk};
+ghost use Rattle.macs_headline.specs.Binding.{LargerFind, LargerGoOn, RefusalsAreOne};
+ghost use Rattle.macs_headline.specs.Binding.{LivesAreMoments, LivesFit, LivesFitUnbegun};
+ghost use Rattle.macs_headline.specs.Binding.{LivesKeepCommands};
+ghost use Rattle.macs_headline.specs.Binding.{LivesAreDeeds, LivesEndExactly, LivesKeepTickets};
+ghost use Rattle.macs_headline.specs.Binding.{TheseAreNew};
 ghost use Rattle.macs_headline.specs.Binding.{NewDeedsAreHistories, OpeningsBeginAnew};
-ghost use Rattle.macs_headline.specs.Binding.{NewDisksHaveHistories, OpeningsFind, PassedOnHaveHistories, RefusalsAreFailures, SettledHaveHistories, SpentAreSpent};
+ghost use Rattle.macs_headline.specs.Binding.{NewDisksHaveHistories, OpeningsFind};
+ghost use Rattle.macs_headline.specs.Binding.{PassedOnHaveHistories, RefusalsAreFailures};
+ghost use Rattle.macs_headline.specs.Binding.{SettledHaveHistories, SpentAreSpent};
 ghost use Rattle.macs_headline.specs.Beyond.{DeliveredStaysBeyond, SentStaysBeyond};
-ghost use Rattle.macs_headline.specs.CommandInHand.{CutsBegin, CutsChangeNone, CutsKeep, InHandWasBegun, OthersBeginNone};
+ghost use Rattle.macs_headline.specs.CommandInHand.{CutsBegin, CutsChangeNone, CutsKeep};
+ghost use Rattle.macs_headline.specs.CommandInHand.{InHandWasBegun, OthersBeginNone};
 ghost use Rattle.macs_headline.specs.Cases.{CasesAre};
 ghost use Rattle.macs_headline.specs.Changing.{CommandsChange, IsFirstConfiguration, PrintsAre};
 ghost use Rattle.macs_headline.specs.Commands.{CommandsKept, FindsOne, InHandWasGiven};
 ghost use Rattle.macs_headline.specs.Configurations.{ConfigurationIs};
 ghost use Rattle.macs_headline.specs.DeedLives.{DeedsMakeLives};
-ghost use Rattle.macs_headline.specs.Deliveries.{DeliveredBelow, DeliveriesAreVerified, GivenOnce, NeverOkAgain, OthersAreBare};
-ghost use Rattle.macs_headline.specs.Editions.{EditionsAlike, EditionsRead, EditionsTake, TheseAreLarger};
+ghost use Rattle.macs_headline.specs.Deliveries.{DeliveredBelow, DeliveriesAreVerified, GivenOnce};
+ghost use Rattle.macs_headline.specs.Deliveries.{NeverOkAgain, OthersAreBare};
+ghost use Rattle.macs_headline.specs.Editions.{EditionsAlike, EditionsRead, EditionsTake};
+ghost use Rattle.macs_headline.specs.Editions.{TheseAreLarger};
 ghost use Rattle.macs_headline.specs.Drawn.{LifeWords, LogWords, MomentsAreExact, NumberWords};
 ghost use Rattle.macs_headline.specs.EndpointWords.{CallsAreCounted, CeilingsAreRaised};
 ghost use Rattle.macs_headline.specs.EndpointWords.{OpeningsCount, ServedWords};
@@ -40,13 +52,16 @@ ghost use Rattle.macs_headline.specs.FailureWords.{FailureWords};
 ghost use Rattle.macs_headline.specs.FileCallWords.{FileCallWords};
 ghost use Rattle.macs_headline.specs.OctetWords.{OctetWords};
 ghost use Rattle.macs_headline.specs.StandWords.{CallsLeave, ServedEnds};
-ghost use Rattle.macs_headline.specs.Endings.{DroppedPassOn, EndsAreEarlier, ImagesAreWhole, KillingsPassOn, LosesPower, LossesSettle};
+ghost use Rattle.macs_headline.specs.Endings.{DroppedPassOn, EndsAreEarlier, ImagesAreWhole};
+ghost use Rattle.macs_headline.specs.Endings.{KillingsPassOn, LosesPower, LossesSettle};
 ghost use Rattle.macs_headline.specs.Endings.{PassedOnAgain, PowerLossesPassOn, TheseAreImages};
-ghost use Rattle.macs_headline.specs.Endings.{ReadsPassOn, SyncsPassOn, TheseAreAlike, TheseArePassedOn};
+ghost use Rattle.macs_headline.specs.Endings.{ReadsPassOn, SyncsPassOn, TheseAreAlike};
+ghost use Rattle.macs_headline.specs.Endings.{TheseArePassedOn};
 ghost use Rattle.macs_headline.specs.Endings.{WritesBackAsSyncs, WrittenBackPassOn};
 ghost use Rattle.macs_headline.specs.ExampleLives.{IsWorkedHistory};
 ghost use Rattle.macs_headline.specs.ExampleMigration.{IsWorkedMigration};
-ghost use Rattle.macs_headline.specs.ExampleWords.{DaysAreCalls, ExampleWords, NightWords, WatchWords};
+ghost use Rattle.macs_headline.specs.ExampleWords.{DaysAreCalls, ExampleWords, NightWords};
+ghost use Rattle.macs_headline.specs.ExampleWords.{WatchWords};
 ghost use Rattle.macs_headline.specs.WorkedWords.{MigrationWords, WorkedWords};
 ghost use Rattle.macs_headline.specs.OnceWords.{OnceWords};
 ghost use Rattle.macs_headline.specs.RefusedWords.{RefusedWords};
@@ -58,13 +73,16 @@ ghost use Rattle.macs_headline.specs.Formats.{FormatsOnce, RefusedByHistory};
 ghost use Rattle.macs_headline.specs.Frames.{FramesAreStandard, WrittenBelow, WrittenOnce};
 ghost use Rattle.macs_headline.specs.GoingOn.{LivesGoOn};
 ghost use Rattle.macs_headline.specs.AnsweredLogs.{LogsAreAnswers};
-ghost use Rattle.macs_headline.specs.Numbers.{BeginAsAsked, GivenApart, GivenBelow, NothingForgotten, OkApart, SkipsFew};
+ghost use Rattle.macs_headline.specs.Numbers.{BeginAsAsked, GivenApart, GivenBelow};
+ghost use Rattle.macs_headline.specs.Numbers.{NothingForgotten, OkApart, SkipsFew};
 ghost use Rattle.macs_headline.specs.Numbers.{SkipsFewReceived, UsedBelow, UsedOnce, UsedOnceAtEnd};
 ghost use Rattle.macs_headline.specs.Moments.{EditionsRise, OfItsEdition};
-ghost use Rattle.macs_headline.specs.NumbersMoved.{FramesChangeFew, NoneAppear, NumbersAreSet, NumbersMove, SidesAreConfigured};
+ghost use Rattle.macs_headline.specs.NumbersMoved.{FramesChangeFew, NoneAppear, NumbersAreSet};
+ghost use Rattle.macs_headline.specs.NumbersMoved.{NumbersMove, SidesAreConfigured};
 ghost use Rattle.macs_headline.specs.Origins.{ComeUponAlone, LivesCameSo};
 ghost use Rattle.macs_headline.specs.Reasons.{ReasonsAreNamed};
-ghost use Rattle.macs_headline.specs.Received.{ChannelsAreNamed, HeldAreAhead, LateAreDiscarded, SeenAreVerified, TheseAreTimely};
+ghost use Rattle.macs_headline.specs.Received.{ChannelsAreNamed, HeldAreAhead, LateAreDiscarded};
+ghost use Rattle.macs_headline.specs.Received.{SeenAreVerified, TheseAreTimely};
 ghost use Rattle.macs_headline.specs.Received.{TimelyAreDelivered, UnverifiedAreSettled};
 ghost use Rattle.macs_headline.specs.Refused.{FaultsAreNamed, LimitsAre, RefusalsAreExact};
 ghost use Rattle.macs_headline.specs.NumbersWanted.{ReservationsAreWanted};
@@ -76,19 +94,22 @@ ghost use Rattle.macs_headline.specs.Verdicts.{BareFramesAre, VerdictsAreNamed};
 ghost use Rattle.macs_headline.specs.One.{OneChangeComes, OneFrameComes, OneStateComes};
 ghost use Rattle.macs_headline.specs.Waits.{CommandsWait};
 ghost use Rattle.macs_headline.specs.Windows.{WindowsAreKept};
-ghost use Rattle.macs_headline.specs.Words.{CallWords, CommandWords, EditionWords, OneComesOfIt, ReplyWords};
+ghost use Rattle.macs_headline.specs.Words.{CallWords, CommandWords, EditionWords, OneComesOfIt};
+ghost use Rattle.macs_headline.specs.Words.{ReplyWords};
 ghost use Rattle.macs_headline.specs.WorkInHand.{CallsAreStill, StepsWork};
 ghost use Rattle.macs_headline.specs.OpeningWords.{JournalWords, OpeningWords, RefusalWords};
-ghost use Rattle.macs_headline.specs.Openings.{IdentityWasGiven, NothingChanges, RefusedForDiskOrBlank, RefusedForDiskOrSpent, SpentAreLast};
+ghost use Rattle.macs_headline.specs.Openings.{IdentityWasGiven, NothingChanges};
+ghost use Rattle.macs_headline.specs.Openings.{RefusedForDiskOrBlank, RefusedForDiskOrSpent};
+ghost use Rattle.macs_headline.specs.Openings.{SpentAreLast};
 
 use crate::example::peer_frame_in_range;
 use macs_disk::laws::a_file_is_left_as_its_disk;
 use macs_disk::{DiskFile, SectorDisk};
 
 /// Over every history: opening finds the configuration after a prefix of the accepted commands that
-/// holds every acknowledged one; each frame that is written is the standard's, no two carry the same
-/// key and packet number, and with replay window zero no packet number is delivered twice as verified
-/// on one association.
+/// holds every acknowledged one; each frame that is written is the standard's, no two carry the
+/// same key and packet number, and with replay window zero no packet number is delivered twice as
+/// verified on one association.
 pub fn headline()
     // No life forgets what was used and delivered before it.
     ensures nothing_forgotten { (sectors : ℕ) → NothingForgotten sectors }
@@ -104,25 +125,32 @@ pub fn headline()
     ensures editions_take { EditionsTake }
     // It reads a journal as the records say that it holds, whatever is installed.
     ensures editions_read { EditionsRead }
-    // An endpoint is of the edition of the program that opened or formatted its disk, and later ones are of no smaller edition.
+    // An endpoint is of the edition of the program that opened or formatted its disk, and later
+    // ones are of no smaller edition.
     ensures of_its_edition { (sectors : ℕ) → OfItsEdition sectors }
     ensures editions_rise { (sectors : ℕ) → EditionsRise sectors }
-    // What any life answered was answered at a moment of the history, and what it used and delivered is held.
+    // What any life answered was answered at a moment of the history, and what it used and
+    // delivered is held.
     ensures answers_are_held { (sectors : ℕ) → AnswersAreHeld sectors }
     // And nothing else is: what was used and delivered is what some life answered.
     ensures logs_are_answers { (sectors : ℕ) → LogsAreAnswers sectors }
-    // No two frames carry the same key and packet number: at each moment of each life, and at the end.
+    // No two frames carry the same key and packet number: at each moment of each life, and at the
+    // end.
     ensures used_once { (sectors : ℕ) → UsedOnce sectors }
     ensures used_once_at_end { (sectors : ℕ) → UsedOnceAtEnd sectors }
-    // A frame that is written carries another key or number than each that was, in this life or before it.
+    // A frame that is written carries another key or number than each that was, in this life or
+    // before it.
     ensures written_once { (sectors : ℕ) → WrittenOnce sectors }
-    // With replay protection on and window 0 no packet number is delivered twice as verified on one association.
+    // With replay protection on and window 0 no packet number is delivered twice as verified on one
+    // association.
     ensures given_once { (sectors : ℕ) → GivenOnce sectors }
     ensures given_apart { (sectors : ℕ) → GivenApart sectors }
-    // A packet number that was delivered before a restart is never delivered as Ok after it, on an association of the same SCI and key.
+    // A packet number that was delivered before a restart is never delivered as Ok after it, on an
+    // association of the same SCI and key.
     ensures never_ok_again { (sectors : ℕ) → NeverOkAgain sectors }
     ensures ok_apart { (sectors : ℕ) → OkApart sectors }
-    // In every image each number that was used is below the next one found for its key, which is spent.
+    // In every image each number that was used is below the next one found for its key, which is
+    // spent.
     ensures used_below { (sectors : ℕ) → UsedBelow sectors }
     // So is that of each frame which any life wrote.
     ensures written_below { (sectors : ℕ) → WrittenBelow sectors }
@@ -132,59 +160,74 @@ pub fn headline()
     ensures delivered_below { (sectors : ℕ) → DeliveredBelow sectors }
     // No next number falls over a restart, or vanishes, and at most a block and a half is skipped.
     ensures skips_few { (sectors : ℕ) → SkipsFew sectors }
-    // Of a receive association it skips at most a block beyond what was seen, and nothing where nothing was.
+    // Of a receive association it skips at most a block beyond what was seen, and nothing where
+    // nothing was.
     ensures skips_few_received { (sectors : ℕ) → SkipsFewReceived sectors }
     // What the command under way installs, and an opening finds, begins where the command says.
     ensures begin_as_asked { (sectors : ℕ) → BeginAsAsked sectors }
     // An opening finds a prefix of the accepted commands that holds every acknowledged one.
     ensures commands_kept { (sectors : ℕ) → CommandsKept sectors }
-    // Where nothing was under way, that is one configuration; where a command was, that one or what the command makes of it.
+    // Where nothing was under way, that is one configuration; where a command was, that one or what
+    // the command makes of it.
     ensures finds_one { FindsOne }
     // What is under way where a life ends was given to a call of that life.
     ensures in_hand_was_given { (sectors : ℕ) → InHandWasGiven sectors }
-    // It is accepted, and where it was not under way before the call that was cut short, that is a step or `command`.
+    // It is accepted, and where it was not under way before the call that was cut short, that is a
+    // step or `command`.
     ensures in_hand_was_begun { (sectors : ℕ) → InHandWasBegun sectors }
-    // And work on a command begins in a step or in `command`, and in no other call that is answered.
+    // And work on a command begins in a step or in `command`, and in no other call that is
+    // answered.
     ensures others_begin_none { OthersBeginNone }
     // Whichever call is cut short, nothing else changes.
     ensures cuts_change_none { CutsChangeNone }
-    // Where a call is cut short that may begin a command, that one is under way, whatever it installs.
+    // Where a call is cut short that may begin a command, that one is under way, whatever it
+    // installs.
     ensures cuts_begin { CutsBegin }
     // And where a call that is cut begins none, all is as it was, with what was under way.
     ensures cuts_keep { CutsKeep }
-    // Over all lives: it finds what the kept commands of each make of the first configuration, and the identity of the `format` that answered Ok.
+    // Over all lives: it finds what the kept commands of each make of the first configuration, and
+    // the identity of the `format` that answered Ok.
     ensures configuration_is { (sectors : ℕ) → ConfigurationIs sectors }
     // That configuration is strict, with replay protection on and window 0, and has no association.
     ensures first_configuration { IsFirstConfiguration }
     // A command does what it says, and changes nothing that it does not name.
     ensures commands_change { CommandsChange }
-    // A spent key is known by its SHA-256, on the receive side with the SCI, and by each octet of that.
+    // A spent key is known by its SHA-256, on the receive side with the SCI, and by each octet of
+    // that.
     ensures prints { PrintsAre }
-    // In one life tickets are given in order from 1, each is answered at most once, in order, and none is lost.
+    // In one life tickets are given in order from 1, each is answered at most once, in order, and
+    // none is lost.
     ensures tickets_kept { (sectors : ℕ) → TicketsKept sectors }
     // Each frame is the protected frame of that moment, and its number joins those that were used.
     ensures frames_are_standard { (sectors : ℕ) → FramesAreStandard sectors }
-    // Each frame delivered as Ok or Delayed verifies, and its own number joins those that were delivered.
+    // Each frame delivered as Ok or Delayed verifies, and its own number joins those that were
+    // delivered.
     ensures deliveries_are_verified { (sectors : ℕ) → DeliveriesAreVerified sectors }
-    // Each other answer gives nothing that was hidden, and leaves what was used and delivered as it was.
+    // Each other answer gives nothing that was hidden, and leaves what was used and delivered as it
+    // was.
     ensures others_are_bare { (sectors : ℕ) → OthersAreBare sectors }
     // A frame without SecTAG and ICV has its addresses and its Secure Data.
     ensures bare_frames { BareFramesAre }
-    // A frame that does not verify is discarded, or delivered under Check with C clear, by the first step that settles it.
+    // A frame that does not verify is discarded, or delivered under Check with C clear, by the
+    // first step that settles it.
     ensures unverified_are_settled { (sectors : ℕ) → UnverifiedAreSettled sectors }
-    // With replay protection on, one below the lowest acceptable number is late, whether it verifies or not.
+    // With replay protection on, one below the lowest acceptable number is late, whether it
+    // verifies or not.
     ensures late_are_discarded { (sectors : ℕ) → LateAreDiscarded sectors }
     // The verdict is that of the first reason which holds of the frame, by its octets.
     ensures verdicts_are_named { VerdictsAreNamed }
-    // A frame that verifies, and is not late, is delivered, or held back where its number is not below the next one.
+    // A frame that verifies, and is not late, is delivered, or held back where its number is not
+    // below the next one.
     ensures timely_are_delivered { TimelyAreDelivered }
     // Late are those alone that are below the lowest acceptable number under replay protection.
     ensures as_timely { TheseAreTimely }
     // A frame is of the channel whose SCI its tag names, or of the only one where it names none.
     ensures channels_are_named { ChannelsAreNamed }
-    // The lowest acceptable number of an association is at most the next one, and no further below it than the window.
+    // The lowest acceptable number of an association is at most the next one, and no further below
+    // it than the window.
     ensures windows_are_kept { (sectors : ℕ) → WindowsAreKept sectors }
-    // A call moves the packet numbers of one association by a frame of its own, or those that a command sets; no others.
+    // A call moves the packet numbers of one association by a frame of its own, or those that a
+    // command sets; no others.
     ensures numbers_move { (sectors : ℕ) → NumbersMove sectors }
     // A command that takes effect does set them.
     ensures numbers_are_set { (sectors : ℕ) → NumbersAreSet sectors }
@@ -192,7 +235,8 @@ pub fn headline()
     ensures frames_change_few { (sectors : ℕ) → FramesChangeFew sectors }
     // And a restart gives none to an association that had none.
     ensures none_appear { (sectors : ℕ) → NoneAppear sectors }
-    // What stands for a state's configuration, with numbers that moved no further, fits it, in programs of any edition.
+    // What stands for a state's configuration, with numbers that moved no further, fits it, in
+    // programs of any edition.
     ensures restarts_fit { (sectors : ℕ) → RestartsFit sectors }
     // What the two sides of an endpoint have is its configuration.
     ensures sides { SidesAreConfigured }
@@ -200,30 +244,38 @@ pub fn headline()
     ensures held_are_ahead { (sectors : ℕ) → HeldAreAhead sectors }
     // The greatest number that was seen on an association is that of a frame that verified there.
     ensures seen_are_verified { (sectors : ℕ) → SeenAreVerified sectors }
-    // The state before a call, the call and its answer settle the state after it, but for what is under way.
+    // The state before a call, the call and its answer settle the state after it, but for what is
+    // under way.
     ensures steps_are_one { StepsAreOne }
     // Each call is answered by a reply of its own function.
     ensures replies { RepliesAreOfCalls }
-    // A call is refused for the first reason that holds, and changes nothing then, but that a submitted command leaves the queue.
+    // A call is refused for the first reason that holds, and changes nothing then, but that a
+    // submitted command leaves the queue.
     ensures refusals_are_exact { (sectors : ℕ) → RefusalsAreExact sectors }
-    // While a command waits `command` is answered Busy; sixteen wait at most, under tickets one by one.
+    // While a command waits `command` is answered Busy; sixteen wait at most, under tickets one by
+    // one.
     ensures waiting { (sectors : ℕ) → CommandsWait sectors }
-    // A command that is refused for a reason has it, and none before it; and one that has any is refused.
+    // A command that is refused for a reason has it, and none before it; and one that has any is
+    // refused.
     ensures reasons_are_named { ReasonsAreNamed }
-    // A plain frame that is refused for a fault has it, and none before it; and one that goes out has none of the first five.
+    // A plain frame that is refused for a fault has it, and none before it; and one that goes out
+    // has none of the first five.
     ensures faults_are_named { (sectors : ℕ) → FaultsAreNamed sectors }
-    // How many commands may wait, how many tickets and spent keys there are, how often a journal starts over, and what
-    // this edition and the first one take.
+    // How many commands may wait, how many tickets and spent keys there are, how often a journal
+    // starts over, and what this edition and the first one take.
     ensures limits { LimitsAre }
-    // After a device fault each call is answered that the endpoint is stopped, and changes nothing; before one none is.
+    // After a device fault each call is answered that the endpoint is stopped, and changes nothing;
+    // before one none is.
     ensures stopped_stays { (sectors : ℕ) → StoppedStays sectors }
-    // After `format` has answered Ok an opening is refused for the disk alone, or for a last generation in an older format.
+    // After `format` has answered Ok an opening is refused for the disk alone, or for a last
+    // generation in an older format.
     ensures refused_for_disk_or_spent { (sectors : ℕ) → RefusedForDiskOrSpent sectors }
     // That is answered as GenerationsSpent, and is generation 2^64 - 1 of a journal of format one.
     ensures spent_are_last { SpentAreLast }
     // Before that it may also find no journal.
     ensures refused_for_disk_or_blank { (sectors : ℕ) → RefusedForDiskOrBlank sectors }
-    // So it is over the lives of a history: as not formatted only where none of them formatted the disk for sure.
+    // So it is over the lives of a history: as not formatted only where none of them formatted the
+    // disk for sure.
     ensures refused_by_history { (sectors : ℕ) → RefusedByHistory sectors }
     // And `format` answers Ok once at most, and after no opening that succeeded.
     ensures formats_once { (sectors : ℕ) → FormatsOnce sectors }
@@ -235,15 +287,19 @@ pub fn headline()
     ensures cases { CasesAre }
 {}
 
-/// Where histories come from: no program comes upon other images, and no moment and no end of a life comes about otherwise.
+/// Where histories come from: no program comes upon other images, and no moment and no end of a
+/// life comes about otherwise.
 pub fn origins()
-    // An image that a program comes upon fits the state before; or, while the disk is not formatted for sure, it is blank or new.
+    // An image that a program comes upon fits the state before; or, while the disk is not formatted
+    // for sure, it is blank or new.
     ensures come_upon { (sectors : ℕ) → ComeUponAlone sectors }
-    // A moment comes from an opening, or from the moment before it by a step; and each life led from such a moment to its end.
+    // A moment comes from an opening, or from the moment before it by a step; and each life led
+    // from such a moment to its end.
     ensures lives { (sectors : ℕ) → LivesCameSo sectors }
 {}
 
-/// What an opening found beyond a packet number stays beyond it, in each frame of that life and in each opening after it.
+/// What an opening found beyond a packet number stays beyond it, in each frame of that life and in
+/// each opening after it.
 pub fn beyond()
     // Of frames that were written, by their keys.
     ensures sent { (sectors : ℕ) → SentStaysBeyond sectors }
@@ -253,12 +309,13 @@ pub fn beyond()
 
 /// The words of these laws that say what may be say this and no more.
 pub fn words()
-    // A state of another edition, a content in another format, what a replay of the journal accepts, and what a
-    // `format` leads to.
+    // A state of another edition, a content in another format, what a replay of the journal
+    // accepts, and what a `format` leads to.
     ensures editions { EditionWords }
     // What each command is on.
     ensures commands { CommandWords }
-    // Under which association a frame goes out or comes in, which number was seen, and in which call work may begin.
+    // Under which association a frame goes out or comes in, which number was seen, and in which
+    // call work may begin.
     ensures calls { CallWords }
     // Which reply is of which function.
     ensures replies { ReplyWords }
@@ -268,8 +325,8 @@ pub fn words()
     ensures journals { JournalWords }
     // One verdict, one journal and one failure come of it.
     ensures one { OneComesOfIt }
-    // One frame that goes out, or is delivered or held back, with its number; one configuration, with the numbers that are
-    // set; and one state.
+    // One frame that goes out, or is delivered or held back, with its number; one configuration,
+    // with the numbers that are set; and one state.
     ensures one_frame { OneFrameComes }
     ensures one_change { OneChangeComes }
     ensures one_state { OneStateComes }
@@ -288,8 +345,8 @@ pub fn words()
     ensures migration { MigrationWords }
 {}
 
-/// What the endpoint's contracts promise of openings, ceilings and counters, and what its own laws on
-/// turns, on work that lasts and on numbers that are left count and ask for, call by call.
+/// What the endpoint's contracts promise of openings, ceilings and counters, and what its own laws
+/// on turns, on work that lasts and on numbers that are left count and ask for, call by call.
 pub fn endpoint_words<D: SectorDisk>()
     // What an opening counts and begins with, and which disks are too small.
     ensures openings { OpeningsCount D.disk }
@@ -335,19 +392,25 @@ pub fn first_in_order<R>()
         → IsFirst (λ r. IsTrue (holds r)) (first ∷ rest) first }
     // Else what comes first of the others.
     ensures behind { (holds : R → Bool) (first found : R) (rest : List R) → ¬ IsTrue (holds first)
-        → IsFirst (λ r. IsTrue (holds r)) rest found → IsFirst (λ r. IsTrue (holds r)) (first ∷ rest) found }
+        → IsFirst (λ r. IsTrue (holds r)) rest found
+        → IsFirst (λ r. IsTrue (holds r)) (first ∷ rest) found }
     // And nothing else comes first: where the first one holds, that one alone.
-    ensures front_alone { (holds : R → Bool) (first found : R) (rest : List R) → IsTrue (holds first)
+    ensures front_alone { (holds : R → Bool) (first found : R) (rest : List R)
+        → IsTrue (holds first)
         → IsFirst (λ r. IsTrue (holds r)) (first ∷ rest) found → found ≡ first }
     // Else only what comes first of the others, and of none nothing.
-    ensures behind_alone { (holds : R → Bool) (first found : R) (rest : List R) → ¬ IsTrue (holds first)
-        → IsFirst (λ r. IsTrue (holds r)) (first ∷ rest) found → IsFirst (λ r. IsTrue (holds r)) rest found }
+    ensures behind_alone { (holds : R → Bool) (first found : R) (rest : List R)
+        → ¬ IsTrue (holds first)
+        → IsFirst (λ r. IsTrue (holds r)) (first ∷ rest) found
+        → IsFirst (λ r. IsTrue (holds r)) rest found }
     ensures none { (holds : R → Bool) (found : R) → ¬ IsFirst (λ r. IsTrue (holds r)) [] found }
     // Of a list of which none holds, the first one does not, and none of the others.
-    ensures none_of { (holds : R → Bool) (first : R) (rest : List R) → NoneHolds (λ r. IsTrue (holds r)) (first ∷ rest)
+    ensures none_of { (holds : R → Bool) (first : R) (rest : List R)
+        → NoneHolds (λ r. IsTrue (holds r)) (first ∷ rest)
         → (¬ IsTrue (holds first)) × NoneHolds (λ r. IsTrue (holds r)) rest }
     // So what comes first holds.
-    ensures held { (holds : R → Bool) (order : List R) (found : R) → IsFirst (λ r. IsTrue (holds r)) order found
+    ensures held { (holds : R → Bool) (order : List R) (found : R)
+        → IsFirst (λ r. IsTrue (holds r)) order found
         → IsTrue (holds found) }
 {}
 
@@ -356,7 +419,8 @@ pub fn beginnings()
     ensures new { NewDisksHaveHistories }
     // New is each honest disk that is large enough and shows no open head gate.
     ensures as_new { TheseAreNew }
-    // An honest disk has each history after which a program may come upon each image that it may leave.
+    // An honest disk has each history after which a program may come upon each image that it may
+    // leave.
     ensures fitting { FittingHaveHistories }
     // One with nothing pending has each after which a program may come upon what is on it.
     ensures settled { SettledHaveHistories }
@@ -401,8 +465,8 @@ pub fn endings<D: SectorDisk>()
     ensures as_whole { TheseAreImages }
 {}
 
-/// What is done with a disk that has a history, by the contracts of `format`, of `Endpoint::open` and of an
-/// endpoint's calls, wherever a program ends, continues that history.
+/// What is done with a disk that has a history, by the contracts of `format`, of `Endpoint::open`
+/// and of an endpoint's calls, wherever a program ends, continues that history.
 pub fn histories<D: SectorDisk>()
     // What a call's contract says makes a deed.
     ensures deeds { CallsAreDeeds D.disk }
@@ -412,7 +476,8 @@ pub fn histories<D: SectorDisk>()
     ensures sizes { ChainsKeepSizes D.disk }
     // What their endpoints answered is among what the lives answered.
     ensures answers { ChainsAnswer D.disk }
-    // And so is what `format` answered, also one that was cut short, for what an opening was refused, and what an endpoint did.
+    // And so is what `format` answered, also one that was cut short, for what an opening was
+    // refused, and what an endpoint did.
     ensures told { ChainsTell D.disk }
     // And nothing else is reported: each of the lives is what one of the deeds is.
     ensures told_alone { LivesAreDeeds D.disk }
@@ -426,34 +491,39 @@ pub fn histories<D: SectorDisk>()
     ensures under_way { LivesAreMoments D.disk }
     // The lives up to that moment are those before it, and its own, so far.
     ensures exactly { MomentsAreExact D.disk }
-    // Where the medium is passed on while it lives, that is in its opening, or inside one of its calls.
+    // Where the medium is passed on while it lives, that is in its opening, or inside one of its
+    // calls.
     ensures cut { EndsAreCuts D.disk }
-    // An opening is refused only where a device call failed, where the disk was not formatted for sure, or for a
-    // last generation in an older format.
+    // An opening is refused only where a device call failed, where the disk was not formatted for
+    // sure, or for a last generation in an older format.
     ensures refusals { RefusalsAreFailures D.disk }
     // Which of these it is, is settled by what is on the disk.
     ensures refused_as { RefusalsAreOne D.disk }
-    // An opening of a journal of format two writes nothing, nor does one that is refused for what is on the disk.
-    // One of format one is rewritten, once, and what it stands for stays, wherever that is cut short.
+    // An opening of a journal of format two writes nothing, nor does one that is refused for what
+    // is on the disk. One of format one is rewritten, once, and what it stands for stays, wherever
+    // that is cut short.
     ensures begun_anew { OpeningsBeginAnew D.disk }
     // A step is answered Idle only where there is no work.
     ensures idle { IdleFindsNoWork D.disk }
-    // And there it is; else it does a piece of the work, one device call at a time, until none is left.
+    // And there it is; else it does a piece of the work, one device call at a time, until none is
+    // left.
     ensures steps { StepsWork D.disk }
     // Other calls leave that work, and the disk, as they were.
     ensures still { CallsAreStill D.disk }
     // A call is answered GenerationsSpent only where the journal is at its end.
     ensures spent { SpentAreSpent D.disk }
-    // A frame is held back, or has no number, only where a ceiling is reached; and after a refill none is needed.
+    // A frame is held back, or has no number, only where a ceiling is reached; and after a refill
+    // none is needed.
     ensures wanted { ReservationsAreWanted D.disk }
     // A call is answered Disk only where a device call failed, or the disk is worn.
     ensures faults { FaultsAreFailures D.disk }
-    // What is left after it is opened as a restart of the state in which it ended, with the command that the
-    // call which was cut short may have begun.
+    // What is left after it is opened as a restart of the state in which it ended, with the command
+    // that the call which was cut short may have begun.
     ensures fit { LivesFit D.disk }
     // It has begun none where a ceiling is being raised, or where to raise one is next.
     ensures fit_unbegun { LivesFitUnbegun D.disk }
-    // That state is the one after the last answer, with a command under way only where the call may have begun it.
+    // That state is the one after the last answer, with a command under way only where the call may
+    // have begun it.
     ensures fit_exactly { LivesEndExactly D.disk }
     // What it acknowledged is kept.
     ensures commands { LivesKeepCommands D.disk }
@@ -463,25 +533,27 @@ pub fn histories<D: SectorDisk>()
     ensures frames { FramesAreWrittenOnce D.disk }
     // So is a frame of a `protect` in which the program ends; its number is not used again.
     ensures cut_frames { CutFramesAreBelow D.disk }
-    // A frame that it delivers as verified verifies, and with window zero its number was so delivered in no life.
+    // A frame that it delivers as verified verifies, and with window zero its number was so
+    // delivered in no life.
     ensures deliveries { FramesAreDeliveredOnce D.disk }
-    // A frame that a `receive` would have so delivered, in which the program ends, verifies too; what
-    // is found later is above its number.
+    // A frame that a `receive` would have so delivered, in which the program ends, verifies too;
+    // what is found later is above its number.
     ensures cut_deliveries { CutDeliveriesAreBelow D.disk }
 {}
 
-/// There are histories, over real images and frames: with a `format` that did not answer Ok, power losses between two
-/// steps of a command and in a compaction, a program that is killed, a device's fault, refused openings and commands,
-/// and frames of both sides, also within a replay window and without replay protection.
+/// There are histories, over real images and frames: with a `format` that did not answer Ok, power
+/// losses between two steps of a command and in a compaction, a program that is killed, a device's
+/// fault, refused openings and commands, and frames of both sides, also within a replay window and
+/// without replay protection.
 pub fn worked_history()
     ensures { IsWorkedHistory }
 {
     peer_frame_in_range();
 }
 
-/// A disk that the first edition of the program formatted, and from which it sent a frame, has that history to this
-/// one too, whose opening starts its journal over: what it stands for does not change, and lives go on from it with
-/// keys of both lengths.
+/// A disk that the first edition of the program formatted, and from which it sent a frame, has that
+/// history to this one too, whose opening starts its journal over: what it stands for does not
+/// change, and lives go on from it with keys of both lengths.
 pub fn worked_migration()
     ensures { IsWorkedMigration }
 {
@@ -515,33 +587,42 @@ pub fn octets()
     ensures { OctetWords }
 {}
 
-/// A disk in a file that behaves is one that histories are of, where the blocks of its device suit the layout.
+/// A disk in a file that behaves is one that histories are of, where the blocks of its device suit
+/// the layout.
 pub fn files<F: DiskFile>()
     // A new one is a new disk.
-    ensures new { (old new : FileState) (layout : Layout) (disk : Disk) → IsBlank old new layout disk
+    ensures new { (old new : FileState) (layout : Layout) (disk : Disk)
+        → IsBlank old new layout disk
         → suits layout old.block ≡ true → IsNewDisk disk }
-    // To open its file again is to a disk what a power loss is: the file as it was left, or as a power loss or
-    // openings that failed left that. The new disk has its layout and its sectors, and one of the images that
-    // the file might have been left with.
+    // To open its file again is to a disk what a power loss is: the file as it was left, or as a
+    // power loss or openings that failed left that. The new disk has its layout and its sectors,
+    // and one of the images that the file might have been left with.
     ensures opened_again { (left file : FileState) (layout again : Layout) (old new : Disk)
         → IsFoundAs layout old.sectors left → suits layout left.block ≡ true → IsHonest old
         → ((image : Image) → IsImage (state_in_file layout left) image → MayLeave old image)
-        → HasNothingNew left file → IsOpened file 0 again new → (again ≡ layout) × LosesPower old old.clock new }
+        → HasNothingNew left file → IsOpened file 0 again new
+        → (again ≡ layout) × LosesPower old old.clock new }
     // So it is where a disk in a file left it, be it after a call that failed.
     ensures reopened { (it : FileDisk F) (file : FileState) (again : Layout) (new : Disk)
         → IsLeftAsShown F.file it → IsFoundAgain F.file it → Behaves (F.file (file_left it))
-        → IsHonest (disk_in_file F.file it) → HasNothingNew (F.file (file_left it)) file → IsOpened file 0 again new
-        → (again ≡ layout_of it) × LosesPower (disk_in_file F.file it) (disk_in_file F.file it).clock new }
-    // A power loss leaves nothing new of a file that was let go of, whatever it shows then and whoever claims it; of one
-    // after a power loss, and of one after the other, `nothing_new_of_a_file` of `macs_disk` says so.
+        → IsHonest (disk_in_file F.file it) → HasNothingNew (F.file (file_left it)) file
+        → IsOpened file 0 again new
+        → (again ≡ layout_of it)
+        × LosesPower (disk_in_file F.file it) (disk_in_file F.file it).clock new }
+    // A power loss leaves nothing new of a file that was let go of, whatever it shows then and
+    // whoever claims it; of one after a power loss, and of one after the other,
+    // `nothing_new_of_a_file` of `macs_disk` says so.
     ensures let_go { (left file : FileState) → file.block ≡ left.block → file.size ≡ left.size
         → file.is_size_durable ≡ left.is_size_durable → ((p : ℕ) → file.durable p ≡ left.durable p)
         → ((n : ℕ) → file.pending n ≡ left.pending n) → HasNothingNew left file }
-    // A file that is settled is claimed, and where it was sure of what it shows, it still shows that.
+    // A file that is settled is claimed, and where it was sure of what it shows, it still shows
+    // that.
     ensures settled { (old new : FileState) → Settles old new → IsClaimed new
         × (IsSure old → new.seen ≡ old.seen) }
-    // Blocks of 512 octets suit both layouts, and those of 4,096 the one in which sectors lie apart.
-    ensures blocks { (suits Packed 512 ≡ true) × (suits Spaced 512 ≡ true) × (suits Spaced 4096 ≡ true) }
+    // Blocks of 512 octets suit both layouts, and those of 4,096 the one in which sectors lie
+    // apart.
+    ensures blocks { (suits Packed 512 ≡ true) × (suits Spaced 512 ≡ true)
+        × (suits Spaced 4096 ≡ true) }
 {
     a_file_is_left_as_its_disk::<F>();
 }

@@ -1,4 +1,5 @@
-//! A night of an endpoint, in Rust: power is lost between two frames under one key, and they have two numbers.
+//! A night of an endpoint, in Rust: power is lost between two frames under one key, and they have
+//! two numbers.
 
 ghost use Rattle.std.specs.Prelude.{IfErr, IfOk, IfSome};
 ghost use Rattle.macs_aes.specs.Keys.{octets_of_key};
@@ -16,7 +17,8 @@ use std::alloc::{Allocator, Global};
 
 /// A disk on which a power loss can be played.
 pub trait PowerLoss: SectorDisk {
-    /// The power is lost: the disk holds one of the images that it could leave, and nothing is pending.
+    /// The power is lost: the disk holds one of the images that it could leave, and nothing is
+    /// pending.
     fn lose_power(self) -> Self
         ensures { LosesPower (Self.disk self) (Self.disk self).clock (Self.disk result) };
 }
@@ -28,7 +30,8 @@ impl<A: Allocator> PowerLoss for MemDisk<A> {
     }
 }
 
-/// A fuse is gone with the power: the disk behind it is left, and a new one that passes on what comes.
+/// A fuse is gone with the power: the disk behind it is left, and a new one that passes on what
+/// comes.
 impl<D: PowerLoss> PowerLoss for Fuse<D> {
     fn lose_power(self) -> Self {
         Fuse::new(self.into_inner().lose_power(), u64::MAX)
@@ -47,10 +50,11 @@ pub struct Night<D: SectorDisk> {
     pub disk: D,
 }
 
-/// Formats a new disk, opens it, installs an association with this key and uses it, and gives the plain frame
-/// of the evening. Then the power is lost. Opens the disk again, refills, and gives the plain frame of the
-/// morning. Each frame that is written is the standard's, and where both are, they have two packet numbers.
-/// A disk of which an opening is refused is given back with the fault.
+/// Formats a new disk, opens it, installs an association with this key and uses it, and gives the
+/// plain frame of the evening. Then the power is lost. Opens the disk again, refills, and gives the
+/// plain frame of the morning. Each frame that is written is the standard's, and where both are,
+/// they have two packet numbers. A disk of which an opening is refused is given back with the
+/// fault.
 pub fn a_night<D: PowerLoss>(
     mut disk: D,
     identity: &Identity,
@@ -62,10 +66,12 @@ pub fn a_night<D: PowerLoss>(
     second: &mut FrameBuf,
 ) -> Result<Night<D>, OpenRefused<D>>
     requires new { IsNewDisk (D.disk disk) }
-    ensures opened { IfOk result (λ night. IsNight identity.now an (octets_of_key key) evening.now first.new.items morning.now second.new.items night) }
-    // Refused only by an opening: by the first one, where a device call failed or the disk is worn; or by the
-    // second one, as `Disk`, after the calls of the evening and the power loss.
-    ensures refused { IfErr result (λ refused. IsRefusedNight D.disk disk identity.now an key evening.now first.new.items refused) }
+    ensures opened { IfOk result (λ night. IsNight identity.now an (octets_of_key key) evening.now
+        first.new.items morning.now second.new.items night) }
+    // Refused only by an opening: by the first one, where a device call failed or the disk is worn;
+    // or by the second one, as `Disk`, after the calls of the evening and the power loss.
+    ensures refused { IfErr result (λ refused.
+        IsRefusedNight D.disk disk identity.now an key evening.now first.new.items refused) }
 {
     let formatted = format(&mut disk, identity);
     let mut endpoint = Endpoint::open(disk)?;
@@ -98,8 +104,8 @@ pub fn a_night<D: PowerLoss>(
     })
 }
 
-/// A night over a new disk in memory, of 1,028 sectors. None where there is no memory for it, or an opening is
-/// refused.
+/// A night over a new disk in memory, of 1,028 sectors. None where there is no memory for it, or an
+/// opening is refused.
 pub fn a_night_in_memory(
     alloc: Global,
     identity: &Identity,
@@ -110,7 +116,8 @@ pub fn a_night_in_memory(
     morning: &[u8],
     second: &mut FrameBuf,
 ) -> Option<Night<MemDisk>>
-    ensures { IfSome result (λ night. IsNight identity.now an (octets_of_key key) evening.now first.new.items morning.now second.new.items night) }
+    ensures { IfSome result (λ night. IsNight identity.now an (octets_of_key key) evening.now
+        first.new.items morning.now second.new.items night) }
 {
     let Ok(disk) = MemDisk::new(alloc, 1_028) else {
         return None;
@@ -121,7 +128,8 @@ pub fn a_night_in_memory(
     Some(night)
 }
 
-/// The same behind a fuse that passes on so many calls until the power is lost, and then fails each.
+/// The same behind a fuse that passes on so many calls until the power is lost, and then fails
+/// each.
 pub fn a_night_behind_a_fuse(
     alloc: Global,
     left: u64,
@@ -133,7 +141,8 @@ pub fn a_night_behind_a_fuse(
     morning: &[u8],
     second: &mut FrameBuf,
 ) -> Option<Night<Fuse<MemDisk>>>
-    ensures { IfSome result (λ night. IsNight identity.now an (octets_of_key key) evening.now first.new.items morning.now second.new.items night) }
+    ensures { IfSome result (λ night. IsNight identity.now an (octets_of_key key) evening.now
+        first.new.items morning.now second.new.items night) }
 {
     let Ok(disk) = MemDisk::new(alloc, 1_028) else {
         return None;

@@ -1,4 +1,5 @@
-//! A watch of an endpoint, in Rust: power is lost between two frames that are received, and none is delivered twice.
+//! A watch of an endpoint, in Rust: power is lost between two frames that are received, and none is
+//! delivered twice.
 
 ghost use Rattle.std.specs.Prelude.{IfErr, IfOk, IfSome};
 ghost use Rattle.macs_aes.specs.Keys.{octets_of_key};
@@ -41,12 +42,13 @@ pub struct Watch<D: SectorDisk> {
     pub disk: D,
 }
 
-/// Formats a new disk, opens it, adds a receive channel and installs an association with this key, and hands
-/// in the frame of the evening, which may be held back, as no number is reserved yet. Refills, and hands it in again.
-/// Then the power is lost. Opens the disk again, refills, and hands in the frame of the morning, which may be
-/// the same one. Replay protection is on with window 0. What is delivered as verified is so under that key, as
-/// Ok, with its plain frame; and no two frames are with one packet number. A disk of which an opening is refused
-/// is given back with the fault.
+/// Formats a new disk, opens it, adds a receive channel and installs an association with this key,
+/// and hands in the frame of the evening, which may be held back, as no number is reserved yet.
+/// Refills, and hands it in again. Then the power is lost. Opens the disk again, refills, and hands
+/// in the frame of the morning, which may be the same one. Replay protection is on with window 0.
+/// What is delivered as verified is so under that key, as Ok, with its plain frame; and no two
+/// frames are with one packet number. A disk of which an opening is refused is given back with the
+/// fault.
 pub fn a_watch<D: PowerLoss>(
     mut disk: D,
     identity: &Identity,
@@ -59,10 +61,12 @@ pub fn a_watch<D: PowerLoss>(
     second: &mut FrameBuf,
 ) -> Result<Watch<D>, OpenRefused<D>>
     requires new { IsNewDisk (D.disk disk) }
-    ensures opened { IfOk result (λ watch. IsWatch sci an (octets_of_key key) evening.now first.new.items morning.now second.new.items watch) }
-    // Refused only by an opening: by the first one, where a device call failed or the disk is worn; or by the
-    // second one, as `Disk`, after the calls of the evening and the power loss.
-    ensures refused { IfErr result (λ refused. IsRefusedWatch D.disk disk identity.now sci an key evening.now first.new.items refused) }
+    ensures opened { IfOk result (λ watch. IsWatch sci an (octets_of_key key) evening.now
+        first.new.items morning.now second.new.items watch) }
+    // Refused only by an opening: by the first one, where a device call failed or the disk is worn;
+    // or by the second one, as `Disk`, after the calls of the evening and the power loss.
+    ensures refused { IfErr result (λ refused.
+        IsRefusedWatch D.disk disk identity.now sci an key evening.now first.new.items refused) }
 {
     let formatted = format(&mut disk, identity);
     let endpoint = Endpoint::open(disk)?;
@@ -130,8 +134,8 @@ fn serve_morning<D: SectorDisk>(
     (Morning { refilled, received }, endpoint.into_disk())
 }
 
-/// A watch over a new disk in memory, of 1,028 sectors. None where there is no memory for it, or an opening is
-/// refused.
+/// A watch over a new disk in memory, of 1,028 sectors. None where there is no memory for it, or an
+/// opening is refused.
 pub fn a_watch_in_memory(
     alloc: Global,
     identity: &Identity,
@@ -143,7 +147,8 @@ pub fn a_watch_in_memory(
     morning: &[u8],
     second: &mut FrameBuf,
 ) -> Option<Watch<MemDisk>>
-    ensures { IfSome result (λ watch. IsWatch sci an (octets_of_key key) evening.now first.new.items morning.now second.new.items watch) }
+    ensures { IfSome result (λ watch. IsWatch sci an (octets_of_key key) evening.now first.new.items
+        morning.now second.new.items watch) }
 {
     let Ok(disk) = MemDisk::new(alloc, 1_028) else {
         return None;
@@ -156,7 +161,8 @@ pub fn a_watch_in_memory(
     Some(watch)
 }
 
-/// The same behind a fuse that passes on so many calls until the power is lost, and then fails each.
+/// The same behind a fuse that passes on so many calls until the power is lost, and then fails
+/// each.
 pub fn a_watch_behind_a_fuse(
     alloc: Global,
     left: u64,
@@ -169,7 +175,8 @@ pub fn a_watch_behind_a_fuse(
     morning: &[u8],
     second: &mut FrameBuf,
 ) -> Option<Watch<Fuse<MemDisk>>>
-    ensures { IfSome result (λ watch. IsWatch sci an (octets_of_key key) evening.now first.new.items morning.now second.new.items watch) }
+    ensures { IfSome result (λ watch. IsWatch sci an (octets_of_key key) evening.now first.new.items
+        morning.now second.new.items watch) }
 {
     let Ok(disk) = MemDisk::new(alloc, 1_028) else {
         return None;

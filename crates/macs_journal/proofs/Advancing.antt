@@ -1,5 +1,6 @@
 -- What one device call of the work under way makes of a journal.
-use Rattle.std.proofs.Common.{◌≡◌, ◌≢◌, ◌≤◌, ◌+◌, ℕ, refl, sym, ◌∙◌, ap, subst, arith, Bool, true, false, List, length, Option, Some, None, Result, Ok, Err}
+use Rattle.std.proofs.Common.{◌≡◌, ◌≢◌, ◌≤◌, ◌+◌, ℕ, refl, sym, ◌∙◌, ap, subst, arith, Bool, true, false, List, length}
+use Rattle.std.proofs.Common.{Option, Some, None, Result, Ok, Err}
 use Rattle.macs_disk.specs.Disk as disk
 use Rattle.macs_disk.specs.declared.disk.DeviceFault.{DeviceFault}
 use Rattle.macs_record.specs.Heads.{Head}
@@ -21,7 +22,8 @@ use Rattle.macs_journal.specs.declared.hand.Hand.{Hand}
 use Rattle.macs_journal.specs.declared.hand.Hand.TheVariants.{Append, Compact, Empty}
 use Rattle.macs_journal.specs.declared.place.Place.{Place}
 use Rattle.macs_journal.proofs.Anew.{anew-done, anew-leaves, anew-next, new_place}
-use Rattle.macs_journal.proofs.Holding.{GoesOn, LeavesEither, OfEachAppend, is-busy, on_ok, step-done, step-gate, step-leaves, step-next}
+use Rattle.macs_journal.proofs.Holding.{GoesOn, LeavesEither, OfEachAppend, is-busy, on_ok, step-done, step-gate}
+use Rattle.macs_journal.proofs.Holding.{step-leaves, step-next}
 use Rattle.macs_journal.proofs.Stages.{some-left}
 use Rattle.macs_journal.proofs.Working.{called, done-call}
 
@@ -46,15 +48,19 @@ broke = Err Disk
 -- ---- an append
 
 module _ {D : Type 0} (disk_of : D → disk.Disk) (device later : D) (place : Place) (work : Appending)
-    (others : disk.IsHonest (disk_of later) → (i : ℕ) → i ≢ slot_body place.area place.free → i ≢ gate place.area (place.free + 1)
+    (others : disk.IsHonest (disk_of later) → (i : ℕ) → i ≢ slot_body place.area place.free
+    → i ≢ gate place.area (place.free + 1)
     → IsSpared (disk_of device) (disk_of later) i)
-    (images : disk.IsHonest (disk_of later) → OfEachAppend place work (disk.now (disk_of device)) (LeavesEither (disk.now (disk_of later)))) where
+    (images : disk.IsHonest (disk_of later)
+    → OfEachAppend place work (disk.now (disk_of device)) (LeavesEither (disk.now (disk_of later)))) where
   module _ (next : Option AppendStage) (call : disk.IsDeviceCall (disk_of device) (disk_of later) (then_comes next))
-      (comes : disk.IsHonest (disk_of later) → OfEachAppend place work (disk.now (disk_of device)) (GoesOn (disk.now (disk_of later)) work next))
+      (comes : disk.IsHonest (disk_of later)
+      → OfEachAppend place work (disk.now (disk_of device)) (GoesOn (disk.now (disk_of later)) work next))
       (left : calls_left next + 1 ≡ calls_left (Some work.stage)) where
     -- another call comes next
     pub append-goes_on : (stage : AppendStage) → next ≡ Some stage
-        → AdvancesAppend disk_of (journal_of device place (Append work) false) went (journal_of later place (Append (record work { stage = stage })) false)
+        → AdvancesAppend disk_of (journal_of device place (Append work) false) went
+        (journal_of later place (Append (record work { stage = stage })) false)
     append-goes_on stage is = record {
       names = tt;
       work = record { works = call.work.works; fails = call.work.ok };
@@ -64,8 +70,10 @@ module _ {D : Type 0} (disk_of : D → disk.Disk) (device later : D) (place : Pl
       one = call.at_most_one;
       call = done-call _ _ (then_comes next) call;
       idle = tt;
-      any_moment = λ honest before after holding. step-leaves _ _ place (Append work) work before after (then_comes next) refl holding call (images honest);
-      next = λ honest before after holding. step-next _ _ place (Append work) work next stage before after refl is holding (comes honest);
+      any_moment = λ honest before after holding.
+          step-leaves _ _ place (Append work) work before after (then_comes next) refl holding call (images honest);
+      next = λ honest before after holding.
+          step-next _ _ place (Append work) work next stage before after refl is holding (comes honest);
       left = subst (λ (n : Option AppendStage). calls_left n + 1 ≡ calls_left (Some work.stage)) is left;
       place = λ busy. refl;
       moved = λ idle. absurd (let not : Append (record work { stage = stage }) ≡ Empty = idle in cc);
@@ -77,7 +85,8 @@ module _ {D : Type 0} (disk_of : D → disk.Disk) (device later : D) (place : Pl
 
     -- the record is there
     pub append-ends : next ≡ None
-        → AdvancesAppend disk_of (journal_of device place (Append work) false) went (journal_of later (record place { free = place.free + 1 }) Empty false)
+        → AdvancesAppend disk_of (journal_of device place (Append work) false) went
+        (journal_of later (record place { free = place.free + 1 }) Empty false)
     append-ends is = record {
       names = tt;
       work = record { works = call.work.works; fails = call.work.ok };
@@ -87,19 +96,23 @@ module _ {D : Type 0} (disk_of : D → disk.Disk) (device later : D) (place : Pl
       one = call.at_most_one;
       call = done-call _ _ (then_comes next) call;
       idle = tt;
-      any_moment = λ honest before after holding. step-leaves _ _ place (Append work) work before after (then_comes next) refl holding call (images honest);
-      next = λ honest before after holding. step-done _ _ place (Append work) work next before after refl is holding (comes honest);
+      any_moment = λ honest before after holding.
+          step-leaves _ _ place (Append work) work before after (then_comes next) refl holding call (images honest);
+      next = λ honest before after holding.
+          step-done _ _ place (Append work) work next before after refl is holding (comes honest);
       left = subst (λ (n : Option AppendStage). calls_left n + 1 ≡ calls_left (Some work.stage)) is left;
       place = λ busy. absurd (omega (arith, busy));
       moved = λ idle. refl;
       task = λ busy. absurd (busy refl);
       at_fault = tt;
       others = others;
-      opened = λ idle honest before after holding. step-gate (disk_of device) (disk_of later) place (Append work) work next before after refl is holding (comes honest);
+      opened = λ idle honest before after holding. step-gate (disk_of device) (disk_of later) place (Append work) work
+          next before after refl is holding (comes honest);
     }
 
   -- the call failed
-  pub append-stops : (fault : DeviceFault) → disk.IsDeviceCall (disk_of device) (disk_of later) (faulty {Stage = AppendStage} fault)
+  pub append-stops : (fault : DeviceFault)
+      → disk.IsDeviceCall (disk_of device) (disk_of later) (faulty {Stage = AppendStage} fault)
       → AdvancesAppend disk_of (journal_of device place (Append work) false) broke (journal_of later place Empty true)
   append-stops fault call = record {
     names = refl;
@@ -110,7 +123,8 @@ module _ {D : Type 0} (disk_of : D → disk.Disk) (device later : D) (place : Pl
     one = call.at_most_one;
     call = tt;
     idle = refl;
-    any_moment = λ honest before after holding. step-leaves _ _ place (Append work) work before after (faulty {Stage = AppendStage} fault) refl holding call (images honest);
+    any_moment = λ honest before after holding. step-leaves _ _ place (Append work) work before after
+        (faulty {Stage = AppendStage} fault) refl holding call (images honest);
     next = tt;
     left = tt;
     place = λ busy. absurd (omega (arith, busy));
@@ -138,13 +152,15 @@ lent-none Empty is records = tt
 lent-none (Append work) is records = tt
 lent-none (Compact work) is records = absurd is
 
-made-none : (hand : Hand) → IsNoCompact hand → (records : List Record) (before after : Content) → IsMadeOf hand records before after
+made-none : (hand : Hand) → IsNoCompact hand → (records : List Record) (before after : Content)
+    → IsMadeOf hand records before after
 made-none Empty is records before after = tt
 made-none (Append work) is records before after = tt
 made-none (Compact work) is records before after = absurd is
 
 -- so it advances with any that are lent
-module _ {D : Type 0} (disk_of : D → disk.Disk) (old new : JournalValue D) (records : List Record) (result : Result (Unit {0}) JournalFault)
+module _ {D : Type 0} (disk_of : D → disk.Disk) (old new : JournalValue D) (records : List Record)
+    (result : Result (Unit {0}) JournalFault)
     (work : Appending) (hand_is : old.hand ≡ Append work) (advances : AdvancesAppend disk_of old result new) where
   was : left_of old.hand ≡ append_left old.hand
   was = left-same old.hand (subst IsNoCompact (sym hand_is) tt)
@@ -158,8 +174,10 @@ module _ {D : Type 0} (disk_of : D → disk.Disk) (old new : JournalValue D) (re
     one = advances.one;
     call = advances.call;
     idle = advances.idle;
-    left = on_ok result (λ less. let before = was in let is = left-same new.hand advances.no_compact in omega (arith, less, before, is)) advances.left;
-    exact = on_ok result (λ less none. let before = was in let is = left-same new.hand advances.no_compact in omega (arith, less, before, is)) advances.left;
+    left = on_ok result (λ less. let before = was in let is = left-same new.hand advances.no_compact in
+        omega (arith, less, before, is)) advances.left;
+    exact = on_ok result (λ less none. let before = was in let is = left-same new.hand advances.no_compact in
+        omega (arith, less, before, is)) advances.left;
     place = λ busy. advances.place (still-busy new.hand advances.no_compact busy);
     task = advances.task;
     moved = on_ok result (λ goes_on idle. goes_on idle ∙ ap (place_then old.place) (sym hand_is)) advances.moved;
@@ -172,12 +190,15 @@ module _ {D : Type 0} (disk_of : D → disk.Disk) (old new : JournalValue D) (re
 
 -- ---- a compaction
 
-module _ {D : Type 0} (disk_of : D → disk.Disk) (device later : D) (place : Place) (work : Compacting) (records : List Record)
+module _ {D : Type 0} (disk_of : D → disk.Disk) (device later : D) (place : Place) (work : Compacting)
+    (records : List Record)
     (area : ℕ) (area_is : area ≡ other_area place.area)
-    (under_way : disk.IsHonest (disk_of later) → (began : disk.Disk) → AtStage began (disk_of device) area work.head records work.stage
+    (under_way : disk.IsHonest (disk_of later) → (began : disk.Disk)
+    → AtStage began (disk_of device) area work.head records work.stage
     → IsUnderWay began (disk_of later) area work.head records) where
   -- it is before its next call
-  at-stage : (began : disk.Disk) (head : Head) → AtNextCall began (disk_of device) (other_area place.area) head records (Compact work)
+  at-stage : (began : disk.Disk) (head : Head)
+      → AtNextCall began (disk_of device) (other_area place.area) head records (Compact work)
       → AtStage began (disk_of device) area work.head records work.stage
   at-stage began head at =
       subst (λ (h : Head). AtStage began (disk_of device) area h records work.stage) (sym at.0)
@@ -185,25 +206,32 @@ module _ {D : Type 0} (disk_of : D → disk.Disk) (device later : D) (place : Pl
 
   -- whatever the call answered
   way : disk.IsHonest (disk_of later) → (began : disk.Disk) (head : Head)
-      → AtNextCall began (disk_of device) (other_area place.area) head records (Compact work) → IsUnderWay began (disk_of later) (other_area place.area) head records
+      → AtNextCall began (disk_of device) (other_area place.area) head records (Compact work)
+      → IsUnderWay began (disk_of later) (other_area place.area) head records
   way honest began head at =
       subst (λ (a : ℕ). IsUnderWay began (disk_of later) a head records) area_is
-      (subst (λ (h : Head). IsUnderWay began (disk_of later) area h records) at.0 (under_way honest began (at-stage began head at)))
+      (subst (λ (h : Head). IsUnderWay began (disk_of later) area h records) at.0
+      (under_way honest began (at-stage began head at)))
 
   module _ (next : Option CompactStage) (call : disk.IsDeviceCall (disk_of device) (disk_of later) (then_comes next))
-      (comes : disk.IsHonest (disk_of later) → (began : disk.Disk) → AtStage began (disk_of device) area work.head records work.stage
+      (comes : disk.IsHonest (disk_of later) → (began : disk.Disk)
+      → AtStage began (disk_of device) area work.head records work.stage
       → AtNextStage began (disk_of later) area work.head records next) where
     next-is : (is : Option CompactStage) → next ≡ is → disk.IsHonest (disk_of later) → (began : disk.Disk) (head : Head)
-        → AtNextCall began (disk_of device) (other_area place.area) head records (Compact work) → AtNextStage began (disk_of later) (other_area place.area) head records is
+        → AtNextCall began (disk_of device) (other_area place.area) head records (Compact work)
+        → AtNextStage began (disk_of later) (other_area place.area) head records is
     next-is is ends honest began head at =
         subst (λ (a : ℕ). AtNextStage began (disk_of later) a head records is) area_is
         (subst (λ (h : Head). AtNextStage began (disk_of later) area h records is) at.0
-        (subst (λ (n : Option CompactStage). AtNextStage began (disk_of later) area work.head records n) ends (comes honest began (at-stage began head at))))
+        (subst (λ (n : Option CompactStage). AtNextStage began (disk_of later) area work.head records n) ends
+        (comes honest began (at-stage began head at))))
 
     -- another call comes next
-    pub compact-goes_on : (stage : CompactStage) → next ≡ Some stage → length records ≡ work.head.count → IsCompactNext (length records) next
+    pub compact-goes_on : (stage : CompactStage) → next ≡ Some stage → length records ≡ work.head.count
+        → IsCompactNext (length records) next
         → compact_left_next (length records) next + 1 ≤ compact_left (length records) work.stage
-        → AdvancesCompact disk_of (journal_of device place (Compact work) false) records went (journal_of later place (Compact (record work { stage = stage })) false)
+        → AdvancesCompact disk_of (journal_of device place (Compact work) false) records went
+        (journal_of later place (Compact (record work { stage = stage })) false)
     compact-goes_on stage is count room left = record {
       advances = record {
         names = tt;
@@ -214,7 +242,8 @@ module _ {D : Type 0} (disk_of : D → disk.Disk) (device later : D) (place : Pl
         call = done-call _ _ (then_comes next) call;
         idle = tt;
         left = subst (λ (n : ℕ). compact_left n stage + 1 ≤ compact_left n work.stage) count
-            (subst (λ (n : Option CompactStage). compact_left_next (length records) n + 1 ≤ compact_left (length records) work.stage) is left);
+            (subst (λ (n : Option CompactStage).
+            compact_left_next (length records) n + 1 ≤ compact_left (length records) work.stage) is left);
         exact = λ none. absurd none;
         place = λ busy. refl;
         task = λ busy. refl;
@@ -223,9 +252,11 @@ module _ {D : Type 0} (disk_of : D → disk.Disk) (device later : D) (place : Pl
         lent = λ others lent. lent;
         made = λ before after made. made;
         any_moment = λ honest before after holding.
-            anew-leaves (disk_of device) place (Compact work) work records before after refl holding area area_is (disk_of later) call.work.works (under_way honest);
+            anew-leaves (disk_of device) place (Compact work) work records before after refl holding area area_is
+            (disk_of later) call.work.works (under_way honest);
         next = λ honest before after holding.
-            anew-next (disk_of device) place (Compact work) work records before after refl holding area area_is (disk_of later) next (comes honest) stage is room;
+            anew-next (disk_of device) place (Compact work) work records before after refl holding area area_is
+            (disk_of later) next (comes honest) stage is room;
       };
       under_way = way;
       next = λ honest began head at. (at.0, next-is (Some stage) is honest began head at);
@@ -233,7 +264,8 @@ module _ {D : Type 0} (disk_of : D → disk.Disk) (device later : D) (place : Pl
 
     -- the records are there
     pub compact-ends : next ≡ None
-        → AdvancesCompact disk_of (journal_of device place (Compact work) false) records went (journal_of later (new_place (other_area place.area) work) Empty false)
+        → AdvancesCompact disk_of (journal_of device place (Compact work) false) records went
+        (journal_of later (new_place (other_area place.area) work) Empty false)
     compact-ends is = record {
       advances = record {
         names = tt;
@@ -252,18 +284,22 @@ module _ {D : Type 0} (disk_of : D → disk.Disk) (device later : D) (place : Pl
         lent = λ others lent. tt;
         made = λ before after made. tt;
         any_moment = λ honest before after holding.
-            anew-leaves (disk_of device) place (Compact work) work records before after refl holding area area_is (disk_of later) call.work.works (under_way honest);
+            anew-leaves (disk_of device) place (Compact work) work records before after refl holding area area_is
+            (disk_of later) call.work.works (under_way honest);
         next = λ honest before after holding.
             subst (λ (a : ℕ). IsHolding (disk_of later) (new_place a work) Empty after after) area_is
-            (anew-done (disk_of device) place (Compact work) work records before after refl holding area area_is (disk_of later) next (comes honest) is);
+            (anew-done (disk_of device) place (Compact work) work records before after refl holding area area_is
+            (disk_of later) next (comes honest) is);
       };
       under_way = way;
       next = next-is None is;
     }
 
   -- the call failed
-  pub compact-stops : (fault : DeviceFault) → disk.IsDeviceCall (disk_of device) (disk_of later) (faulty {Stage = CompactStage} fault)
-      → AdvancesCompact disk_of (journal_of device place (Compact work) false) records broke (journal_of later place Empty true)
+  pub compact-stops : (fault : DeviceFault)
+      → disk.IsDeviceCall (disk_of device) (disk_of later) (faulty {Stage = CompactStage} fault)
+      → AdvancesCompact disk_of (journal_of device place (Compact work) false) records broke
+      (journal_of later place Empty true)
   compact-stops fault call = record {
     advances = record {
       names = refl;
@@ -282,7 +318,8 @@ module _ {D : Type 0} (disk_of : D → disk.Disk) (device later : D) (place : Pl
       lent = λ others lent. tt;
       made = λ before after made. tt;
       any_moment = λ honest before after holding.
-          anew-leaves (disk_of device) place (Compact work) work records before after refl holding area area_is (disk_of later) call.work.works (under_way honest);
+          anew-leaves (disk_of device) place (Compact work) work records before after refl holding area area_is
+          (disk_of later) call.work.works (under_way honest);
       next = tt;
     };
     under_way = way;

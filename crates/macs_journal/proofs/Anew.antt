@@ -26,19 +26,25 @@ abbrev pub new_place : ℕ → Compacting → Place
 new_place area work = record { area = area; head = work.head; free = work.head.count }
 
 -- records with which the same content becomes the same
-same-records : (before after : Content) (records others : List Record) → after ≡ compacted before records → after ≡ compacted before others → records ≡ others
+same-records : (before after : Content) (records others : List Record) → after ≡ compacted before records
+    → after ≡ compacted before others → records ≡ others
 same-records before after records others is other_is = ap (λ (c : Content). c.records) (sym is ∙ other_is)
 
 -- a compaction under way, with the records that are lent
-compacting : (old : Disk) (place : Place) (hand : Hand) (work : Compacting) (records : List Record) (before after : Content) → hand ≡ Compact work
+compacting : (old : Disk) (place : Place) (hand : Hand) (work : Compacting) (records : List Record)
+    (before after : Content) → hand ≡ Compact work
     → HoldsWith old place hand records before after → IsCompacting old work before after
-compacting old place hand work records before after hand_is holding = subst (λ (h : Hand). HoldsHand old h before after) hand_is holding.holds.holds
+compacting old place hand work records before after hand_is holding =
+    subst (λ (h : Hand). HoldsHand old h before after) hand_is holding.holds.holds
 
-made-of : (old : Disk) (place : Place) (hand : Hand) (work : Compacting) (records : List Record) (before after : Content) → hand ≡ Compact work
+made-of : (old : Disk) (place : Place) (hand : Hand) (work : Compacting) (records : List Record)
+    (before after : Content) → hand ≡ Compact work
     → HoldsWith old place hand records before after → after ≡ compacted before records
-made-of old place hand work records before after hand_is holding = subst (λ (h : Hand). IsMadeOf h records before after) hand_is holding.made
+made-of old place hand work records before after hand_is holding =
+    subst (λ (h : Hand). IsMadeOf h records before after) hand_is holding.made
 
-module _ (old : Disk) (place : Place) (hand : Hand) (work : Compacting) (records : List Record) (before after : Content) (hand_is : hand ≡ Compact work)
+module _ (old : Disk) (place : Place) (hand : Hand) (work : Compacting) (records : List Record) (before after : Content)
+    (hand_is : hand ≡ Compact work)
     (holding : HoldsWith old place hand records before after) (area : ℕ) (area_is : area ≡ other_area place.area) where
   the-area : other_area before.area ≡ area
   the-area = ap other_area holding.holds.at.area ∙ sym area_is
@@ -48,7 +54,8 @@ module _ (old : Disk) (place : Place) (hand : Hand) (work : Compacting) (records
   begun = compacting old place hand work records before after hand_is holding
 
   the-records : begun.records ≡ records
-  the-records = same-records before after begun.records records begun.becomes (made-of old place hand work records before after hand_is holding)
+  the-records = same-records before after begun.records records begun.becomes
+      (made-of old place hand work records before after hand_is holding)
 
   at-call : AtStage begun.began old area work.head records work.stage
   at-call =
@@ -69,12 +76,14 @@ module _ (old : Disk) (place : Place) (hand : Hand) (work : Compacting) (records
 
   -- whatever it answered
   pub anew-leaves : (new : Disk) → Works old new
-      → ((began : Disk) → AtStage began old area work.head records work.stage → IsUnderWay began new area work.head records)
+      → ((began : Disk) → AtStage began old area work.head records work.stage
+      → IsUnderWay began new area work.head records)
       → Leaves old new (HasEitherJournal before after)
   anew-leaves new works promised =
       let was = way-leaves begun.began old area work.head records few-records before begun.ready the-area head-next
       (at-under_way begun.began old area work.head records work.stage stage-fits at-call) in
-      let is = way-leaves begun.began new area work.head records few-records before begun.ready the-area head-next (promised begun.began at-call) in
+      let is = way-leaves begun.began new area work.head records few-records before begun.ready the-area head-next
+      (promised begun.began at-call) in
       record {
         works = works;
         each = λ image left. subst (λ (c : Content). HasEitherJournal before c image) (sym becomes)
@@ -82,12 +91,15 @@ module _ (old : Disk) (place : Place) (hand : Hand) (work : Compacting) (records
       }
 
   module _ (new : Disk) (next : Option CompactStage)
-      (promised : (began : Disk) → AtStage began old area work.head records work.stage → AtNextStage began new area work.head records next) where
+      (promised : (began : Disk) → AtStage began old area work.head records work.stage
+      → AtNextStage began new area work.head records next) where
     comes : (is : Option CompactStage) → next ≡ is → AtNextStage begun.began new area work.head records is
-    comes is next_is = subst (λ (n : Option CompactStage). AtNextStage begun.began new area work.head records n) next_is (promised begun.began at-call)
+    comes is next_is = subst (λ (n : Option CompactStage). AtNextStage begun.began new area work.head records n) next_is
+        (promised begun.began at-call)
 
     -- it goes on
-    pub anew-next : (later : CompactStage) → next ≡ Some later → IsCompactNext (length records) next → IsHolding new place (Compact (record work { stage = later })) before after
+    pub anew-next : (later : CompactStage) → next ≡ Some later → IsCompactNext (length records) next
+        → IsHolding new place (Compact (record work { stage = later })) before after
     anew-next later next_is room = record {
       at = holding.holds.at;
       holds = record {
@@ -98,20 +110,26 @@ module _ (old : Disk) (place : Place) (hand : Hand) (work : Compacting) (records
         next = head-next;
         few = few-records;
         fits = subst (λ (n : Option CompactStage). IsCompactNext (length records) n) next_is room;
-        at = subst (λ (a : ℕ). AtStage begun.began new a work.head records later) (sym the-area) (comes (Some later) next_is);
+        at = subst (λ (a : ℕ). AtStage begun.began new a work.head records later) (sym the-area)
+            (comes (Some later) next_is);
       };
     }
 
     -- it is done
     pub anew-done : next ≡ None → IsHolding new (new_place area work) Empty after after
     anew-done next_is =
-        let ready = way-ready begun.began new area work.head records few-records before begun.ready the-area head-next (comes None next_is) in
+        let ready = way-ready begun.began new area work.head records few-records before begun.ready the-area head-next
+        (comes None next_is) in
         subst (λ (c : Content). IsHolding new (new_place area work) Empty c c) (sym becomes)
-        (record { at = record { area = the-area; head = head-next; free = ap (λ (h : Head). h.count) head-next }; holds = (ready, refl) })
+        (record {
+          at = record { area = the-area; head = head-next; free = ap (λ (h : Head). h.count) head-next };
+          holds = (ready, refl);
+        })
 
 -- records come into hand
 pub anew-in_hand : (d : Disk) (place : Place) (hand : Hand) (work : Compacting) (c : Content) (records : List Record)
-    → work.head ≡ next_head place.head (length records) → work.stage ≡ ReadGate 0 → length records ≤ slots → IsHolding d place hand c c
+    → work.head ≡ next_head place.head (length records) → work.stage ≡ ReadGate 0 → length records ≤ slots
+    → IsHolding d place hand c c
     → IsHolding d place (Compact work) c (compacted c records)
 anew-in_hand d place hand work c records head_is stage few holding = record {
   at = holding.at;
@@ -123,6 +141,7 @@ anew-in_hand d place hand work c records head_is stage few holding = record {
     next = ap (λ (h : Head). next_head h (length records)) holding.at.head ∙ sym head_is;
     few = few;
     fits = subst (λ (s : CompactStage). IsCompactStage (length records) s) (sym stage) (omega arith);
-    at = subst (λ (s : CompactStage). AtStage d d (other_area c.area) work.head records s) (sym stage) (none-closed d (other_area c.area));
+    at = subst (λ (s : CompactStage). AtStage d d (other_area c.area) work.head records s) (sym stage)
+        (none-closed d (other_area c.area));
   };
 }

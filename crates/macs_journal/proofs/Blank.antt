@@ -15,11 +15,14 @@ pub blank-synced : (s : DiskState) → IsNotFormatted s.seen → IsBlank (state_
 blank-synced s none = record { clean = λ area le. refl; fresh = λ area le. refl; closed = none }
 
 -- runs that leave both gates alone
-pub blank-leaves : (old new : Disk) → IsBlank (now old) → Works old new → ((area : ℕ) → area ≤ 1 → IsSpared old new (gate area 0)) → Leaves old new IsNotFormatted
+pub blank-leaves : (old new : Disk) → IsBlank (now old) → Works old new
+    → ((area : ℕ) → area ≤ 1 → IsSpared old new (gate area 0)) → Leaves old new IsNotFormatted
 blank-leaves old new blank works spared = record {
   works = works;
   each = λ image left. (
-    λ opens. blank.closed.0 (subst IsOpen (left-same old new image (gate 0 0) (blank.clean 0 (omega arith)) (spared 0 (omega arith)) left) opens),
-    λ opens. blank.closed.1 (subst IsOpen (left-same old new image (gate 1 0) (blank.clean 1 (omega arith)) (spared 1 (omega arith)) left) opens),
+    λ opens. blank.closed.0 (subst IsOpen
+        (left-same old new image (gate 0 0) (blank.clean 0 (omega arith)) (spared 0 (omega arith)) left) opens),
+    λ opens. blank.closed.1 (subst IsOpen
+        (left-same old new image (gate 1 0) (blank.clean 1 (omega arith)) (spared 1 (omega arith)) left) opens),
   );
 }

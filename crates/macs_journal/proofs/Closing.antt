@@ -1,5 +1,6 @@
 -- Which sectors are left alone while a disk is formatted, what is in the gates, and what a power loss leaves.
-use Rattle.std.proofs.Common.{◌≡◌, ◌≢◌, ◌<◌, ◌≤◌, ◌+◌, ◌-◌, ⊎_elim, inl, inr, ℕ, sym, ◌∙◌, ap, subst, arith, [], ◌∷◌, length, Some}
+use Rattle.std.proofs.Common.{◌≡◌, ◌≢◌, ◌<◌, ◌≤◌, ◌+◌, ◌-◌, ⊎_elim, inl, inr, ℕ, sym, ◌∙◌, ap, subst, arith, [], ◌∷◌}
+use Rattle.std.proofs.Common.{length, Some}
 use Rattle.std.specs.List.{slice_get}
 use Rattle.std.proofs.lemmas.Option.{slice_get_within}
 use Rattle.macs_config.specs.Identity.{Identity}
@@ -16,7 +17,8 @@ use Rattle.macs_journal.specs.Appending.{IsReady}
 use Rattle.macs_journal.specs.Areas.{gate, gates, head_body, slot_body}
 use Rattle.macs_journal.specs.Formatting.{FormatWrites, IsBlank, IsNewOrNone, first_content, first_head}
 use Rattle.macs_journal.specs.Found.{HasJournal, IsGateOpen, IsNotFormatted}
-use Rattle.macs_journal.specs.Rewriting.{AreBodies, AreClosed, HasNewGates, IsNoBody, IsNoOpenGate, IsSettled, IsOldOrOpening}
+use Rattle.macs_journal.specs.Rewriting.{AreBodies, AreClosed, HasNewGates, IsNoBody, IsNoOpenGate, IsSettled}
+use Rattle.macs_journal.specs.Rewriting.{IsOldOrOpening}
 use Rattle.macs_journal.specs.Work.{IsSpared}
 use Rattle.macs_journal.proofs.Appends.{open_or_closed}
 use Rattle.macs_journal.proofs.Blank.{blank-leaves}
@@ -31,7 +33,8 @@ one_item r other j at =
     (here, cc)
 
 -- the bodies were written
-module _ (old mid : Disk) (to_mid : Works old mid) (bodies : (i : ℕ) → i ≢ head_body 0 → IsNoBody 0 1 i → IsSpared old mid i) where
+module _ (old mid : Disk) (to_mid : Works old mid) (bodies : (i : ℕ) → i ≢ head_body 0 → IsNoBody 0 1 i
+    → IsSpared old mid i) where
   bodies-but : (i : ℕ) → i ≢ 0 → i ≢ 2 → IsSpared old mid i
   bodies-but i not_head not_body = bodies i not_head (λ j lt here. not_body (omega (arith, lt, here)))
 
@@ -43,17 +46,25 @@ module _ (old mid : Disk) (to_mid : Works old mid) (bodies : (i : ℕ) → i ≢
   gate-same k = Spared-seen old mid (gate 0 k) to_mid (bodies-but (gate 0 k) (omega arith) (omega arith))
 
   pub leaves-bodies : IsBlank (now old) → Leaves old mid IsNotFormatted
-  leaves-bodies blank = blank-leaves old mid blank to_mid (λ area le. bodies-but (gate area 0) (omega arith) (omega arith))
+  leaves-bodies blank =
+      blank-leaves old mid blank to_mid (λ area le. bodies-but (gate area 0) (omega arith) (omega arith))
 
   -- and the gates of slots that read open were closed
-  module _ (full : Disk) (to_full : Works mid full) (closing : (i : ℕ) → IsNoOpenGate (now mid).seen 0 1 gates i → IsSpared mid full i) where
+  module _ (full : Disk) (to_full : Works mid full) (closing : (i : ℕ) → IsNoOpenGate (now mid).seen 0 1 gates i
+      → IsSpared mid full i) where
     pub spared-closing : (i : ℕ) → (¬ FormatWrites (now old).seen i) → IsSpared old full i
     spared-closing i apart =
         Spared-on old mid full i to_mid to_full (spared-bodies i apart)
         (closing i (λ k le lt opens here.
         let slot = k - 1 in
         let is : k ≡ slot + 1 = omega (arith, le) in
-        apart (inr (slot, omega (arith, lt, is), subst (λ (n : ℕ). IsGateOpen (now old).seen 0 n) is (subst IsOpen (gate-same k) opens), omega (arith, here, is)))))
+        apart (inr (
+          slot,
+          omega (arith, lt, is),
+          subst (λ (n : ℕ). IsGateOpen (now old).seen 0 n) is
+              (subst IsOpen (gate-same k) opens),
+          omega (arith, here, is),
+        ))))
 
     head-gates : (area : ℕ) → area ≤ 1 → IsSpared mid full (gate area 0)
     head-gates area le = closing (gate area 0) (λ k from lt opens. omega (arith, le, from, lt))
@@ -61,27 +72,36 @@ module _ (old mid : Disk) (to_mid : Works old mid) (bodies : (i : ℕ) → i ≢
     pub leaves-closing : IsBlank (now old) → Leaves old full IsNotFormatted
     leaves-closing blank =
         blank-leaves old full blank (Works-on old mid full to_mid to_full)
-        (λ area le. Spared-on old mid full (gate area 0) to_mid to_full (bodies-but (gate area 0) (omega arith) (omega arith)) (head-gates area le))
+        (λ area le. Spared-on old mid full (gate area 0) to_mid to_full
+        (bodies-but (gate area 0) (omega arith) (omega arith)) (head-gates area le))
 
     -- a sector that is no gate reads as before
     body-same : (i : ℕ) → ((k : ℕ) → i ≢ gate 0 k) → (now full).seen i ≡ (now mid).seen i
     body-same i apart = Spared-seen mid full i to_full (closing i (λ k le lt opens. apart k))
 
     -- only the head gate may still change
-    module _ (identity : Identity) (blank : IsBlank (now old)) (closed : AreClosed (now mid).seen (now full).seen 0 1 gates)
-        (head_is : IsHeadOf (first_head identity) ((now mid).seen (head_body 0))) (body : AreBodies (now mid).seen 0 (default_settings ∷ [])) where
+    module _ (identity : Identity) (blank : IsBlank (now old))
+        (closed : AreClosed (now mid).seen (now full).seen 0 1 gates)
+        (head_is : IsHeadOf (first_head identity) ((now mid).seen (head_body 0)))
+        (body : AreBodies (now mid).seen 0 (default_settings ∷ [])) where
       second-closed : (image : Image) → ((i : ℕ) → i ≢ gate 0 0 → image i ≡ (now full).seen i) → ¬ IsGateOpen image 1 0
       second-closed image same opens =
           let here : image (gate 1 0) ≡ (now old).durable (gate 1 0) =
           same (gate 1 0) (omega arith) ∙ Spared-seen mid full (gate 1 0) to_full (head-gates 1 (omega arith))
-          ∙ Spared-seen old mid (gate 1 0) to_mid (bodies-but (gate 1 0) (omega arith) (omega arith)) ∙ blank.fresh 1 (omega arith) in
+          ∙ Spared-seen old mid (gate 1 0) to_mid (bodies-but (gate 1 0) (omega arith) (omega arith))
+          ∙ blank.fresh 1 (omega arith) in
           blank.closed.1 (subst IsOpen here opens)
 
-      first-finds : (image : Image) → ((i : ℕ) → i ≢ gate 0 0 → image i ≡ (now full).seen i) → IsGateOpen image 0 0 → HasJournal image (first_content identity)
+      first-finds : (image : Image) → ((i : ℕ) → i ≢ gate 0 0 → image i ≡ (now full).seen i) → IsGateOpen image 0 0
+          → HasJournal image (first_content identity)
       first-finds image same opens = record {
         stands = record {
           area = omega arith;
-          head = record { open_gate = opens; is = subst (IsHeadOf (first_head identity)) (sym (same 0 (omega arith) ∙ body-same 0 (λ k. omega arith))) head_is };
+          head = record {
+            open_gate = opens;
+            is = subst (IsHeadOf (first_head identity))
+                (sym (same 0 (omega arith) ∙ body-same 0 (λ k. omega arith))) head_is;
+          };
           snapshot = omega arith;
           few = omega arith;
           opened = λ j from lt. absurd (omega (arith, from, lt));
@@ -89,26 +109,32 @@ module _ (old mid : Disk) (to_mid : Works old mid) (bodies : (i : ℕ) → i ≢
               (subst IsOpen (same (gate 0 (j + 1)) (omega arith)) is);
           bodies = λ j r at.
               let one = one_item default_settings r j at in
-              subst (IsSectorOf r) (sym (same (slot_body 0 j) (omega arith) ∙ body-same (slot_body 0 j) (λ k. omega arith))) (body j r at);
+              subst (IsSectorOf r) (sym (same (slot_body 0 j) (omega arith)
+              ∙ body-same (slot_body 0 j) (λ k. omega arith))) (body j r at);
         };
         past = λ is. absurd (second-closed image same is);
       }
 
-      pub leaves-first : (new : Disk) → Leaves full new (IsOldOrOpening (now full) 0) → Leaves old new (IsNewOrNone identity)
+      pub leaves-first : (new : Disk) → Leaves full new (IsOldOrOpening (now full) 0)
+          → Leaves old new (IsNewOrNone identity)
       leaves-first new opening =
-          Leaves-join old full new IsNotFormatted (IsOldOrOpening (now full) 0) (IsNewOrNone identity) (leaves-closing blank) opening (λ image none. inl none)
-          (λ image left. ⊎_elim (λ as_before. inl (Leaves-now old full IsNotFormatted (leaves-closing blank) image as_before))
+          Leaves-join old full new IsNotFormatted (IsOldOrOpening (now full) 0) (IsNewOrNone identity)
+          (leaves-closing blank) opening (λ image none. inl none)
+          (λ image left.
+          ⊎_elim (λ as_before. inl (Leaves-now old full IsNotFormatted (leaves-closing blank) image as_before))
           (λ same. elim (open_or_closed (image (gate 0 0))) [
             | inl opens ↦ inr (first-finds image same opens)
             | inr not ↦ inl (not, second-closed image same)
           ]) left)
 
-      pub ready-first : (new : Disk) → Works full new → ((i : ℕ) → i ≢ gate 0 0 → IsSpared full new i) → IsSettled (now new)
+      pub ready-first : (new : Disk) → Works full new → ((i : ℕ) → i ≢ gate 0 0 → IsSpared full new i)
+          → IsSettled (now new)
           → IsGateOpen (now new).seen 0 0 → IsReady (now new) (first_content identity)
       ready-first new to_new opening stands opens = record {
         clean = stands.clean;
         fresh = stands.fresh;
-        finds = first-finds (now new).durable (λ i apart. sym (stands.fresh i) ∙ Spared-seen full new i to_new (opening i apart))
+        finds = first-finds (now new).durable
+            (λ i apart. sym (stands.fresh i) ∙ Spared-seen full new i to_new (opening i apart))
             (subst IsOpen (stands.fresh (gate 0 0)) opens);
       }
 
@@ -122,7 +148,8 @@ module _ (old mid : Disk) (to_mid : Works old mid) (bodies : (i : ℕ) → i ≢
       pub gates-last : AreClosed (now mid).seen (now full).seen 0 1 gates → (now last).seen (gate 0 0) ≡ open_gate
           → HasNewGates (now old).seen (now last).seen 0
       gates-last closed head =
-          new-gates (now old).seen (now mid).seen (now full).seen (now last).seen 0 1 (omega arith) (λ k. gate-same (k + 1)) closed
+          new-gates (now old).seen (now mid).seen (now full).seen (now last).seen 0 1 (omega arith)
+          (λ k. gate-same (k + 1)) closed
           (λ k. Spared-seen full last (gate 0 (k + 1)) to_last (opening (gate 0 (k + 1)) (omega arith))) head
 
 -- what is written of an image is written of one that is the same

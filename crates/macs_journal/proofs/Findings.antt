@@ -7,12 +7,14 @@ use Rattle.macs_journal.specs.Areas.{least_sectors, other_area, slots}
 use Rattle.macs_journal.specs.Found.{Content, HasHead, HasJournal, IsBadJournal, IsCurrent, IsHeadless, JournalIs}
 use Rattle.macs_journal.specs.Recovery.{AreRecords, IsCountOf}
 use Rattle.macs_journal.specs.declared.fault.JournalFault.{JournalFault}
-use Rattle.macs_journal.specs.declared.fault.JournalFault.TheVariants.{Stopped, TooSmall, Disk, AlreadyFormatted, NotFormatted, BadJournal, GenerationsSpent}
+use Rattle.macs_journal.specs.declared.fault.JournalFault.TheVariants.{Stopped, TooSmall, Disk, AlreadyFormatted}
+use Rattle.macs_journal.specs.declared.fault.JournalFault.TheVariants.{NotFormatted, BadJournal, GenerationsSpent}
 use Rattle.macs_journal.proofs.Current.{bad_not_blank, current, not_blank, not_both, one_content, one_current}
 
 -- the content that was read is found
 pub read_found : (image : Image) (area free : ℕ) (head : Head) (records : List Record) → IsCurrent image area head
-    → IsCountOf image area head.count slots free → AreRecords image area free records → HasJournal image (record { area = area; head = head; records = records })
+    → IsCountOf image area head.count slots free → AreRecords image area free records
+    → HasJournal image (record { area = area; head = head; records = records })
 read_found image area free head records is counts are =
     let size = are.count in
     record {
@@ -30,7 +32,8 @@ read_found image area free head records is counts are =
 
 -- ---- one finding
 
-small : (sectors : ℕ) (image : Image) (found : Result Content JournalFault) → sectors < 1028 → JournalIs sectors image found → found ≡ Err TooSmall
+small : (sectors : ℕ) (image : Image) (found : Result Content JournalFault) → sectors < 1028
+    → JournalIs sectors image found → found ≡ Err TooSmall
 small sectors image (Ok c) less is = absurd (let large = is.0 in omega (arith, less, large))
 small sectors image (Err Stopped) less is = absurd is
 small sectors image (Err TooSmall) less is = refl
@@ -40,7 +43,8 @@ small sectors image (Err NotFormatted) less is = absurd (let large = is.0 in ome
 small sectors image (Err BadJournal) less is = absurd (let large = is.0 in omega (arith, less, large))
 small sectors image (Err GenerationsSpent) less is = absurd is
 
-pub one_finding : (sectors : ℕ) (image : Image) (a b : Result Content JournalFault) → JournalIs sectors image a → JournalIs sectors image b → a ≡ b
+pub one_finding : (sectors : ℕ) (image : Image) (a b : Result Content JournalFault) → JournalIs sectors image a
+    → JournalIs sectors image b → a ≡ b
 one_finding sectors image (Err Stopped) b is_a is_b = absurd is_a
 one_finding sectors image (Err Disk) b is_a is_b = absurd is_a
 one_finding sectors image (Err AlreadyFormatted) b is_a is_b = absurd is_a
@@ -52,9 +56,11 @@ one_finding sectors image (Ok c) (Err TooSmall) is_a is_b = small sectors image 
 one_finding sectors image (Ok c) (Err Disk) is_a is_b = absurd is_b
 one_finding sectors image (Ok c) (Err AlreadyFormatted) is_a is_b = absurd is_b
 one_finding sectors image (Ok c) (Err GenerationsSpent) is_a is_b = absurd is_b
-one_finding sectors image (Ok c) (Err NotFormatted) is_a is_b = absurd (not_blank image c.area is_a.1.stands.area is_a.1.stands.head.open_gate is_b.1)
+one_finding sectors image (Ok c) (Err NotFormatted) is_a is_b =
+    absurd (not_blank image c.area is_a.1.stands.area is_a.1.stands.head.open_gate is_b.1)
 one_finding sectors image (Ok c) (Err BadJournal) is_a is_b = absurd (not_both image is_b.1 c is_a.1)
-one_finding sectors image (Err NotFormatted) (Ok d) is_a is_b = absurd (not_blank image d.area is_b.1.stands.area is_b.1.stands.head.open_gate is_a.1)
+one_finding sectors image (Err NotFormatted) (Ok d) is_a is_b =
+    absurd (not_blank image d.area is_b.1.stands.area is_b.1.stands.head.open_gate is_a.1)
 one_finding sectors image (Err NotFormatted) (Err Stopped) is_a is_b = absurd is_b
 one_finding sectors image (Err NotFormatted) (Err TooSmall) is_a is_b = small sectors image (Err NotFormatted) is_b is_a
 one_finding sectors image (Err NotFormatted) (Err Disk) is_a is_b = absurd is_b
@@ -74,7 +80,8 @@ one_finding sectors image (Err BadJournal) (Err BadJournal) is_a is_b = refl
 -- ---- spoiled heads
 
 -- a bad journal is found as such alone
-pub bad_alone : (sectors : ℕ) (image : Image) (found : Result Content JournalFault) → IsBadJournal image → least_sectors ≤ sectors
+pub bad_alone : (sectors : ℕ) (image : Image) (found : Result Content JournalFault) → IsBadJournal image
+    → least_sectors ≤ sectors
     → JournalIs sectors image found → found ≡ Err BadJournal
 bad_alone sectors image found bad large is = one_finding sectors image found (Err BadJournal) is (large, bad)
 

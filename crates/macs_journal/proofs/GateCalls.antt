@@ -29,16 +29,20 @@ module _ (began d : Disk) (area k more : ℕ) (at : AreGatesClosed began d area 
   gate-reads = Spared-seen began d (gate area k) at.works (at.spared (gate area k) (λ n le lt opens. omega (arith, lt)))
 
   -- a call that writes none of the gates that read open but this one
-  pub clearing : (new : Disk) → k ≤ gates → Works d new → ((i : ℕ) → IsNoOpenGate (now began).seen area 0 gates i → IsSpared d new i) → IsClearing began new area
+  pub clearing : (new : Disk) → k ≤ gates → Works d new
+      → ((i : ℕ) → IsNoOpenGate (now began).seen area 0 gates i → IsSpared d new i) → IsClearing began new area
   clearing new le works spares = record {
     works = Works-on began d new at.works works;
-    spared = λ i apart. Spared-on began d new i at.works works (at.spared i (λ n from lt. apart n from (omega (arith, lt, le)))) (spares i apart);
+    spared = λ i apart. Spared-on began d new i at.works works
+        (at.spared i (λ n from lt. apart n from (omega (arith, lt, le)))) (spares i apart);
   }
 
 -- a gate is read
-module _ (began d new : Disk) (area k : ℕ) (at : AreGatesClosed began d area k 0) (works : Works d new) (one : new.clock ≡ d.clock + 1)
+module _ (began d new : Disk) (area k : ℕ) (at : AreGatesClosed began d area k 0) (works : Works d new)
+    (one : new.clock ≡ d.clock + 1)
     (same : now new ≡ now d) (spares : (i : ℕ) → IsSpared d new i) where
-  pub read-open : IsGateOpen (now d).seen area k → AreGatesClosed began new area k 1 × IsGateOpen (now began).seen area k
+  pub read-open : IsGateOpen (now d).seen area k
+      → AreGatesClosed began new area k 1 × IsGateOpen (now began).seen area k
   read-open opens = (
     record {
       works = Works-on began d new at.works works;
@@ -53,16 +57,21 @@ module _ (began d new : Disk) (area k : ℕ) (at : AreGatesClosed began d area k
   read-closed not = record {
     works = Works-on began d new at.works works;
     calls = λ opened has.
-        let is = counted-next began d new area 0 k at.works works at.spared (λ i apart. spares i) (λ shut. one) (λ opens. absurd (not opens))
+        let is = counted-next began d new area 0 k at.works works at.spared (λ i apart. spares i) (λ shut. one)
+        (λ opens. absurd (not opens))
         (λ count below. let was = at.calls count below in omega (arith, was)) opened has in
         omega (arith, is);
-    closed = closed-next began d new area 0 k at.works works at.spared (λ i apart. spares i) (λ opens. absurd (not opens)) at.closed;
-    spared = spared-next began d new area 0 k at.works works at.spared (λ i apart. spares i) (omega arith) (λ shut. spares);
+    closed = closed-next began d new area 0 k at.works works at.spared (λ i apart. spares i)
+        (λ opens. absurd (not opens)) at.closed;
+    spared =
+        spared-next began d new area 0 k at.works works at.spared (λ i apart. spares i) (omega arith) (λ shut. spares);
   }
 
 -- a gate is closed
-pub gate-closed : (began d new : Disk) (area k : ℕ) → AreGatesClosed began d area k 1 → IsGateOpen (now began).seen area k → Works d new → new.clock ≡ d.clock + 1
-    → now new ≡ state_after_write (now d) (gate area k) closed_gate → ((i : ℕ) → i ≢ gate area k → IsSpared d new i) → AreGatesClosed began new area (k + 1) 0
+pub gate-closed : (began d new : Disk) (area k : ℕ) → AreGatesClosed began d area k 1
+    → IsGateOpen (now began).seen area k → Works d new → new.clock ≡ d.clock + 1
+    → now new ≡ state_after_write (now d) (gate area k) closed_gate → ((i : ℕ) → i ≢ gate area k → IsSpared d new i)
+    → AreGatesClosed began new area (k + 1) 0
 gate-closed began d new area k at was_open works one is spares =
     let opens : IsGateOpen (now d).seen area k = subst IsOpen (sym (gate-reads began d area k 1 at)) was_open in
     record {
@@ -75,18 +84,22 @@ gate-closed began d new area k at was_open works one is spares =
         | inr not ↦ absurd (not.0 was_open)
       ];
       closed = closed-next began d new area 0 k at.works works at.spared spares
-          (λ opens. ap (λ (s : DiskState). s.seen (gate area k)) is ∙ put-same (now d).seen (gate area k) (gate area k) closed_gate refl) at.closed;
-      spared = spared-next began d new area 0 k at.works works at.spared spares (omega arith) (λ not. absurd (not opens));
+          (λ opens. ap (λ (s : DiskState). s.seen (gate area k)) is
+          ∙ put-same (now d).seen (gate area k) (gate area k) closed_gate refl) at.closed;
+      spared =
+          spared-next began d new area 0 k at.works works at.spared spares (omega arith) (λ not. absurd (not opens));
     }
 
 -- all of them are closed, and a sync is made
-pub gates-synced : (began d new : Disk) (area : ℕ) → AreGatesClosed began d area gates 0 → Works d new → new.clock ≡ d.clock + 1
+pub gates-synced : (began d new : Disk) (area : ℕ) → AreGatesClosed began d area gates 0 → Works d new
+    → new.clock ≡ d.clock + 1
     → now new ≡ state_after_sync (now d) → ((i : ℕ) → IsSpared d new i) → IsCleared began new area
 gates-synced began d new area at works one is spares = record {
   works = Works-on began d new at.works works;
   calls = λ opened has. let was = at.calls opened has in omega (arith, was, one);
   settled = synced-settled (now d) (now new) is;
   closed = subst (λ (s : DiskState). AreClosed (now began).seen s.seen area 0 gates) (sym is) at.closed;
-  shut = λ k lt. subst (λ (s : DiskState). ¬ IsGateOpen s.seen area k) (sym is) (shut began d area 0 at.works at.spared at.closed k (omega arith) lt);
+  shut = λ k lt. subst (λ (s : DiskState). ¬ IsGateOpen s.seen area k) (sym is)
+      (shut began d area 0 at.works at.spared at.closed k (omega arith) lt);
   spared = λ i apart. Spared-on began d new i at.works works (at.spared i apart) (spares i);
 }

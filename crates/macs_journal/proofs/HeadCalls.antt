@@ -18,8 +18,10 @@ use Rattle.macs_journal.proofs.HeadOpened.{opening-image, synced-settled}
 use Rattle.macs_journal.proofs.Spared.{Spared-on, Spared-sync, Spared-write}
 
 -- one call more, not before the second one
-opening-on : {T E : Type 0} (began d new : Disk) (area : ℕ) (head : Head) (records : List Record) (result : Result T E) (at : IsOpening began d area head records)
-    → at.full.clock + 1 ≤ d.clock → IsDeviceCall d new result → ((image : Image) → IsImage (now new) image → IsOldOrOpening (now at.full) area image)
+opening-on : {T E : Type 0} (began d new : Disk) (area : ℕ) (head : Head) (records : List Record) (result : Result T E)
+    (at : IsOpening began d area head records)
+    → at.full.clock + 1 ≤ d.clock → IsDeviceCall d new result
+    → ((image : Image) → IsImage (now new) image → IsOldOrOpening (now at.full) area image)
     → ((i : ℕ) → i ≢ gate area 0 → IsSpared d new i) → IsOpening began new area head records
 opening-on began d new area head records result at second call images spares = record {
   full = at.full;
@@ -34,7 +36,8 @@ opening-on began d new area head records result at second call images spares = r
 -- ---- the bodies are made durable
 
 module _ {T E : Type 0} (began d new : Disk) (area : ℕ) (head : Head) (records : List Record) (result : Result T E)
-    (at : AreBodiesWritten began d area head records (length records)) (sound : IsSound (now d)) (call : IsDeviceCall d new result) (syncs : Syncs (now d) (now new) result) where
+    (at : AreBodiesWritten began d area head records (length records)) (sound : IsSound (now d))
+    (call : IsDeviceCall d new result) (syncs : Syncs (now d) (now new) result) where
   nothing : LeavesNothingNew d new
   nothing = sync-leaves d new result sound call syncs
 
@@ -47,35 +50,42 @@ module _ {T E : Type 0} (began d new : Disk) (area : ℕ) (head : Head) (records
     others = λ i apart. Spared-sync d new result i sound call syncs;
   }
 
-  pub bodies-durable : new.clock ≡ d.clock + 1 → now new ≡ state_after_sync (now d) → AreBodiesDurable began new area head records
+  pub bodies-durable : new.clock ≡ d.clock + 1 → now new ≡ state_after_sync (now d)
+      → AreBodiesDurable began new area head records
   unfolding opening-first
   bodies-durable one is = record { opening = opening-first; calls = one; fit = sound.fit; synced = is }
 
 -- ---- the head gate is opened
 
 module _ {T E : Type 0} (began d new : Disk) (area : ℕ) (head : Head) (records : List Record) (result : Result T E)
-    (at : AreBodiesDurable began d area head records) (call : IsDeviceCall d new result) (writes : Writes (now d) (now new) (gate area 0) open_gate result) where
+    (at : AreBodiesDurable began d area head records) (call : IsDeviceCall d new result)
+    (writes : Writes (now d) (now new) (gate area 0) open_gate result) where
   written-images : (image : Image) → IsImage (now new) image → IsOldOrOpening (now at.opening.full) area image
-  written-images = opening-image (now at.opening.full) (now d) (now new) area (gate area 0) at.fit refl at.synced (wrote (now d) (now new) (gate area 0) open_gate result writes)
+  written-images = opening-image (now at.opening.full) (now d) (now new) area (gate area 0) at.fit refl at.synced
+      (wrote (now d) (now new) (gate area 0) open_gate result writes)
 
   pub opening-written : IsOpening began new area head records
   opening-written =
-      opening-on began d new area head records result at.opening (let was = at.calls in omega (arith, was)) call written-images
+      opening-on began d new area head records result at.opening (let was = at.calls in
+      omega (arith, was)) call written-images
       (λ i apart. Spared-write d new (gate area 0) open_gate result i apart call writes)
 
-  pub head-opened : new.clock ≡ d.clock + 1 → now new ≡ state_after_write (now d) (gate area 0) open_gate → IsHeadOpened began new area head records
+  pub head-opened : new.clock ≡ d.clock + 1 → now new ≡ state_after_write (now d) (gate area 0) open_gate
+      → IsHeadOpened began new area head records
   unfolding opening-on opening-written
   head-opened one is = record {
     opening = opening-written;
     calls = (let was = at.calls in omega (arith, was, one));
-    opened = ap (λ (s : DiskState). s.seen (gate area 0)) is ∙ put-same (now d).seen (gate area 0) (gate area 0) open_gate refl;
+    opened = ap (λ (s : DiskState). s.seen (gate area 0)) is
+        ∙ put-same (now d).seen (gate area 0) (gate area 0) open_gate refl;
     images = written-images;
   }
 
 -- ---- and made durable
 
 module _ {T E : Type 0} (began d new : Disk) (area : ℕ) (head : Head) (records : List Record) (result : Result T E)
-    (at : IsHeadOpened began d area head records) (sound : IsSound (now d)) (call : IsDeviceCall d new result) (syncs : Syncs (now d) (now new) result) where
+    (at : IsHeadOpened began d area head records) (sound : IsSound (now d)) (call : IsDeviceCall d new result)
+    (syncs : Syncs (now d) (now new) result) where
   pub opening-synced : IsOpening began new area head records
   opening-synced =
       opening-on began d new area head records result at.opening (let was = at.calls in omega (arith, was)) call

@@ -1,5 +1,6 @@
 -- Gates of an area closed one by one where they read open, and counted.
-use Rattle.std.proofs.Common.{◌≡◌, ◌≢◌, ◌<◌, ◌≤◌, ◌⊎◌, ◌+◌, inl, inr, ℕ, zero, suc, refl, sym, ◌∙◌, ap, subst, arith, List, get_or}
+use Rattle.std.proofs.Common.{◌≡◌, ◌≢◌, ◌<◌, ◌≤◌, ◌⊎◌, ◌+◌, inl, inr, ℕ, zero, suc, refl, sym, ◌∙◌, ap, subst, arith}
+use Rattle.std.proofs.Common.{List, get_or}
 use Rattle.std.proofs.lemmas.Bool.{cases_eq}
 use Rattle.macs_disk.specs.States.{Image}
 use Rattle.macs_disk.specs.Disk.{Disk, Works, now}
@@ -14,7 +15,8 @@ use Rattle.macs_journal.proofs.Spared.{Spared-on, Spared-seen}
 
 -- zeros close a gate
 zeros-closed : ¬ IsOpen closed_gate
-zeros-closed opens = absurd (let same : 0x4d ≡ 0 = ap (λ (sector : List ℕ). get_or sector 0 0) (sym opens.1) in omega (arith, same))
+zeros-closed opens = absurd (let same : 0x4d ≡ 0 = ap (λ (sector : List ℕ). get_or sector 0 0) (sym opens.1) in
+    omega (arith, same))
 
 -- ---- how many read open
 
@@ -26,7 +28,8 @@ no-gates seen area (suc k) count is has = absurd (omega (arith, is))
 
 -- of one gate more: it is open, or not
 pub gate-counted : (seen : Image) (area k count : ℕ) → HasOpenGates seen area (k + 1) count
-    → (IsGateOpen seen area k × ((before : ℕ) × (count ≡ before + 1) × HasOpenGates seen area k before)) ⊎ ((¬ IsGateOpen seen area k) × HasOpenGates seen area k count)
+    → (IsGateOpen seen area k × ((before : ℕ) × (count ≡ before + 1) × HasOpenGates seen area k before))
+    ⊎ ((¬ IsGateOpen seen area k) × HasOpenGates seen area k count)
 unfolding HasOpenGates
 gate-counted seen area k count has =
     let is : k + 1 ≡ suc k = omega arith in
@@ -44,14 +47,16 @@ gates-counted seen area (suc k) =
     ]
 
 -- and no other
-pub gates-once : (seen : Image) (area upto a b : ℕ) → HasOpenGates seen area upto a → HasOpenGates seen area upto b → a ≡ b
+pub gates-once : (seen : Image) (area upto a b : ℕ) → HasOpenGates seen area upto a
+    → HasOpenGates seen area upto b → a ≡ b
 unfolding HasOpenGates
 gates-once seen area zero a b has_a has_b = has_a ∙ sym has_b
 gates-once seen area (suc k) a b (inl (opens, (m, a_is, has_m))) (inl (opens_too, (n, b_is, has_n))) =
     a_is ∙ ap (λ (x : ℕ). x + 1) (gates-once seen area k m n has_m has_n) ∙ sym b_is
 gates-once seen area (suc k) a b (inl (opens, (m, a_is, has_m))) (inr (closed, has_b)) = absurd (closed opens)
 gates-once seen area (suc k) a b (inr (closed, has_a)) (inl (opens, (n, b_is, has_n))) = absurd (closed opens)
-gates-once seen area (suc k) a b (inr (closed, has_a)) (inr (closed_too, has_b)) = gates-once seen area k a b has_a has_b
+gates-once seen area (suc k) a b (inr (closed, has_a)) (inr (closed_too, has_b)) =
+    gates-once seen area k a b has_a has_b
 
 -- ---- one gate more
 
@@ -65,7 +70,8 @@ module _ (old mid new : Disk) (area from k : ℕ) (to_mid : Works old mid) (to_n
   pub spared-next : from ≤ k → ((¬ IsGateOpen (now mid).seen area k) → (i : ℕ) → IsSpared mid new i)
       → (i : ℕ) → IsNoOpenGate (now old).seen area from (k + 1) i → IsSpared old new i
   spared-next le shut i apart =
-      Spared-on old mid new i to_mid to_new (so_far i (λ n le lt. apart n le (omega (arith, lt)))) (elim (cases_eq i (gate area k)) [
+      Spared-on old mid new i to_mid to_new (so_far i (λ n le lt. apart n le (omega (arith, lt))))
+      (elim (cases_eq i (gate area k)) [
         | inl here ↦ shut (λ opens. apart k le (omega arith) (subst IsOpen next-gate opens) here) i
         | inr other ↦ others i other
       ])
@@ -81,7 +87,8 @@ module _ (old mid new : Disk) (area from k : ℕ) (to_mid : Works old mid) (to_n
         ∙ before n le (omega (arith, lt, differs)) opens
   ]
 
-  pub counted-next : ((¬ IsGateOpen (now mid).seen area k) → new.clock ≡ mid.clock + 1) → (IsGateOpen (now mid).seen area k → new.clock ≡ mid.clock + 2)
+  pub counted-next : ((¬ IsGateOpen (now mid).seen area k) → new.clock ≡ mid.clock + 1)
+      → (IsGateOpen (now mid).seen area k → new.clock ≡ mid.clock + 2)
       → ((count : ℕ) → HasOpenGates (now old).seen area k count → mid.clock ≡ old.clock + (k + count))
       → (count : ℕ) → HasOpenGates (now old).seen area (k + 1) count → new.clock ≡ old.clock + (k + 1 + count)
   counted-next one two before count has = elim (gate-counted (now old).seen area k count has) [
@@ -99,8 +106,10 @@ module _ (old mid new : Disk) (area from k : ℕ) (to_mid : Works old mid) (to_n
 -- ---- all of them
 
 -- no gate reads open then
-pub shut : (old new : Disk) (area from : ℕ) → Works old new → ((i : ℕ) → IsNoOpenGate (now old).seen area from gates i → IsSpared old new i)
-    → AreClosed (now old).seen (now new).seen area from gates → (k : ℕ) → from ≤ k → k < gates → ¬ IsGateOpen (now new).seen area k
+pub shut : (old new : Disk) (area from : ℕ) → Works old new
+    → ((i : ℕ) → IsNoOpenGate (now old).seen area from gates i → IsSpared old new i)
+    → AreClosed (now old).seen (now new).seen area from gates → (k : ℕ) → from ≤ k → k < gates
+    → ¬ IsGateOpen (now new).seen area k
 shut old new area from works spared closed k le lt opens = elim (open_or_closed ((now old).seen (gate area k))) [
   | inl was ↦ zeros-closed (subst IsOpen (closed k le lt was) opens)
   | inr not ↦
@@ -111,10 +120,13 @@ shut old new area from works spared closed k le lt opens = elim (open_or_closed 
 ]
 
 -- and then that of the head was opened; what was written before and after the closing is no gate of a slot
-pub new-gates : (old mid full new : Image) (area from : ℕ) → from ≤ 1 → ((k : ℕ) → mid (gate area (k + 1)) ≡ old (gate area (k + 1)))
-    → AreClosed mid full area from gates → ((k : ℕ) → new (gate area (k + 1)) ≡ full (gate area (k + 1))) → new (gate area 0) ≡ open_gate
+pub new-gates : (old mid full new : Image) (area from : ℕ) → from ≤ 1
+    → ((k : ℕ) → mid (gate area (k + 1)) ≡ old (gate area (k + 1)))
+    → AreClosed mid full area from gates → ((k : ℕ) → new (gate area (k + 1)) ≡ full (gate area (k + 1)))
+    → new (gate area 0) ≡ open_gate
     → HasNewGates old new area
 new-gates old mid full new area from first before closed behind head = record {
   head = head;
-  slot = λ slot lt opens. behind slot ∙ closed (slot + 1) (omega (arith, first)) (omega (arith, lt)) (subst IsOpen (sym (before slot)) opens);
+  slot = λ slot lt opens. behind slot
+      ∙ closed (slot + 1) (omega (arith, first)) (omega (arith, lt)) (subst IsOpen (sym (before slot)) opens);
 }

@@ -35,12 +35,14 @@ refused-small disk_of old less = record {
   any_moment = λ honest. Nothing-start (disk_of old);
 }
 
-module _ {D : Type 0} (disk_of : D → disk.Disk) (old new : D) (large : least_sectors ≤ (disk_of old).sectors) (works : disk.Works (disk_of old) (disk_of new))
+module _ {D : Type 0} (disk_of : D → disk.Disk) (old new : D) (large : least_sectors ≤ (disk_of old).sectors)
+    (works : disk.Works (disk_of old) (disk_of new))
     (from_first : disk.IsHonest (disk_of new) → StandsFromFirst (disk_of old) (disk_of new))
     (nothing : disk.IsHonest (disk_of new) → LeavesNothingNew (disk_of old) (disk_of new)) where
   -- a device call failed
   pub refused-failed : disk.FailsOnce (disk_of old) (disk_of new)
-      → (disk.IsHonest (disk_of new) → (disk.now (disk_of new) ≡ disk.now (disk_of old)) ⊎ (disk.now (disk_of new) ≡ state_after_sync (disk.now (disk_of old))))
+      → (disk.IsHonest (disk_of new) → (disk.now (disk_of new) ≡ disk.now (disk_of old))
+      ⊎ (disk.now (disk_of new) ≡ state_after_sync (disk.now (disk_of old))))
       → IsRefused disk_of (IsNoJournal disk_of old) old new Disk
   refused-failed fails unwritten = record {
     name = inr (inl refl);
@@ -56,7 +58,8 @@ module _ {D : Type 0} (disk_of : D → disk.Disk) (old new : D) (large : least_s
 
   module _ (steady : (disk_of new).failures ≡ (disk_of old).failures)
       (settled : disk.IsHonest (disk_of new) → disk.now (disk_of new) ≡ state_after_sync (disk.now (disk_of old))) where
-    refused-for : (fault : JournalFault) → IsByContent fault → fault ≢ TooSmall → FailsWith (disk_of old) (disk_of new) fault
+    refused-for : (fault : JournalFault) → IsByContent fault → fault ≢ TooSmall
+        → FailsWith (disk_of old) (disk_of new) fault
         → (disk.IsHonest (disk_of new) → IsNoJournal disk_of old fault)
         → (disk.IsHonest (disk_of new) → IsLeftBy fault (disk.now (disk_of old)) (disk.now (disk_of new)))
         → IsRefused disk_of (IsNoJournal disk_of old) old new fault
@@ -73,34 +76,58 @@ module _ {D : Type 0} (disk_of : D → disk.Disk) (old new : D) (large : least_s
     }
 
     -- what is there is no journal
-    pub refused-found : (meaning : Meaning) (fault : JournalFault) (room : List Record) → meaning ≡ Refused fault → IsNamed meaning
+    pub refused-found : (meaning : Meaning) (fault : JournalFault) (room : List Record) → meaning ≡ Refused fault
+        → IsNamed meaning
         → (disk.IsHonest (disk_of new) → MeaningIs (disk.now (disk_of old)).seen meaning (read_in meaning room))
         → IsRefused disk_of (IsNoJournal disk_of old) old new fault
     refused-found meaning fault room is named found = by_name (subst IsNamed is named) where
       is_found : disk.IsHonest (disk_of new) → JournalIs least_sectors (disk.now (disk_of old)).seen (Err fault)
-      is_found honest = subst (λ (f : Meaning). MeaningIs (disk.now (disk_of old)).seen f (read_in f room)) is (found honest)
+      is_found honest =
+          subst (λ (f : Meaning). MeaningIs (disk.now (disk_of old)).seen f (read_in f room)) is (found honest)
 
       by_name : IsByContent fault → IsRefused disk_of (IsNoJournal disk_of old) old new fault
       by_name (inl blank) =
           subst (λ (f : JournalFault). IsRefused disk_of (IsNoJournal disk_of old) old new f) (sym blank)
           (refused-for NotFormatted (inl refl) (λ same. absurd cc) steady
-          (λ honest. (large, (subst (λ (f : JournalFault). JournalIs least_sectors (disk.now (disk_of old)).seen (Err f)) blank (is_found honest)).1)) settled)
+          (λ honest. (
+            large,
+            (subst (λ (f : JournalFault).
+                JournalIs least_sectors (disk.now (disk_of old)).seen (Err f)) blank (is_found honest)).1,
+          )) settled)
       by_name (inr bad) =
           subst (λ (f : JournalFault). IsRefused disk_of (IsNoJournal disk_of old) old new f) (sym bad)
           (refused-for BadJournal (inr refl) (λ same. absurd cc) steady
-          (λ honest. (large, (subst (λ (f : JournalFault). JournalIs least_sectors (disk.now (disk_of old)).seen (Err f)) bad (is_found honest)).1)) settled)
+          (λ honest. (
+            large,
+            (subst (λ (f : JournalFault).
+                JournalIs least_sectors (disk.now (disk_of old)).seen (Err f)) bad (is_found honest)).1,
+          )) settled)
 
     -- a journal was found
-    pub recovers-found : (meaning : Meaning) (place : Place) (room : List Record) (format : Format) (identity : Identity) (count : ℕ)
-        → format ≡ place.head.format → identity ≡ place.head.identity → count ≡ place.head.count → meaning ≡ Journal place
-        → IsBehind meaning (read_in meaning room) → (disk.IsHonest (disk_of new) → MeaningIs (disk.now (disk_of old)).seen meaning (read_in meaning room))
-        → Recovers disk_of old (record { disk = new; place = place; hand = Empty; stopped = false }) format identity count (take place.free room)
+    pub recovers-found : (meaning : Meaning) (place : Place) (room : List Record) (format : Format)
+        (identity : Identity) (count : ℕ)
+        → format ≡ place.head.format → identity ≡ place.head.identity → count ≡ place.head.count
+        → meaning ≡ Journal place
+        → IsBehind meaning (read_in meaning room)
+        → (disk.IsHonest (disk_of new) → MeaningIs (disk.now (disk_of old)).seen meaning (read_in meaning room))
+        → Recovers disk_of old (record { disk = new; place = place; hand = Empty; stopped = false }) format identity
+        count (take place.free room)
     recovers-found meaning place room format identity count form whose counted is behind found =
-        let stands : IsBehind (Journal place) (take place.free room) = subst (λ (f : Meaning). IsBehind f (read_in f room)) is behind in
-        let is_found : disk.IsHonest (disk_of new) → JournalIs least_sectors (disk.now (disk_of old)).seen (Ok (content_at place (take place.free room))) =
-        λ honest. subst (λ (f : Meaning). MeaningIs (disk.now (disk_of old)).seen f (read_in f room)) is (found honest) in
+        let stands : IsBehind (Journal place) (take place.free room) =
+        subst (λ (f : Meaning). IsBehind f (read_in f room)) is behind in
+        let is_found : disk.IsHonest (disk_of new)
+        → JournalIs least_sectors (disk.now (disk_of old)).seen (Ok (content_at place (take place.free room))) =
+        λ honest.
+        subst (λ (f : Meaning). MeaningIs (disk.now (disk_of old)).seen f (read_in f room)) is (found honest) in
         record {
-          device = record { large = large; works = works; fails = steady; settled = settled; from_first = from_first; any_moment = nothing };
+          device = record {
+            large = large;
+            works = works;
+            fails = steady;
+            settled = settled;
+            from_first = from_first;
+            any_moment = nothing;
+          };
           running = refl;
           idle = refl;
           form = form;

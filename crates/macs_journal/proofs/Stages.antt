@@ -1,11 +1,14 @@
 -- The device calls of a compaction in their order.
-use Rattle.std.proofs.Common.{◌≡◌, ◌≢◌, ◌==◌, ◌<◌, ◌≤◌, ◌⊎◌, ◌+◌, ◌-◌, inl, inr, ℕ, refl, sym, subst, arith, Bool, true, false}
+use Rattle.std.proofs.Common.{◌≡◌, ◌≢◌, ◌==◌, ◌<◌, ◌≤◌, ◌⊎◌, ◌+◌, ◌-◌, inl, inr, ℕ, refl, sym, subst, arith, Bool, true}
+use Rattle.std.proofs.Common.{false}
 use Rattle.std.proofs.lemmas.Bool.{cases_eq, eq-eqb}
 use Rattle.std.proofs.lemmas.Bool.Decides.{nat_tests}
 use Rattle.macs_journal.specs.Areas.{gates}
-use Rattle.macs_journal.specs.Stages.{IsCompactNext, IsCompactStage, body_from, compact_left, compact_left_next, gate_from, next_stage}
+use Rattle.macs_journal.specs.Stages.{IsCompactNext, IsCompactStage, body_from, compact_left, compact_left_next}
+use Rattle.macs_journal.specs.Stages.{gate_from, next_stage}
 use Rattle.macs_journal.specs.declared.compact_stage.CompactStage.{CompactStage}
-use Rattle.macs_journal.specs.declared.compact_stage.CompactStage.TheVariants.{ReadGate, CloseGate, GatesSync, HeadBody, Body, BodiesSync, HeadGate, HeadSync}
+use Rattle.macs_journal.specs.declared.compact_stage.CompactStage.TheVariants.{ReadGate, CloseGate, GatesSync, HeadBody}
+use Rattle.macs_journal.specs.declared.compact_stage.CompactStage.TheVariants.{Body, BodiesSync, HeadGate, HeadSync}
 
 pub gate_from-cases : (k : ℕ) → ((k ≡ gates) × (gate_from k ≡ GatesSync)) ⊎ ((k ≢ gates) × (gate_from k ≡ ReadGate k))
 gate_from-cases k = elim (cases_eq k gates) [
@@ -13,7 +16,8 @@ gate_from-cases k = elim (cases_eq k gates) [
   | inr other ↦ inr (other, let no : (k == gates) ≡ false = grind (arith, nat_tests) in rw no refl)
 ]
 
-pub body_from-cases : (count slot : ℕ) → ((slot ≡ count) × (body_from count slot ≡ BodiesSync)) ⊎ ((slot ≢ count) × (body_from count slot ≡ Body slot))
+pub body_from-cases : (count slot : ℕ)
+    → ((slot ≡ count) × (body_from count slot ≡ BodiesSync)) ⊎ ((slot ≢ count) × (body_from count slot ≡ Body slot))
 body_from-cases count slot = elim (cases_eq slot count) [
   | inl is ↦ inl (is, let yes : (slot == count) ≡ true = eq-eqb slot count is in rw yes refl)
   | inr other ↦ inr (other, let no : (slot == count) ≡ false = grind (arith, nat_tests) in rw no refl)
@@ -24,16 +28,19 @@ body_from-cases count slot = elim (cases_eq slot count) [
 gate-fits : (count k : ℕ) → k < gates → IsCompactStage count (gate_from (k + 1))
 gate-fits count k lt = elim (gate_from-cases (k + 1)) [
   | inl last ↦ subst (λ (s : CompactStage). IsCompactStage count s) (sym last.1) tt
-  | inr more ↦ subst (λ (s : CompactStage). IsCompactStage count s) (sym more.1) (let differs = more.0 in omega (arith, lt, differs))
+  | inr more ↦ subst (λ (s : CompactStage). IsCompactStage count s) (sym more.1) (let differs = more.0 in
+      omega (arith, lt, differs))
 ]
 
 body-fits : (count slot : ℕ) → slot ≤ count → IsCompactStage count (body_from count slot)
 body-fits count slot le = elim (body_from-cases count slot) [
   | inl last ↦ subst (λ (s : CompactStage). IsCompactStage count s) (sym last.1) tt
-  | inr more ↦ subst (λ (s : CompactStage). IsCompactStage count s) (sym more.1) (let differs = more.0 in omega (arith, le, differs))
+  | inr more ↦ subst (λ (s : CompactStage). IsCompactStage count s) (sym more.1) (let differs = more.0 in
+      omega (arith, le, differs))
 ]
 
-pub next-fits : (count : ℕ) (stage : CompactStage) (is_open : Bool) → IsCompactStage count stage → IsCompactNext count (next_stage count stage is_open)
+pub next-fits : (count : ℕ) (stage : CompactStage) (is_open : Bool) → IsCompactStage count stage
+    → IsCompactNext count (next_stage count stage is_open)
 next-fits count (ReadGate k) true fits = fits
 next-fits count (ReadGate k) false fits = gate-fits count k fits
 next-fits count (CloseGate k) is_open fits = gate-fits count k fits
@@ -48,8 +55,10 @@ next-fits count HeadSync is_open fits = tt
 
 gate-left : (count k : ℕ) → k < gates → compact_left count (gate_from (k + 1)) + 1 ≤ compact_left count (CloseGate k)
 gate-left count k lt = elim (gate_from-cases (k + 1)) [
-  | inl last ↦ subst (λ (s : CompactStage). compact_left count s + 1 ≤ compact_left count (CloseGate k)) (sym last.1) (omega (arith, lt))
-  | inr more ↦ subst (λ (s : CompactStage). compact_left count s + 1 ≤ compact_left count (CloseGate k)) (sym more.1) (omega (arith, lt))
+  | inl last ↦ subst (λ (s : CompactStage). compact_left count s + 1 ≤ compact_left count (CloseGate k)) (sym last.1)
+      (omega (arith, lt))
+  | inr more ↦ subst (λ (s : CompactStage). compact_left count s + 1 ≤ compact_left count (CloseGate k)) (sym more.1)
+      (omega (arith, lt))
 ]
 
 body-left : (count slot : ℕ) → slot ≤ count → compact_left count (body_from count slot) ≤ 3 + (count - slot)
@@ -65,7 +74,8 @@ next-left count (ReadGate k) false fits = let less = gate-left count k fits in o
 next-left count (CloseGate k) is_open fits = gate-left count k fits
 next-left count GatesSync is_open fits = omega arith
 next-left count HeadBody is_open fits = let less = body-left count 0 (omega arith) in omega (arith, less)
-next-left count (Body slot) is_open fits = let less = body-left count (slot + 1) (omega (arith, fits)) in omega (arith, less, fits)
+next-left count (Body slot) is_open fits = let less = body-left count (slot + 1) (omega (arith, fits)) in
+    omega (arith, less, fits)
 next-left count BodiesSync is_open fits = omega arith
 next-left count HeadGate is_open fits = omega arith
 next-left count HeadSync is_open fits = omega arith

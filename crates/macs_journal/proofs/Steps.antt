@@ -44,7 +44,8 @@ module _ {D : Type 0} (disk_of : D → disk.Disk) (j : JournalValue D) (snapshot
     left = tt;
     exact = tt;
     any_moment = λ honest before after holding.
-        Leaves-start (disk_in disk_of j) (HasEitherJournal before after) (holding-image (disk_in disk_of j) j.place j.hand before after holding.holds);
+        Leaves-start (disk_in disk_of j) (HasEitherJournal before after)
+        (holding-image (disk_in disk_of j) j.place j.hand before after holding.holds);
     goes_on = search rules;
     done = search rules;
     kept = search rules;
@@ -71,7 +72,8 @@ module _ {D : Type 0} (disk_of : D → disk.Disk) (j : JournalValue D) (snapshot
     left = λ busy. absurd (busy idle);
     exact = λ busy. absurd (busy idle);
     any_moment = λ honest before after holding.
-        Leaves-start (disk_in disk_of j) (HasEitherJournal before after) (holding-image (disk_in disk_of j) j.place j.hand before after holding.holds);
+        Leaves-start (disk_in disk_of j) (HasEitherJournal before after)
+        (holding-image (disk_in disk_of j) j.place j.hand before after holding.holds);
     goes_on = search rules;
     done = search rules;
     kept = search rules;
@@ -81,8 +83,10 @@ module _ {D : Type 0} (disk_of : D → disk.Disk) (j : JournalValue D) (snapshot
 abbrev done : Result (Unit {0}) JournalFault
 done = Ok tt
 
-module _ {D : Type 0} (disk_of : D → disk.Disk) (old new : JournalValue D) (snapshot : List Record) (runs : is_stopped old ≡ false) (busy : ¬ IsIdle old) (advances : Advances disk_of old snapshot done new) where
-  went-on : (¬ IsIdle new) → ((d : disk.Disk) → (before after : Content) → ComesTo d new.place new.hand before after → IsHolding d new.place new.hand before after)
+module _ {D : Type 0} (disk_of : D → disk.Disk) (old new : JournalValue D) (snapshot : List Record)
+    (runs : is_stopped old ≡ false) (busy : ¬ IsIdle old) (advances : Advances disk_of old snapshot done new) where
+  went-on : (¬ IsIdle new) → ((d : disk.Disk) → (before after : Content) → ComesTo d new.place new.hand before after
+      → IsHolding d new.place new.hand before after)
       → Steps disk_of old snapshot (answers Going) new
   went-on still holds = record {
     stopped = search (rules, runs);
@@ -114,11 +118,13 @@ module _ {D : Type 0} (disk_of : D → disk.Disk) (old new : JournalValue D) (sn
 
   was-last : IsIdle new → Steps disk_of old snapshot (answers Finished) new
   was-last idle =
-      let comes : (honest : disk.IsHonest (disk_in disk_of new)) → (before after : Content) → HoldsWith (disk_in disk_of old) old.place old.hand snapshot before after
+      let comes : (honest : disk.IsHonest (disk_in disk_of new)) → (before after : Content)
+      → HoldsWith (disk_in disk_of old) old.place old.hand snapshot before after
       → IsHolding (disk_in disk_of new) new.place new.hand after after =
       λ honest before after holding.
       subst (λ (h : Hand). IsHolding (disk_in disk_of new) new.place h after after) (sym idle)
-      (subst (λ (h : Hand). ComesTo (disk_in disk_of new) new.place h before after) idle (advances.next honest before after holding)) in
+      (subst (λ (h : Hand). ComesTo (disk_in disk_of new) new.place h before after) idle
+      (advances.next honest before after holding)) in
       record {
         stopped = search (rules, runs);
         idle = search (rules, busy);
@@ -133,7 +139,8 @@ module _ {D : Type 0} (disk_of : D → disk.Disk) (old new : JournalValue D) (sn
         moved = λ is. advances.moved idle;
         lent = advances.lent;
         work = record { works = advances.work.works; fails = advances.work.fails };
-        device = λ was still. called (disk_in disk_of old) (disk_in disk_of new) done (answers Finished) refl advances.device;
+        device = λ was still.
+            called (disk_in disk_of old) (disk_in disk_of new) done (answers Finished) refl advances.device;
         one = advances.one;
         call = λ was. advances.call;
         left = λ was. advances.left;
@@ -141,7 +148,8 @@ module _ {D : Type 0} (disk_of : D → disk.Disk) (old new : JournalValue D) (sn
         any_moment = advances.any_moment;
         goes_on = search rules;
         done = λ is honest before after holding. comes honest before after holding;
-        kept = λ is honest before after holding image left. kept-image (disk_in disk_of new) new.place new.hand after (comes honest before after holding) image left;
+        kept = λ is honest before after holding image left.
+            kept-image (disk_in disk_of new) new.place new.hand after (comes honest before after holding) image left;
       }
 
   pub steps-done : Steps disk_of old snapshot (answers (step_of new.hand)) new
@@ -150,7 +158,9 @@ module _ {D : Type 0} (disk_of : D → disk.Disk) (old new : JournalValue D) (sn
     by_hand Empty is = was-last is
     by_hand (Append work) is =
         went-on (λ idle. absurd (let same = sym is ∙ idle in cc))
-        (λ d before after comes. subst (λ (h : Hand). IsHolding d new.place h before after) (sym is) (subst (λ (h : Hand). ComesTo d new.place h before after) is comes))
+        (λ d before after comes. subst (λ (h : Hand). IsHolding d new.place h before after) (sym is)
+        (subst (λ (h : Hand). ComesTo d new.place h before after) is comes))
     by_hand (Compact work) is =
         went-on (λ idle. absurd (let same = sym is ∙ idle in cc))
-        (λ d before after comes. subst (λ (h : Hand). IsHolding d new.place h before after) (sym is) (subst (λ (h : Hand). ComesTo d new.place h before after) is comes))
+        (λ d before after comes. subst (λ (h : Hand). IsHolding d new.place h before after) (sym is)
+        (subst (λ (h : Hand). ComesTo d new.place h before after) is comes))

@@ -19,7 +19,8 @@ still-appends (Compact work) new same is = absurd is
 still-appends Empty new same is = absurd is
 
 -- and a compaction with its records
-pub still-renews : (place : Place) (old new : Hand) (records : List Record) → IsSameTask old new → RenewsWith place old records → RenewsWith place new records
+pub still-renews : (place : Place) (old new : Hand) (records : List Record) → IsSameTask old new
+    → RenewsWith place old records → RenewsWith place new records
 still-renews place (Compact work) (Compact later) records same is = is ∙ sym same
 still-renews place (Compact work) Empty records same is = absurd same
 still-renews place (Compact work) (Append later) records same is = absurd same
@@ -33,21 +34,26 @@ append-lent (Append work) records is = tt
 append-lent (Compact work) records is = absurd is
 
 -- with any records an append makes the one content of the other
-append-made : (hand : Hand) (records : List Record) (before after : Content) → IsAppendHand hand → IsMadeOf hand records before after
+append-made : (hand : Hand) (records : List Record) (before after : Content) → IsAppendHand hand
+    → IsMadeOf hand records before after
 append-made Empty records before after is = tt
 append-made (Append work) records before after is = tt
 append-made (Compact work) records before after is = absurd is
 
-pub append-with : (d : Disk) (place : Place) (hand : Hand) (records : List Record) (before after : Content) → IsAppendHand hand
+pub append-with : (d : Disk) (place : Place) (hand : Hand) (records : List Record) (before after : Content)
+    → IsAppendHand hand
     → IsHolding d place hand before after → HoldsWith d place hand records before after
-append-with d place hand records before after is holding = record { holds = holding; made = append-made hand records before after is }
+append-with d place hand records before after is holding =
+    record { holds = holding; made = append-made hand records before after is }
 
 -- a compaction is under way with the records that it began with
-renewal-made : (hand : Hand) (records : List Record) (before : Content) → IsMadeOf hand records before (compacted before records)
+renewal-made : (hand : Hand) (records : List Record) (before : Content)
+    → IsMadeOf hand records before (compacted before records)
 renewal-made Empty records before = tt
 renewal-made (Append work) records before = tt
 renewal-made (Compact work) records before = refl
 
 pub renewal-with : (d : Disk) (place : Place) (hand : Hand) (records : List Record) (before : Content)
-    → IsHolding d place hand before (compacted before records) → HoldsWith d place hand records before (compacted before records)
+    → IsHolding d place hand before (compacted before records)
+    → HoldsWith d place hand records before (compacted before records)
 renewal-with d place hand records before holding = record { holds = holding; made = renewal-made hand records before }

@@ -17,7 +17,8 @@ untouched-start d k from until =
     ap d.past at_now
 
 -- runs one after the other
-pub untouched-on : (old mid new : Disk) → Works old mid → Works mid new → IsUntouched old mid → IsUntouched mid new → IsUntouched old new
+pub untouched-on : (old mid new : Disk) → Works old mid → Works mid new → IsUntouched old mid → IsUntouched mid new
+    → IsUntouched old new
 untouched-on old mid new to_mid to_new first second k from until = elim (cases_lt mid.clock k) [
   | inl after ↦ second k (omega (arith, after)) until ∙ first mid.clock to_mid.later (omega arith)
   | inr before ↦ to_new.past k before ∙ first k from before
@@ -55,12 +56,14 @@ untouched-spared old new i untouched = record {
 
 -- ---- a first call, with others after it that change nothing
 
-pub stands-from-first : {T E : Type 0} (old mid new : Disk) (result : Result T E) → IsDeviceCall old mid result → Works mid new → IsUntouched mid new → StandsFromFirst old new
+pub stands-from-first : {T E : Type 0} (old mid new : Disk) (result : Result T E) → IsDeviceCall old mid result
+    → Works mid new → IsUntouched mid new → StandsFromFirst old new
 stands-from-first old mid new result call works untouched k after until =
     untouched k (omega (arith, after, call.at_most_one)) until ∙ sym (untouched-now mid new works untouched)
 
 -- with none after it
-pub stands-after-one : {T E : Type 0} (old new : Disk) (result : Result T E) → IsDeviceCall old new result → StandsFromFirst old new
+pub stands-after-one : {T E : Type 0} (old new : Disk) (result : Result T E) → IsDeviceCall old new result
+    → StandsFromFirst old new
 stands-after-one old new result call = stands-from-first old new new result call (Works-start new) (untouched-start new)
 
 -- no call at all
@@ -68,16 +71,19 @@ pub stands-before-first : (d : Disk) → StandsFromFirst d d
 stands-before-first d k after until = absurd (omega (arith, after, until))
 
 -- a sync leaves nothing new
-pub synced-leaves : {T E : Type 0} (old mid new : Disk) (result : Result T E) → IsSound (now old) → IsDeviceCall old mid result → Syncs (now old) (now mid) result
+pub synced-leaves : {T E : Type 0} (old mid new : Disk) (result : Result T E) → IsSound (now old)
+    → IsDeviceCall old mid result → Syncs (now old) (now mid) result
     → Works mid new → IsUntouched mid new → LeavesNothingNew old new
 synced-leaves old mid new result sound call syncs works untouched =
     Nothing-join old mid new (sync-leaves old mid result sound call syncs) (untouched-leaves mid new works untouched)
 
 -- and leaves each sector alone
-pub synced-spared : {T E : Type 0} (old mid new : Disk) (result : Result T E) (i : ℕ) → IsSound (now old) → IsDeviceCall old mid result → Syncs (now old) (now mid) result
+pub synced-spared : {T E : Type 0} (old mid new : Disk) (result : Result T E) (i : ℕ) → IsSound (now old)
+    → IsDeviceCall old mid result → Syncs (now old) (now mid) result
     → Works mid new → IsUntouched mid new → IsSpared old new i
 synced-spared old mid new result i sound call syncs works untouched =
-    Spared-on old mid new i call.work.works works (Spared-sync old mid result i sound call syncs) (untouched-spared mid new i untouched)
+    Spared-on old mid new i call.work.works works (Spared-sync old mid result i sound call syncs)
+    (untouched-spared mid new i untouched)
 
 -- ---- a disk that is as it was before its first call, or synced
 
@@ -88,13 +94,15 @@ synced_seen : (old new : DiskState) (i : ℕ) → IsAsSynced old new → new.see
 synced_seen old new i (inl same) = ap (λ (s : DiskState). s.seen i) same
 synced_seen old new i (inr synced) = ap (λ (s : DiskState). s.seen i) synced
 
-synced_left : (old new : DiskState) (i : ℕ) (octets : List ℕ) → IsSound old → IsAsSynced old new → MayHold new i octets → MayHold old i octets
+synced_left : (old new : DiskState) (i : ℕ) (octets : List ℕ) → IsSound old → IsAsSynced old new → MayHold new i octets
+    → MayHold old i octets
 synced_left old new i octets sound (inl same) holds = subst (λ (s : DiskState). MayHold s i octets) same holds
 synced_left old new i octets sound (inr synced) holds =
     synced-holds old i octets sound (subst (λ (s : DiskState). MayHold s i octets) synced holds)
 
 -- each sector is left alone by calls of which the first left it so, and the others changed nothing
-pub spared-from-first : (old new : Disk) (i : ℕ) → IsSound (now old) → Works old new → StandsFromFirst old new → IsAsSynced (now old) (now new) → IsSpared old new i
+pub spared-from-first : (old new : Disk) (i : ℕ) → IsSound (now old) → Works old new → StandsFromFirst old new
+    → IsAsSynced (now old) (now new) → IsSpared old new i
 spared-from-first old new i sound works stands left = record {
   reads = λ k from until. elim (cases_lt old.clock k) [
     | inl after ↦ ap (λ (s : DiskState). s.seen i) (stands k after until) ∙ synced_seen (now old) (now new) i left
@@ -103,7 +111,8 @@ spared-from-first old new i sound works stands left = record {
         ap (λ (s : DiskState). s.seen i) (works.past k before ∙ ap old.past at_old)
   ];
   leaves = λ k from until octets holds. elim (cases_lt old.clock k) [
-    | inl after ↦ synced_left (now old) (now new) i octets sound left (subst (λ (s : DiskState). MayHold s i octets) (stands k after until) holds)
+    | inl after ↦ synced_left (now old) (now new) i octets sound left
+        (subst (λ (s : DiskState). MayHold s i octets) (stands k after until) holds)
     | inr before ↦
         let at_old : k ≡ old.clock = omega (arith, from, before) in
         subst (λ (s : DiskState). MayHold s i octets) (works.past k before ∙ ap old.past at_old) holds

@@ -3,12 +3,14 @@ use Rattle.std.proofs.Common.{◌≡◌, ◌+◌, refl, Bool, true, false, Resul
 use Rattle.macs_disk.specs.Disk.{Disk, FailsOnce, IsDeviceCall, IsWork, Works}
 use Rattle.macs_disk.proofs.Moments.{FailsOnce-before, Works-on}
 
-pub failed : {T E : Type 0} (old new : Disk) (answer : Result T E) → IsErr answer → Works old new → FailsOnce old new → IsWork old new answer
+pub failed : {T E : Type 0} (old new : Disk) (answer : Result T E) → IsErr answer → Works old new → FailsOnce old new
+    → IsWork old new answer
 failed old new (Ok x) is works once = absurd cc
 failed old new (Err e) is works once = record { works = works; ok = tt; err = once }
 
 -- the last of several runs failed
-pub failed-later : {T E : Type 0} (old mid new : Disk) (answer : Result T E) → IsErr answer → Works old mid → mid.failures ≡ old.failures → Works mid new → FailsOnce mid new → IsWork old new answer
+pub failed-later : {T E : Type 0} (old mid new : Disk) (answer : Result T E) → IsErr answer → Works old mid
+    → mid.failures ≡ old.failures → Works mid new → FailsOnce mid new → IsWork old new answer
 failed-later old mid new answer is first steady second once =
     failed old new answer is (Works-on old mid new first second) (FailsOnce-before old mid new steady once)
 
@@ -18,7 +20,8 @@ not-owed P (Ok x) is = absurd cc
 not-owed P (Err e) is = tt
 
 -- a call that did not fail takes one moment
-pub done-call : {T E : Type 0} (old new : Disk) (answer : Result T E) → IsDeviceCall old new answer → OnOk answer (new.clock ≡ old.clock + 1)
+pub done-call : {T E : Type 0} (old new : Disk) (answer : Result T E) → IsDeviceCall old new answer
+    → OnOk answer (new.clock ≡ old.clock + 1)
 done-call old new (Ok x) call = by_worn old.worn refl where
   by_worn : (worn : Bool) → old.worn ≡ worn → new.clock ≡ old.clock + 1
   by_worn false fresh = call.one fresh
@@ -26,7 +29,8 @@ done-call old new (Ok x) call = by_worn old.worn refl where
 done-call old new (Err e) call = tt
 
 -- a call is the same call in the words of another answer that fails where its own does
-pub called : {T E U F : Type 0} (old new : Disk) (was : Result T E) (answer : Result U F) → is_err was ≡ is_err answer → IsDeviceCall old new was → IsDeviceCall old new answer
+pub called : {T E U F : Type 0} (old new : Disk) (was : Result T E) (answer : Result U F) → is_err was ≡ is_err answer
+    → IsDeviceCall old new was → IsDeviceCall old new answer
 called old new (Ok x) (Ok y) same call = record {
   work = record { works = call.work.works; ok = call.work.ok; err = tt };
   at_most_one = call.at_most_one;

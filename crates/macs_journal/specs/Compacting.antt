@@ -35,10 +35,12 @@ pub record IsBegun {D : Type 0} (j : JournalValue D) (records : List Record) : T
 abbrev pub with_nothing : {D : Type 0} → JournalValue D → JournalValue D
 with_nothing j = record j { hand = Empty }
 
--- A journal starts over with these records in its other area. Refused as Stopped where a device call failed before, then as
--- GenerationsSpent where its generation is the last one, and changes nothing then; as Disk where a device call failed, which stops it.
--- Until the head gate is written a power loss leaves the old content, from then on the old or the new, and after Ok the new.
-pub record Compacts {D : Type 0} (disk_of : D → disk.Disk) (old : JournalValue D) (records : List Record) (result : Result (Unit {0}) JournalFault) (new : JournalValue D) : Type 0 where
+-- A journal starts over with these records in its other area. Refused as Stopped where a device call failed before,
+-- then as GenerationsSpent where its generation is the last one, and changes nothing then; as Disk where a device call
+-- failed, which stops it. Until the head gate is written a power loss leaves the old content, from then on the old or
+-- the new, and after Ok the new.
+pub record Compacts {D : Type 0} (disk_of : D → disk.Disk) (old : JournalValue D) (records : List Record)
+    (result : Result (Unit {0}) JournalFault) (new : JournalValue D) : Type 0 where
   -- which refusal, and what is left of the journal in memory
   pub stopped : IsErrOf result Stopped ↔ (is_stopped old ≡ true)
   pub spent : IsErrOf result GenerationsSpent ↔ ((is_stopped old ≡ false) × (generation old ≡ last_generation))
@@ -58,11 +60,13 @@ pub record Compacts {D : Type 0} (disk_of : D → disk.Disk) (old : JournalValue
   -- the old content is at each moment before the head gate is written
   pub until : IsHonest (disk_in disk_of new) → (before : Content) → HoldsContent disk_of old before → (opened : ℕ)
       → HasOpenGates (now (disk_in disk_of old)).seen (other_area old.place.area) gates opened
-      → FindsUntil (disk_in disk_of old) (disk_in disk_of new) ((disk_in disk_of old).clock + (261 + opened + length records)) before
+      → FindsUntil (disk_in disk_of old) (disk_in disk_of new)
+      ((disk_in disk_of old).clock + (261 + opened + length records)) before
   -- the old or the new one at any moment, and the new one after Ok
   pub any_moment : IsHonest (disk_in disk_of new) → (before : Content) → HoldsContent disk_of old before
       → Leaves (disk_in disk_of old) (disk_in disk_of new) (HasEitherJournal before (compacted before records))
-  pub done : OnOk result (IsHonest (disk_in disk_of new) → (before : Content) → HoldsContent disk_of old before → HoldsContent disk_of new (compacted before records))
+  pub done : OnOk result (IsHonest (disk_in disk_of new) → (before : Content) → HoldsContent disk_of old before
+      → HoldsContent disk_of new (compacted before records))
   pub kept : OnOk result (IsHonest (disk_in disk_of new) → (before : Content) → HoldsContent disk_of old before
       → (image : Image) → MayLeave (disk_in disk_of new) image → HasJournal image (compacted before records))
   -- its gates read as they were written

@@ -21,9 +21,9 @@ use Rattle.macs_journal.specs.declared.recovery.Recovered.{Recovered}
 abbrev pub StandsFromFirst : Disk → Disk → Type 0
 StandsFromFirst old new = (k : ℕ) → old.clock < k → k ≤ new.clock → new.past k ≡ now new
 
--- The device calls of an opening that is not refused: the disk is large enough, and no call failed. On an honest disk the first call is a
--- sync, and those after it only read: what reads give is durable from then on, and no power loss on the way left anything that it could
--- not leave before.
+-- The device calls of an opening that is not refused: the disk is large enough, and no call failed. On an honest disk
+-- the first call is a sync, and those after it only read: what reads give is durable from then on, and no power loss on
+-- the way left anything that it could not leave before.
 pub record IsOpened (old new : Disk) : Type 0 where
   pub large : least_sectors ≤ old.sectors
   pub works : Works old new
@@ -32,10 +32,12 @@ pub record IsOpened (old new : Disk) : Type 0 where
   pub from_first : IsHonest new → StandsFromFirst old new
   pub any_moment : IsHonest new → LeavesNothingNew old new
 
--- An opening that is refused, and gives the disk back. TooSmall is answered exactly for a disk that is too small, and then no call is made;
--- Disk exactly where a device call failed, which was the last one. On an honest disk every other fault is what `Found` says, nothing is
--- written, the calls after the first change nothing, and no power loss on the way left anything that it could not leave before.
-pub record IsRefused {D : Type 0} (disk_of : D → Disk) (Found : JournalFault → Type 0) (disk left : D) (fault : JournalFault) : Type 0 where
+-- An opening that is refused, and gives the disk back. TooSmall is answered exactly for a disk that is too small, and
+-- then no call is made; Disk exactly where a device call failed, which was the last one. On an honest disk every other
+-- fault is what `Found` says, nothing is written, the calls after the first change nothing, and no power loss on the
+-- way left anything that it could not leave before.
+pub record IsRefused {D : Type 0} (disk_of : D → Disk) (Found : JournalFault → Type 0) (disk left : D)
+    (fault : JournalFault) : Type 0 where
   pub name : IsRecoverName fault
   pub small : (fault ≡ variant.TooSmall) ↔ ((disk_of disk).sectors < least_sectors)
   pub untouched : fault ≡ variant.TooSmall → left ≡ disk
@@ -46,9 +48,11 @@ pub record IsRefused {D : Type 0} (disk_of : D → Disk) (Found : JournalFault �
   pub from_first : IsHonest (disk_of left) → StandsFromFirst (disk_of disk) (disk_of left)
   pub any_moment : IsHonest (disk_of left) → LeavesNothingNew (disk_of disk) (disk_of left)
 
--- A journal is recovered, and these are its records. It runs and has nothing under way, its head has this format, identity and count, and its
--- records fill the slots that are used, those of the snapshot first. On an honest disk this is what the disk stood for, and the journal holds it.
-pub record Recovers {D : Type 0} (disk_of : D → Disk) (disk : D) (journal : JournalValue D) (format : Format) (identity : Identity) (count : ℕ)
+-- A journal is recovered, and these are its records. It runs and has nothing under way, its head has this format,
+-- identity and count, and its records fill the slots that are used, those of the snapshot first. On an honest disk this
+-- is what the disk stood for, and the journal holds it.
+pub record Recovers {D : Type 0} (disk_of : D → Disk) (disk : D) (journal : JournalValue D) (format : Format)
+    (identity : Identity) (count : ℕ)
     (records : List Record) : Type 0 where
   pub device : IsOpened (disk_of disk) (disk_in disk_of journal)
   pub running : is_stopped journal ≡ false
@@ -66,12 +70,14 @@ pub record Recovers {D : Type 0} (disk_of : D → Disk) (disk : D) (journal : Jo
 abbrev pub IsNoJournal : {D : Type 0} → (D → Disk) → D → JournalFault → Type 0
 IsNoJournal disk_of disk fault = JournalIs (disk_of disk).sectors (now (disk_of disk)).seen (Err fault)
 
--- The journal of a disk is recovered with the first records of a room, or refused for what is on the disk, or for a device call that
--- failed.
+-- The journal of a disk is recovered with the first records of a room, or refused for what is on the disk, or for a
+-- device call that failed.
 abbrev pub IsRecoveryInto : {D : Type 0} → (D → Disk) → D → Result (FoundJournal D) (RecoverRefused D) → List Record
     → Type 0
-IsRecoveryInto disk_of disk (Ok found) room = Recovers disk_of disk found.journal found.format found.identity found.count (take found.used room)
-IsRecoveryInto disk_of disk (Err refused) room = IsRefused disk_of (IsNoJournal disk_of disk) disk refused.disk refused.fault
+IsRecoveryInto disk_of disk (Ok found) room =
+    Recovers disk_of disk found.journal found.format found.identity found.count (take found.used room)
+IsRecoveryInto disk_of disk (Err refused) room =
+    IsRefused disk_of (IsNoJournal disk_of disk) disk refused.disk refused.fault
 
 -- the same, with the records in the answer
 abbrev pub IsRecovery : {D : Type 0} → (D → Disk) → D → Result (Recovered D) (RecoverRefused D) → Type 0

@@ -12,9 +12,11 @@ use Rattle.macs_journal.specs.Found.{Content, HasJournal, IsGateOpen}
 abbrev pub last_generation : ℕ
 last_generation = 2 ^ 64 - 1
 
--- the head of the next generation, in format two whatever the format of the one before, with a snapshot of so many records
+-- the head of the next generation, in format two whatever the format of the one before, with a snapshot of so many
+-- records
 abbrev pub next_head : Head → ℕ → Head
-next_head head count = record { format = Two; generation = head.generation + 1; count = count; identity = head.identity }
+next_head head count =
+    record { format = Two; generation = head.generation + 1; count = count; identity = head.identity }
 
 -- the content of a journal that starts over with these records
 abbrev pub compacted : Content → List Record → Content
@@ -27,14 +29,16 @@ HasOpenGates seen area (suc k) count =
     (IsGateOpen seen area k × ((before : ℕ) × (count ≡ before + 1) × HasOpenGates seen area k before))
     ⊎ ((¬ IsGateOpen seen area k) × HasOpenGates seen area k count)
 
--- the sectors of an area that a compaction with so many records writes to: the bodies of the head and of the records, the head gate,
--- and the gates that read open
+-- the sectors of an area that a compaction with so many records writes to: the bodies of the head and of the records,
+-- the head gate, and the gates that read open
 abbrev pub CompactWrites : Image → (area count i : ℕ) → Type 0
 CompactWrites seen area count i =
     ((i ≡ head_body area) ⊎ (i ≡ gate area 0))
-    ⊎ (((j : ℕ) × (j < count) × (i ≡ slot_body area j)) ⊎ ((k : ℕ) × (k < gates) × IsGateOpen seen area k × (i ≡ gate area k)))
+    ⊎ (((j : ℕ) × (j < count) × (i ≡ slot_body area j))
+    ⊎ ((k : ℕ) × (k < gates) × IsGateOpen seen area k × (i ≡ gate area k)))
 
 -- at each moment of the calls between these that is before a limit a power loss leaves this content
 abbrev pub FindsUntil : (old new : disk.Disk) (limit : ℕ) → Content → Type 0
 FindsUntil old new limit c =
-    (k : ℕ) → old.clock ≤ k → k ≤ new.clock → k < limit → (image : Image) → IsImage (new.past k) image → HasJournal image c
+    (k : ℕ) → old.clock ≤ k → k ≤ new.clock → k < limit → (image : Image) → IsImage (new.past k) image
+    → HasJournal image c

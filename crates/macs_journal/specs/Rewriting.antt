@@ -15,7 +15,8 @@ IsNoOpenGate seen area from until i = (k : ℕ) → from ≤ k → k < until →
 
 -- of these gates of an area, each that read open before is closed
 abbrev pub AreClosed : (old new : Image) → (area from until : ℕ) → Type 0
-AreClosed old new area from until = (k : ℕ) → from ≤ k → k < until → IsGateOpen old area k → new (gate area k) ≡ closed_gate
+AreClosed old new area from until = (k : ℕ) → from ≤ k → k < until → IsGateOpen old area k
+    → new (gate area k) ≡ closed_gate
 
 -- no gate of an area reads open
 abbrev pub IsShut : Image → ℕ → Type 0
@@ -25,7 +26,8 @@ IsShut seen area = (k : ℕ) → k < gates → ¬ IsGateOpen seen area k
 
 -- the bodies of an area's first slots are those of these records
 abbrev pub AreBodies : Image → ℕ → List Record → Type 0
-AreBodies seen area records = (j : ℕ) (r : Record) → slice_get records j ≡ Some r → IsSectorOf r (seen (slot_body area j))
+AreBodies seen area records = (j : ℕ) (r : Record) → slice_get records j ≡ Some r
+    → IsSectorOf r (seen (slot_body area j))
 
 -- the sector is none of the bodies of an area's first slots
 abbrev pub IsNoBody : (area count i : ℕ) → Type 0
@@ -44,8 +46,8 @@ IsOldOrOpening old area image = IsImage old image ⊎ ((i : ℕ) → i ≢ gate 
 
 -- ---- the whole
 
--- what an area that starts over has in its gates: that of its head is open, and those of slots that read open are closed, each as it
--- is written
+-- what an area that starts over has in its gates: that of its head is open, and those of slots that read open are
+-- closed, each as it is written
 pub record HasNewGates (old new : Image) (area : ℕ) : Type 0 where
   pub head : new (gate area 0) ≡ open_gate
   pub slot : (slot : ℕ) → slot < slots → IsGateOpen old area (slot + 1) → new (gate area (slot + 1)) ≡ closed_gate

@@ -1,5 +1,6 @@
 -- A compaction cut at its device calls: what is before each of them, and what each does.
-use Rattle.std.specs.Prelude.{◌≡◌, ◌≢◌, ◌==◌, ◌<◌, ◌≤◌, ◌⊎◌, ◌+◌, ◌*◌, ◌-◌, ℕ, if◌then◌else◌, Bool, true, false, List, length, slice_get, Option, Some, None, Result}
+use Rattle.std.specs.Prelude.{◌≡◌, ◌≢◌, ◌==◌, ◌<◌, ◌≤◌, ◌⊎◌, ◌+◌, ◌*◌, ◌-◌, ℕ, if◌then◌else◌, Bool, true, false, List}
+use Rattle.std.specs.Prelude.{length, slice_get, Option, Some, None, Result}
 use Rattle.macs_disk.specs.Disk.{Disk, MayLeave, Reads, Syncs, Works, Writes, now}
 use Rattle.macs_disk.specs.Runs.{Leaves}
 use Rattle.macs_disk.specs.States.{DiskState, Image, IsImage, state_after_sync}
@@ -13,7 +14,8 @@ use Rattle.macs_journal.specs.Renewal.{HasOpenGates}
 use Rattle.macs_journal.specs.Rewriting.{AreClosed, IsNoBody, IsNoOpenGate, IsOldOrOpening, IsSettled, IsShut}
 use Rattle.macs_journal.specs.Work.{IsSpared}
 use Rattle.macs_journal.specs.declared.compact_stage.CompactStage.{CompactStage}
-use Rattle.macs_journal.specs.declared.compact_stage.CompactStage.TheVariants.{ReadGate, CloseGate, GatesSync, HeadBody, Body, BodiesSync, HeadGate, HeadSync}
+use Rattle.macs_journal.specs.declared.compact_stage.CompactStage.TheVariants.{ReadGate, CloseGate, GatesSync, HeadBody}
+use Rattle.macs_journal.specs.declared.compact_stage.CompactStage.TheVariants.{Body, BodiesSync, HeadGate, HeadSync}
 
 -- ---- the calls in their order
 
@@ -72,12 +74,15 @@ abbrev pub IsBodyOf : List Record → ℕ → List ℕ → Type 0
 IsBodyOf records slot octets = (r : Record) → slice_get records slot ≡ Some r → IsSectorOf r octets
 
 -- what the call of a stage does on an honest disk, and what it reads
-abbrev pub Does : {T E : Type 0} → (old new : DiskState) → ℕ → Head → List Record → CompactStage → List ℕ → Result T E → Type 0
+abbrev pub Does : {T E : Type 0} → (old new : DiskState) → ℕ → Head → List Record → CompactStage → List ℕ
+    → Result T E → Type 0
 Does old new area head records (ReadGate k) read result = Reads old new (gate area k) read result
 Does old new area head records (CloseGate k) read result = Writes old new (gate area k) closed_gate result
 Does old new area head records GatesSync read result = Syncs old new result
-Does old new area head records HeadBody read result = (octets : List ℕ) × IsHeadOf head octets × Writes old new (head_body area) octets result
-Does old new area head records (Body slot) read result = (octets : List ℕ) × IsBodyOf records slot octets × Writes old new (slot_body area slot) octets result
+Does old new area head records HeadBody read result = (octets : List ℕ) × IsHeadOf head octets
+    × Writes old new (head_body area) octets result
+Does old new area head records (Body slot) read result = (octets : List ℕ) × IsBodyOf records slot octets
+    × Writes old new (slot_body area slot) octets result
 Does old new area head records BodiesSync read result = Syncs old new result
 Does old new area head records HeadGate read result = Writes old new (gate area 0) open_gate result
 Does old new area head records HeadSync read result = Syncs old new result
@@ -115,7 +120,8 @@ pub record IsOpening (began d : Disk) (area : ℕ) (head : Head) (records : List
   pub full : Disk
   pub filled : AreBodiesWritten began full area head records (length records)
   pub leaves : Leaves full d (IsOldOrOpening (now full) area)
-  pub until : (k : ℕ) → full.clock ≤ k → k ≤ d.clock → k < full.clock + 2 → (image : Image) → IsImage (d.past k) image → MayLeave full image
+  pub until : (k : ℕ) → full.clock ≤ k → k ≤ d.clock → k < full.clock + 2 → (image : Image) → IsImage (d.past k) image
+      → MayLeave full image
   pub others : (i : ℕ) → i ≢ gate area 0 → IsSpared full d i
 
 -- the sync was made
@@ -171,4 +177,5 @@ pub record IsFilling (began d : Disk) (area count : ℕ) : Type 0 where
 
 -- a compaction is under way: its gates are closed, its bodies are written, or its head is opened
 abbrev pub IsUnderWay : (began d : Disk) → ℕ → Head → List Record → Type 0
-IsUnderWay began d area head records = IsClearing began d area ⊎ (IsFilling began d area (length records) ⊎ IsOpening began d area head records)
+IsUnderWay began d area head records = IsClearing began d area
+    ⊎ (IsFilling began d area (length records) ⊎ IsOpening began d area head records)

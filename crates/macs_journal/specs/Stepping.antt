@@ -1,5 +1,6 @@
 -- A journal's work, one device call at a time.
-use Rattle.std.specs.Prelude.{◌≡◌, ◌≢◌, ◌<◌, ◌≤◌, ◌↔◌, ◌⊎◌, ◌+◌, ℕ, true, false, List, length, Result, Ok, IsErrOf, OnOk, OnErr, is_err}
+use Rattle.std.specs.Prelude.{◌≡◌, ◌≢◌, ◌<◌, ◌≤◌, ◌↔◌, ◌⊎◌, ◌+◌, ℕ, true, false, List, length, Result, Ok, IsErrOf}
+use Rattle.std.specs.Prelude.{OnOk, OnErr, is_err}
 use Rattle.macs_disk.specs.States.{Image}
 use Rattle.macs_disk.specs.Disk.{IsDeviceCall, IsHonest, MayLeave, now}
 use Rattle.macs_disk.specs.Disk as disk
@@ -13,7 +14,9 @@ use Rattle.macs_journal.specs.Areas.{gate, other_area, slot_body, slots}
 use Rattle.macs_journal.specs.Found.{Content, HasJournal, content_with_record}
 use Rattle.macs_journal.specs.Renewal.{compacted, last_generation, next_head}
 use Rattle.macs_journal.specs.Stages.{AtStage, IsRewritten, IsUnderWay}
-use Rattle.macs_journal.specs.Value.{AreLent, ComesTo, HoldsContent, HoldsWith, IsHolding, IsIdle, IsMadeOf, IsNoCompact, JournalValue, append_left, device_in, disk_in, generation, is_stopped, left_of}
+use Rattle.macs_journal.specs.Value.{AreLent, ComesTo, HoldsContent, HoldsWith, IsHolding, IsIdle, IsMadeOf}
+use Rattle.macs_journal.specs.Value.{IsNoCompact, JournalValue, append_left, device_in, disk_in, generation, is_stopped}
+use Rattle.macs_journal.specs.Value.{left_of}
 use Rattle.macs_journal.specs.Work.{IsSpared, IsWorkOf}
 use Rattle.macs_journal.specs.declared.fault.JournalFault.{JournalFault}
 use Rattle.macs_journal.specs.declared.fault.JournalFault.TheVariants.{Disk, GenerationsSpent, Stopped}
@@ -52,7 +55,8 @@ abbrev pub IsSpent : {D : Type 0} → JournalValue D → Task → Type 0
 IsSpent j (Appends r) = ⊥
 IsSpent j (Renews records) = generation j ≡ last_generation
 
--- the work that it starts: the sector of the record, or the head of the next generation; how many calls are left says which comes first
+-- the work that it starts: the sector of the record, or the head of the next generation; how many calls are left says
+-- which comes first
 abbrev pub IsTaskInHand : {D : Type 0} → JournalValue D → Task → Hand → Type 0
 IsTaskInHand j task hand.Empty = ⊥
 IsTaskInHand j (Appends r) (hand.Append work) = IsSectorOf r work.sector
@@ -65,9 +69,10 @@ abbrev pub calls_of : Task → ℕ
 calls_of (Appends r) = 4
 calls_of (Renews records) = 519 + length records
 
--- A task is started, and no device call is made. Stopped exactly where a device call failed before; GenerationsSpent exactly where
--- the journal is to start over and its generation is the last; nothing changes then.
-pub record Starts {D : Type 0} (disk_of : D → disk.Disk) (old : JournalValue D) (task : Task) (result : Result (Unit {0}) JournalFault) (new : JournalValue D) : Type 0 where
+-- A task is started, and no device call is made. Stopped exactly where a device call failed before; GenerationsSpent
+-- exactly where the journal is to start over and its generation is the last; nothing changes then.
+pub record Starts {D : Type 0} (disk_of : D → disk.Disk) (old : JournalValue D) (task : Task)
+    (result : Result (Unit {0}) JournalFault) (new : JournalValue D) : Type 0 where
   pub stopped : IsErrOf result Stopped ↔ (is_stopped old ≡ true)
   pub spent : IsErrOf result GenerationsSpent ↔ ((is_stopped old ≡ false) × IsSpent old task)
   pub names : OnErr result (IsErrOf result Stopped ⊎ IsErrOf result GenerationsSpent)
@@ -116,7 +121,8 @@ step_of (hand.Append work) = Going
 step_of (hand.Compact work) = Going
 
 -- One device call of the append under way.
-pub record AdvancesAppend {D : Type 0} (disk_of : D → disk.Disk) (old : JournalValue D) (result : Result (Unit {0}) JournalFault) (new : JournalValue D) : Type 0 where
+pub record AdvancesAppend {D : Type 0} (disk_of : D → disk.Disk) (old : JournalValue D)
+    (result : Result (Unit {0}) JournalFault) (new : JournalValue D) : Type 0 where
   pub names : OnErr result (IsErrOf result Disk)
   pub work : IsWorkOf (disk_in disk_of old) (disk_in disk_of new) result
   pub no_compact : IsNoCompact new.hand
@@ -130,18 +136,24 @@ pub record AdvancesAppend {D : Type 0} (disk_of : D → disk.Disk) (old : Journa
   pub task : (¬ IsIdle new) → IsSameTask old.hand new.hand
   pub moved : OnOk result (IsIdle new → new.place ≡ record old.place { free = old.place.free + 1 })
   pub at_fault : OnErr result (new.place ≡ old.place)
-  pub any_moment : IsHonest (disk_in disk_of new) → (before after : Content) → IsHolding (disk_in disk_of old) old.place old.hand before after
+  pub any_moment : IsHonest (disk_in disk_of new) → (before after : Content)
+      → IsHolding (disk_in disk_of old) old.place old.hand before after
       → Leaves (disk_in disk_of old) (disk_in disk_of new) (HasEitherJournal before after)
-  pub next : OnOk result (IsHonest (disk_in disk_of new) → (before after : Content) → IsHolding (disk_in disk_of old) old.place old.hand before after
+  pub next : OnOk result (IsHonest (disk_in disk_of new) → (before after : Content)
+      → IsHolding (disk_in disk_of old) old.place old.hand before after
       → ComesTo (disk_in disk_of new) new.place new.hand before after)
-  -- once it is done the gate is as it is written; whatever the call answered, all sectors but the body and the gate are left alone
-  pub opened : OnOk result (IsIdle new → IsHonest (disk_in disk_of new) → (before after : Content) → IsHolding (disk_in disk_of old) old.place old.hand before after
+  -- once it is done the gate is as it is written; whatever the call answered, all sectors but the body and the gate are
+  -- left alone
+  pub opened : OnOk result (IsIdle new → IsHonest (disk_in disk_of new) → (before after : Content)
+      → IsHolding (disk_in disk_of old) old.place old.hand before after
       → (now (disk_in disk_of new)).seen (gate old.place.area (old.place.free + 1)) ≡ open_gate)
-  pub others : IsHonest (disk_in disk_of new) → (i : ℕ) → i ≢ slot_body old.place.area old.place.free → i ≢ gate old.place.area (old.place.free + 1)
+  pub others : IsHonest (disk_in disk_of new) → (i : ℕ) → i ≢ slot_body old.place.area old.place.free
+      → i ≢ gate old.place.area (old.place.free + 1)
       → IsSpared (disk_in disk_of old) (disk_in disk_of new) i
 
 -- One device call of the work under way, with the records that are lent to it.
-pub record Advances {D : Type 0} (disk_of : D → disk.Disk) (old : JournalValue D) (snapshot : List Record) (result : Result (Unit {0}) JournalFault) (new : JournalValue D) : Type 0 where
+pub record Advances {D : Type 0} (disk_of : D → disk.Disk) (old : JournalValue D) (snapshot : List Record)
+    (result : Result (Unit {0}) JournalFault) (new : JournalValue D) : Type 0 where
   pub names : OnErr result (IsErrOf result Disk)
   pub work : IsWorkOf (disk_in disk_of old) (disk_in disk_of new) result
   pub after : is_stopped new ≡ is_err result
@@ -156,21 +168,26 @@ pub record Advances {D : Type 0} (disk_of : D → disk.Disk) (old : JournalValue
   pub moved : OnOk result (IsIdle new → new.place ≡ place_then old.place old.hand)
   pub at_fault : OnErr result (new.place ≡ old.place)
   pub lent : (later : List Record) → AreLent old.hand later → AreLent new.hand later
-  pub made : (before after : Content) → IsMadeOf old.hand snapshot before after → IsMadeOf new.hand snapshot before after
-  pub any_moment : IsHonest (disk_in disk_of new) → (before after : Content) → HoldsWith (disk_in disk_of old) old.place old.hand snapshot before after
+  pub made : (before after : Content) → IsMadeOf old.hand snapshot before after
+      → IsMadeOf new.hand snapshot before after
+  pub any_moment : IsHonest (disk_in disk_of new) → (before after : Content)
+      → HoldsWith (disk_in disk_of old) old.place old.hand snapshot before after
       → Leaves (disk_in disk_of old) (disk_in disk_of new) (HasEitherJournal before after)
-  pub next : OnOk result (IsHonest (disk_in disk_of new) → (before after : Content) → HoldsWith (disk_in disk_of old) old.place old.hand snapshot before after
+  pub next : OnOk result (IsHonest (disk_in disk_of new) → (before after : Content)
+      → HoldsWith (disk_in disk_of old) old.place old.hand snapshot before after
       → ComesTo (disk_in disk_of new) new.place new.hand before after)
 
 -- before the device call that comes next of a compaction under way under this head, or after its last one
 abbrev pub AtNextCall : (began d : disk.Disk) → ℕ → Head → List Record → Hand → Type 0
 AtNextCall began d area head records hand.Empty = IsRewritten began d area head records
 AtNextCall began d area head records (hand.Append work) = ⊥
-AtNextCall began d area head records (hand.Compact work) = (work.head ≡ head) × AtStage began d area head records work.stage
+AtNextCall began d area head records (hand.Compact work) = (work.head ≡ head)
+    × AtStage began d area head records work.stage
 
--- One device call of the compaction under way, of these records, which goes on from where it is. Whatever the call answers, the compaction is
--- under way; after Ok it is before its next call, or done.
-pub record AdvancesCompact {D : Type 0} (disk_of : D → disk.Disk) (old : JournalValue D) (records : List Record) (result : Result (Unit {0}) JournalFault) (new : JournalValue D) : Type 0 where
+-- One device call of the compaction under way, of these records, which goes on from where it is. Whatever the call
+-- answers, the compaction is under way; after Ok it is before its next call, or done.
+pub record AdvancesCompact {D : Type 0} (disk_of : D → disk.Disk) (old : JournalValue D) (records : List Record)
+    (result : Result (Unit {0}) JournalFault) (new : JournalValue D) : Type 0 where
   pub advances : Advances disk_of old records result new
   pub under_way : IsHonest (disk_in disk_of new) → (began : disk.Disk) (head : Head)
       → AtNextCall began (disk_in disk_of old) (other_area old.place.area) head records old.hand
@@ -179,11 +196,13 @@ pub record AdvancesCompact {D : Type 0} (disk_of : D → disk.Disk) (old : Journ
       → AtNextCall began (disk_in disk_of old) (other_area old.place.area) head records old.hand
       → AtNextCall began (disk_in disk_of new) (other_area old.place.area) head records new.hand)
 
--- A step of a journal: one device call of the work under way. Stopped exactly where a device call failed before, else Idle exactly where
--- nothing is under way: then no call is made and nothing changes. Disk exactly where the call failed, which stops the journal and leaves
--- nothing under way. Else the work goes on, the same before and after, or is finished: then the content is the one after it. What is said of
--- contents is said where the work under way makes the one of the other with the records that are lent.
-pub record Steps {D : Type 0} (disk_of : D → disk.Disk) (old : JournalValue D) (snapshot : List Record) (result : Result JournalStep JournalFault) (new : JournalValue D) : Type 0 where
+-- A step of a journal: one device call of the work under way. Stopped exactly where a device call failed before, else
+-- Idle exactly where nothing is under way: then no call is made and nothing changes. Disk exactly where the call
+-- failed, which stops the journal and leaves nothing under way. Else the work goes on, the same before and after, or is
+-- finished: then the content is the one after it. What is said of contents is said where the work under way makes the
+-- one of the other with the records that are lent.
+pub record Steps {D : Type 0} (disk_of : D → disk.Disk) (old : JournalValue D) (snapshot : List Record)
+    (result : Result JournalStep JournalFault) (new : JournalValue D) : Type 0 where
   -- what is answered, and what is left of the journal in memory
   pub stopped : IsErrOf result Stopped ↔ (is_stopped old ≡ true)
   pub idle : (result ≡ Ok Idle) ↔ ((is_stopped old ≡ false) × IsIdle old)
@@ -207,11 +226,15 @@ pub record Steps {D : Type 0} (disk_of : D → disk.Disk) (old : JournalValue D)
   pub left : OnOk result ((¬ IsIdle old) → left_of new.hand + 1 ≤ left_of old.hand)
   pub exact : OnOk result ((¬ IsIdle old) → IsNoCompact old.hand → left_of new.hand + 1 ≡ left_of old.hand)
   -- the content before the work or after it at any moment, and the one after it once it is finished
-  pub any_moment : IsHonest (disk_in disk_of new) → (before after : Content) → HoldsWith (disk_in disk_of old) old.place old.hand snapshot before after
+  pub any_moment : IsHonest (disk_in disk_of new) → (before after : Content)
+      → HoldsWith (disk_in disk_of old) old.place old.hand snapshot before after
       → Leaves (disk_in disk_of old) (disk_in disk_of new) (HasEitherJournal before after)
-  pub goes_on : result ≡ Ok Going → IsHonest (disk_in disk_of new) → (before after : Content) → HoldsWith (disk_in disk_of old) old.place old.hand snapshot before after
+  pub goes_on : result ≡ Ok Going → IsHonest (disk_in disk_of new) → (before after : Content)
+      → HoldsWith (disk_in disk_of old) old.place old.hand snapshot before after
       → HoldsWith (disk_in disk_of new) new.place new.hand snapshot before after
-  pub done : result ≡ Ok Finished → IsHonest (disk_in disk_of new) → (before after : Content) → HoldsWith (disk_in disk_of old) old.place old.hand snapshot before after
+  pub done : result ≡ Ok Finished → IsHonest (disk_in disk_of new) → (before after : Content)
+      → HoldsWith (disk_in disk_of old) old.place old.hand snapshot before after
       → IsHolding (disk_in disk_of new) new.place new.hand after after
-  pub kept : result ≡ Ok Finished → IsHonest (disk_in disk_of new) → (before after : Content) → HoldsWith (disk_in disk_of old) old.place old.hand snapshot before after
+  pub kept : result ≡ Ok Finished → IsHonest (disk_in disk_of new) → (before after : Content)
+      → HoldsWith (disk_in disk_of old) old.place old.hand snapshot before after
       → (image : Image) → MayLeave (disk_in disk_of new) image → HasJournal image after

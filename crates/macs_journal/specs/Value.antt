@@ -58,7 +58,8 @@ pub record IsAt (place : Place) (c : Content) : Type 0 where
   pub head : c.head ≡ place.head
   pub free : length c.records ≡ place.free
 
--- At the disk `began`, with the content `before`, the journal began to start over with these records, and its calls led to this disk.
+-- At the disk `began`, with the content `before`, the journal began to start over with these records, and its calls led
+-- to this disk.
 pub record IsCompacting (d : Disk) (work : Compacting) (before after : Content) : Type 0 where
   pub began : Disk
   pub records : List Record
@@ -69,11 +70,13 @@ pub record IsCompacting (d : Disk) (work : Compacting) (before after : Content) 
   pub fits : IsCompactStage (length records) work.stage
   pub at : AtStage began d (other_area before.area) work.head records work.stage
 
--- nothing is under way, or a record that is to be appended to a free slot, or records with which the journal starts over
+-- nothing is under way, or a record that is to be appended to a free slot, or records with which the journal starts
+-- over
 abbrev pub HoldsHand : Disk → Hand → Content → Content → Type 0
 HoldsHand d Empty before after = IsReady (now d) before × (after ≡ before)
 HoldsHand d (Append work) before after =
-    (r : Record) × IsSectorOf r work.sector × (after ≡ content_with_record before r) × AtAppend (now d) before work.sector work.stage × (length before.records < slots)
+    (r : Record) × IsSectorOf r work.sector × (after ≡ content_with_record before r)
+    × AtAppend (now d) before work.sector work.stage × (length before.records < slots)
 HoldsHand d (Compact work) before after = IsCompacting d work before after
 
 -- The disk has the content `before`, and `after` once the work under way is done.
@@ -93,8 +96,10 @@ IsMadeOf Empty snapshot before after = Unit {0}
 IsMadeOf (Append work) snapshot before after = Unit {0}
 IsMadeOf (Compact work) snapshot before after = after ≡ compacted before snapshot
 
--- The disk has the content `before`, and `after` once the work under way is done, with these records where it is to start over.
-pub record HoldsWith (d : Disk) (place : Place) (hand : Hand) (snapshot : List Record) (before after : Content) : Type 0 where
+-- The disk has the content `before`, and `after` once the work under way is done, with these records where it is to
+-- start over.
+pub record HoldsWith (d : Disk) (place : Place) (hand : Hand) (snapshot : List Record)
+    (before after : Content) : Type 0 where
   pub holds : IsHolding d place hand before after
   pub made : IsMadeOf hand snapshot before after
 
@@ -108,7 +113,8 @@ ComesTo d place (Compact work) before after = IsHolding d place (Compact work) b
 abbrev pub FitsHand : Place → Hand → Type 0
 FitsHand place Empty = Unit {0}
 FitsHand place (Append work) = place.free < slots
-FitsHand place (Compact work) = (1 ≤ work.head.count) × (work.head.count ≤ slots) × IsCompactStage work.head.count work.stage
+FitsHand place (Compact work) = (1 ≤ work.head.count) × (work.head.count ≤ slots)
+    × IsCompactStage work.head.count work.stage
 
 -- how many device calls are left, at most
 abbrev pub left_of : Hand → ℕ

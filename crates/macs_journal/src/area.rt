@@ -1,7 +1,8 @@
 //! Where things are on a disk.
 
 ghost use Rattle.std.specs.Prelude.{◌≡◌, ◌<◌, ◌≤◌, ◌+◌, ℕ};
-ghost use Rattle.macs_journal.specs.Areas.{IsArea, gate, gates, head_body, least_sectors, other_area, slot_body, slots};
+ghost use Rattle.macs_journal.specs.Areas.{IsArea, gate, gates, head_body, least_sectors};
+ghost use Rattle.macs_journal.specs.Areas.{other_area, slot_body, slots};
 
 use std::marker::Model;
 

@@ -24,10 +24,14 @@ pub(crate) fn write_bodies<D: SectorDisk>(
     requires size { least_sectors ≤ (D.disk disk.old).sectors }
     ensures work { IsWork (D.disk disk.old) (D.disk disk.new) result }
     ensures most { (D.disk disk.new).clock ≤ (D.disk disk.old).clock + (1 + length records.now) }
-    ensures calls { OnOk result ((D.disk disk.new).clock ≡ (D.disk disk.old).clock + (1 + length records.now)) }
-    ensures head { OnOk result (IsHonest (D.disk disk.new) → IsHeadOf head.now ((now (D.disk disk.new)).seen (head_body area))) }
-    ensures bodies { OnOk result (IsHonest (D.disk disk.new) → AreBodies (now (D.disk disk.new)).seen area records.now) }
-    ensures others { IsHonest (D.disk disk.new) → (i : ℕ) → i ≢ head_body area → IsNoBody area (length records.now) i
+    ensures calls { OnOk result
+        ((D.disk disk.new).clock ≡ (D.disk disk.old).clock + (1 + length records.now)) }
+    ensures head { OnOk result (IsHonest (D.disk disk.new)
+        → IsHeadOf head.now ((now (D.disk disk.new)).seen (head_body area))) }
+    ensures bodies { OnOk result (IsHonest (D.disk disk.new)
+        → AreBodies (now (D.disk disk.new)).seen area records.now) }
+    ensures others { IsHonest (D.disk disk.new) → (i : ℕ) → i ≢ head_body area
+        → IsNoBody area (length records.now) i
         → IsSpared (D.disk disk.old) (D.disk disk.new) i }
 {
     write_head(disk, area, head)?;
@@ -41,8 +45,10 @@ fn write_head<D: SectorDisk>(disk: &mut D, area: Area, head: &Head) -> Result<()
     ensures work { IsWork (D.disk disk.old) (D.disk disk.new) result }
     ensures one { (D.disk disk.new).clock ≤ (D.disk disk.old).clock + 1 }
     ensures call { OnOk result ((D.disk disk.new).clock ≡ (D.disk disk.old).clock + 1) }
-    ensures head { OnOk result (IsHonest (D.disk disk.new) → IsHeadOf head.now ((now (D.disk disk.new)).seen (head_body area))) }
-    ensures others { IsHonest (D.disk disk.new) → (i : ℕ) → i ≢ head_body area → IsSpared (D.disk disk.old) (D.disk disk.new) i }
+    ensures head { OnOk result (IsHonest (D.disk disk.new)
+        → IsHeadOf head.now ((now (D.disk disk.new)).seen (head_body area))) }
+    ensures others { IsHonest (D.disk disk.new) → (i : ℕ) → i ≢ head_body area
+        → IsSpared (D.disk disk.old) (D.disk disk.new) i }
 {
     head_in_range(head);
     disk.write(area.head_body(), &encode_head(head))
@@ -58,8 +64,10 @@ fn write_slots<D: SectorDisk>(
     requires size { least_sectors ≤ (D.disk disk.old).sectors }
     ensures work { IsWork (D.disk disk.old) (D.disk disk.new) result }
     ensures most { (D.disk disk.new).clock ≤ (D.disk disk.old).clock + length records.now }
-    ensures calls { OnOk result ((D.disk disk.new).clock ≡ (D.disk disk.old).clock + length records.now) }
-    ensures bodies { OnOk result (IsHonest (D.disk disk.new) → AreBodies (now (D.disk disk.new)).seen area records.now) }
+    ensures calls { OnOk result
+        ((D.disk disk.new).clock ≡ (D.disk disk.old).clock + length records.now) }
+    ensures bodies { OnOk result (IsHonest (D.disk disk.new)
+        → AreBodies (now (D.disk disk.new)).seen area records.now) }
     ensures others { IsHonest (D.disk disk.new) → (i : ℕ) → IsNoBody area (length records.now) i
         → IsSpared (D.disk disk.old) (D.disk disk.new) i }
 {
@@ -81,8 +89,10 @@ fn write_slot<D: SectorDisk>(
     ensures work { IsWork (D.disk disk.old) (D.disk disk.new) result }
     ensures one { (D.disk disk.new).clock ≤ (D.disk disk.old).clock + 1 }
     ensures call { OnOk result ((D.disk disk.new).clock ≡ (D.disk disk.old).clock + 1) }
-    ensures body { OnOk result (IsHonest (D.disk disk.new) → IsSectorOf value.now ((now (D.disk disk.new)).seen (slot_body area slot))) }
-    ensures others { IsHonest (D.disk disk.new) → (i : ℕ) → i ≢ slot_body area slot → IsSpared (D.disk disk.old) (D.disk disk.new) i }
+    ensures body { OnOk result (IsHonest (D.disk disk.new)
+        → IsSectorOf value.now ((now (D.disk disk.new)).seen (slot_body area slot))) }
+    ensures others { IsHonest (D.disk disk.new) → (i : ℕ) → i ≢ slot_body area slot
+        → IsSpared (D.disk disk.old) (D.disk disk.new) i }
 {
     record_in_range(value);
     disk.write(area.slot_body(slot), &encode(value))

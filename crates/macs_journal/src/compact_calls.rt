@@ -3,7 +3,9 @@
 ghost use Rattle.std.specs.Prelude.{◌≡◌, ◌≤◌, ◌+◌, IfOk, OnOk, length};
 ghost use Rattle.macs_disk.specs.Disk.{Disk, IsDeviceCall, IsHonest, now};
 ghost use Rattle.macs_journal.specs.Areas.{least_sectors, slots};
-ghost use Rattle.macs_journal.specs.Stages.{AtNextStage, AtStage, Does, IsCompactNext, IsCompactStage, IsUnderWay, compact_left, compact_left_next};
+ghost use Rattle.macs_journal.specs.Stages.{AtNextStage, AtStage, Does, IsCompactNext};
+ghost use Rattle.macs_journal.specs.Stages.{IsCompactStage, IsUnderWay, compact_left};
+ghost use Rattle.macs_journal.specs.Stages.{compact_left_next};
 
 use crate::area::Area;
 use crate::compact_stage::CompactStage;
@@ -12,8 +14,9 @@ use macs_disk::{DeviceFault, SectorDisk};
 use macs_record::laws::{head_in_range, record_in_range};
 use macs_record::{CLOSED_GATE, Head, SECTOR, encode, encode_head, is_open, open_gate};
 
-/// One device call of a compaction of the records of a source into an area under this head, which counts them: a record
-/// is read where its body is written, and at no other call. It answers the next one, `None` after the last.
+/// One device call of a compaction of the records of a source into an area under this head, which
+/// counts them: a record is read where its body is written, and at no other call. It answers the
+/// next one, `None` after the last.
 pub(crate) fn perform<D: SectorDisk, R: RecordSource>(
     disk: &mut D,
     area: Area,
@@ -28,10 +31,13 @@ pub(crate) fn perform<D: SectorDisk, R: RecordSource>(
     ensures call { IsDeviceCall (D.disk disk.old) (D.disk disk.new) result }
     ensures one { OnOk result ((D.disk disk.new).clock ≡ (D.disk disk.old).clock + 1) }
     ensures room { IfOk result (IsCompactNext (length (R.listed records.now))) }
-    ensures left { IfOk result (λ next. compact_left_next (length (R.listed records.now)) next + 1 ≤ compact_left (length (R.listed records.now)) stage) }
-    ensures under_way { IsHonest (D.disk disk.new) → (began : Disk) → AtStage began (D.disk disk.old) area head.now (R.listed records.now) stage
+    ensures left { IfOk result (λ next. compact_left_next (length (R.listed records.now)) next + 1
+        ≤ compact_left (length (R.listed records.now)) stage) }
+    ensures under_way { IsHonest (D.disk disk.new) → (began : Disk)
+        → AtStage began (D.disk disk.old) area head.now (R.listed records.now) stage
         → IsUnderWay began (D.disk disk.new) area head.now (R.listed records.now) }
-    ensures next { IfOk result (λ next. IsHonest (D.disk disk.new) → (began : Disk) → AtStage began (D.disk disk.old) area head.now (R.listed records.now) stage
+    ensures next { IfOk result (λ next. IsHonest (D.disk disk.new) → (began : Disk)
+        → AtStage began (D.disk disk.old) area head.now (R.listed records.now) stage
         → AtNextStage began (D.disk disk.new) area head.now (R.listed records.now) next) }
 {
     let mut gate = [0; SECTOR];
@@ -53,12 +59,14 @@ fn call<D: SectorDisk, R: RecordSource>(
     requires few { length (R.listed records.now) ≤ slots }
     requires size { least_sectors ≤ (D.disk disk.old).sectors }
     ensures call { IsDeviceCall (D.disk disk.old) (D.disk disk.new) result }
-    ensures does { IsHonest (D.disk disk.new) → Does (now (D.disk disk.old)) (now (D.disk disk.new)) area head.now (R.listed records.now) stage gate.new result }
+    ensures does { IsHonest (D.disk disk.new) → Does (now (D.disk disk.old)) (now (D.disk disk.new))
+        area head.now (R.listed records.now) stage gate.new result }
 {
     match stage {
         CompactStage::ReadGate(k) => disk.read(area.gate(k), gate),
         CompactStage::CloseGate(k) => disk.write(area.gate(k), &CLOSED_GATE),
-        CompactStage::GatesSync => disk.sync(), // The gates are closed before a body behind them changes.
+        // The gates are closed before a body behind them changes.
+        CompactStage::GatesSync => disk.sync(),
         CompactStage::HeadBody => {
             head_in_range(head);
             disk.write(area.head_body(), &encode_head(head))
@@ -68,7 +76,8 @@ fn call<D: SectorDisk, R: RecordSource>(
             record_in_range(&value);
             disk.write(area.slot_body(slot), &encode(&value))
         }
-        CompactStage::BodiesSync => disk.sync(), // The bodies and closed gates stand before the head says so.
+        // The bodies and closed gates stand before the head says so.
+        CompactStage::BodiesSync => disk.sync(),
         CompactStage::HeadGate => disk.write(area.head_gate(), &open_gate()),
         CompactStage::HeadSync => disk.sync(), // The head stands before that is answered.
     }

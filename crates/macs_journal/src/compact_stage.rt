@@ -11,11 +11,13 @@ use crate::area::GATES;
 pub enum CompactStage {
     /// Reads a gate of the area that starts over: gate 0 is that of the head.
     ReadGate(u64),
-    /// Closes a gate that read open, since an old head there would name old bodies, and an old gate an old record.
+    /// Closes a gate that read open, since an old head there would name old bodies, and an old gate
+    /// an old record.
     CloseGate(u64),
     /// Makes the closed gates durable, before a body after them changes.
     GatesSync,
-    /// Writes the body of the head, of the next generation, at which nobody looks while its gate is closed.
+    /// Writes the body of the head, of the next generation, at which nobody looks while its gate is
+    /// closed.
     HeadBody,
     /// Writes the body of a slot's record.
     Body(u64),
@@ -28,8 +30,8 @@ pub enum CompactStage {
 }
 
 impl CompactStage {
-    /// The device call after this one, `None` after the last: by whether the gate that was read is open,
-    /// and how many records there are.
+    /// The device call after this one, `None` after the last: by whether the gate that was read is
+    /// open, and how many records there are.
     pub(crate) fn next(self, is_open: bool, count: u64) -> Option<CompactStage>
         requires room { IsCompactStage count self }
         requires few { count ≤ slots }

@@ -1,7 +1,7 @@
 //! Why a journal refuses.
 
-/// Why a call of a journal was refused, in the order in which it is looked for; `GenerationsSpent` is
-/// looked for before any device call.
+/// Why a call of a journal was refused, in the order in which it is looked for; `GenerationsSpent`
+/// is looked for before any device call.
 #[derive(Clone, Copy, Debug, PartialEq, Eq)]
 pub enum JournalFault {
     /// A device call failed before: the journal is to be recovered.

@@ -8,7 +8,9 @@ ghost use Rattle.macs_disk.specs.States.{state_after_sync};
 ghost use Rattle.macs_journal.specs.Appending.{IsReady};
 ghost use Rattle.macs_journal.specs.Areas.{least_sectors};
 ghost use Rattle.macs_journal.specs.Found.{IsGateOpen, IsNotFormatted};
-ghost use Rattle.macs_journal.specs.Formatting.{FormatWrites, HasOpenHead, IsBlank, IsJournalFormat, IsNewOrNone, first_content, first_head};
+ghost use Rattle.macs_journal.specs.Formatting.{FormatWrites, HasOpenHead, IsBlank};
+ghost use Rattle.macs_journal.specs.Formatting.{IsJournalFormat, IsNewOrNone, first_content};
+ghost use Rattle.macs_journal.specs.Formatting.{first_head};
 ghost use Rattle.macs_journal.specs.Rewriting.{HasNewGates};
 ghost use Rattle.macs_journal.specs.Work.{IsSpared};
 
@@ -22,10 +24,10 @@ use macs_disk::{DeviceFault, SectorDisk};
 use macs_record::{Format, Head, Record, SECTOR, is_open};
 
 /// Makes a journal of format two of a disk that has none: its one record is the settings that an
-/// endpoint begins with. Of the first area it writes the bodies of the head and of that record, the head gate, and the
-/// gates of slots where they read open; no other sector is touched. Refused as `TooSmall`, then as
-/// `Disk` at the first call that fails, and as `AlreadyFormatted` where a head gate reads open after a
-/// first sync.
+/// endpoint begins with. Of the first area it writes the bodies of the head and of that record, the
+/// head gate, and the gates of slots where they read open; no other sector is touched. Refused as
+/// `TooSmall`, then as `Disk` at the first call that fails, and as `AlreadyFormatted` where a head
+/// gate reads open after a first sync.
 pub fn format<D: SectorDisk>(disk: &mut D, identity: &Identity) -> Result<(), JournalFault>
     ensures { IsJournalFormat D.disk disk.old identity.now result disk.new }
 {
@@ -46,10 +48,14 @@ pub fn format<D: SectorDisk>(disk: &mut D, identity: &Identity) -> Result<(), Jo
 fn has_open_head<D: SectorDisk>(disk: &mut D) -> Result<bool, DeviceFault>
     requires size { least_sectors ≤ (D.disk disk.old).sectors }
     ensures work { IsWork (D.disk disk.old) (D.disk disk.new) result }
-    ensures nothing { IsHonest (D.disk disk.new) → LeavesNothingNew (D.disk disk.old) (D.disk disk.new) }
-    ensures settled { OnOk result (IsHonest (D.disk disk.new) → now (D.disk disk.new) ≡ state_after_sync (now (D.disk disk.old))) }
-    ensures spared { IsHonest (D.disk disk.new) → (i : ℕ) → IsSpared (D.disk disk.old) (D.disk disk.new) i }
-    ensures clear { IfOk result (λ is. is ≡ false → IsHonest (D.disk disk.new) → IsNotFormatted (now (D.disk disk.old)).seen) }
+    ensures nothing { IsHonest (D.disk disk.new)
+        → LeavesNothingNew (D.disk disk.old) (D.disk disk.new) }
+    ensures settled { OnOk result (IsHonest (D.disk disk.new)
+        → now (D.disk disk.new) ≡ state_after_sync (now (D.disk disk.old))) }
+    ensures spared { IsHonest (D.disk disk.new) → (i : ℕ)
+        → IsSpared (D.disk disk.old) (D.disk disk.new) i }
+    ensures clear { IfOk result (λ is. is ≡ false → IsHonest (D.disk disk.new)
+        → IsNotFormatted (now (D.disk disk.old)).seen) }
     ensures taken { IfOk result (λ is. is ≡ true → IsHonest (D.disk disk.new)
         → HasOpenHead (now (D.disk disk.old)).seen) }
 {
@@ -69,8 +75,10 @@ fn fill<D: SectorDisk>(disk: &mut D, identity: &Identity) -> Result<(), DeviceFa
         → Leaves (D.disk disk.old) (D.disk disk.new) (IsNewOrNone identity.now) }
     ensures done { OnOk result (IsHonest (D.disk disk.new) → IsBlank (now (D.disk disk.old))
         → IsReady (now (D.disk disk.new)) (first_content identity.now)) }
-    ensures gates { OnOk result (IsHonest (D.disk disk.new) → HasNewGates (now (D.disk disk.old)).seen (now (D.disk disk.new)).seen 0) }
-    ensures others { IsHonest (D.disk disk.new) → (i : ℕ) → ¬ FormatWrites (now (D.disk disk.old)).seen i
+    ensures gates { OnOk result (IsHonest (D.disk disk.new)
+        → HasNewGates (now (D.disk disk.old)).seen (now (D.disk disk.new)).seen 0) }
+    ensures others { IsHonest (D.disk disk.new) → (i : ℕ)
+        → ¬ FormatWrites (now (D.disk disk.old)).seen i
         → IsSpared (D.disk disk.old) (D.disk disk.new) i }
 {
     let head = first_head(identity);

@@ -24,10 +24,12 @@ pub(crate) fn close_gates<D: SectorDisk>(
     ensures work { IsWork (D.disk disk.old) (D.disk disk.new) result }
     ensures most { (D.disk disk.new).clock ≤ (D.disk disk.old).clock + 514 }
     ensures calls { OnOk result (IsHonest (D.disk disk.new) → first ≡ 0 → (opened : ℕ)
-        → HasOpenGates (now (D.disk disk.old)).seen area gates opened → (D.disk disk.new).clock ≡ (D.disk disk.old).clock + (257 + opened)) }
+        → HasOpenGates (now (D.disk disk.old)).seen area gates opened
+        → (D.disk disk.new).clock ≡ (D.disk disk.old).clock + (257 + opened)) }
     ensures closed { OnOk result (IsHonest (D.disk disk.new)
         → AreClosed (now (D.disk disk.old)).seen (now (D.disk disk.new)).seen area first gates) }
-    ensures others { IsHonest (D.disk disk.new) → (i : ℕ) → IsNoOpenGate (now (D.disk disk.old)).seen area first gates i
+    ensures others { IsHonest (D.disk disk.new) → (i : ℕ)
+        → IsNoOpenGate (now (D.disk disk.old)).seen area first gates i
         → IsSpared (D.disk disk.old) (D.disk disk.new) i }
 {
     for k in first..GATES {
@@ -42,11 +44,14 @@ fn close_gate<D: SectorDisk>(disk: &mut D, area: Area, k: u64) -> Result<(), Dev
     requires size { least_sectors ≤ (D.disk disk.old).sectors }
     ensures work { IsWork (D.disk disk.old) (D.disk disk.new) result }
     ensures most { (D.disk disk.new).clock ≤ (D.disk disk.old).clock + 2 }
-    ensures one { OnOk result (IsHonest (D.disk disk.new) → ¬ IsGateOpen (now (D.disk disk.old)).seen area k
+    ensures one { OnOk result (IsHonest (D.disk disk.new)
+        → ¬ IsGateOpen (now (D.disk disk.old)).seen area k
         → (D.disk disk.new).clock ≡ (D.disk disk.old).clock + 1) }
-    ensures two { OnOk result (IsHonest (D.disk disk.new) → IsGateOpen (now (D.disk disk.old)).seen area k
+    ensures two { OnOk result (IsHonest (D.disk disk.new)
+        → IsGateOpen (now (D.disk disk.old)).seen area k
         → (D.disk disk.new).clock ≡ (D.disk disk.old).clock + 2) }
-    ensures gate { OnOk result (IsHonest (D.disk disk.new) → IsGateOpen (now (D.disk disk.old)).seen area k
+    ensures gate { OnOk result (IsHonest (D.disk disk.new)
+        → IsGateOpen (now (D.disk disk.old)).seen area k
         → (now (D.disk disk.new)).seen (gate area k) ≡ closed_gate) }
     ensures closed { IsHonest (D.disk disk.new) → ¬ IsGateOpen (now (D.disk disk.old)).seen area k
         → (i : ℕ) → IsSpared (D.disk disk.old) (D.disk disk.new) i }

@@ -19,13 +19,17 @@ pub(crate) fn open_head<D: SectorDisk>(disk: &mut D, area: Area) -> Result<(), D
     ensures work { IsWork (D.disk disk.old) (D.disk disk.new) result }
     ensures most { (D.disk disk.new).clock ≤ (D.disk disk.old).clock + 3 }
     ensures calls { OnOk result ((D.disk disk.new).clock ≡ (D.disk disk.old).clock + 3) }
-    ensures until { IsHonest (D.disk disk.new) → (k : ℕ) → (D.disk disk.old).clock ≤ k → k ≤ (D.disk disk.new).clock
-        → k < (D.disk disk.old).clock + 2 → (image : Image) → IsImage ((D.disk disk.new).past k) image → MayLeave (D.disk disk.old) image }
+    ensures until { IsHonest (D.disk disk.new) → (k : ℕ) → (D.disk disk.old).clock ≤ k
+        → k ≤ (D.disk disk.new).clock
+        → k < (D.disk disk.old).clock + 2 → (image : Image)
+        → IsImage ((D.disk disk.new).past k) image → MayLeave (D.disk disk.old) image }
     ensures images { IsHonest (D.disk disk.new)
         → Leaves (D.disk disk.old) (D.disk disk.new) (IsOldOrOpening (now (D.disk disk.old)) area) }
     ensures settled { OnOk result (IsHonest (D.disk disk.new) → IsSettled (now (D.disk disk.new))) }
-    ensures gate { OnOk result (IsHonest (D.disk disk.new) → (now (D.disk disk.new)).seen (gate area 0) ≡ open_gate) }
-    ensures others { IsHonest (D.disk disk.new) → (i : ℕ) → i ≢ gate area 0 → IsSpared (D.disk disk.old) (D.disk disk.new) i }
+    ensures gate { OnOk result (IsHonest (D.disk disk.new)
+        → (now (D.disk disk.new)).seen (gate area 0) ≡ open_gate) }
+    ensures others { IsHonest (D.disk disk.new) → (i : ℕ) → i ≢ gate area 0
+        → IsSpared (D.disk disk.old) (D.disk disk.new) i }
 {
     disk.sync()?; // The bodies and closed gates stand before the head says so.
     disk.write(area.head_gate(), &open_gate())?;

@@ -1,6 +1,7 @@
 //! A journal whose work is cut at the device calls.
 
-ghost use Rattle.std.specs.Prelude.{◌≡◌, ◌≢◌, ◌<◌, ◌≤◌, ◌+◌, ◌↔◌, ◌⊎◌, ℕ, true, false, IsTrue, OnOk, OnErr, IsErrOf, is_err};
+ghost use Rattle.std.specs.Prelude.{◌≡◌, ◌≢◌, ◌<◌, ◌≤◌, ◌+◌, ◌↔◌, ◌⊎◌, ℕ, true, false, IsTrue};
+ghost use Rattle.std.specs.Prelude.{OnOk, OnErr, IsErrOf, is_err};
 ghost use Rattle.macs_disk.specs.Disk.{IsHonest, MayLeave, now};
 ghost use Rattle.macs_disk.specs.Runs.{Leaves};
 ghost use Rattle.macs_disk.specs.States.{Image};
@@ -10,7 +11,9 @@ ghost use Rattle.macs_journal.specs.Areas.{gate, least_sectors, slot_body, slots
 ghost use Rattle.macs_journal.specs.Found.{Content, HasJournal, content_with_record};
 ghost use Rattle.macs_journal.specs.Appending.{HasEitherJournal};
 ghost use Rattle.macs_journal.specs.Stepping.{AdvancesAppend};
-ghost use Rattle.macs_journal.specs.Value.{FitsHand, HoldsContent, IsHolding, IsIdle, IsNoCompact, JournalValue, append_left, current_area, device_in, disk_in, generation, is_stopped, used_slots};
+ghost use Rattle.macs_journal.specs.Value.{FitsHand, HoldsContent, IsHolding, IsIdle, IsNoCompact};
+ghost use Rattle.macs_journal.specs.Value.{JournalValue, append_left, current_area, device_in};
+ghost use Rattle.macs_journal.specs.Value.{disk_in, generation, is_stopped, used_slots};
 ghost use Rattle.macs_journal.specs.Work.{IsSpared, IsWorkOf};
 ghost use Rattle.macs_journal.specs.declared.fault.JournalFault.TheVariants.{Disk, Stopped};
 ghost use Rattle.macs_journal.specs.declared.hand.Hand.TheVariants.{Empty};
@@ -24,7 +27,8 @@ use macs_disk::SectorDisk;
 use macs_record::Record;
 use std::marker::Model;
 
-/// A journal on a disk. After a device fault it answers `Stopped` until the disk is recovered again.
+/// A journal on a disk. After a device fault it answers `Stopped` until the disk is recovered
+/// again.
 #[derive(Drop)]
 pub struct Journal<D: SectorDisk> {
     pub(crate) disk: D,
@@ -36,7 +40,8 @@ pub struct Journal<D: SectorDisk> {
 impl<D: SectorDisk> Model for Journal<D> {
     ghost Value = { JournalValue D };
 
-    ghost view = { λ j. record { disk = j.disk; place = j.place; hand = j.hand; stopped = j.stopped } };
+    ghost view = { λ j.
+        record { disk = j.disk; place = j.place; hand = j.hand; stopped = j.stopped } };
 
     ghost invariant = { λ j. (least_sectors ≤ (D.disk j.disk).sectors) × (j.place.free ≤ slots)
         × FitsHand j.place j.hand };
@@ -72,8 +77,8 @@ impl<D: SectorDisk> Journal<D> {
         self.place.area.number()
     }
 
-    /// The generation of the current area: 1 when the disk is formatted, and one more each time that the journal starts
-    /// over.
+    /// The generation of the current area: 1 when the disk is formatted, and one more each time
+    /// that the journal starts over.
     pub fn generation(&self) -> u64
         ensures { result ≡ generation self.now }
     {
@@ -115,10 +120,10 @@ impl<D: SectorDisk> Journal<D> {
         disk
     }
 
-    /// Appends a record in four calls of the disk: it is written into the body of the first free slot,
-    /// made durable, the slot's gate opened and made durable. No work is under way, and the area is not full. Refused as
-    /// `Stopped`, and as `Disk` at the first call that fails; then a power loss leaves the journal
-    /// with the record or without it, and no work is under way.
+    /// Appends a record in four calls of the disk: it is written into the body of the first free
+    /// slot, made durable, the slot's gate opened and made durable. No work is under way, and the
+    /// area is not full. Refused as `Stopped`, and as `Disk` at the first call that fails; then a
+    /// power loss leaves the journal with the record or without it, and no work is under way.
     pub fn append(&mut self, value: &Record) -> Result<(), JournalFault>
         requires idle { IsIdle self.old }
         requires room { used_slots self.old < slots }
@@ -127,21 +132,31 @@ impl<D: SectorDisk> Journal<D> {
         ensures names { OnErr result (IsErrOf result Stopped ⊎ IsErrOf result Disk) }
         ensures work { IsWorkOf (disk_in D.disk self.old) (disk_in D.disk self.new) result }
         ensures four { (disk_in D.disk self.new).clock ≤ (disk_in D.disk self.old).clock + 4 }
-        ensures calls { OnOk result ((disk_in D.disk self.new).clock ≡ (disk_in D.disk self.old).clock + 4) }
+        ensures calls { OnOk result
+            ((disk_in D.disk self.new).clock ≡ (disk_in D.disk self.old).clock + 4) }
         ensures after { is_stopped self.new ≡ is_err result }
         ensures idle { is_stopped self.old ≡ false → IsIdle self.new }
         ensures slot { OnOk result (used_slots self.new ≡ used_slots self.old + 1) }
-        ensures place { OnOk result (self.new.place ≡ record self.old.place { free = self.old.place.free + 1 }) }
+        ensures place { OnOk result
+            (self.new.place ≡ record self.old.place { free = self.old.place.free + 1 }) }
         ensures at_fault { OnErr result (self.new.place ≡ self.old.place) }
-        ensures any_moment { IsHonest (disk_in D.disk self.new) → (before : Content) → HoldsContent D.disk self.old before
-            → Leaves (disk_in D.disk self.old) (disk_in D.disk self.new) (HasEitherJournal before (content_with_record before value.now)) }
-        ensures done { OnOk result (IsHonest (disk_in D.disk self.new) → (before : Content) → HoldsContent D.disk self.old before
+        ensures any_moment { IsHonest (disk_in D.disk self.new) → (before : Content)
+            → HoldsContent D.disk self.old before
+            → Leaves (disk_in D.disk self.old) (disk_in D.disk self.new)
+            (HasEitherJournal before (content_with_record before value.now)) }
+        ensures done { OnOk result (IsHonest (disk_in D.disk self.new) → (before : Content)
+            → HoldsContent D.disk self.old before
             → HoldsContent D.disk self.new (content_with_record before value.now)) }
-        ensures kept { OnOk result (IsHonest (disk_in D.disk self.new) → (before : Content) → HoldsContent D.disk self.old before
-            → (image : Image) → MayLeave (disk_in D.disk self.new) image → HasJournal image (content_with_record before value.now)) }
-        ensures gate { OnOk result (IsHonest (disk_in D.disk self.new) → (before : Content) → HoldsContent D.disk self.old before
-            → (now (disk_in D.disk self.new)).seen (gate self.old.place.area (self.old.place.free + 1)) ≡ open_gate) }
-        ensures others { IsHonest (disk_in D.disk self.new) → (i : ℕ) → i ≢ slot_body self.old.place.area self.old.place.free
+        ensures kept { OnOk result (IsHonest (disk_in D.disk self.new) → (before : Content)
+            → HoldsContent D.disk self.old before
+            → (image : Image) → MayLeave (disk_in D.disk self.new) image
+            → HasJournal image (content_with_record before value.now)) }
+        ensures gate { OnOk result (IsHonest (disk_in D.disk self.new) → (before : Content)
+            → HoldsContent D.disk self.old before
+            → (now (disk_in D.disk self.new)).seen
+            (gate self.old.place.area (self.old.place.free + 1)) ≡ open_gate) }
+        ensures others { IsHonest (disk_in D.disk self.new) → (i : ℕ)
+            → i ≢ slot_body self.old.place.area self.old.place.free
             → i ≢ gate self.old.place.area (self.old.place.free + 1)
             → IsSpared (disk_in D.disk self.old) (disk_in D.disk self.new) i }
     {
@@ -155,22 +170,29 @@ impl<D: SectorDisk> Journal<D> {
         requires running { is_stopped self.old ≡ false }
         ensures names { OnErr result (IsErrOf result Disk) }
         ensures work { IsWorkOf (disk_in D.disk self.old) (disk_in D.disk self.new) result }
-        ensures few { (disk_in D.disk self.new).clock ≤ (disk_in D.disk self.old).clock + append_left self.old.hand }
-        ensures calls { OnOk result ((disk_in D.disk self.new).clock ≡ (disk_in D.disk self.old).clock + append_left self.old.hand) }
+        ensures few { (disk_in D.disk self.new).clock ≤ (disk_in D.disk self.old).clock
+            + append_left self.old.hand }
+        ensures calls { OnOk result ((disk_in D.disk self.new).clock
+            ≡ (disk_in D.disk self.old).clock + append_left self.old.hand) }
         ensures after { is_stopped self.new ≡ is_err result }
         ensures idle { IsIdle self.new }
-        ensures moved { OnOk result (1 ≤ append_left self.old.hand → self.new.place ≡ record self.old.place { free = self.old.place.free + 1 }) }
+        ensures moved { OnOk result (1 ≤ append_left self.old.hand
+            → self.new.place ≡ record self.old.place { free = self.old.place.free + 1 }) }
         ensures at_fault { OnErr result (self.new.place ≡ self.old.place) }
         ensures any_moment { IsHonest (disk_in D.disk self.new) → (before after : Content)
             → IsHolding (disk_in D.disk self.old) self.old.place self.old.hand before after
-            → Leaves (disk_in D.disk self.old) (disk_in D.disk self.new) (HasEitherJournal before after) }
+            → Leaves (disk_in D.disk self.old) (disk_in D.disk self.new)
+            (HasEitherJournal before after) }
         ensures done { OnOk result (IsHonest (disk_in D.disk self.new) → (before after : Content)
             → IsHolding (disk_in D.disk self.old) self.old.place self.old.hand before after
             → IsHolding (disk_in D.disk self.new) self.new.place self.new.hand after after) }
-        ensures gate { OnOk result (1 ≤ append_left self.old.hand → IsHonest (disk_in D.disk self.new) → (before after : Content)
+        ensures gate { OnOk result (1 ≤ append_left self.old.hand
+            → IsHonest (disk_in D.disk self.new) → (before after : Content)
             → IsHolding (disk_in D.disk self.old) self.old.place self.old.hand before after
-            → (now (disk_in D.disk self.new)).seen (gate self.old.place.area (self.old.place.free + 1)) ≡ open_gate) }
-        ensures others { IsHonest (disk_in D.disk self.new) → (i : ℕ) → i ≢ slot_body self.old.place.area self.old.place.free
+            → (now (disk_in D.disk self.new)).seen
+            (gate self.old.place.area (self.old.place.free + 1)) ≡ open_gate) }
+        ensures others { IsHonest (disk_in D.disk self.new) → (i : ℕ)
+            → i ≢ slot_body self.old.place.area self.old.place.free
             → i ≢ gate self.old.place.area (self.old.place.free + 1)
             → IsSpared (disk_in D.disk self.old) (disk_in D.disk self.new) i }
     {

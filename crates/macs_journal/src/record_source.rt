@@ -6,7 +6,8 @@ ghost use Rattle.macs_record.specs.declared.record.Record.{Record};
 
 use macs_record::Record;
 
-/// A source of the records with which a journal starts over: it has them by their places, and makes one at a time.
+/// A source of the records with which a journal starts over: it has them by their places, and makes
+/// one at a time.
 pub trait RecordSource {
     /// The records, in the order of the slots that they go to.
     ghost listed: { Self → List Record };

@@ -2,7 +2,8 @@
 
 ghost use Rattle.std.specs.Prelude.{◌≡◌, ◌<◌, ◌≤◌, ◌↔◌, false, length, IsTrue};
 ghost use Rattle.macs_journal.specs.Areas.{other_area, slots};
-ghost use Rattle.macs_journal.specs.Stepping.{Advances, AdvancesCompact, Appends, FitsWork, IsCompactHand, Renews};
+ghost use Rattle.macs_journal.specs.Stepping.{Advances, AdvancesCompact, Appends, FitsWork};
+ghost use Rattle.macs_journal.specs.Stepping.{IsCompactHand, Renews};
 ghost use Rattle.macs_journal.specs.Stepping.{Starts, Steps, step_of, task_of};
 ghost use Rattle.macs_journal.specs.Value.{AreLent, IsIdle, is_stopped, used_slots};
 ghost use Rattle.macs_journal.specs.declared.hand.Compacting.{Compacting};
@@ -23,10 +24,11 @@ use macs_record::laws::record_in_range;
 use macs_record::{Record, encode};
 
 impl<D: SectorDisk> Journal<D> {
-    /// Starts work, and makes no call of the disk. None is under way before; for an append the area is not full,
-    /// and a journal starts over with 1 to 256 records. These stay with the caller: their number alone is read. Refused
-    /// as `Stopped` where a device call failed before, then as `GenerationsSpent` where the journal is to start over and
-    /// its generation is 2^64 - 1; nothing changes then.
+    /// Starts work, and makes no call of the disk. None is under way before; for an append the area
+    /// is not full, and a journal starts over with 1 to 256 records. These stay with the caller:
+    /// their number alone is read. Refused as `Stopped` where a device call failed before, then as
+    /// `GenerationsSpent` where the journal is to start over and its generation is 2^64 - 1;
+    /// nothing changes then.
     pub fn start(&mut self, work: &Work) -> Result<(), JournalFault>
         requires idle { IsIdle self.old }
         requires fits { FitsWork self.old.place work.now }
@@ -62,7 +64,8 @@ impl<D: SectorDisk> Journal<D> {
     /// lent, with its refusals. How many there are is asked, and no record is read.
     pub fn start_compact<R: RecordSource>(&mut self, records: &R) -> Result<(), JournalFault>
         requires idle { IsIdle self.old }
-        requires some { (1 ≤ length (R.listed records.now)) × (length (R.listed records.now) ≤ slots) }
+        requires some { (1 ≤ length (R.listed records.now))
+            × (length (R.listed records.now) ≤ slots) }
         ensures { Starts D.disk self.old (Renews (R.listed records.now)) result self.new }
     {
         if self.stopped {
@@ -79,8 +82,8 @@ impl<D: SectorDisk> Journal<D> {
         Ok(())
     }
 
-    /// Whether these records may be lent to the next step: where the journal starts over they are as many as it was
-    /// started with.
+    /// Whether these records may be lent to the next step: where the journal starts over they are
+    /// as many as it was started with.
     pub fn may_lend(&self, snapshot: &[Record]) -> bool
         ensures { IsTrue result ↔ AreLent self.now.hand snapshot.now }
     {
@@ -91,11 +94,12 @@ impl<D: SectorDisk> Journal<D> {
         }
     }
 
-    /// Makes the next call of the disk of the work under way, and none where no work is under way. Where the journal starts
-    /// over, `snapshot` has as many records as it was started with (`may_lend`). They are to be the same records at each
-    /// step: else nothing is promised of what is on the disk. For other work `snapshot` is not read. Refused as
-    /// `Stopped` where a device call failed before, and as `Disk` where this one fails: then a power loss leaves the
-    /// journal as before the work or as after it, and no work is under way.
+    /// Makes the next call of the disk of the work under way, and none where no work is under way.
+    /// Where the journal starts over, `snapshot` has as many records as it was started with
+    /// (`may_lend`). They are to be the same records at each step: else nothing is promised of what
+    /// is on the disk. For other work `snapshot` is not read. Refused as `Stopped` where a device
+    /// call failed before, and as `Disk` where this one fails: then a power loss leaves the journal
+    /// as before the work or as after it, and no work is under way.
     pub fn step(&mut self, snapshot: &[Record]) -> Result<JournalStep, JournalFault>
         requires lent { AreLent self.old.hand snapshot.now }
         ensures { Steps D.disk self.old snapshot.now result self.new }
@@ -103,8 +107,8 @@ impl<D: SectorDisk> Journal<D> {
         self.step_from(&snapshot)
     }
 
-    /// Makes the next device call, as `step` does, with the records of a source: one of them is read where its body is
-    /// written, and none at another call.
+    /// Makes the next device call, as `step` does, with the records of a source: one of them is
+    /// read where its body is written, and none at another call.
     pub fn step_from<R: RecordSource>(&mut self, snapshot: &R) -> Result<JournalStep, JournalFault>
         requires lent { AreLent self.old.hand (R.listed snapshot.now) }
         ensures { Steps D.disk self.old (R.listed snapshot.now) result self.new }
@@ -145,7 +149,8 @@ impl<D: SectorDisk> Journal<D> {
         }
     }
 
-    /// One device call of the compaction under way, of these records. After a device fault nothing is under way.
+    /// One device call of the compaction under way, of these records. After a device fault nothing
+    /// is under way.
     pub(crate) fn step_compact<R: RecordSource>(&mut self, snapshot: &R) -> Result<(), JournalFault>
         requires busy { IsCompactHand self.old.hand }
         requires running { is_stopped self.old ≡ false }
@@ -179,7 +184,12 @@ impl<D: SectorDisk> Journal<D> {
     /// Where the journal goes on once it started over.
     fn new_place(&self) -> Place
         ensures { (work : Compacting) → self.now.hand ≡ Compact work
-            → result ≡ record { area = other_area self.now.place.area; head = work.head; free = work.head.count } }
+            → result ≡ record {
+              area = other_area self.now.place.area;
+              head = work.head;
+              free =
+                  work.head.count;
+            } }
     {
         let Place { area, .. } = self.place;
         match &self.hand {

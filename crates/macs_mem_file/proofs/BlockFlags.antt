@@ -1,5 +1,6 @@
 -- Octets in memory, by the blocks that they lie in.
-use Rattle.std.proofs.Common.{◌≡◌, ◌≤◌, ◌<◌, ◌+◌, ◌-◌, ◌*◌, ◌/◌, ◌%◌, inl, inr, ℕ, suc, not, nat_lt, Bool, true, false, List, length, take, length-take-le, refl, ap, ◌∙◌, arith, subst, sym}
+use Rattle.std.proofs.Common.{◌≡◌, ◌≤◌, ◌<◌, ◌+◌, ◌-◌, ◌*◌, ◌/◌, ◌%◌, inl, inr, ℕ, suc, not, nat_lt, Bool, true, false}
+use Rattle.std.proofs.Common.{List, length, take, length-take-le, refl, ap, ◌∙◌, arith, subst, sym}
 use Rattle.std.specs.Bool.{beq}
 use Rattle.std.proofs.Math.Nat.{add-mul, div-add-mod, div-lt_iff_lt-mul, mul_comm, suc-mul}
 use Rattle.std.proofs.lemmas.Bool.{cases_lt}
@@ -56,13 +57,15 @@ behind-block block n p some lt =
 pub block-fits : (block n count : ℕ) → n < count → n * block + block ≤ block * count
 block-fits block n count lt =
     let more : count ≡ (n + 1) + (count - (n + 1)) = omega (arith, lt) in
-    let h : count * block ≡ (n + 1) * block + (count - (n + 1)) * block = ap (λ (c : ℕ). c * block) more ∙ add-mul (n + 1) (count - (n + 1)) block in
+    let h : count * block ≡ (n + 1) * block + (count - (n + 1)) * block = ap (λ (c : ℕ). c * block) more
+    ∙ add-mul (n + 1) (count - (n + 1)) block in
     let k = next-front n block in
     let turned : block * count ≡ count * block = mul_comm block count in
     omega (arith, h, k, turned)
 
 -- none of the blocks was copied
-pub copied-none : (block : ℕ) (flags : List Bool) (which : Bool) (first from : List ℕ) → Copied block 0 flags which first from first
+pub copied-none : (block : ℕ) (flags : List Bool) (which : Bool) (first from : List ℕ)
+    → Copied block 0 flags which first from first
 copied-none block flags which first from = record {
   same_length = refl;
   copied = λ p lt. absurd (omega (arith, lt));
@@ -88,7 +91,8 @@ differ true is X = absurd (let no : false ≡ true = sym is in cc)
 differ false is X = absurd (let no : false ≡ true = is in cc)
 
 -- a block was passed over
-pub copied-past : (block n : ℕ) (flags : List Bool) (which : Bool) (first from now : List ℕ) → flag_at flags n ≡ not which
+pub copied-past : (block n : ℕ) (flags : List Bool) (which : Bool) (first from now : List ℕ)
+    → flag_at flags n ≡ not which
     → Copied block n flags which first from now → Copied block (n + 1) flags which first from now
 copied-past block n flags which first from now off was = record {
   same_length = was.same_length;
@@ -103,7 +107,8 @@ copied-past block n flags which first from now off was = record {
 }
 
 -- a block was copied
-pub copied-one : (block n : ℕ) (flags : List Bool) (which : Bool) (first from old now : List ℕ) → 0 < block → flag_at flags n ≡ which
+pub copied-one : (block n : ℕ) (flags : List Bool) (which : Bool) (first from old now : List ℕ) → 0 < block
+    → flag_at flags n ≡ which
     → length now ≡ length old
     → ((p : ℕ) → n * block ≤ p → p < n * block + block → octet_at now p ≡ octet_at from p)
     → ((p : ℕ) → p < n * block → octet_at now p ≡ octet_at old p)
@@ -128,7 +133,8 @@ copied-one block n flags which first from old now some on size here front behind
 }
 
 -- all blocks were copied
-pub copied-all : (block n : ℕ) (flags : List Bool) (which : Bool) (first from now : List ℕ) → 0 < block → block * length flags ≡ length first
+pub copied-all : (block n : ℕ) (flags : List Bool) (which : Bool) (first from now : List ℕ) → 0 < block
+    → block * length flags ≡ length first
     → length from ≡ length first → length flags ≤ n → Copied block n flags which first from now
     → (p : ℕ) → flag_in block flags p ≡ which → octet_at now p ≡ octet_at from p
 copied-all block n flags which first from now some blocks alike all was p on = elim (cases_lt p (length first)) [
@@ -142,7 +148,8 @@ copied-all block n flags which first from now some blocks alike all was p on = e
 ]
 
 -- a block was left as it is
-pub spoiled-past : (block n : ℕ) (flags : List Bool) (left : Left) (first written now : List ℕ) → flag_at flags n ≡ false
+pub spoiled-past : (block n : ℕ) (flags : List Bool) (left : Left) (first written now : List ℕ)
+    → flag_at flags n ≡ false
     → Spoiled block n flags left first written now → Spoiled block (n + 1) flags left first written now
 spoiled-past block n flags left first written now off was = record {
   same_length = was.same_length;
@@ -150,7 +157,8 @@ spoiled-past block n flags left first written now off was = record {
     | inl before ↦ was.spoiled p before up
     | inr ge ↦
         let here : p / block ≡ n = omega (arith, lt, ge) in
-        differ true (sym up ∙ ap (flag_at flags) here ∙ off) (octet_at now p ≡ left_of left (is_in_first_half block p) (octet_at first p) (octet_at written p))
+        differ true (sym up ∙ ap (flag_at flags) here ∙ off)
+        (octet_at now p ≡ left_of left (is_in_first_half block p) (octet_at first p) (octet_at written p))
   ];
   rest = λ p le. was.rest p (omega (arith, le));
   kept = was.kept;
@@ -163,8 +171,10 @@ first-half block n p is =
     let whole : block * (p / block) + p % block ≡ p = div-add-mod p block in
     let front : block * (p / block) ≡ n * block = ap (λ (c : ℕ). block * c) is ∙ mul_comm block n in
     elim (cases_lt (p % block) (block / 2)) [
-      | inl lt ↦ lt-true p (n * block + block / 2) (omega (arith, whole, front, lt)) ∙ sym (lt-true (p % block) (block / 2) lt)
-      | inr ge ↦ lt-false p (n * block + block / 2) (omega (arith, whole, front, ge)) ∙ sym (lt-false (p % block) (block / 2) ge)
+      | inl lt ↦ lt-true p (n * block + block / 2) (omega (arith, whole, front, lt))
+          ∙ sym (lt-true (p % block) (block / 2) lt)
+      | inr ge ↦ lt-false p (n * block + block / 2) (omega (arith, whole, front, ge))
+          ∙ sym (lt-false (p % block) (block / 2) ge)
     ] where
       lt-true : (a b : ℕ) → a < b → nat_lt a b ≡ true
       lt-true a b lt = grind (arith, nat_tests, lt)
@@ -173,7 +183,8 @@ first-half block n p is =
       lt-false a b ge = grind (arith, nat_tests, ge)
 
 -- a block was spoiled
-pub spoiled-one : (block n : ℕ) (flags : List Bool) (left : Left) (first written old now : List ℕ) → 0 < block → flag_at flags n ≡ true
+pub spoiled-one : (block n : ℕ) (flags : List Bool) (left : Left) (first written old now : List ℕ) → 0 < block
+    → flag_at flags n ≡ true
     → length now ≡ length old
     → ((p : ℕ) → n * block ≤ p → p < n * block + block
     → octet_at now p ≡ left_of left (nat_lt p (n * block + block / 2)) (octet_at old p) (octet_at written p))
@@ -205,11 +216,13 @@ spoiled-one block n flags left first written old now some up size here front beh
 }
 
 -- octets were fetched
-pub fetched-all : (from into : List ℕ) (at count : ℕ) → count ≤ length into → ((k : ℕ) → k < count → octet_at into k ≡ octet_at from (at + k))
+pub fetched-all : (from into : List ℕ) (at count : ℕ) → count ≤ length into
+    → ((k : ℕ) → k < count → octet_at into k ≡ octet_at from (at + k))
     → take count into ≡ values_from (octet_at from) at count
 fetched-all from into at count room fetched =
     let size : length (take count into) ≡ count = length-take-le count into room in
-    ext_get_or 0 (take count into) (values_from (octet_at from) at count) (size ∙ sym (length-values (octet_at from) at count))
+    ext_get_or 0 (take count into) (values_from (octet_at from) at count)
+    (size ∙ sym (length-values (octet_at from) at count))
     (λ k lt.
     let within : k < count = omega (arith, lt, size) in
     get_or-take count into k 0 within ∙ fetched k within ∙ sym (value-at (octet_at from) at count k 0 within))

@@ -1,12 +1,16 @@
 -- What the calls of a file in memory do.
-use Rattle.std.proofs.Common.{◌≡◌, ◌≤◌, ◌<◌, ◌+◌, ◌-◌, ◌*◌, ◌/◌, ◌==◌, ◌&&◌, ◌||◌, inl, inr, ℕ, if◌then◌else◌, max, Bool, true, false, List, [], ◌∷◌, length, nat_le, nat_lt, refl, ap, ◌∙◌, arith, subst, sym}
+use Rattle.std.proofs.Common.{◌≡◌, ◌≤◌, ◌<◌, ◌+◌, ◌-◌, ◌*◌, ◌/◌, ◌==◌, ◌&&◌, ◌||◌, inl, inr, ℕ, if◌then◌else◌, max}
+use Rattle.std.proofs.Common.{Bool, true, false, List, [], ◌∷◌, length, nat_le, nat_lt, refl, ap, ◌∙◌, arith, subst}
+use Rattle.std.proofs.Common.{sym}
 use Rattle.std.proofs.Math.Nat.{lt-mul-div-succ, mul-div-le, mul-add}
 use Rattle.std.proofs.lemmas.Bool.{cases_Bool, cases_lt, le-leb, lt-leb, or_parts}
 use Rattle.std.proofs.lemmas.Bool.Decides.{nat_tests}
 use Rattle.std.proofs.lemmas.List.{get_or_past}
 use Rattle.macs_disk.specs.FileEvidence.{is_same}
-use Rattle.macs_disk.specs.Files.{FileState, HasNothingNew, IsFileImage, file_after_write, file_reread, has_some, put_from}
-use Rattle.macs_mem_file.specs.Blocks.{IsKept, are_octets, file_in_memory, flag_in, is_in_first_half, left_of, octet_at, octet_left, size_left}
+use Rattle.macs_disk.specs.Files.{FileState, HasNothingNew, IsFileImage, file_after_write, file_reread, has_some}
+use Rattle.macs_disk.specs.Files.{put_from}
+use Rattle.macs_mem_file.specs.Blocks.{IsKept, are_octets, file_in_memory, flag_in, is_in_first_half, left_of, octet_at}
+use Rattle.macs_mem_file.specs.Blocks.{octet_left, size_left}
 use Rattle.macs_mem_file.specs.declared.blocks.Left.{Left}
 use Rattle.macs_mem_file.specs.declared.blocks.Left.TheVariants.{Durable, Half, Written, Zeros}
 use Rattle.macs_mem_file.specs.Evidence.{block-of}
@@ -36,47 +40,55 @@ at-end block p behind is =
     let le : behind ≤ block * (p / block) = grind (arith, nat_tests, is) in
     omega (arith, h, le)
 
-has-none : (block p front behind : ℕ) (f : ℕ → ℕ) (at : ℕ) (xs : List ℕ) → 0 < block → front ≤ at → at + length xs ≤ behind
+has-none : (block p front behind : ℕ) (f : ℕ → ℕ) (at : ℕ) (xs : List ℕ) → 0 < block → front ≤ at
+    → at + length xs ≤ behind
     → has_some block front behind (p / block) ≡ false → put_from f at xs p ≡ f p
 has-none block p front behind f at xs some le fits none = elim (cases_Bool (nat_lt (block * (p / block)) behind)) [
-  | inl is ↦ put-before f at p xs (let lt = at-front block p front some (sym (ap (λ (b : Bool). b && nat_lt front (block * (p / block) + block)) is) ∙ none) in omega (arith, lt, le))
+  | inl is ↦ put-before f at p xs (let lt = at-front block p front some
+      (sym (ap (λ (b : Bool). b && nat_lt front (block * (p / block) + block)) is) ∙ none) in omega (arith, lt, le))
   | inr other ↦ put-behind f at p xs (let past = at-end block p behind other in omega (arith, past, fits))
 ]
 
 -- octets were put
-pub kept_put : (block : ℕ) (cache device durable : List ℕ) (dirty pending : List Bool) (is_clean is_sure : Bool) (at front behind : ℕ) (xs : List ℕ)
+pub kept_put : (block : ℕ) (cache device durable : List ℕ) (dirty pending : List Bool) (is_clean is_sure : Bool)
+    (at front behind : ℕ) (xs : List ℕ)
     → IsKept block cache device durable dirty pending is_clean is_sure → front ≤ at → at + length xs ≤ behind
-    → (newer : List ℕ) (flags more : List Bool) → length newer ≡ length cache → ((p : ℕ) → octet_at newer p ≡ put_from (octet_at cache) at xs p) → are_octets newer
+    → (newer : List ℕ) (flags more : List Bool) → length newer ≡ length cache
+    → ((p : ℕ) → octet_at newer p ≡ put_from (octet_at cache) at xs p) → are_octets newer
     → length flags ≡ length dirty → ((n : ℕ) → flag_at flags n ≡ (has_some block front behind n || flag_at dirty n))
     → length more ≡ length pending → ((n : ℕ) → flag_at more n ≡ (has_some block front behind n || flag_at pending n))
     → IsKept block newer device durable flags more false is_sure
-kept_put block cache device durable dirty pending is_clean is_sure at front behind xs kept le fits newer flags more size put octets size-dirty marks size-pending marks-more = record {
-  some = kept.some;
-  as_device = kept.as_device ∙ sym size;
-  as_durable = kept.as_durable ∙ sym size;
-  as_dirty = size-dirty ∙ kept.as_dirty ∙ sym size-pending;
-  blocks = ap (λ (c : ℕ). block * c) size-pending ∙ kept.blocks ∙ sym size;
-  cache_octets = octets;
-  device_octets = kept.device_octets;
-  durable_octets = kept.durable_octets;
-  shown = λ p clear. kept.shown p (parts (p / block) clear).1;
-  fewer = λ n clear. marks n ∙ from (has_some block front behind n) (flag_at dirty n) (parts n clear).0 (kept.fewer n (parts n clear).1);
-  clean = λ is. absurd (let no : false ≡ true = is in cc);
-  seen = λ sure p clear.
-      put p ∙ has-none block p front behind (octet_at cache) at xs kept.some le fits (parts (p / block) clear).0 ∙ kept.seen sure p (parts (p / block) clear).1;
-  all = λ sure n clear.
-      let apart = or_parts (has_some block front behind n) (flag_at dirty n) (sym (marks n) ∙ clear) in
-      marks-more n ∙ from (has_some block front behind n) (flag_at pending n) apart.0 (kept.all sure n apart.1);
-} where
-  parts : (n : ℕ) → flag_at more n ≡ false → (has_some block front behind n ≡ false) × (flag_at pending n ≡ false)
-  parts n clear = or_parts (has_some block front behind n) (flag_at pending n) (sym (marks-more n) ∙ clear)
+kept_put block cache device durable dirty pending is_clean is_sure
+    at front behind xs kept le fits newer flags more size put octets size-dirty marks size-pending marks-more = record {
+      some = kept.some;
+      as_device = kept.as_device ∙ sym size;
+      as_durable = kept.as_durable ∙ sym size;
+      as_dirty = size-dirty ∙ kept.as_dirty ∙ sym size-pending;
+      blocks = ap (λ (c : ℕ). block * c) size-pending ∙ kept.blocks ∙ sym size;
+      cache_octets = octets;
+      device_octets = kept.device_octets;
+      durable_octets = kept.durable_octets;
+      shown = λ p clear. kept.shown p (parts (p / block) clear).1;
+      fewer = λ n clear. marks n
+          ∙ from (has_some block front behind n) (flag_at dirty n) (parts n clear).0 (kept.fewer n (parts n clear).1);
+      clean = λ is. absurd (let no : false ≡ true = is in cc);
+      seen = λ sure p clear.
+          put p ∙ has-none block p front behind (octet_at cache) at xs kept.some le fits (parts (p / block) clear).0
+          ∙ kept.seen sure p (parts (p / block) clear).1;
+      all = λ sure n clear.
+          let apart = or_parts (has_some block front behind n) (flag_at dirty n) (sym (marks n) ∙ clear) in
+          marks-more n ∙ from (has_some block front behind n) (flag_at pending n) apart.0 (kept.all sure n apart.1);
+    } where
+      parts : (n : ℕ) → flag_at more n ≡ false → (has_some block front behind n ≡ false) × (flag_at pending n ≡ false)
+      parts n clear = or_parts (has_some block front behind n) (flag_at pending n) (sym (marks-more n) ∙ clear)
 
-  from : (a b : Bool) → a ≡ false → b ≡ false → (a || b) ≡ false
-  from true b is other = is
-  from false b is other = other
+      from : (a b : Bool) → a ≡ false → b ≡ false → (a || b) ≡ false
+      from true b is other = is
+      from false b is other = other
 
 -- what was put is what a write writes
-size-stays : (durable size end : ℕ) → durable ≤ size → (durable == max size end) ≡ ((durable == size) && nat_le end size)
+size-stays : (durable size end : ℕ) → durable ≤ size
+    → (durable == max size end) ≡ ((durable == size) && nat_le end size)
 size-stays durable size end le = elim (cases_lt size end) [
   | inl longer ↦
       let no = lt-leb end size longer in
@@ -95,38 +107,44 @@ size-stays durable size end le = elim (cases_lt size end) [
   and-one true = refl
   and-one false = refl
 
-pub put_writes : (block size durable_size : ℕ) (cache durable : List ℕ) (pending : List Bool) (is_clean is_sure is_claimed : Bool) (at count : ℕ) (xs : List ℕ)
+pub put_writes : (block size durable_size : ℕ) (cache durable : List ℕ) (pending : List Bool)
+    (is_clean is_sure is_claimed : Bool) (at count : ℕ) (xs : List ℕ)
     → length xs ≡ count → 0 < count → durable_size ≤ size
-    → (longer : ℕ) (newer : List ℕ) (more : List Bool) → longer ≡ max size (at + count) → ((p : ℕ) → octet_at newer p ≡ put_from (octet_at cache) at xs p)
+    → (longer : ℕ) (newer : List ℕ) (more : List Bool) → longer ≡ max size (at + count)
+    → ((p : ℕ) → octet_at newer p ≡ put_from (octet_at cache) at xs p)
     → ((n : ℕ) → flag_at more n ≡ (has_some block at (at + count) n || flag_at pending n))
     → file_in_memory block longer durable_size newer durable more false is_sure is_claimed
     ≡ file_after_write (file_in_memory block size durable_size cache durable pending is_clean is_sure is_claimed) at xs
-put_writes block size durable_size cache durable pending is_clean is_sure is_claimed at count [] is some le longer newer more size-is put marks = absurd (omega (arith, is, some))
-put_writes block size durable_size cache durable pending is_clean is_sure is_claimed at count (x ∷ xs) is some le longer newer more size-is put marks = λ j. record {
-  behaves = true;
-  block = block;
-  size = grown j;
-  is_size_durable = durable-is j;
-  seen = λ p. put p j;
-  durable = octet_at durable;
-  pending = λ n. marked n j;
-  is_clean = false;
-  is_sure = is_sure;
-  is_claimed = is_claimed;
-} where
-  grown : longer ≡ max size (at + length (x ∷ xs))
-  grown = size-is ∙ ap (λ (c : ℕ). max size (at + c)) (sym is)
+put_writes block size durable_size cache durable pending is_clean is_sure is_claimed
+    at count [] is some le longer newer more size-is put marks = absurd (omega (arith, is, some))
+put_writes block size durable_size cache durable pending is_clean is_sure is_claimed
+    at count (x ∷ xs) is some le longer newer more size-is put marks = λ j. record {
+      behaves = true;
+      block = block;
+      size = grown j;
+      is_size_durable = durable-is j;
+      seen = λ p. put p j;
+      durable = octet_at durable;
+      pending = λ n. marked n j;
+      is_clean = false;
+      is_sure = is_sure;
+      is_claimed = is_claimed;
+    } where
+      grown : longer ≡ max size (at + length (x ∷ xs))
+      grown = size-is ∙ ap (λ (c : ℕ). max size (at + c)) (sym is)
 
-  durable-is : (durable_size == longer) ≡ ((durable_size == size) && nat_le (at + length (x ∷ xs)) size)
-  durable-is = ap (λ (s : ℕ). durable_size == s) grown ∙ size-stays durable_size size (at + length (x ∷ xs)) le
+      durable-is : (durable_size == longer) ≡ ((durable_size == size) && nat_le (at + length (x ∷ xs)) size)
+      durable-is = ap (λ (s : ℕ). durable_size == s) grown ∙ size-stays durable_size size (at + length (x ∷ xs)) le
 
-  marked : (n : ℕ) → flag_at more n ≡ (has_some block at (at + length (x ∷ xs)) n || flag_at pending n)
-  marked n = marks n ∙ ap (λ (c : ℕ). has_some block at (at + c) n || flag_at pending n) (sym is)
+      marked : (n : ℕ) → flag_at more n ≡ (has_some block at (at + length (x ∷ xs)) n || flag_at pending n)
+      marked n = marks n ∙ ap (λ (c : ℕ). has_some block at (at + c) n || flag_at pending n) (sym is)
 
 -- octets that are durable where nothing is pending
-pub image_kept : (block size durable_size : ℕ) (cache durable image : List ℕ) (pending : List Bool) (is_clean is_sure is_claimed : Bool)
+pub image_kept : (block size durable_size : ℕ) (cache durable image : List ℕ) (pending : List Bool)
+    (is_clean is_sure is_claimed : Bool)
     → ((p : ℕ) → flag_in block pending p ≡ false → octet_at image p ≡ octet_at durable p) → are_octets image
-    → IsFileImage (file_in_memory block size durable_size cache durable pending is_clean is_sure is_claimed) (octet_at image)
+    → IsFileImage (file_in_memory block size durable_size cache durable pending is_clean is_sure is_claimed)
+    (octet_at image)
 image_kept block size durable_size cache durable image pending is_clean is_sure is_claimed kept octets = record {
   kept = λ n k clear lt. kept (block * n + k) (ap (flag_at pending) (block-of block n k lt) ∙ clear);
   octets = octets;
@@ -139,12 +157,14 @@ nothing_lost old new is left same = record {
   block = ap (λ (f : FileState). f.block) is;
   size = λ durable. (same durable, ap (λ (f : FileState). f.is_size_durable) is);
   images = λ image next.
-      let now : IsFileImage (file_after_loss old new.size new.durable) image = subst (λ (f : FileState). IsFileImage f image) is next in
+      let now : IsFileImage (file_after_loss old new.size new.durable) image =
+      subst (λ (f : FileState). IsFileImage f image) is next in
       record { kept = λ n k clear lt. now.kept n k refl lt ∙ left.kept n k clear lt; octets = now.octets };
 }
 
 -- of a file whose size is durable
-pub size_lost : (left : Left) (size durable_size lost : ℕ) → lost ≡ size_left left size durable_size → (durable_size == size) ≡ true → lost ≡ size
+pub size_lost : (left : Left) (size durable_size lost : ℕ) → lost ≡ size_left left size durable_size
+    → (durable_size == size) ≡ true → lost ≡ size
 size_lost Durable size durable_size lost is durable = is ∙ is_same durable_size size durable
 size_lost Written size durable_size lost is durable = is
 size_lost Half size durable_size lost is durable = is
@@ -156,31 +176,40 @@ chosen true x this that up down = up refl
 chosen false x this that up down = down refl
 
 -- what a power loss leaves, once all that is dirty was written
-pub loss_leaves : (block size durable_size : ℕ) (cache device durable : List ℕ) (dirty pending : List Bool) (is_clean is_sure is_claimed : Bool) (left : Left)
+pub loss_leaves : (block size durable_size : ℕ) (cache device durable : List ℕ) (dirty pending : List Bool)
+    (is_clean is_sure is_claimed : Bool) (left : Left)
     → (written spoiled : List ℕ)
     → ((p : ℕ) → flag_in block dirty p ≡ true → octet_at written p ≡ octet_at cache p)
     → ((p : ℕ) → flag_in block dirty p ≡ false → octet_at written p ≡ octet_at device p)
-    → ((p : ℕ) → flag_in block pending p ≡ true → octet_at spoiled p ≡ left_of left (is_in_first_half block p) (octet_at durable p) (octet_at written p))
+    → ((p : ℕ) → flag_in block pending p ≡ true
+    → octet_at spoiled p ≡ left_of left (is_in_first_half block p) (octet_at durable p) (octet_at written p))
     → ((p : ℕ) → flag_in block pending p ≡ false → octet_at spoiled p ≡ octet_at durable p)
-    → (p : ℕ) → octet_at spoiled p ≡ octet_left left (file_in_memory block size durable_size cache durable pending is_clean is_sure is_claimed)
+    → (p : ℕ) → octet_at spoiled p
+    ≡ octet_left left (file_in_memory block size durable_size cache durable pending is_clean is_sure is_claimed)
     (λ q. if flag_in block dirty q then octet_at cache q else octet_at device q) p
-loss_leaves block size durable_size cache device durable dirty pending is_clean is_sure is_claimed left written spoiled copied others lost kept p =
+loss_leaves block size durable_size cache device durable dirty pending is_clean is_sure is_claimed left written spoiled
+    copied others lost kept p =
     let now : octet_at written p ≡ (if flag_in block dirty p then octet_at cache p else octet_at device p) =
     chosen (flag_in block dirty p) (octet_at written p) (octet_at cache p) (octet_at device p) (copied p) (others p) in
     chosen (flag_in block pending p) (octet_at spoiled p)
-    (left_of left (is_in_first_half block p) (octet_at durable p) (if flag_in block dirty p then octet_at cache p else octet_at device p))
+    (left_of left (is_in_first_half block p) (octet_at durable p)
+    (if flag_in block dirty p then octet_at cache p else octet_at device p))
     (octet_at durable p)
     (λ up. lost p up ∙ ap (λ (o : ℕ). left_of left (is_in_first_half block p) (octet_at durable p) o) now) (kept p)
 
 -- of a file that is sure all that is pending is dirty, so that what is written there is what it shows
-pub left_of_seen : (block size durable_size : ℕ) (cache device durable : List ℕ) (dirty pending : List Bool) (is_clean is_sure is_claimed : Bool) (left : Left)
+pub left_of_seen : (block size durable_size : ℕ) (cache device durable : List ℕ) (dirty pending : List Bool)
+    (is_clean is_sure is_claimed : Bool) (left : Left)
     → IsKept block cache device durable dirty pending is_clean is_sure → is_sure ≡ true → (p : ℕ)
     → octet_left left (file_in_memory block size durable_size cache durable pending is_clean is_sure is_claimed)
     (λ q. if flag_in block dirty q then octet_at cache q else octet_at device q) p
-    ≡ octet_left left (file_in_memory block size durable_size cache durable pending is_clean is_sure is_claimed) (octet_at cache) p
+    ≡ octet_left left (file_in_memory block size durable_size cache durable pending is_clean is_sure is_claimed)
+    (octet_at cache) p
 left_of_seen block size durable_size cache device durable dirty pending is_clean is_sure is_claimed left kept sure p =
-    same (flag_in block pending p) (octet_at durable p) (if flag_in block dirty p then octet_at cache p else octet_at device p) (octet_at cache p)
-    (λ up. shown (flag_in block dirty p) (octet_at cache p) (octet_at device p) (λ down. apart (sym up ∙ kept.all sure (p / block) down))) where
+    same (flag_in block pending p) (octet_at durable p)
+    (if flag_in block dirty p then octet_at cache p else octet_at device p) (octet_at cache p)
+    (λ up. shown (flag_in block dirty p) (octet_at cache p) (octet_at device p)
+    (λ down. apart (sym up ∙ kept.all sure (p / block) down))) where
       apart : true ≡ false → ⊥
       apart is = absurd (let differ : true ≡ false = is in cc)
 
@@ -189,13 +218,15 @@ left_of_seen block size durable_size cache device durable dirty pending is_clean
       shown false this that never = absurd (never refl)
 
       same : (b : Bool) (d w s : ℕ) → (b ≡ true → w ≡ s)
-          → (if b then left_of left (is_in_first_half block p) d w else d) ≡ (if b then left_of left (is_in_first_half block p) d s else d)
+          → (if b then left_of left (is_in_first_half block p) d w else d)
+          ≡ (if b then left_of left (is_in_first_half block p) d s else d)
       same true d w s is = ap (λ (o : ℕ). left_of left (is_in_first_half block p) d o) (is refl)
       same false d w s is = refl
 
 -- a clean file that shows what is durable is sure
 pub kept_reread : (block : ℕ) (cache device durable : List ℕ) (dirty pending : List Bool) (is_clean is_sure : Bool)
-    → IsKept block cache device durable dirty pending is_clean is_sure → (is_clean ≡ true → (p : ℕ) → octet_at cache p ≡ octet_at durable p)
+    → IsKept block cache device durable dirty pending is_clean is_sure
+    → (is_clean ≡ true → (p : ℕ) → octet_at cache p ≡ octet_at durable p)
     → IsKept block cache device durable dirty pending is_clean (is_sure || is_clean)
 kept_reread block cache device durable dirty pending true true kept shows = kept
 kept_reread block cache device durable dirty pending true false kept shows = record {

@@ -1,5 +1,6 @@
 -- Octets in memory by their blocks, and what a file in memory keeps of them.
-use Rattle.std.specs.Prelude.{◌≡◌, ◌<◌, ◌*◌, ◌/◌, ◌%◌, ◌^◌, ◌==◌, ℕ, if◌then◌else◌, nat_lt, Bool, true, false, List, length, get_or}
+use Rattle.std.specs.Prelude.{◌≡◌, ◌<◌, ◌*◌, ◌/◌, ◌%◌, ◌^◌, ◌==◌, ℕ, if◌then◌else◌, nat_lt, Bool, true, false, List}
+use Rattle.std.specs.Prelude.{length, get_or}
 use Rattle.macs_disk.specs.Files.{FileState}
 use Rattle.macs_disk.specs.CallLists.{flag_at}
 use Rattle.macs_mem_file.specs.declared.blocks.Left.{Left}
@@ -17,9 +18,10 @@ flag_in block flags p = flag_at flags (p / block)
 abbrev pub are_octets : List ℕ → Type 0
 are_octets octets = (p : ℕ) → octet_at octets p < 2 ^ 8
 
--- What a file in memory keeps: what reads give, what the device shows and what it durably has; and by block what the next
--- sync writes to the device, and what was written since the last that succeeded.
-pub record IsKept (block : ℕ) (cache device durable : List ℕ) (dirty pending : List Bool) (is_clean is_sure : Bool) : Type 0 where
+-- What a file in memory keeps: what reads give, what the device shows and what it durably has; and by block what the
+-- next sync writes to the device, and what was written since the last that succeeded.
+pub record IsKept (block : ℕ) (cache device durable : List ℕ) (dirty pending : List Bool)
+    (is_clean is_sure : Bool) : Type 0 where
   pub some : 0 < block
   pub as_device : length device ≡ length cache
   pub as_durable : length durable ≡ length cache
@@ -36,8 +38,8 @@ pub record IsKept (block : ℕ) (cache device durable : List ℕ) (dirty pending
   pub seen : is_sure ≡ true → (p : ℕ) → flag_in block pending p ≡ false → octet_at cache p ≡ octet_at durable p
   pub all : is_sure ≡ true → (n : ℕ) → flag_at dirty n ≡ false → flag_at pending n ≡ false
 
--- what a power loss leaves in the place of an octet of a pending block, where this one was durable and that one written.
--- It lies in the first half of its block or not.
+-- what a power loss leaves in the place of an octet of a pending block, where this one was durable and that one
+-- written. It lies in the first half of its block or not.
 abbrev pub left_of : Left → Bool → ℕ → ℕ → ℕ
 left_of Durable is_first durable written = durable
 left_of Written is_first durable written = written
@@ -48,7 +50,8 @@ left_of Zeros is_first durable written = 0
 abbrev pub is_in_first_half : ℕ → ℕ → Bool
 is_in_first_half block p = nat_lt (p % block) (block / 2)
 
--- the octet that a power loss leaves at a place, where these were written: the durable one in a block that is not pending
+-- the octet that a power loss leaves at a place, where these were written: the durable one in a block that is not
+-- pending
 abbrev pub octet_left : Left → FileState → (ℕ → ℕ) → ℕ → ℕ
 octet_left left file written p =
     if file.pending (p / file.block)

@@ -13,7 +13,8 @@ block-of block n k lt =
     let next : (n + 1) * block ≡ n * block + 1 * block = add-mul n 1 block in
     div-eq_of_lt-le block (omega (arith, turned)) (omega (arith, turned, next, lt))
 
-pub memory-sound : (block size durable_size : ℕ) (cache device durable : List ℕ) (dirty pending : List Bool) (is_clean is_sure is_claimed : Bool)
+pub memory-sound : (block size durable_size : ℕ) (cache device durable : List ℕ) (dirty pending : List Bool)
+    (is_clean is_sure is_claimed : Bool)
     → IsKept block cache device durable dirty pending is_clean is_sure
     → IsSoundFile (file_in_memory block size durable_size cache durable pending is_clean is_sure is_claimed)
 memory-sound block size durable_size cache device durable dirty pending is_clean is_sure is_claimed kept = record {

@@ -9,7 +9,8 @@ use Rattle.macs_mem_file.specs.declared.plan.FileCall.{FileCall}
 
 -- a file in memory, as a file
 abbrev pub file_of : {A : Type 0} → MemFile A → FileState
-file_of it = file_in_memory it.block it.size it.durable_size it.cache.items it.durable.items it.pending.items it.is_clean it.is_sure it.is_claimed
+file_of it = file_in_memory it.block it.size it.durable_size it.cache.items it.durable.items it.pending.items
+    it.is_clean it.is_sure it.is_claimed
 
 -- what the device has once all that is dirty was written to it
 abbrev pub written_in : {A : Type 0} → MemFile A → ℕ → ℕ
@@ -44,7 +45,8 @@ file_pressed file octets = record file { seen = octets }
 abbrev pub file_closed : FileState → FileState
 file_closed file = record file { is_sure = false; is_claimed = false }
 
--- the file that a power loss left with so many octets, and with these. It is not sure before it was synced and read again.
+-- the file that a power loss left with so many octets, and with these. It is not sure before it was synced and read
+-- again.
 abbrev pub file_after_loss : FileState → ℕ → (ℕ → ℕ) → FileState
 file_after_loss file size octets =
     record {

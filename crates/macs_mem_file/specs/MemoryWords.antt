@@ -9,8 +9,8 @@ use Rattle.macs_mem_file.specs.declared.blocks.Left.TheVariants.{Durable, Writte
 use Rattle.macs_mem_file.specs.declared.file.MemFile.{MemFile}
 
 -- A device has blocks of 512 octets or of 4,096. Of an octet of a block that is pending a power loss leaves what was
--- durable, what was written, what was written in the first half of the block alone, or zero; any other octet is as it was
--- durable. The size is the one that was written with what was written, else the durable one.
+-- durable, what was written, what was written in the first half of the block alone, or zero; any other octet is as it
+-- was durable. The size is the one that was written with what was written, else the durable one.
 pub record LossWords : Type 0 where
   pub blocks : map octets_in (Octets512 ∷ Octets4096 ∷ []) ≡ 512 ∷ 4096 ∷ []
   pub halves : map (is_in_first_half 512) (0 ∷ 255 ∷ 256 ∷ 511 ∷ 512 ∷ []) ≡ true ∷ true ∷ false ∷ false ∷ true ∷ []

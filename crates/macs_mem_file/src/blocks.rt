@@ -1,8 +1,10 @@
 //! Octets in memory, and flags of their blocks.
 
-ghost use Rattle.std.specs.Prelude.{◌≡◌, ◌<◌, ◌≤◌, ◌+◌, ◌*◌, ◌/◌, ◌^◌, ◌||◌, ℕ, nat_lt, not, false, true, length, take};
+ghost use Rattle.std.specs.Prelude.{◌≡◌, ◌<◌, ◌≤◌, ◌+◌, ◌*◌, ◌/◌, ◌^◌, ◌||◌, ℕ, nat_lt, not, false};
+ghost use Rattle.std.specs.Prelude.{true, length, take};
 ghost use Rattle.macs_disk.specs.Files.{has_some, put_from, values_from};
-ghost use Rattle.macs_mem_file.specs.Blocks.{are_octets, flag_in, is_in_first_half, left_of, octet_at, size_left};
+ghost use Rattle.macs_mem_file.specs.Blocks.{are_octets, flag_in, is_in_first_half, left_of};
+ghost use Rattle.macs_mem_file.specs.Blocks.{octet_at, size_left};
 ghost use Rattle.macs_disk.specs.CallLists.{flag_at};
 
 use std::alloc::Allocator;
@@ -55,7 +57,8 @@ impl Left {
     }
 }
 
-/// From where on octets are dirty that were written from `at` on: where the file is not sure, whole pages are.
+/// From where on octets are dirty that were written from `at` on: where the file is not sure, whole
+/// pages are.
 pub(crate) fn dirty_from(at: usize, is_sure: bool) -> usize
     ensures before { result ≤ at }
     ensures sure { is_sure ≡ true → result ≡ at }
@@ -66,7 +69,8 @@ pub(crate) fn dirty_from(at: usize, is_sure: bool) -> usize
     at - at % PAGE
 }
 
-/// Up to where octets are dirty that were written up to before `end`, in a file with room for so many.
+/// Up to where octets are dirty that were written up to before `end`, in a file with room for so
+/// many.
 pub(crate) fn dirty_to(end: usize, room: usize, is_sure: bool) -> usize
     requires { end ≤ room }
     ensures within { result ≤ room }
@@ -84,7 +88,8 @@ pub(crate) fn store<A: Allocator>(to: &mut Vec<u8, A>, at: usize, from: &[u8], c
     requires given { count ≤ length from.now }
     requires within { at + count ≤ length to.old.items }
     ensures length { length to.new.items ≡ length to.old.items }
-    ensures stored { (p : ℕ) → octet_at to.new.items p ≡ put_from (octet_at to.old.items) at (take count from.now) p }
+    ensures stored { (p : ℕ)
+        → octet_at to.new.items p ≡ put_from (octet_at to.old.items) at (take count from.now) p }
     ensures octets { are_octets to.old.items → are_octets to.new.items }
 {
     for i in 0..count {
@@ -145,7 +150,8 @@ pub(crate) fn copy_blocks<A: Allocator>(
     requires blocks { block * length flags.now ≡ length to.old.items }
     requires alike { length from.now ≡ length to.old.items }
     ensures length { length to.new.items ≡ length to.old.items }
-    ensures copied { (p : ℕ) → flag_in block flags.now p ≡ which → octet_at to.new.items p ≡ octet_at from.now p }
+    ensures copied { (p : ℕ) → flag_in block flags.now p ≡ which
+        → octet_at to.new.items p ≡ octet_at from.now p }
     ensures others { (p : ℕ) → flag_in block flags.now p ≡ not which
         → octet_at to.new.items p ≡ octet_at to.old.items p }
 {
@@ -168,10 +174,14 @@ fn spoil_block<A: Allocator>(
     requires alike { length written.now ≡ length durable.old.items }
     ensures length { length durable.new.items ≡ length durable.old.items }
     ensures spoiled { (p : ℕ) → at ≤ p → p < at + block → octet_at durable.new.items p
-        ≡ left_of left (nat_lt p (at + block / 2)) (octet_at durable.old.items p) (octet_at written.now p) }
-    ensures before { (p : ℕ) → p < at → octet_at durable.new.items p ≡ octet_at durable.old.items p }
-    ensures behind { (p : ℕ) → at + block ≤ p → octet_at durable.new.items p ≡ octet_at durable.old.items p }
-    ensures octets { are_octets durable.old.items → are_octets written.now → are_octets durable.new.items }
+        ≡ left_of left (nat_lt p (at + block / 2)) (octet_at durable.old.items p)
+        (octet_at written.now p) }
+    ensures before { (p : ℕ) → p < at
+        → octet_at durable.new.items p ≡ octet_at durable.old.items p }
+    ensures behind { (p : ℕ) → at + block ≤ p
+        → octet_at durable.new.items p ≡ octet_at durable.old.items p }
+    ensures octets { are_octets durable.old.items → are_octets written.now
+        → are_octets durable.new.items }
 {
     match left {
         Left::Durable => {}
@@ -194,10 +204,12 @@ pub(crate) fn spoil<A: Allocator>(
     requires alike { length written.now ≡ length durable.old.items }
     ensures length { length durable.new.items ≡ length durable.old.items }
     ensures spoiled { (p : ℕ) → flag_in block pending.now p ≡ true → octet_at durable.new.items p
-        ≡ left_of left (is_in_first_half block p) (octet_at durable.old.items p) (octet_at written.now p) }
+        ≡ left_of left (is_in_first_half block p) (octet_at durable.old.items p)
+        (octet_at written.now p) }
     ensures kept { (p : ℕ) → flag_in block pending.now p ≡ false
         → octet_at durable.new.items p ≡ octet_at durable.old.items p }
-    ensures octets { are_octets durable.old.items → are_octets written.now → are_octets durable.new.items }
+    ensures octets { are_octets durable.old.items → are_octets written.now
+        → are_octets durable.new.items }
 {
     for n in 0..pending.len() {
         if pending[n] {
@@ -211,7 +223,8 @@ pub(crate) fn mark<A: Allocator>(flags: &mut Vec<bool, A>, block: usize, from: u
     requires fits { block * length flags.old.items < 2 ^ 63 }
     requires within { to ≤ block * length flags.old.items }
     ensures length { length flags.new.items ≡ length flags.old.items }
-    ensures marked { (n : ℕ) → flag_at flags.new.items n ≡ (has_some block from to n || flag_at flags.old.items n) }
+    ensures marked { (n : ℕ)
+        → flag_at flags.new.items n ≡ (has_some block from to n || flag_at flags.old.items n) }
 {
     for n in 0..flags.len() {
         if n * block < to && from < n * block + block {
@@ -223,7 +236,8 @@ pub(crate) fn mark<A: Allocator>(flags: &mut Vec<bool, A>, block: usize, from: u
 /// Takes down all flags after the first so many that are up.
 pub(crate) fn keep_first<A: Allocator>(flags: &mut Vec<bool, A>, count: usize)
     ensures length { length flags.new.items ≡ length flags.old.items }
-    ensures fewer { (n : ℕ) → flag_at flags.old.items n ≡ false → flag_at flags.new.items n ≡ false }
+    ensures fewer { (n : ℕ) → flag_at flags.old.items n ≡ false
+        → flag_at flags.new.items n ≡ false }
 {
     let mut left = count;
     for n in 0..flags.len() {

@@ -13,16 +13,17 @@ use std::alloc::{AllocError, Allocator, Global};
 use std::io;
 use std::io::ErrorKind;
 
-/// An open file in memory that behaves as one of a kernel's does, of no more octets than it has room for.
+/// An open file in memory that behaves as one of a kernel's does, of no more octets than it has
+/// room for.
 ///
-/// The kernel keeps the file's pages of 4,096 octets in a cache, which reads and writes go to. A sync writes
-/// the pages that are dirty to the device, and has the device make them durable. Where it fails the
-/// kernel takes the pages to be clean all the same: reads go on giving them, and no later sync writes
-/// them. The failure is reported once. Pages that are clean may be dropped at any moment, and are read from
-/// the device when they are next asked for.
+/// The kernel keeps the file's pages of 4,096 octets in a cache, which reads and writes go to. A
+/// sync writes the pages that are dirty to the device, and has the device make them durable. Where
+/// it fails the kernel takes the pages to be clean all the same: reads go on giving them, and no
+/// later sync writes them. The failure is reported once. Pages that are clean may be dropped at any
+/// moment, and are read from the device when they are next asked for.
 ///
-/// A test chooses the call that fails, when memory is short and clean pages are dropped (`press`), when the
-/// program ends (`close`), and what a power loss leaves (`crash`).
+/// A test chooses the call that fails, when memory is short and clean pages are dropped (`press`),
+/// when the program ends (`close`), and what a power loss leaves (`crash`).
 #[derive(Drop)]
 pub struct MemFile<A: Allocator = Global> {
     /// What reads give.
@@ -31,8 +32,8 @@ pub struct MemFile<A: Allocator = Global> {
     device: Vec<u8, A>,
     /// What the device has durably.
     durable: Vec<u8, A>,
-    /// By block of the device: the next sync writes it. While the file is sure, all else in a page is what
-    /// the device has.
+    /// By block of the device: the next sync writes it. While the file is sure, all else in a page
+    /// is what the device has.
     dirty: Vec<bool, A>,
     /// By block of the device: it was written since the last sync that succeeded.
     pending: Vec<bool, A>,
@@ -50,7 +51,8 @@ pub struct MemFile<A: Allocator = Global> {
     plan: Plan,
     /// How many blocks a sync that fails has written.
     reached: usize,
-    ghost kept: { IsKept block cache.items device.items durable.items dirty.items pending.items is_clean is_sure },
+    ghost kept: { IsKept block cache.items device.items durable.items dirty.items pending.items
+        is_clean is_sure },
     ghost fits: { size ≤ length cache.items },
     ghost grown: { durable_size ≤ size },
 }
@@ -59,8 +61,8 @@ impl<A: Allocator + Copy> MemFile<A> {
     ghost use Rattle.macs_disk.specs.Files.{Behaves};
     ghost use Rattle.macs_mem_file.specs.MemFiles.{file_of, octets_in};
 
-    /// An empty file with room for so many pages, on a device of such blocks. A call moves at most so many
-    /// octets.
+    /// An empty file with room for so many pages, on a device of such blocks. A call moves at most
+    /// so many octets.
     pub fn new(
         alloc: A,
         pages: u16,
@@ -95,10 +97,13 @@ impl<A: Allocator + Copy> MemFile<A> {
 
 impl<A: Allocator> MemFile<A> {
     ghost use Rattle.std.specs.Prelude.{◌≡◌, ◌<◌, ◌≤◌, ◌+◌, false, true, length, nat_lt, take};
-    ghost use Rattle.macs_disk.specs.Files.{HasNothingNew, IsFileImage, IsSure, file_after_write, file_in_doubt, file_synced};
+    ghost use Rattle.macs_disk.specs.Files.{HasNothingNew, IsFileImage, IsSure, file_after_write};
+    ghost use Rattle.macs_disk.specs.Files.{file_in_doubt, file_synced};
     ghost use Rattle.macs_mem_file.specs.Blocks.{octet_at, octet_left, size_left};
-    ghost use Rattle.macs_mem_file.specs.MemFiles.{file_after_loss, file_closed, file_of, file_pressed, written_in};
-    ghost use Rattle.macs_mem_file.specs.MemFiles.{blocks_reached_by, durable_size_of, failing_call_of, failing_number_of};
+    ghost use Rattle.macs_mem_file.specs.MemFiles.{file_after_loss, file_closed, file_of};
+    ghost use Rattle.macs_mem_file.specs.MemFiles.{file_pressed, written_in};
+    ghost use Rattle.macs_mem_file.specs.MemFiles.{blocks_reached_by, durable_size_of};
+    ghost use Rattle.macs_mem_file.specs.MemFiles.{failing_call_of, failing_number_of};
 
     /// Has the so manieth call of this kind fail, from now on, once. With 0 none does.
     pub fn fail(&mut self, call: FileCall, nth: u64)
@@ -124,8 +129,8 @@ impl<A: Allocator> MemFile<A> {
         self.plan.nth > 0
     }
 
-    // Puts octets from the front of these into the cache. They are dirty, and so is the rest of their pages
-    // where that may not be what the device has.
+    // Puts octets from the front of these into the cache. They are dirty, and so is the rest of
+    // their pages where that may not be what the device has.
     fn put(&mut self, at: usize, from: &[u8], count: usize)
         requires some { 0 < count }
         requires given { count ≤ length from.now }
@@ -146,9 +151,11 @@ impl<A: Allocator> MemFile<A> {
 
     // Writes what is dirty to the device, which makes it durable.
     fn flush(&mut self)
-        ensures synced { file_of self.new ≡ file_synced (file_of self.old) (octet_at self.new.durable.items) }
+        ensures synced { file_of self.new
+            ≡ file_synced (file_of self.old) (octet_at self.new.durable.items) }
         ensures image { IsFileImage (file_of self.old) (octet_at self.new.durable.items) }
-        ensures sure { IsSure (file_of self.old) → (p : ℕ) → octet_at self.new.durable.items p ≡ octet_at self.old.cache.items p }
+        ensures sure { IsSure (file_of self.old) → (p : ℕ)
+            → octet_at self.new.durable.items p ≡ octet_at self.old.cache.items p }
     {
         copy_blocks(&mut self.device, &self.cache, &self.dirty, true, self.block);
         copy_blocks(
@@ -199,19 +206,22 @@ impl<A: Allocator> MemFile<A> {
         self.is_claimed = false;
     }
 
-    /// The power is lost, and after the next boot the file is opened again. Each block that was written since
-    /// the last sync that succeeded has what is said here, and so has the file's length: where the
-    /// octets that made it longer are lost, that is lost too.
+    /// The power is lost, and after the next boot the file is opened again. Each block that was
+    /// written since the last sync that succeeded has what is said here, and so has the file's
+    /// length: where the octets that made it longer are lost, that is lost too.
     pub fn crash(&mut self, left: Left)
         ensures lost { file_of self.new
-            ≡ file_after_loss (file_of self.old) (file_of self.new).size (file_of self.new).durable }
+            ≡ file_after_loss (file_of self.old) (file_of self.new).size
+            (file_of self.new).durable }
         ensures image { IsFileImage (file_of self.old) (file_of self.new).durable }
         ensures nothing_new { HasNothingNew (file_of self.old) (file_of self.new) }
-        ensures size { (file_of self.old).is_size_durable ≡ true → (file_of self.new).size ≡ (file_of self.old).size }
+        ensures size { (file_of self.old).is_size_durable ≡ true
+            → (file_of self.new).size ≡ (file_of self.old).size }
         ensures left { (p : ℕ) → (file_of self.new).durable p
             ≡ octet_left left (file_of self.old) (written_in self.old) p }
         ensures sure { IsSure (file_of self.old)
-            → (p : ℕ) → (file_of self.new).durable p ≡ octet_left left (file_of self.old) (file_of self.old).seen p }
+            → (p : ℕ) → (file_of self.new).durable p
+            ≡ octet_left left (file_of self.old) (file_of self.old).seen p }
         ensures length { (file_of self.new).size
             ≡ size_left left (file_of self.old).size (durable_size_of self.old) }
     {
@@ -230,7 +240,8 @@ impl<A: Allocator> MemFile<A> {
     // Shows what is durable, and nothing else.
     fn boot(&mut self, size: u64)
         requires { size ≤ length self.old.cache.items }
-        ensures { file_of self.new ≡ file_after_loss (file_of self.old) size (file_of self.old).durable }
+        ensures { file_of self.new
+            ≡ file_after_loss (file_of self.old) size (file_of self.old).durable }
     {
         self.cache.copy_from_slice(&self.durable);
         self.device.copy_from_slice(&self.durable);
@@ -254,7 +265,9 @@ impl<A: Allocator> DiskFile for MemFile<A> {
 
     ghost file = { file_of };
 
-    ghost sound = { λ it _. memory-sound it.block it.size it.durable_size it.cache.items it.device.items it.durable.items it.dirty.items it.pending.items it.is_clean it.is_sure it.is_claimed it.kept };
+    ghost sound = { λ it _. memory-sound it.block it.size it.durable_size it.cache.items
+        it.device.items it.durable.items it.dirty.items it.pending.items it.is_clean it.is_sure
+        it.is_claimed it.kept };
 
     fn claim(&mut self) -> io::Result<()> {
         self.plan.pass(FileCall::Claim)?;
@@ -274,7 +287,8 @@ impl<A: Allocator> DiskFile for MemFile<A> {
         ensures effect { Behaves (file_of self.old)
             → ReadsFile (file_of self.old) (file_of self.new) at into.new result }
         ensures failure { NotesFailure None None Reads error_kind result }
-        ensures within { IfOk result (λ count. (count ≡ 0) ⊎ (at + count ≤ (file_of self.old).size)) }
+        ensures within { IfOk result
+            (λ count. (count ≡ 0) ⊎ (at + count ≤ (file_of self.old).size)) }
     {
         self.plan.pass(FileCall::Read)?;
         if at >= self.size {

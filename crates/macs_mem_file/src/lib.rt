@@ -1,5 +1,5 @@
-//! A file in memory that behaves as one of a kernel's does, for tests: it has a cache and a device, syncs that
-//! fail, pressure on memory and power losses.
+//! A file in memory that behaves as one of a kernel's does, for tests: it has a cache and a device,
+//! syncs that fail, pressure on memory and power losses.
 #![tactic(auto)]
 
 mod blocks;

@@ -7,8 +7,9 @@ use std::cell::{RefCell, RefMut};
 use std::io;
 use std::io::ErrorKind;
 
-/// An open file of a kernel, which keeps the file where this one is let go. So a test comes to the file also
-/// where an opening of it failed. Since others may use the file at the same time, nothing is claimed.
+/// An open file of a kernel, which keeps the file where this one is let go. So a test comes to the
+/// file also where an opening of it failed. Since others may use the file at the same time, nothing
+/// is claimed.
 #[derive(Drop)]
 pub struct OpenMemFile<'a, A: Allocator = Global> {
     kernel: &'a RefCell<MemFile<A>>,

@@ -1,11 +1,13 @@
 -- All that is to be drawn of the words on reading a capture.
-use Rattle.std.proofs.Common.{◌≡◌, ◌≢◌, ◌<◌, ◌⊎◌, ◌-◌, ◌==◌, inl, inr, ℕ, Bool, true, false, cond, List, length, Option, Some}
+use Rattle.std.proofs.Common.{◌≡◌, ◌≢◌, ◌<◌, ◌⊎◌, ◌-◌, ◌==◌, inl, inr, ℕ, Bool, true, false, cond, List, length, Option}
+use Rattle.std.proofs.Common.{Some}
 use Rattle.std.proofs.Common.{None, Result, Ok, Err, refl, sym, subst}
 use Rattle.std.specs.Option.{option_or}
 use Rattle.std.specs.Prelude.{IfSome, nat_le, nat_lt, take}
 use Rattle.macs_pcap.specs.Faults.{header_fault, max_records, record_fault}
 use Rattle.macs_pcap.specs.Header.{BeginsWithHeader, longest}
-use Rattle.macs_pcap.specs.Reading.{AnswersFault, HoldsOfLeft, ReadsHeader, ReadsRecord, Takes, TellsFailedRead, WantsRoom}
+use Rattle.macs_pcap.specs.Reading.{AnswersFault, HoldsOfLeft, ReadsHeader, ReadsRecord, Takes, TellsFailedRead}
+use Rattle.macs_pcap.specs.Reading.{WantsRoom}
 use Rattle.macs_pcap.specs.Reading.{fault_in}
 use Rattle.macs_pcap.specs.ReadingWords.{HeaderWords, ReadWords}
 use Rattle.macs_pcap.specs.Records.{kept_in, original_in}
@@ -81,9 +83,11 @@ unfailed T before after at other noted = noted
 -- ---- capture records
 
 -- no fault of octets is a want of memory
-never_memory : (a b d e f g : Bool) → cond {A = Option PcapFault} a None (cond {A = Option PcapFault} b (Some fault.CutFile)
+never_memory : (a b d e f g : Bool)
+    → cond {A = Option PcapFault} a None (cond {A = Option PcapFault} b (Some fault.CutFile)
     (option_or (cond {A = Option PcapFault} d (Some fault.TooManyRecords)
-    (cond {A = Option PcapFault} e (Some fault.RecordTooLong) (cond {A = Option PcapFault} f (Some fault.CutRecord) None)))
+    (cond {A = Option PcapFault} e (Some fault.RecordTooLong)
+    (cond {A = Option PcapFault} f (Some fault.CutRecord) None)))
     (cond {A = Option PcapFault} g (Some fault.CutFile) None))) ≢ Some fault.Memory
 never_memory true b d e f g is = absurd (cc)
 never_memory false true d e f g is = absurd (cc)

@@ -1,12 +1,15 @@
 -- What the octets say that were taken from a source.
-use Rattle.std.proofs.Common.{rules, ◌≡◌, ◌≢◌, ◌∙◌, ◌<◌, ◌≤◌, ◌⊎◌, ℕ, ◌+◌, Bool, false, List, ◌++◌, length, take, replicate, Option, Some, None, Result, Ok, Err, IfErr, IfOk, IfSome, inr, refl, sym, ap, arith, subst}
+use Rattle.std.proofs.Common.{rules, ◌≡◌, ◌≢◌, ◌∙◌, ◌<◌, ◌≤◌, ◌⊎◌, ℕ, ◌+◌, Bool, false, List, ◌++◌, length, take}
+use Rattle.std.proofs.Common.{replicate, Option, Some, None, Result, Ok, Err, IfErr, IfOk, IfSome, inr, refl, sym, ap}
+use Rattle.std.proofs.Common.{arith, subst}
 use Rattle.std.specs.Prelude.{◌==◌, nat_lt}
 use Rattle.std.specs.Io.KnownBytes.{Consumes}
 use Rattle.std.proofs.lemmas.Bool.{le-ltb}
 use Rattle.macs_pcap.proofs.Fronts.{front, length-front, whole-taken}
 use Rattle.macs_pcap.specs.Faults.{field_fault, record_header_fault, header_fault, max_records, record_fault}
 use Rattle.macs_pcap.specs.Header.{BeginsWithHeader, header_in}
-use Rattle.macs_pcap.specs.Reading.{AnswersFault, AnswersRecordHeaderFault, HoldsOfLeft, IsOfRecordHeader, LeavesFrame, ReadsHeader, TakesRecordHeader, TakesOctets, TellsFailedRead, fault_in}
+use Rattle.macs_pcap.specs.Reading.{AnswersFault, AnswersRecordHeaderFault, HoldsOfLeft, IsOfRecordHeader, LeavesFrame}
+use Rattle.macs_pcap.specs.Reading.{ReadsHeader, TakesRecordHeader, TakesOctets, TellsFailedRead, fault_in}
 use Rattle.macs_pcap.specs.Records.{IsSoundRecordHeader, kept_in, stamp_in}
 use Rattle.macs_pcap.specs.States.{SourceState}
 use Rattle.macs_pcap.specs.declared.fault.PcapFault.{PcapFault}
@@ -17,7 +20,8 @@ use Rattle.macs_pcap.specs.declared.header.Stamp.{Stamp}
 
 -- ---- the header
 
-header-taken : (before after : Option (List ℕ)) (octets : List ℕ) (answer : Result Header PcapFault) → length octets ≡ 24 → Consumes before after octets
+header-taken : (before after : Option (List ℕ)) (octets : List ℕ) (answer : Result Header PcapFault)
+    → length octets ≡ 24 → Consumes before after octets
     → IfOk answer (λ header. header ≡ header_in octets)
     → IfOk answer (λ header. HoldsOfLeft before after (λ left rest. BeginsWithHeader left header rest))
 header-taken None after octets (Ok header) size taken says = tt
@@ -27,8 +31,10 @@ header-taken (Some left) (Some rest) octets (Ok header) size taken says =
     record { says = says ∙ ap header_in (sym same); octets = taken ∙ ap (λ (l : List ℕ). l ++ rest) (sym same) }
 header-taken before after octets (Err fault) size taken says = tt
 
-header-faulted : (before after : Option (List ℕ)) (octets : List ℕ) (answer : Result Header PcapFault) → length octets ≡ 24 → Consumes before after octets
-    → fault_in answer ≡ field_fault octets → IfSome before (λ left. (answer ≡ Err Read) ⊎ (fault_in answer ≡ header_fault left))
+header-faulted : (before after : Option (List ℕ)) (octets : List ℕ) (answer : Result Header PcapFault)
+    → length octets ≡ 24 → Consumes before after octets
+    → fault_in answer ≡ field_fault octets
+    → IfSome before (λ left. (answer ≡ Err Read) ⊎ (fault_in answer ≡ header_fault left))
 header-faulted None after octets answer size taken fault = tt
 header-faulted (Some left) None octets answer size taken fault = absurd taken
 header-faulted (Some left) (Some rest) octets answer size taken fault =
@@ -39,9 +45,12 @@ header-faulted (Some left) (Some rest) octets answer size taken fault =
     inr (fault ∙ sym judged)
 
 -- the 24 octets were read, and are judged
-pub header-read : (before after : SourceState) (octets : List ℕ) (count : ℕ) (answer : Result Header PcapFault) → length octets ≡ 24 → 24 ≤ count
-    → Consumes before.left after.left (take count octets) → IfOk answer (λ header. header ≡ header_in octets) → fault_in answer ≡ field_fault octets
-    → TellsFailedRead before.failed after.failed answer → IfErr answer (λ fault. (fault ≢ Write) × (fault ≢ Memory)) → ReadsHeader before after answer
+pub header-read : (before after : SourceState) (octets : List ℕ) (count : ℕ) (answer : Result Header PcapFault)
+    → length octets ≡ 24 → 24 ≤ count
+    → Consumes before.left after.left (take count octets) → IfOk answer (λ header. header ≡ header_in octets)
+    → fault_in answer ≡ field_fault octets
+    → TellsFailedRead before.failed after.failed answer → IfErr answer (λ fault. (fault ≢ Write) × (fault ≢ Memory))
+    → ReadsHeader before after answer
 header-read before after octets count answer size enough taken says fault read names =
     let whole = whole-taken before.left after.left octets 24 count size enough taken in
     record {
@@ -54,8 +63,10 @@ header-read before after octets count answer size enough taken says fault read n
 -- ---- record headers
 
 -- the octets that were taken say what a sound record header says
-pub record_header-taken : (before after : Option (List ℕ)) (big : Bool) (found : Option (List ℕ)) (octets : List ℕ) (header : RecordHeader) → found ≡ Some octets
-    → HoldsOfLeft before after (TakesOctets found) → header.stamp ≡ stamp_in big octets → header.kept ≡ kept_in big octets → IsSoundRecordHeader big octets
+pub record_header-taken : (before after : Option (List ℕ)) (big : Bool) (found : Option (List ℕ)) (octets : List ℕ)
+    (header : RecordHeader) → found ≡ Some octets
+    → HoldsOfLeft before after (TakesOctets found) → header.stamp ≡ stamp_in big octets
+    → header.kept ≡ kept_in big octets → IsSoundRecordHeader big octets
     → HoldsOfLeft before after (TakesRecordHeader big (Some header))
 record_header-taken None after big found octets header is taken stamp kept sound = tt
 record_header-taken (Some left) None big found octets header is taken stamp kept sound = absurd taken
@@ -69,7 +80,8 @@ record_header-taken (Some left) (Some rest) big found octets header is taken sta
     )
 
 -- a fault of a record header is the first of the octets where its capture record should be
-faulted-by : (big : Bool) (count : ℕ) (left : List ℕ) (fault : PcapFault) → 16 ≤ length left → record_header_fault big count (take 16 left) ≡ Some fault
+faulted-by : (big : Bool) (count : ℕ) (left : List ℕ) (fault : PcapFault) → 16 ≤ length left
+    → record_header_fault big count (take 16 left) ≡ Some fault
     → record_fault big count left ≡ Some fault
 faulted-by big count left fault enough is =
     let some : (length left == 0) ≡ false = search rules in
@@ -77,7 +89,8 @@ faulted-by big count left fault enough is =
     rw (some, whole, is) refl
 
 record_header-judged : (before after : Option (List ℕ)) (big : Bool) (count : ℕ) (octets : List ℕ) (fault : PcapFault)
-    → HoldsOfLeft before after (TakesOctets (Some octets)) → Some fault ≡ record_header_fault big count octets → IfSome before (AnswersRecordHeaderFault big count fault)
+    → HoldsOfLeft before after (TakesOctets (Some octets)) → Some fault ≡ record_header_fault big count octets
+    → IfSome before (AnswersRecordHeaderFault big count fault)
 record_header-judged None after big count octets fault taken is = tt
 record_header-judged (Some left) None big count octets fault taken is = absurd taken
 record_header-judged (Some left) (Some rest) big count octets fault taken is =
@@ -85,47 +98,61 @@ record_header-judged (Some left) (Some rest) big count octets fault taken is =
     let all : length left ≡ 16 + length rest = length-front left octets rest 16 taken.0 taken.1 in
     inr (faulted-by big count left fault (omega (arith, all)) (sym (is ∙ ap (record_header_fault big count) same)))
 
-pub record_header-faulted : (before after : Option (List ℕ)) (big : Bool) (count : ℕ) (found : Option (List ℕ)) (octets : List ℕ) (fault : PcapFault)
-    (answer : Result (Option RecordHeader) PcapFault) → found ≡ Some octets → HoldsOfLeft before after (TakesOctets found)
-    → Some fault ≡ record_header_fault big count octets → answer ≡ Err fault → IfErr answer (λ fault. IfSome before (AnswersRecordHeaderFault big count fault))
+pub record_header-faulted : (before after : Option (List ℕ)) (big : Bool) (count : ℕ) (found : Option (List ℕ))
+    (octets : List ℕ) (fault : PcapFault)
+    (answer : Result (Option RecordHeader) PcapFault) → found ≡ Some octets
+    → HoldsOfLeft before after (TakesOctets found)
+    → Some fault ≡ record_header_fault big count octets → answer ≡ Err fault
+    → IfErr answer (λ fault. IfSome before (AnswersRecordHeaderFault big count fault))
 record_header-faulted before after big count found octets fault answer is-found taken is is-answer =
     let taken_octets = subst (λ (f : Option (List ℕ)). HoldsOfLeft before after (TakesOctets f)) is-found taken in
-    let judged : IfSome before (AnswersRecordHeaderFault big count fault) = record_header-judged before after big count octets fault taken_octets is in
+    let judged : IfSome before (AnswersRecordHeaderFault big count fault) =
+    record_header-judged before after big count octets fault taken_octets is in
     rw is-answer judged
 
 -- ---- capture records
 
-left-behind : (before after : Option (List ℕ)) (big : Bool) (header : RecordHeader) → HoldsOfLeft before after (TakesRecordHeader big (Some header))
+left-behind : (before after : Option (List ℕ)) (big : Bool) (header : RecordHeader)
+    → HoldsOfLeft before after (TakesRecordHeader big (Some header))
     → (octets : List ℕ) × (length octets ≡ 16) × Consumes before after octets
 left-behind None after big header taken = (replicate 16 0, refl, tt)
 left-behind (Some left) None big header taken = absurd taken
 left-behind (Some left) (Some rest) big header taken = (take 16 left, taken.0.octets, taken.3)
 
 -- the record header was taken, and nothing after it
-pub record_header-left : (before after : SourceState) (big : Bool) (header : RecordHeader) → HoldsOfLeft before.left after.left (TakesRecordHeader big (Some header)) → LeavesFrame before after
+pub record_header-left : (before after : SourceState) (big : Bool) (header : RecordHeader)
+    → HoldsOfLeft before.left after.left (TakesRecordHeader big (Some header)) → LeavesFrame before after
 record_header-left before after big header taken = left-behind before.left after.left big header taken
 
 -- of the faults of a frame only want of room is found before it is read
-memory-alone : (fault : PcapFault) → (fault ≡ CutFile) ⊎ (fault ≡ Read) ⊎ (fault ≡ Memory) → IsOfRecordHeader fault → fault ≡ Memory
+memory-alone : (fault : PcapFault) → (fault ≡ CutFile) ⊎ (fault ≡ Read) ⊎ (fault ≡ Memory) → IsOfRecordHeader fault
+    → fault ≡ Memory
 memory-alone fault names is = search rules
 
 -- at a fault of a frame that is found before it is read, the record header was taken, and nothing after it
-pub frame-unread : (before between after : SourceState) (big : Bool) (found : Option RecordHeader) (header : RecordHeader) (fault : PcapFault)
-    (answer : Result (Option Stamp) PcapFault) → found ≡ Some header → HoldsOfLeft before.left between.left (TakesRecordHeader big found)
+pub frame-unread : (before between after : SourceState) (big : Bool) (found : Option RecordHeader)
+    (header : RecordHeader) (fault : PcapFault)
+    (answer : Result (Option Stamp) PcapFault) → found ≡ Some header
+    → HoldsOfLeft before.left between.left (TakesRecordHeader big found)
     → (fault ≡ CutFile) ⊎ (fault ≡ Read) ⊎ (fault ≡ Memory) → (fault ≡ Memory → after ≡ between) → answer ≡ Err fault
     → IfErr answer (λ fault. IsOfRecordHeader fault → LeavesFrame before after)
 frame-unread before between after big found header fault answer is-found taken names same is-answer =
-    let unread : IsOfRecordHeader fault → LeavesFrame before after = λ is. subst (λ (s : SourceState). LeavesFrame before s) (sym (same (memory-alone fault names is)))
-    (record_header-left before between big header (subst (λ (h : Option RecordHeader). HoldsOfLeft before.left between.left (TakesRecordHeader big h)) is-found taken)) in
+    let unread : IsOfRecordHeader fault → LeavesFrame before after =
+    λ is. subst (λ (s : SourceState). LeavesFrame before s) (sym (same (memory-alone fault names is)))
+    (record_header-left before between big header (subst (λ (h : Option RecordHeader).
+    HoldsOfLeft before.left between.left (TakesRecordHeader big h)) is-found taken)) in
     rw is-answer unread
 
 -- so many octets are after the record header
-pub sound-none : (big : Bool) (count : ℕ) (left : List ℕ) → IsSoundRecordHeader big (take 16 left) → count < max_records → 16 + kept_in big (take 16 left) ≤ length left
+pub sound-none : (big : Bool) (count : ℕ) (left : List ℕ) → IsSoundRecordHeader big (take 16 left) → count < max_records
+    → 16 + kept_in big (take 16 left) ≤ length left
     → record_fault big count left ≡ None
 sound-none big count left sound few enough = search rules
 
-record-whole : (before between after : Option (List ℕ)) (big : Bool) (count room : ℕ) (header : RecordHeader) (frame : List ℕ)
-    → HoldsOfLeft before between (TakesRecordHeader big (Some header)) → Consumes between after frame → length frame ≡ header.kept → count < max_records
+record-whole : (before between after : Option (List ℕ)) (big : Bool) (count room : ℕ) (header : RecordHeader)
+    (frame : List ℕ)
+    → HoldsOfLeft before between (TakesRecordHeader big (Some header)) → Consumes between after frame
+    → length frame ≡ header.kept → count < max_records
     → IfSome before (AnswersFault big count room (Ok (Some header.stamp)))
 record-whole None between after big count room header frame p q size few = tt
 record-whole (Some left) None after big count room header frame p q size few = absurd p
@@ -137,8 +164,10 @@ record-whole (Some left) (Some rest) (Some more) big count room header frame p q
     inr (inr (sym (sound-none big count left p.0 few (omega (arith, all, behind, kept)))))
 
 -- where record header and frame were taken, the octets had no fault
-pub record-sound : (before between after : SourceState) (big : Bool) (count room : ℕ) (found : Option RecordHeader) (header : RecordHeader) (frame : List ℕ) → found ≡ Some header
-    → HoldsOfLeft before.left between.left (TakesRecordHeader big found) → IfSome found (λ _. count < max_records) → Consumes between.left after.left frame
+pub record-sound : (before between after : SourceState) (big : Bool) (count room : ℕ) (found : Option RecordHeader)
+    (header : RecordHeader) (frame : List ℕ) → found ≡ Some header
+    → HoldsOfLeft before.left between.left (TakesRecordHeader big found) → IfSome found (λ _. count < max_records)
+    → Consumes between.left after.left frame
     → length frame ≡ header.kept → IfSome before.left (AnswersFault big count room (Ok (Some header.stamp)))
 record-sound before between after big count room (Some one) header frame is taken few sent size =
     record-whole before.left between.left after.left big count room header frame (rw (← is) taken) sent size few

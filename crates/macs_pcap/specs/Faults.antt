@@ -1,10 +1,12 @@
 -- What is wrong with the octets of a capture: the first of the faults that hold, in their order.
-use Rattle.std.specs.Prelude.{ℕ, ◌-◌, ◌^◌, ◌==◌, nat_le, nat_lt, if◌then◌else◌, Bool, not, List, length, take, Option, Some, None}
+use Rattle.std.specs.Prelude.{ℕ, ◌-◌, ◌^◌, ◌==◌, nat_le, nat_lt, if◌then◌else◌, Bool, not, List, length, take, Option}
+use Rattle.std.specs.Prelude.{Some, None}
 use Rattle.std.specs.Option.{option_or}
 use Rattle.macs_pcap.specs.Header.{has_magic, has_version, is_of_ethernet, longest}
 use Rattle.macs_pcap.specs.Records.{kept_in, original_in}
 use Rattle.macs_pcap.specs.declared.fault.PcapFault.{PcapFault}
-use Rattle.macs_pcap.specs.declared.fault.PcapFault.TheVariants.{BadMagic, BadVersion, NotEthernet, CutFile, CutRecord, RecordTooLong, TooManyRecords}
+use Rattle.macs_pcap.specs.declared.fault.PcapFault.TheVariants.{BadMagic, BadVersion, NotEthernet, CutFile, CutRecord}
+use Rattle.macs_pcap.specs.declared.fault.PcapFault.TheVariants.{RecordTooLong, TooManyRecords}
 
 -- the most capture records that are read
 abbrev pub max_records : ℕ
@@ -39,4 +41,5 @@ abbrev pub record_fault : Bool → ℕ → List ℕ → Option PcapFault
 record_fault big count left =
     if length left == 0 then None
     else if nat_lt (length left) 16 then Some CutFile
-    else option_or (record_header_fault big count (take 16 left)) (frame_fault (kept_in big (take 16 left)) (length left - 16))
+    else option_or (record_header_fault big count (take 16 left))
+    (frame_fault (kept_in big (take 16 left)) (length left - 16))

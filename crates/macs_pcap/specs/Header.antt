@@ -1,5 +1,5 @@
--- The header of a capture, its first 24 octets. The magic in front says the order of the octets of every number in the capture, and
--- what stamps count in.
+-- The header of a capture, its first 24 octets. The magic in front says the order of the octets of every number in the
+-- capture, and what stamps count in.
 use Rattle.std.specs.Prelude.{◌≡◌, ℕ, ◌==◌, ◌&&◌, ◌||◌, if◌then◌else◌, Bool, true, false, List, ◌++◌, take}
 use Rattle.macs_pcap.specs.Numbers.{number_at, octets_of}
 use Rattle.macs_pcap.specs.declared.header.Header.{Header}

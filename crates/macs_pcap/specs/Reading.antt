@@ -1,5 +1,6 @@
 -- What the calls promise that read a capture.
-use Rattle.std.specs.Prelude.{◌≡◌, ◌≢◌, ◌<◌, ◌≤◌, ◌⊎◌, ℕ, Bool, true, List, [], ◌++◌, length, take, Option, Some, None, Result, Ok, Err, IfErr, IfOk, IfSome, ⊤}
+use Rattle.std.specs.Prelude.{◌≡◌, ◌≢◌, ◌<◌, ◌≤◌, ◌⊎◌, ℕ, Bool, true, List, [], ◌++◌, length, take, Option, Some, None}
+use Rattle.std.specs.Prelude.{Result, Ok, Err, IfErr, IfOk, IfSome, ⊤}
 use Rattle.std.specs.Io.KnownBytes.{Consumes}
 use Rattle.macs_pcap.specs.Faults.{header_fault, max_records, record_fault}
 use Rattle.macs_pcap.specs.Header.{BeginsWithHeader, longest}
@@ -9,7 +10,8 @@ use Rattle.macs_pcap.specs.declared.fields.RecordHeader.{RecordHeader}
 use Rattle.macs_pcap.specs.declared.header.Header.{Header}
 use Rattle.macs_pcap.specs.declared.header.Stamp.{Stamp}
 use Rattle.macs_pcap.specs.declared.fault.PcapFault.{PcapFault}
-use Rattle.macs_pcap.specs.declared.fault.PcapFault.TheVariants.{Read, CutFile, CutRecord, RecordTooLong, Write, Memory, TooManyRecords}
+use Rattle.macs_pcap.specs.declared.fault.PcapFault.TheVariants.{Read, CutFile, CutRecord, RecordTooLong, Write, Memory}
+use Rattle.macs_pcap.specs.declared.fault.PcapFault.TheVariants.{TooManyRecords}
 
 -- the fault that is answered, if one is
 abbrev pub fault_in : {T : Type 0} → Result T PcapFault → Option PcapFault
@@ -45,7 +47,8 @@ AnswersHeaderFault fault left = (fault ≡ Read) ⊎ (header_fault left ≡ Some
 
 -- the header of a source is read: what it says, or what its first fault is, unless a read failed
 pub record ReadsHeader (before after : SourceState) (answer : Result Header PcapFault) : Type 0 where
-  pub header : IfOk answer (λ header. HoldsOfLeft before.left after.left (λ left rest. BeginsWithHeader left header rest))
+  pub header : IfOk answer
+      (λ header. HoldsOfLeft before.left after.left (λ left rest. BeginsWithHeader left header rest))
   pub fault : IfSome before.left (λ left. (answer ≡ Err Read) ⊎ (fault_in answer ≡ header_fault left))
   pub read : TellsFailedRead before.failed after.failed answer
   pub names : IfErr answer (λ fault. (fault ≢ Write) × (fault ≢ Memory))
@@ -66,7 +69,8 @@ pub record WantsRoom (big : Bool) (count room : ℕ) (left : List ℕ) : Type 0 
 -- what is answered, by the octets that were left: a failed read, or want of room for a frame, or else their first fault
 abbrev pub AnswersFault : Bool → ℕ → ℕ → Result (Option Stamp) PcapFault → List ℕ → Type 0
 AnswersFault big count room answer left =
-    (answer ≡ Err Read) ⊎ ((answer ≡ Err Memory) × WantsRoom big count room left) ⊎ (fault_in answer ≡ record_fault big count left)
+    (answer ≡ Err Read) ⊎ ((answer ≡ Err Memory) × WantsRoom big count room left)
+    ⊎ (fault_in answer ≡ record_fault big count left)
 
 -- what is in front: nothing at all, at the end, or these 16 octets
 abbrev pub TakesOctets : Option (List ℕ) → List ℕ → List ℕ → Type 0
@@ -77,11 +81,13 @@ TakesOctets (Some header) left rest = (length header ≡ 16) × (left ≡ header
 abbrev pub AnswersCutRecordHeader : PcapFault → List ℕ → Type 0
 AnswersCutRecordHeader fault left = (fault ≡ Read) ⊎ ((fault ≡ CutFile) × (0 < length left) × (length left < 16))
 
--- what is in front, by what is answered of a record header: nothing at all, at the end, or a sound record header that says this
+-- what is in front, by what is answered of a record header: nothing at all, at the end, or a sound record header that
+-- says this
 abbrev pub TakesRecordHeader : Bool → Option RecordHeader → List ℕ → List ℕ → Type 0
 TakesRecordHeader big None left rest = (left ≡ []) × (rest ≡ [])
 TakesRecordHeader big (Some header) left rest =
-    IsSoundRecordHeader big (take 16 left) × (header.stamp ≡ stamp_in big (take 16 left)) × (header.kept ≡ kept_in big (take 16 left))
+    IsSoundRecordHeader big (take 16 left) × (header.stamp ≡ stamp_in big (take 16 left))
+    × (header.kept ≡ kept_in big (take 16 left))
     × (left ≡ take 16 left ++ rest)
 
 -- a failed read, or else the first fault of the octets that were left
@@ -96,9 +102,10 @@ IsOfRecordHeader fault = (fault ≡ TooManyRecords) ⊎ (fault ≡ RecordTooLong
 abbrev pub LeavesFrame : SourceState → SourceState → Type 0
 LeavesFrame before after = (header : List ℕ) × (length header ≡ 16) × Consumes before.left after.left header
 
--- the next capture record is read into a buffer with this room, after so many others: its stamp and its frame, or what the first fault
--- is, unless a read failed or the room could not grow
-pub record ReadsRecord (big : Bool) (count room : ℕ) (before after : SourceState) (frame : List ℕ) (answer : Result (Option Stamp) PcapFault) : Type 0 where
+-- the next capture record is read into a buffer with this room, after so many others: its stamp and its frame, or what
+-- the first fault is, unless a read failed or the room could not grow
+pub record ReadsRecord (big : Bool) (count room : ℕ) (before after : SourceState) (frame : List ℕ)
+    (answer : Result (Option Stamp) PcapFault) : Type 0 where
   pub taken : IfOk answer (λ stamp. HoldsOfLeft before.left after.left (Takes big frame stamp))
   pub fault : IfSome before.left (AnswersFault big count room answer)
   pub unread : IfErr answer (λ fault. IsOfRecordHeader fault → LeavesFrame before after)

@@ -26,9 +26,9 @@ pub record HeaderWords : Type 0 where
 
 -- Where the octets are known that are left: a header that is read has no fault, and is there; one that is not has the
 -- fault that is answered, or a read failed. So it is of a capture record, but that memory may also be refused, for a
--- frame that is longer than the buffer has room for, and whose header is sound. Where a record ends the reading before its
--- frame, its header of 16 octets is gone and nothing else. At the end nothing is left. Without a record the frame is
--- empty. A source notes a failed read exactly where that is answered.
+-- frame that is longer than the buffer has room for, and whose header is sound. Where a record ends the reading before
+-- its frame, its header of 16 octets is gone and nothing else. At the end nothing is left. Without a record the frame
+-- is empty. A source notes a failed read exactly where that is answered.
 pub record ReadWords : Type 0 where
   pub sound : (before after : SourceState) (header : Header) (left : List ℕ) → ReadsHeader before after (Ok header)
       → before.left ≡ Some left → header_fault left ≡ None

@@ -6,8 +6,8 @@ pub record SourceState : Type 0 where
   pub left : Option (List ℕ)
   pub failed : Bool
 
--- the octets that a sink took, where they are known, whether a write or a flush of it ever failed, and whether all that it took is
--- handed on
+-- the octets that a sink took, where they are known, whether a write or a flush of it ever failed, and whether all that
+-- it took is handed on
 pub record SinkState : Type 0 where
   pub held : Option (List ℕ)
   pub failed : Bool

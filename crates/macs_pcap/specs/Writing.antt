@@ -17,7 +17,8 @@ pub record TellsFailedWrite {T : Type 0} (before after : Bool) (answer : Result 
   pub names : IfErr answer (λ fault. fault ≡ Write)
 
 -- a text is written: whole, or its front where a write fails
-pub record WritesText {T : Type 0} (before after : SinkState) (text : List ℕ) (answer : Result T PcapFault) : Type 0 where
+pub record WritesText {T : Type 0} (before after : SinkState) (text : List ℕ)
+    (answer : Result T PcapFault) : Type 0 where
   pub whole : OnOk answer (Appends before.held after.held text)
   pub front : OnErr answer (AppendsFront before.held after.held text)
   pub write : TellsFailedWrite before.failed after.failed answer

@@ -7,8 +7,8 @@ use Rattle.macs_pcap.specs.declared.fault.PcapFault.{PcapFault}
 use Rattle.macs_pcap.specs.declared.fault.PcapFault.TheVariants.{Write}
 
 -- A text that is written is appended whole, and no write failed; one that is cut short has the fault `Write`, a write
--- failed, and a front of it is appended, but not all of it. A flush that is answered Ok handed all on, and none failed; else
--- it has that fault. It writes nothing more.
+-- failed, and a front of it is appended, but not all of it. A flush that is answered Ok handed all on, and none failed;
+-- else it has that fault. It writes nothing more.
 pub record WriteWords : Type 0 where
   pub whole : (before after : SinkState) (text : List ℕ) → WritesText {T = Unit {0}} before after text (Ok tt)
       → Appends before.held after.held text × (after.failed ≡ before.failed)

@@ -6,7 +6,8 @@ ghost use Rattle.macs_pcap.specs.Header.{header_in, header_text};
 ghost use Rattle.macs_pcap.specs.Header.{is_magic as is_magic_number};
 ghost use Rattle.macs_pcap.specs.Numbers.{number_at, octets_of};
 ghost use Rattle.macs_pcap.specs.Reading.{IsOfOctets, fault_in};
-ghost use Rattle.macs_pcap.specs.Records.{IsSoundRecordHeader, record_header_text, kept_in, stamp_in};
+ghost use Rattle.macs_pcap.specs.Records.{IsSoundRecordHeader, record_header_text, kept_in};
+ghost use Rattle.macs_pcap.specs.Records.{stamp_in};
 
 use crate::fault::PcapFault;
 use crate::header::{Header, LONGEST, Stamp};

@@ -3,8 +3,8 @@
 /// The longest frame that a capture record may have, in octets. It is written as the snaplen.
 pub const LONGEST: u32 = 262_144;
 
-/// The header of a capture, as far as it is kept from one capture to another. In a capture it has 24
-/// octets, and the magic says the order of the octets of every number, this one included:
+/// The header of a capture, as far as it is kept from one capture to another. In a capture it has
+/// 24 octets, and the magic says the order of the octets of every number, this one included:
 ///
 /// | octets | number | read as | written as |
 /// |---|---|---|---|

@@ -1,7 +1,8 @@
 //! Laws of the definitions, for the layers above: what is written is read, and what is read.
 
 ghost use Rattle.std.specs.Prelude.{◌≡◌, ◌<◌, ◌++◌, ℕ, Bool, List, None, All};
-ghost use Rattle.macs_pcap.specs.Captures.{BeginsWithRecords, IsCaptureRecord, IsHeader, records_text};
+ghost use Rattle.macs_pcap.specs.Captures.{BeginsWithRecords, IsCaptureRecord, IsHeader};
+ghost use Rattle.macs_pcap.specs.Captures.{records_text};
 ghost use Rattle.macs_pcap.specs.Faults.{header_fault, max_records, record_fault};
 ghost use Rattle.macs_pcap.specs.Header.{BeginsWithHeader, header_text};
 ghost use Rattle.macs_pcap.specs.ReadingWords.{HeaderWords, ReadWords};
@@ -25,18 +26,20 @@ pub fn written_records_are_read()
 
 /// Where there is a capture record there is no fault, unless there were too many before it.
 pub fn standing_records_have_no_fault()
-    ensures { (big : Bool) (count : ℕ) (left rest : List ℕ) (taken : CaptureRecord) → BeginsWithRecord big left taken rest
+    ensures { (big : Bool) (count : ℕ) (left rest : List ℕ) (taken : CaptureRecord)
+        → BeginsWithRecord big left taken rest
         → count < max_records → record_fault big count left ≡ None }
 {}
 
 /// Capture records that were written one after another are read as they were.
 pub fn written_captures_are_read()
-    ensures { (big : Bool) (records : List CaptureRecord) (rest : List ℕ) → All IsCaptureRecord records
+    ensures { (big : Bool) (records : List CaptureRecord) (rest : List ℕ)
+        → All IsCaptureRecord records
         → BeginsWithRecords big (records_text big records ++ rest) records rest }
 {}
 
-/// The words of the calls that read and write say this: which headers and which capture records are taken, which
-/// fault is answered, what is left then, and what is written.
+/// The words of the calls that read and write say this: which headers and which capture records are
+/// taken, which fault is answered, what is left then, and what is written.
 pub fn words()
     // Which headers are sound.
     ensures headers { HeaderWords }

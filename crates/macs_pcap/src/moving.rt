@@ -13,7 +13,8 @@ pub(crate) fn fill<R: Source>(source: &mut R, into: &mut [u8]) -> Result<usize, 
     ensures bound { IfOk result (λ count. count ≤ length into.new) }
     ensures octets { IfOk result (λ count.
         Consumes (R.state source.old).left (R.state source.new).left (take count into.new)) }
-    ensures end { IfOk result (λ count. count < length into.new → IsAtEnd (R.state source.new).left) }
+    ensures end { IfOk result (λ count. count < length into.new
+        → IsAtEnd (R.state source.new).left) }
     ensures done { OnOk result ((R.state source.new).failed ≡ (R.state source.old).failed) }
     ensures failed { OnErr result ((R.state source.new).failed ≡ true) }
     ensures names { IfErr result (λ fault. fault ≡ PcapFault.Read) }

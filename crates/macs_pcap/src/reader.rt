@@ -1,11 +1,15 @@
 //! Captures that are read.
 
-ghost use Rattle.std.specs.Prelude.{◌≡◌, ◌≢◌, ◌<◌, ◌≤◌, ◌+◌, ◌⊎◌, [], length, Some, None, Ok, Err, IfOk, IfErr, IfSome, OnOk, vec_capacity};
+ghost use Rattle.std.specs.Prelude.{◌≡◌, ◌≢◌, ◌<◌, ◌≤◌, ◌+◌, ◌⊎◌, [], length, Some, None, Ok, Err};
+ghost use Rattle.std.specs.Prelude.{IfOk, IfErr, IfSome, OnOk, vec_capacity};
 ghost use Rattle.std.specs.Io.KnownBytes.{Consumes};
 ghost use Rattle.macs_pcap.specs.Faults.{max_records};
 ghost use Rattle.macs_pcap.specs.Header.{longest};
-ghost use Rattle.macs_pcap.specs.Reading.{AnswersCutRecordHeader, AnswersFault, AnswersRecordHeaderFault, AnswersHeaderFault, HoldsOfLeft, IsOfRecordHeader, LeavesFrame};
-ghost use Rattle.macs_pcap.specs.Reading.{ReadsHeader, ReadsRecord, Takes, TakesRecordHeader, TakesOctets, TellsFailedRead, count_in, fault_in};
+ghost use Rattle.macs_pcap.specs.Reading.{AnswersCutRecordHeader, AnswersFault};
+ghost use Rattle.macs_pcap.specs.Reading.{AnswersRecordHeaderFault, AnswersHeaderFault};
+ghost use Rattle.macs_pcap.specs.Reading.{HoldsOfLeft, IsOfRecordHeader, LeavesFrame};
+ghost use Rattle.macs_pcap.specs.Reading.{ReadsHeader, ReadsRecord, Takes, TakesRecordHeader};
+ghost use Rattle.macs_pcap.specs.Reading.{TakesOctets, TellsFailedRead, count_in, fault_in};
 ghost use Rattle.macs_pcap.specs.Value.{count_of, header_of, lasting_fault, source_of};
 
 use crate::fault::PcapFault;
@@ -30,7 +34,8 @@ pub fn read_header<R: Source>(source: &mut R) -> Result<Header, PcapFault>
 fn take_record_header<R: Source>(source: &mut R) -> Result<Option<[u8; 16]>, PcapFault>
     ensures taken { IfOk result (λ header.
         HoldsOfLeft (R.state source.old).left (R.state source.new).left (TakesOctets header)) }
-    ensures fault { IfErr result (λ fault. IfSome (R.state source.old).left (AnswersCutRecordHeader fault)) }
+    ensures fault { IfErr result
+        (λ fault. IfSome (R.state source.old).left (AnswersCutRecordHeader fault)) }
     ensures read { TellsFailedRead (R.state source.old).failed (R.state source.new).failed result }
     ensures names { IfErr result (λ fault. (fault ≡ PcapFault.Read) ⊎ (fault ≡ PcapFault.CutFile)) }
 {
@@ -52,7 +57,8 @@ fn read_record_header<R: Source>(
     count: u32,
 ) -> Result<Option<RecordHeader>, PcapFault>
     ensures taken { IfOk result (λ header.
-        HoldsOfLeft (R.state source.old).left (R.state source.new).left (TakesRecordHeader big header)) }
+        HoldsOfLeft (R.state source.old).left (R.state source.new).left
+        (TakesRecordHeader big header)) }
     ensures fault { IfErr result (λ fault.
         IfSome (R.state source.old).left (AnswersRecordHeaderFault big count fault)) }
     ensures unread { IfErr result (λ fault.
@@ -69,8 +75,8 @@ fn read_record_header<R: Source>(
     Ok(Some(header))
 }
 
-/// Reads the octets of a frame, which are all that the buffer then holds. What it held before is not looked at: a buffer
-/// that is as long already is not filled twice.
+/// Reads the octets of a frame, which are all that the buffer then holds. What it held before is
+/// not looked at: a buffer that is as long already is not filled twice.
 fn read_frame<R: Source, A: Allocator>(
     source: &mut R,
     kept: usize,
@@ -122,16 +128,17 @@ fn read_into<R: Source, A: Allocator>(
     Ok(Some(header.stamp))
 }
 
-/// Reads the next capture record of a capture whose numbers are in this order, after so many others. Its
-/// frame is all that `into` then holds. At the end there is none, and at a fault neither: then `into`
-/// is empty.
+/// Reads the next capture record of a capture whose numbers are in this order, after so many
+/// others. Its frame is all that `into` then holds. At the end there is none, and at a fault
+/// neither: then `into` is empty.
 pub fn read_record<R: Source, A: Allocator>(
     source: &mut R,
     big: bool,
     count: u32,
     into: &mut Vec<u8, A>,
 ) -> Result<Option<Stamp>, PcapFault>
-    ensures { ReadsRecord big count (vec_capacity into.old) (R.state source.old) (R.state source.new)
+    ensures { ReadsRecord big count (vec_capacity into.old) (R.state source.old)
+        (R.state source.new)
         into.new.items result }
 {
     let answer = read_into(source, big, count, into);
@@ -164,7 +171,8 @@ impl<R: Source> PcapReader<R> {
             IfSome (R.state source).left (AnswersHeaderFault fault)) }
         ensures names { IfErr result (λ fault.
             (fault ≢ PcapFault.Write) × (fault ≢ PcapFault.Memory)) }
-        // The source as it was let go: the header in it has this fault, and it is `Read` only where a read failed.
+        // The source as it was let go: the header in it has this fault, and it is `Read` only where
+        // a read failed.
         ensures refused { IfErr result (λ fault. (left : R)
             × ReadsHeader (R.state source) (R.state left) (Err fault)) }
         ensures count { IfOk result (λ reader. count_of reader ≡ 0) }
@@ -187,9 +195,10 @@ impl<R: Source> PcapReader<R> {
         &self.header
     }
 
-    /// Reads the next capture record. Its frame is all that `into` then holds. At the end there is none, and
-    /// at a fault neither: then `into` is empty. After a fault nothing is read any more, and that fault is
-    /// answered for good. `into` never holds more than 262,144 octets, however long the capture is.
+    /// Reads the next capture record. Its frame is all that `into` then holds. At the end there is
+    /// none, and at a fault neither: then `into` is empty. After a fault nothing is read any more,
+    /// and that fault is answered for good. `into` never holds more than 262,144 octets, however
+    /// long the capture is.
     pub fn next<A: Allocator>(&mut self, into: &mut Vec<u8, A>) -> Result<Option<Stamp>, PcapFault>
         ensures reads { lasting_fault self.old ≡ None → ReadsRecord (header_of self.old).big
             (count_of self.old) (vec_capacity into.old) (R.state (source_of self.old))

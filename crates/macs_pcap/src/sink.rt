@@ -11,13 +11,14 @@ use std::io::Write;
 #[derive(Clone, Copy)]
 pub struct WriteFailed;
 
-/// What octets are written to. It reports whether a write or a flush of it ever failed and whether all that
-/// was written is handed on, and may report which octets it took.
+/// What octets are written to. It reports whether a write or a flush of it ever failed and whether
+/// all that was written is handed on, and may report which octets it took.
 pub trait Sink {
     /// What it reports of itself.
     ghost state: { Self → SinkState };
 
-    /// Writes some octets, from the first on, and answers how many: at least one, where there is one.
+    /// Writes some octets, from the first on, and answers how many: at least one, where there is
+    /// one.
     fn write(&mut self, from: &[u8]) -> Result<usize, WriteFailed>
         ensures bound { WritesAtMost result from.now }
         ensures octets { WriteAppends (state self.old).held (state self.new).held result from.now }
@@ -34,10 +35,10 @@ pub trait Sink {
         ensures failed { OnErr result ((state self.new).failed ≡ true) };
 }
 
-/// A sink over a writer of the standard library. Each of its writes is one write of that writer, so a
-/// file is written through `BufWriter::with_capacity(alloc, 65_536, file)`: then the system is called
-/// once for 65,536 octets and not for each capture record, and its memory is taken once, at the beginning.
-/// What such a writer keeps back may fail late: whoever wants to know flushes.
+/// A sink over a writer of the standard library. Each of its writes is one write of that writer, so
+/// a file is written through `BufWriter::with_capacity(alloc, 65_536, file)`: then the system is
+/// called once for 65,536 octets and not for each capture record, and its memory is taken once, at
+/// the beginning. What such a writer keeps back may fail late: whoever wants to know flushes.
 #[derive(Drop)]
 pub struct WriterSink<W: Write> {
     writer: W,
@@ -79,7 +80,8 @@ impl<W: Write> Sink for WriterSink<W> {
 impl<W: Write> WriterSink<W> {
     ghost use Rattle.std.specs.Prelude.{◌≡◌, false};
 
-    /// A sink that took what the writer holds, to which no write failed, and which is to be flushed.
+    /// A sink that took what the writer holds, to which no write failed, and which is to be
+    /// flushed.
     pub fn new(writer: W) -> WriterSink<W>
         ensures held { (⟦<WriterSink<W> as Sink>⟧.state result).held ≡ W.contents writer }
         ensures failed { (⟦<WriterSink<W> as Sink>⟧.state result).failed ≡ false }

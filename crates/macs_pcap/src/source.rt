@@ -11,14 +11,14 @@ use std::io::Read;
 #[derive(Clone, Copy)]
 pub struct ReadFailed;
 
-/// What octets are read from. It reports whether a read of it ever failed, and may report which octets it
-/// has left.
+/// What octets are read from. It reports whether a read of it ever failed, and may report which
+/// octets it has left.
 pub trait Source {
     /// What it reports of itself.
     ghost state: { Self → SourceState };
 
-    /// Reads some octets into the front of `into` and answers how many; none only at the end, or where
-    /// `into` has no room.
+    /// Reads some octets into the front of `into` and answers how many; none only at the end, or
+    /// where `into` has no room.
     fn read(&mut self, into: &mut [u8]) -> Result<usize, ReadFailed>
         ensures bound { ReadsAtMost result into.new }
         ensures octets { ReadConsumes (state self.old).left (state self.new).left result into.new }
@@ -26,9 +26,10 @@ pub trait Source {
         ensures failed { OnErr result ((state self.new).failed ≡ true) };
 }
 
-/// A source over a reader of the standard library. Each of its reads is one read of that reader, so a
-/// file is read through `BufReader::with_capacity(alloc, 65_536, file)`: then the system is called once
-/// for 65,536 octets and not for each capture record, and its memory is taken once, at the beginning.
+/// A source over a reader of the standard library. Each of its reads is one read of that reader, so
+/// a file is read through `BufReader::with_capacity(alloc, 65_536, file)`: then the system is
+/// called once for 65,536 octets and not for each capture record, and its memory is taken once, at
+/// the beginning.
 #[derive(Drop)]
 pub struct ReaderSource<R: Read> {
     reader: R,
@@ -36,7 +37,8 @@ pub struct ReaderSource<R: Read> {
 }
 
 impl<R: Read> Source for ReaderSource<R> {
-    ghost state = { λ source. record { left = R.remaining source.reader; failed = source.has_failed } };
+    ghost state = { λ source.
+        record { left = R.remaining source.reader; failed = source.has_failed } };
 
     fn read(&mut self, into: &mut [u8]) -> Result<usize, ReadFailed> {
         match self.reader.read(into) {

@@ -20,7 +20,8 @@ pub fn write_header<W: Sink>(sink: &mut W, header: &Header) -> Result<(), PcapFa
     send(sink, &header_octets(header))
 }
 
-/// Writes a capture record whose numbers go out in this order. The frame has at most 262,144 octets.
+/// Writes a capture record whose numbers go out in this order. The frame has at most 262,144
+/// octets.
 pub fn write_record<W: Sink>(
     sink: &mut W,
     big: bool,
@@ -45,7 +46,8 @@ pub struct PcapWriter<W: Sink> {
 }
 
 impl<W: Sink> PcapWriter<W> {
-    /// Writes the header of a capture. Where that fails, its front is written, and the sink is let go.
+    /// Writes the header of a capture. Where that fails, its front is written, and the sink is let
+    /// go.
     pub fn new(sink: W, header: &Header) -> Result<PcapWriter<W>, PcapFault>
     where
         W: Drop,
@@ -67,12 +69,14 @@ impl<W: Sink> PcapWriter<W> {
         })
     }
 
-    /// Writes a capture record. The frame has at most 262,144 octets. Where a write fails, the front of the
-    /// record is written; after a fault nothing is written any more, and that fault is answered for good.
+    /// Writes a capture record. The frame has at most 262,144 octets. Where a write fails, the
+    /// front of the record is written; after a fault nothing is written any more, and that fault is
+    /// answered for good.
     pub fn put(&mut self, stamp: Stamp, frame: &[u8]) -> Result<(), PcapFault>
         requires { length frame.now ≤ longest }
         ensures writes { writer_fault self.old ≡ None → WritesText (W.state (sink_of self.old))
-            (W.state (sink_of self.new)) (record_text (writes_big self.old) stamp frame.now) result }
+            (W.state (sink_of self.new))
+            (record_text (writes_big self.old) stamp frame.now) result }
         ensures for_good { IfSome (writer_fault self.old) (λ fault.
             (result ≡ Err fault) × (self.new ≡ self.old)) }
         ensures fault { writer_fault self.new ≡ fault_in result }
@@ -88,8 +92,8 @@ impl<W: Sink> PcapWriter<W> {
         answer
     }
 
-    /// Hands on all that was written, so that a write that fails late is reported. After a fault nothing is
-    /// handed on any more, and that fault is answered for good.
+    /// Hands on all that was written, so that a write that fails late is reported. After a fault
+    /// nothing is handed on any more, and that fault is answered for good.
     pub fn flush(&mut self) -> Result<(), PcapFault>
         ensures flushes { writer_fault self.old ≡ None
             → Flushes (W.state (sink_of self.old)) (W.state (sink_of self.new)) result }

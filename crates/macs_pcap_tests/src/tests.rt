@@ -1,5 +1,5 @@
-//! Captures written out by hand from the tables of the format, and readers and writers that move one octet
-//! a call and fail where they are told to.
+//! Captures written out by hand from the tables of the format, and readers and writers that move
+//! one octet a call and fail where they are told to.
 
 mod buffers;
 mod elsewhere;

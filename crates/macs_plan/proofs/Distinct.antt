@@ -1,5 +1,7 @@
 -- Keys and numbers that come again, one pair after the other.
-use Rattle.std.proofs.Common.{◌≡◌, ◌∙◌, ◌<◌, ◌≤◌, ◌+◌, ◌==◌, ◌||◌, ◌&&◌, ℕ, Bool, true, false, not, List, [], ◌∷◌, length, drop, get_or, Option, Some, bytes_eq, refl, sym, ap, arith, drop_of_length-le, length-drop}
+use Rattle.std.proofs.Common.{◌≡◌, ◌∙◌, ◌<◌, ◌≤◌, ◌+◌, ◌==◌, ◌||◌, ◌&&◌, ℕ, Bool, true, false, not, List, [], ◌∷◌}
+use Rattle.std.proofs.Common.{length, drop, get_or, Option, Some, bytes_eq, refl, sym, ap, arith, drop_of_length-le}
+use Rattle.std.proofs.Common.{length-drop}
 use Rattle.std.proofs.lemmas.List.{drop_more}
 use Rattle.macs_aes.specs.Keys.{octets_of_key}
 use Rattle.macs_config.specs.Config.{are_distinct, is_among}
@@ -20,25 +22,30 @@ neither false b c = refl
 
 left_over : (pairs : List KeyPair) (i : ℕ) (pair : KeyPair) → i < length pairs → pair ≡ get_or pairs i pair
     → drop i pairs ≡ pair ∷ drop (i + 1) pairs
-left_over pairs i pair within same = drop_more pairs i pair within ∙ ap (λ (x : KeyPair). x ∷ drop (i + 1) pairs) (sym same)
+left_over pairs i pair within same = drop_more pairs i pair within
+    ∙ ap (λ (x : KeyPair). x ∷ drop (i + 1) pairs) (sym same)
 
 abbrev pub test_key : KeyPair → List ℕ → Bool
 test_key pair key = bytes_eq (octets_of_key pair.left) key || bytes_eq (octets_of_key pair.right) key
 
 -- it has the key, or those after it do
-pub key_next : (pairs : List KeyPair) (i : ℕ) (pair : KeyPair) (key : List ℕ) → i < length pairs → pair ≡ get_or pairs i pair
+pub key_next : (pairs : List KeyPair) (i : ℕ) (pair : KeyPair) (key : List ℕ) → i < length pairs
+    → pair ≡ get_or pairs i pair
     → is_among (keys_of (drop i pairs)) key ≡ (test_key pair key || is_among (keys_of (drop (i + 1) pairs)) key)
 key_next pairs i pair key within same =
     ap (λ (left : List KeyPair). is_among (keys_of left) key) (left_over pairs i pair within same)
-    ∙ either (bytes_eq (octets_of_key pair.left) key) (bytes_eq (octets_of_key pair.right) key) (is_among (keys_of (drop (i + 1) pairs)) key)
+    ∙ either (bytes_eq (octets_of_key pair.left) key) (bytes_eq (octets_of_key pair.right) key)
+    (is_among (keys_of (drop (i + 1) pairs)) key)
 
 abbrev pub test_again : KeyPair → List KeyPair → Bool
 test_again pair later =
-    is_among (octets_of_key pair.right ∷ keys_of later) (octets_of_key pair.left) || is_among (keys_of later) (octets_of_key pair.right)
+    is_among (octets_of_key pair.right ∷ keys_of later) (octets_of_key pair.left)
+    || is_among (keys_of later) (octets_of_key pair.right)
 
 -- its keys do not come again, nor do those of the ones after it
 pub distinct_next : (pairs : List KeyPair) (i : ℕ) (pair : KeyPair) → i < length pairs → pair ≡ get_or pairs i pair
-    → are_distinct (keys_of (drop i pairs)) ≡ (not (test_again pair (drop (i + 1) pairs)) && are_distinct (keys_of (drop (i + 1) pairs)))
+    → are_distinct (keys_of (drop i pairs))
+    ≡ (not (test_again pair (drop (i + 1) pairs)) && are_distinct (keys_of (drop (i + 1) pairs)))
 distinct_next pairs i pair within same =
     ap (λ (left : List KeyPair). are_distinct (keys_of left)) (left_over pairs i pair within same)
     ∙ neither (is_among (octets_of_key pair.right ∷ keys_of (drop (i + 1) pairs)) (octets_of_key pair.left))
@@ -52,7 +59,8 @@ number_next pairs i pair next within =
     let after = drop_more pairs (i + 1) next within in
     ap (λ (left : List KeyPair). reuses_an left) (drop_more pairs i pair (omega (arith, within)))
     ∙ ap (λ (left : List KeyPair). reuses_an (get_or pairs i pair ∷ left)) after
-    ∙ ap (λ (left : List KeyPair). ((get_or pairs (i + 1) next).an == (get_or pairs i pair).an) || reuses_an left) (sym after)
+    ∙ ap (λ (left : List KeyPair). ((get_or pairs (i + 1) next).an == (get_or pairs i pair).an)
+    || reuses_an left) (sym after)
 
 one_alone : (pairs : List KeyPair) → length pairs ≤ 1 → reuses_an pairs ≡ false
 one_alone [] short = refl
@@ -60,14 +68,16 @@ one_alone (pair ∷ []) short = refl
 one_alone (pair ∷ next ∷ pairs) short = absurd (omega (arith, short))
 
 -- there is none after it
-pub number_last : (pairs : List KeyPair) (i : ℕ) → length pairs ≤ i + 1 → reuses_an (drop i pairs) ≡ reuses_an (drop (i + 1) pairs)
+pub number_last : (pairs : List KeyPair) (i : ℕ) → length pairs ≤ i + 1
+    → reuses_an (drop i pairs) ≡ reuses_an (drop (i + 1) pairs)
 number_last pairs i last =
     one_alone (drop i pairs) (let rest = length-drop i pairs in omega (arith, rest, last))
     ∙ ap (λ (left : List KeyPair). reuses_an left) (sym (drop_of_length-le pairs last))
 
 -- ---- the newest
 
-module _ (left right : List ℕ) (earlier : Option KeyPair) (pairs : List KeyPair) (i : ℕ) (pair : KeyPair) (here : pair ≡ get_or pairs i pair) where
+module _ (left right : List ℕ) (earlier : Option KeyPair) (pairs : List KeyPair) (i : ℕ) (pair : KeyPair)
+    (here : pair ≡ get_or pairs i pair) where
   -- it is the last
   pub link_last : i < length pairs → length pairs ≤ i + 1
       → newest_link left right earlier (drop i pairs) ≡ newest_link left right earlier (pair ∷ [])

@@ -1,5 +1,6 @@
 -- A command file is read as the commands that it was written for.
-use Rattle.std.proofs.Common.{◌≡◌, ◌∙◌, ◌≤◌, ◌+◌, ℕ, true, List, [], ◌∷◌, ◌++◌, Result, Ok, Err, IfOk, String, string_bytes, length, take, get_or, ◌<◌, subst, sym, refl, ap, arith}
+use Rattle.std.proofs.Common.{◌≡◌, ◌∙◌, ◌≤◌, ◌+◌, ℕ, true, List, [], ◌∷◌, ◌++◌, Result, Ok, Err, IfOk, String}
+use Rattle.std.proofs.Common.{string_bytes, length, take, get_or, ◌<◌, subst, sym, refl, ap, arith}
 use Rattle.std.specs.declared.alloc.Global.{Global}
 use Rattle.std.proofs.lemmas.List.{take_more}
 use Rattle.toml.specs.Data.{Items, Members, item, items_depth, members_depth, push_item, table}
@@ -7,7 +8,8 @@ use Rattle.toml.specs.View.{items_view, view}
 use Rattle.toml.specs.declared.value.Value.{Value}
 use Rattle.toml.proofs.Views.{items_view-push}
 use Rattle.macs_config.specs.declared.command.Command.{Command}
-use Rattle.macs_config.specs.declared.command.Command.TheVariants.{SetValidate, SetReplay, SetSciMode, TxInstall, TxUse, TxRemove, RxAdd, RxDrop, RxInstall, RxRemove}
+use Rattle.macs_config.specs.declared.command.Command.TheVariants.{SetValidate, SetReplay, SetSciMode, TxInstall, TxUse}
+use Rattle.macs_config.specs.declared.command.Command.TheVariants.{TxRemove, RxAdd, RxDrop, RxInstall, RxRemove}
 use Rattle.macs_commands.specs.CommandFiles.{are_tables, file_commands, table_command, table_commands}
 use Rattle.macs_plan.specs.Writing.{IsTextOf, SaysCommands, file_of, table_of, tables_of}
 
@@ -50,7 +52,8 @@ pub tables_pushed : (commands : List Command) (command : Command)
 tables_pushed [] command = refl
 tables_pushed (first ∷ commands) command = ap (item (table (table_of first))) (tables_pushed commands command)
 
-all_read : (commands : List Command) → AllRead commands → (at : ℕ) → table_commands at (tables_of commands) ≡ Ok commands
+all_read : (commands : List Command) → AllRead commands → (at : ℕ)
+    → table_commands at (tables_of commands) ≡ Ok commands
 all_read [] all at = refl
 all_read (command ∷ commands) all at = rw (all.0 at, all_read commands all.1 (at + 1)) refl
 
@@ -63,17 +66,22 @@ file_read commands all = rw (all_tables commands) (all_read commands all 1)
 
 -- ---- one command more
 
-taken_more : (commands : List Command) (i : ℕ) (command : Command) → i < length commands → command ≡ get_or commands i command
+taken_more : (commands : List Command) (i : ℕ) (command : Command) → i < length commands
+    → command ≡ get_or commands i command
     → take (i + 1) commands ≡ take i commands ++ command ∷ []
 taken_more commands i command within same =
     take_more commands i command within ∙ ap (λ (x : Command). take i commands ++ x ∷ []) (sym same)
 
-pub read_more : (commands : List Command) (i : ℕ) (command : Command) → i < length commands → command ≡ get_or commands i command
-    → AllRead (take i commands) → ((at : ℕ) → table_command at (table_of command) ≡ Ok command) → AllRead (take (i + 1) commands)
+pub read_more : (commands : List Command) (i : ℕ) (command : Command) → i < length commands
+    → command ≡ get_or commands i command
+    → AllRead (take i commands) → ((at : ℕ) → table_command at (table_of command) ≡ Ok command)
+    → AllRead (take (i + 1) commands)
 read_more commands i command within same all read =
-    subst (λ (l : List Command). AllRead l) (sym (taken_more commands i command within same)) (one_more (take i commands) command all read)
+    subst (λ (l : List Command). AllRead l) (sym (taken_more commands i command within same))
+    (one_more (take i commands) command all read)
 
-pub tables_more : (commands : List Command) (i : ℕ) (command : Command) → i < length commands → command ≡ get_or commands i command
+pub tables_more : (commands : List Command) (i : ℕ) (command : Command) → i < length commands
+    → command ≡ get_or commands i command
     → (values new : List Value) (value : Value) (entry : Members) → items_view values ≡ tables_of (take i commands)
     → new ≡ values ++ value ∷ [] → view value ≡ table entry → entry ≡ table_of command
     → items_view new ≡ tables_of (take (i + 1) commands)
@@ -87,7 +95,8 @@ tables_more commands i command within same values new value entry so_far after s
 
 -- what is written of these commands says them
 pub says : {E : Type 0} (written : Result (String Global) E) (commands : List Command)
-    → IfOk written (λ text. IsTextOf (file_of commands) (string_bytes text)) → file_commands (file_of commands) ≡ Ok commands
+    → IfOk written (λ text. IsTextOf (file_of commands) (string_bytes text))
+    → file_commands (file_of commands) ≡ Ok commands
     → IfOk written (λ text. SaysCommands commands (string_bytes text))
 says (Ok text) commands is read = record { written = is.0; read = is.1; taken = read }
 says (Err error) commands is read = tt

@@ -24,8 +24,10 @@ inserted key value [] = refl
 inserted key value (e ∷ es) = by_order (string_cmp key e.0) _ _ _ ∙ rw (inserted key value es)
 
 -- the entries of a table after an insert
-pub inserted_at : (key : String Global) (name : List ℕ) (value : Value) (seen : Data) (es new : List Entry) (before : Members)
-    → string_bytes key ≡ name → view value ≡ seen → members_view es ≡ before → new ≡ insert_entry string_cmp es key value
+pub inserted_at : (key : String Global) (name : List ℕ) (value : Value) (seen : Data) (es new : List Entry)
+    (before : Members)
+    → string_bytes key ≡ name → view value ≡ seen → members_view es ≡ before
+    → new ≡ insert_entry string_cmp es key value
     → members_view new ≡ put_member name seen before
 inserted_at key name value seen es new before named is had after =
     rw (after, ← named, ← is, ← had) (inserted key value es)

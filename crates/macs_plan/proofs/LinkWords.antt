@@ -1,14 +1,17 @@
 -- All that is to be drawn of the words on a link's file.
-use Rattle.std.proofs.Common.{◌≡◌, ◌≢◌, ◌∙◌, ◌≤◌, ◌+◌, ℕ, Bool, true, false, cond, List, [], ◌∷◌, length, Option, Some, None, Result, Ok, Err, bytes_eq, codes, nat_lt, refl, sym, ap, subst, arith, inl, inr}
+use Rattle.std.proofs.Common.{◌≡◌, ◌≢◌, ◌∙◌, ◌≤◌, ◌+◌, ℕ, Bool, true, false, cond, List, [], ◌∷◌, length, Option, Some}
+use Rattle.std.proofs.Common.{None, Result, Ok, Err, bytes_eq, codes, nat_lt, refl, sym, ap, subst, arith, inl, inr}
 use Rattle.std.specs.Prelude.{option_and_then}
 use Rattle.std.proofs.lemmas.Bool.{cases_Bool, le-ltb, lt-ltb, ltb-false, ne_eqb}
-use Rattle.toml.specs.Data.{Data, Items, Members, array, as_array, as_table, boolean, datetime, float, get_member, integer, item, string, table}
+use Rattle.toml.specs.Data.{Data, Items, Members, array, as_array, as_table, boolean, datetime, float, get_member}
+use Rattle.toml.specs.Data.{integer, item, string, table}
 use Rattle.macs_aes.specs.declared.keys.Key.{Key}
 use Rattle.macs_config.proofs.Channels.{bytes_eq-itself, same_octets}
 use Rattle.macs_commands.specs.CommandFiles.{count}
 use Rattle.macs_commands.specs.Fields.{an_in, sci_in}
 use Rattle.macs_plan.specs.LinkWords.{IsNewest, LinkWords, PairWords, RefusedWords}
-use Rattle.macs_plan.specs.Reading.{◌>>=◌, end_sci, file_link, followed, is_keys, items_at, key_at, key_pair, key_pairs, newest_link, required, reuses_an, sound_link, table_at, tables_link}
+use Rattle.macs_plan.specs.Reading.{◌>>=◌, end_sci, file_link, followed, is_keys, items_at, key_at, key_pair, key_pairs}
+use Rattle.macs_plan.specs.Reading.{newest_link, required, reuses_an, sound_link, table_at, tables_link}
 use Rattle.macs_plan.specs.declared.link.KeyPair.{KeyPair}
 use Rattle.macs_plan.specs.declared.link.Link.{Link}
 use Rattle.macs_plan.specs.declared.plan_fault.Place.{Place}
@@ -37,10 +40,13 @@ is_array_of (datetime dt) ds e = absurd (cc)
 is_array_of (array xs) ds e = cc
 
 table_there : (key : List ℕ) (m t : Members) → table_at key m ≡ Some t → get_member key m ≡ Some (table t)
-table_there key m t is = let (value, there, so) = and_then as_table (get_member key m) t is in there ∙ ap Some (is_table_of value t so)
+table_there key m t is = let (value, there, so) = and_then as_table (get_member key m) t is in
+    there ∙ ap Some (is_table_of value t so)
 
-array_there : (key : List ℕ) (m : Members) (items : Items) → items_at key m ≡ Some items → get_member key m ≡ Some (array items)
-array_there key m items is = let (value, there, so) = and_then as_array (get_member key m) items is in there ∙ ap Some (is_array_of value items so)
+array_there : (key : List ℕ) (m : Members) (items : Items) → items_at key m ≡ Some items
+    → get_member key m ≡ Some (array items)
+array_there key m items is = let (value, there, so) = and_then as_array (get_member key m) items is in
+    there ∙ ap Some (is_array_of value items so)
 
 -- ---- the file
 
@@ -72,7 +78,8 @@ taken m left right items at_left at_right at_key three keys =
     (option_and_then as_array (at_key i)))
     ∙ ap (λ (b : Bool). asked b (tables_link left right items)) keys
 
-no_shape : (n : ℕ) (left right : Option Members) (items : Option Items) → n ≢ 3 → with_tables n left right items ≡ Err fault.Shape
+no_shape : (n : ℕ) (left right : Option Members) (items : Option Items) → n ≢ 3
+    → with_tables n left right items ≡ Err fault.Shape
 no_shape n (Some left) (Some right) (Some items) other = rw (ne_eqb n 3 other) refl
 no_shape n (Some left) (Some right) None other = refl
 no_shape n (Some left) None items other = refl
@@ -82,7 +89,8 @@ no_shape n None right items other = refl
 
 longer : (first pair next : KeyPair) (pairs : List KeyPair) (earlier : Option KeyPair) (newest : KeyPair)
     → IsNewest (pair ∷ next ∷ pairs) earlier newest → IsNewest (first ∷ pair ∷ next ∷ pairs) earlier newest
-longer first pair next pairs None newest is = let size : length (pair ∷ next ∷ pairs) ≡ length (newest ∷ []) = ap length is in absurd (omega (arith, size))
+longer first pair next pairs None newest is = let size : length (pair ∷ next ∷ pairs) ≡ length (newest ∷ []) =
+    ap length is in absurd (omega (arith, size))
 longer first pair next pairs (Some earlier) newest is = (first ∷ is.0, ap (λ (l : List KeyPair). first ∷ l) is.1)
 
 abbrev IsRead : List ℕ → List ℕ → List KeyPair → Link → Type 0
@@ -97,7 +105,8 @@ newest_read : (left right : List ℕ) (earlier : Option KeyPair) (pairs : List K
     → newest_link left right earlier pairs ≡ Ok link → IsRead left right (with_earlier earlier pairs) link
 newest_read left right earlier [] link is = absurd (cc)
 newest_read left right earlier (pair ∷ []) link is =
-    subst (λ (x : Link). IsRead left right (with_earlier earlier (pair ∷ [])) x) (same_link (link_with left right earlier pair) link is)
+    subst (λ (x : Link). IsRead left right (with_earlier earlier (pair ∷ [])) x)
+    (same_link (link_with left right earlier pair) link is)
     (read_last left right earlier pair)
 newest_read left right None (pair ∷ next ∷ pairs) link is = newest_read left right (Some pair) (next ∷ pairs) link is
 newest_read left right (Some before) (pair ∷ next ∷ pairs) link is =
@@ -112,11 +121,16 @@ ends left right items link is =
     let first = passed (bytes_eq one other) fault.SameSci _ link made in
     let second = passed _ fault.SameKey _ link first.1 in
     let third = passed (reuses_an pairs) fault.AnInUse _ link second.1 in
-    let read = newest_read one other None pairs link third.1 in
-    (has_one ∙ ap (λ (s : List ℕ). Ok s) read.0, has_other ∙ ap (λ (s : List ℕ). Ok s) read.1, (pairs, has_pairs, read.2))
+    let read = newest_read one other None pairs link third.1 in (
+      has_one ∙ ap (λ (s : List ℕ). Ok s) read.0,
+      has_other ∙ ap (λ (s : List ℕ). Ok s) read.1,
+      (pairs, has_pairs, read.2),
+    )
 
-abbrev tables_by : Result (List ℕ) PlanFault → Result (List ℕ) PlanFault → Result (List KeyPair) PlanFault → Result Link PlanFault
-tables_by one other pairs = one >>= (λ (l : List ℕ). other >>= (λ (r : List ℕ). pairs >>= (λ (p : List KeyPair). sound_link l r p)))
+abbrev tables_by : Result (List ℕ) PlanFault → Result (List ℕ) PlanFault → Result (List KeyPair) PlanFault
+    → Result Link PlanFault
+tables_by one other pairs =
+    one >>= (λ (l : List ℕ). other >>= (λ (r : List ℕ). pairs >>= (λ (p : List KeyPair). sound_link l r p)))
 
 -- ---- the ends
 
@@ -131,7 +145,8 @@ had : {X Y : Type 0} (at : Place) (which : ValueName) (o : Option X) (f : X → 
 had at which None f y is = absurd (cc)
 had at which (Some x) f y is = (x, refl, is)
 
-kept : {X : Type 0} (b : Bool) (at : Place) (x y : X) → limited b at x ≡ Ok y → (b ≡ false) × (limited false at x ≡ Ok y)
+kept : {X : Type 0} (b : Bool) (at : Place) (x y : X) → limited b at x ≡ Ok y
+    → (b ≡ false) × (limited false at x ≡ Ok y)
 kept true at x y is = absurd (cc)
 kept false at x y is = (refl, is)
 
@@ -141,7 +156,8 @@ sci_as s = Ok s
 same_sci : (a b : List ℕ) → sci_as a ≡ sci_as b → a ≡ b
 same_sci a b is = cc
 
-end_read : (at : Place) (m : Members) (octets : List ℕ) → end_sci at m ≡ Ok octets → (sci_in m ≡ Some octets) × (count m ≤ 1)
+end_read : (at : Place) (m : Members) (octets : List ℕ) → end_sci at m ≡ Ok octets
+    → (sci_in m ≡ Some octets) × (count m ≤ 1)
 end_read at m octets is =
     let (found, has, rest) = had at name.Sci (sci_in m) _ octets is in
     let (few, same) = kept (nat_lt 1 (count m)) at found octets rest in
@@ -184,7 +200,8 @@ pairs_as l = Ok l
 same_pairs : (a b : List KeyPair) → pairs_as a ≡ pairs_as b → a ≡ b
 same_pairs a b is = cc
 
-followed_by : (r : Result KeyPair PlanFault) (rest : Result (List KeyPair) PlanFault) (pairs : List KeyPair) → followed r rest ≡ Ok pairs
+followed_by : (r : Result KeyPair PlanFault) (rest : Result (List KeyPair) PlanFault) (pairs : List KeyPair)
+    → followed r rest ≡ Ok pairs
     → (first : KeyPair) × (others : List KeyPair) × (pairs ≡ first ∷ others) × (r ≡ Ok first) × (rest ≡ Ok others)
 followed_by (Ok first) (Ok others) pairs is = (first, others, sym (same_pairs (first ∷ others) pairs is), refl, refl)
 followed_by (Ok first) (Err cause) pairs is = absurd (cc)
@@ -215,7 +232,8 @@ pub link-words : LinkWords
 link-words = record {
   whole = whole;
   taken = taken;
-  other_keys = λ m other. no_shape (count m) (table_at (codes "left") m) (table_at (codes "right") m) (items_at (codes "key") m) other;
+  other_keys = λ m other.
+      no_shape (count m) (table_at (codes "left") m) (table_at (codes "right") m) (items_at (codes "key") m) other;
   ends = ends;
   wrong_left = λ left right items cause is. λ i. tables_by (is i) (end_sci place.Right right) (key_pairs 1 items);
   wrong_right = λ left right items sci cause here is. λ i. tables_by (here i) (is i) (key_pairs 1 items);
@@ -235,7 +253,8 @@ pair-words = record {
   later_fault = λ at m items first cause here later. λ i. followed (here i) (later i);
   pair = pair_read;
   taken = λ at m an left right a l r few. λ i. pair_by at (a i) (l i) (r i) (le-ltb 3 (count m) few i);
-  no_an = λ at m none. λ i. pair_by at (none i) (key_at (codes "left") m) (key_at (codes "right") m) (nat_lt 3 (count m));
+  no_an =
+      λ at m none. λ i. pair_by at (none i) (key_at (codes "left") m) (key_at (codes "right") m) (nat_lt 3 (count m));
   no_left = λ at m an a none. λ i. pair_by at (a i) (none i) (key_at (codes "right") m) (nat_lt 3 (count m));
   no_right = λ at m an left a l none. λ i. pair_by at (a i) (l i) (none i) (nat_lt 3 (count m));
   one_more = λ at m an left right a l r more. λ i. pair_by at (a i) (l i) (r i) (lt-ltb 3 (count m) more i);

@@ -1,7 +1,10 @@
 -- Pairs of keys read one by one.
-use Rattle.std.proofs.Common.{◌≡◌, ◌<◌, ◌≤◌, ◌+◌, ℕ, List, [], ◌∷◌, ◌++◌, length, drop, get_or, refl, ap, sym, ◌∙◌, append_assoc, append-nil, subst, IfErr, Result, Ok, Err, Some, None, false, drop_of_length-le, suc, String, ◌==◌}
+use Rattle.std.proofs.Common.{◌≡◌, ◌<◌, ◌≤◌, ◌+◌, ℕ, List, [], ◌∷◌, ◌++◌, length, drop, get_or, refl, ap, sym, ◌∙◌}
+use Rattle.std.proofs.Common.{append_assoc, append-nil, subst, IfErr, Result, Ok, Err, Some, None, false}
+use Rattle.std.proofs.Common.{drop_of_length-le, suc, String, ◌==◌}
 use Rattle.macs_plan.specs.declared.plan_fault.PlanFault.TheVariants.{Memory, Shape}
-use Rattle.toml.specs.Data.{Data, string, integer, float, boolean, datetime, array, table, Items, no_items, item, Members, as_table}
+use Rattle.toml.specs.Data.{Data, string, integer, float, boolean, datetime, array, table, Items, no_items, item}
+use Rattle.toml.specs.Data.{Members, as_table}
 use Rattle.toml.specs.declared.value.Value.{Value}
 use Rattle.toml.specs.View.{items_view, members_view, view}
 use Rattle.std.specs.declared.alloc.Global.{Global}
@@ -16,7 +19,8 @@ abbrev pub joined : List KeyPair → Result (List KeyPair) PlanFault → Result 
 joined done (Ok rest) = Ok (done ++ rest)
 joined done (Err fault) = Err fault
 
-pub joined_one : (done : List KeyPair) (pair : KeyPair) (rest : Result (List KeyPair) PlanFault) → joined done (followed (Ok pair) rest) ≡ joined (done ++ pair ∷ []) rest
+pub joined_one : (done : List KeyPair) (pair : KeyPair) (rest : Result (List KeyPair) PlanFault)
+    → joined done (followed (Ok pair) rest) ≡ joined (done ++ pair ∷ []) rest
 joined_one done pair (Ok rest) = ap Ok (sym (append_assoc done (pair ∷ []) rest))
 joined_one done pair (Err fault) = refl
 
@@ -48,12 +52,16 @@ not_all (datetime dt) ds e = refl
 not_all (array xs) ds e = refl
 
 -- the value in hand is the first of those that are left
-pub one_left : (vs : List Value) (i : ℕ) (value : Value) (ms : Members) → i < length vs → value ≡ get_or vs i value → as_table (view value) ≡ Some ms → items_view (drop i vs) ≡ item (table ms) (items_view (drop (i + 1) vs))
+pub one_left : (vs : List Value) (i : ℕ) (value : Value) (ms : Members) → i < length vs → value ≡ get_or vs i value
+    → as_table (view value) ≡ Some ms → items_view (drop i vs) ≡ item (table ms) (items_view (drop (i + 1) vs))
 one_left vs i value ms within same e =
-    items_view-drop vs i value within ∙ ap (λ v. item (view v) (items_view (drop (i + 1) vs))) (sym same) ∙ ap (λ x. item x (items_view (drop (i + 1) vs))) (is_table_of (view value) ms e)
+    items_view-drop vs i value within ∙ ap (λ v. item (view v) (items_view (drop (i + 1) vs))) (sym same)
+    ∙ ap (λ x. item x (items_view (drop (i + 1) vs))) (is_table_of (view value) ms e)
 
-pub other_left : (vs : List Value) (i : ℕ) (value : Value) → i < length vs → value ≡ get_or vs i value → items_view (drop i vs) ≡ item (view value) (items_view (drop (i + 1) vs))
-other_left vs i value within same = items_view-drop vs i value within ∙ ap (λ v. item (view v) (items_view (drop (i + 1) vs))) (sym same)
+pub other_left : (vs : List Value) (i : ℕ) (value : Value) → i < length vs → value ≡ get_or vs i value
+    → items_view (drop i vs) ≡ item (view value) (items_view (drop (i + 1) vs))
+other_left vs i value within same = items_view-drop vs i value within
+    ∙ ap (λ v. item (view v) (items_view (drop (i + 1) vs))) (sym same)
 
 pub none_left : (vs : List Value) (i : ℕ) → length vs ≤ i → items_view (drop i vs) ≡ no_items
 none_left vs i past = ap items_view (drop_of_length-le vs past)
@@ -65,21 +73,24 @@ module _ (vs : List Value) (i : ℕ) (done : List KeyPair) (all : Result (List K
   -- none is left
   pub all-read : length vs ≤ i → all ≡ Ok done
   all-read past =
-      so_far ∙ ap (λ (x : Items). joined done (key_pairs (i + 1) x)) (none_left vs i past) ∙ ap (λ (l : List KeyPair). Ok l) (append-nil done)
+      so_far ∙ ap (λ (x : Items). joined done (key_pairs (i + 1) x)) (none_left vs i past)
+      ∙ ap (λ (l : List KeyPair). Ok l) (append-nil done)
 
   module _ (value : Value) (within : i < length vs) (same : value ≡ get_or vs i value) where
     -- it is no table
     pub no-table : None ≡ as_table (view value) → all ≡ Err Shape
     no-table none =
         so_far ∙ ap (λ (x : Items). joined done (key_pairs (i + 1) x)) (other_left vs i value within same)
-        ∙ ap (λ (r : Result (List KeyPair) PlanFault). joined done r) (shape (i + 1) (view value) (items_view (drop (i + 1) vs)) (sym none))
+        ∙ ap (λ (r : Result (List KeyPair) PlanFault). joined done r)
+        (shape (i + 1) (view value) (items_view (drop (i + 1) vs)) (sym none))
 
     module _ (ms : Members) (some : Some ms ≡ as_table (view value)) where
       abbrev after_it : Result (List KeyPair) PlanFault
       after_it = key_pairs (i + 1 + 1) (items_view (drop (i + 1) vs))
 
       left : all ≡ joined done (followed (key_pair (i + 1) ms) after_it)
-      left = so_far ∙ ap (λ (x : Items). joined done (key_pairs (i + 1) x)) (one_left vs i value ms within same (sym some))
+      left = so_far
+          ∙ ap (λ (x : Items). joined done (key_pairs (i + 1) x)) (one_left vs i value ms within same (sym some))
 
       -- it is a table with a fault
       pub table-fault : (fault : PlanFault) → Err fault ≡ key_pair (i + 1) ms → all ≡ Err fault
@@ -88,12 +99,15 @@ module _ (vs : List Value) (i : ℕ) (done : List KeyPair) (all : Result (List K
       -- it is that of a pair
       pub table-more : (pair : KeyPair) → Ok pair ≡ key_pair (i + 1) ms → all ≡ joined (done ++ pair ∷ []) after_it
       table-more pair is =
-          left ∙ ap (λ (r : Result KeyPair PlanFault). joined done (followed r after_it)) (sym is) ∙ joined_one done pair after_it
+          left ∙ ap (λ (r : Result KeyPair PlanFault). joined done (followed r after_it)) (sym is)
+          ∙ joined_one done pair after_it
 
 -- what is answered for a fault
-pub answered : (T : Type 0) (result : Result T PlanFault) (fault : PlanFault) (all : Result (List KeyPair) PlanFault) → result ≡ Err fault → all ≡ Err fault
+pub answered : (T : Type 0) (result : Result T PlanFault) (fault : PlanFault) (all : Result (List KeyPair) PlanFault)
+    → result ≡ Err fault → all ≡ Err fault
     → IfErr result (λ f. ¬ (f ≡ Memory) → all ≡ Err f)
-answered T result fault all is same = subst (λ (r : Result T PlanFault). IfErr r (λ f. ¬ (f ≡ Memory) → all ≡ Err f)) (sym is) (λ other. same)
+answered T result fault all is same =
+    subst (λ (r : Result T PlanFault). IfErr r (λ f. ¬ (f ≡ Memory) → all ≡ Err f)) (sym is) (λ other. same)
 
 -- a table has as many members as its map has entries
 pub counted : (es : List (String Global × Value)) → length es ≡ count (members_view es)
@@ -101,6 +115,7 @@ counted [] = refl
 counted (e ∷ es) = ap (λ n. suc n) (counted es)
 
 -- some values
-pub some_tables : (values : List Value) → (length values == 0) ≡ false → are_tables (items_view values) ≡ is_keys (items_view values)
+pub some_tables : (values : List Value) → (length values == 0) ≡ false
+    → are_tables (items_view values) ≡ is_keys (items_view values)
 some_tables [] some = absurd (true≢false some)
 some_tables (value ∷ values) some = refl

@@ -1,5 +1,6 @@
 -- The table of a command is read as that command.
-use Rattle.std.proofs.Common.{◌≡◌, ◌∙◌, ℕ, ◌<◌, ◌^◌, ◌%◌, ◌/◌, List, length, le-leb, Option, Some, None, Result, Ok, Err, refl, sym, ap, arith, inl, inr}
+use Rattle.std.proofs.Common.{◌≡◌, ◌∙◌, ℕ, ◌<◌, ◌^◌, ◌%◌, ◌/◌, List, length, le-leb, Option, Some, None, Result, Ok}
+use Rattle.std.proofs.Common.{Err, refl, sym, ap, arith, inl, inr}
 use Rattle.std.specs.List.{All}
 use Rattle.std.specs.Option.{option_map}
 use Rattle.std.proofs.lemmas.Bool.{cases_lt}
@@ -13,7 +14,8 @@ use Rattle.macs_aes.specs.declared.keys.Key.TheVariants.{Long, Short}
 use Rattle.macs_fields.specs.Fields.{IsOctets}
 use Rattle.macs_config.specs.Apply.{IsCommand, IsKey}
 use Rattle.macs_config.specs.declared.command.Command.{Command}
-use Rattle.macs_config.specs.declared.command.Command.TheVariants.{SetValidate, SetReplay, SetSciMode, TxInstall, TxUse, TxRemove, RxAdd, RxDrop, RxInstall, RxRemove}
+use Rattle.macs_config.specs.declared.command.Command.TheVariants.{SetValidate, SetReplay, SetSciMode, TxInstall, TxUse}
+use Rattle.macs_config.specs.declared.command.Command.TheVariants.{TxRemove, RxAdd, RxDrop, RxInstall, RxRemove}
 use Rattle.macs_config.specs.declared.command.SciMode.TheVariants.{Explicit, EndStation, Implicit}
 use Rattle.macs_config.specs.declared.command.Validate.TheVariants.{Strict, Check}
 use Rattle.macs_commands.specs.CommandFiles.{table_command}
@@ -45,7 +47,8 @@ octets_are n octets size is = record { size = size; each = each_octet octets is 
 
 not_short : (octets : List ℕ) → IsOctets 32 octets → octets_of 16 (encode_lower octets) ≡ None
 not_short octets are =
-    let size : length (encode_lower octets) ≡ 64 = decode_sized-ok (encode_lower octets) 32 octets (decoded 32 octets are) in
+    let size : length (encode_lower octets) ≡ 64 =
+    decode_sized-ok (encode_lower octets) 32 octets (decoded 32 octets are) in
     let even : length (encode_lower octets) % 2 ≡ 0 = ap (λ (n : ℕ). n % 2) size in
     let half : length (encode_lower octets) / 2 ≡ 32 = ap (λ (n : ℕ). n / 2) size in
     ap (λ (r : Result (List ℕ) FromHexError). found_in r)
@@ -54,9 +57,11 @@ not_short octets are =
 abbrev key_among : Option (List ℕ) → Option (List ℕ) → Option Key
 key_among short long = elim short [ Some octets ↦ Some (Short octets) | None ↦ option_map Long long ]
 
-key_read : (key : Key) → IsKey (octets_of_key key) → HasItsLength key → key_of (encode_lower (octets_of_key key)) ≡ Some key
+key_read : (key : Key) → IsKey (octets_of_key key) → HasItsLength key
+    → key_of (encode_lower (octets_of_key key)) ≡ Some key
 key_read (Short octets) is size =
-    ap (λ (o : Option (List ℕ)). key_among o (octets_of 32 (encode_lower octets))) (octets_read 16 octets (octets_are 16 octets size is))
+    ap (λ (o : Option (List ℕ)). key_among o (octets_of 32 (encode_lower octets)))
+    (octets_read 16 octets (octets_are 16 octets size is))
 key_read (Long octets) is size =
     let are = octets_are 32 octets size is in
     ap (λ (o : Option (List ℕ)). key_among o (octets_of 32 (encode_lower octets))) (not_short octets are)
@@ -64,7 +69,8 @@ key_read (Long octets) is size =
 
 -- ---- commands
 
-pub reads : (command : Command) → IsCommand command → HasItsKey command → (at : ℕ) → table_command at (table_of command) ≡ Ok command
+pub reads : (command : Command) → IsCommand command → HasItsKey command → (at : ℕ)
+    → table_command at (table_of command) ≡ Ok command
 reads (SetValidate Strict) is key at = refl
 reads (SetValidate Check) is key at = refl
 reads (SetReplay on window) is key at = rw (le-leb window 4294967295 (omega (arith, is))) refl

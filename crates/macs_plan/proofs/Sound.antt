@@ -1,5 +1,6 @@
 -- A link that is read has two SCIs, and no key twice.
-use Rattle.std.proofs.Common.{◌≡◌, ◌≢◌, ◌∙◌, ◌==◌, ◌&&◌, ℕ, Bool, true, false, not, cond, List, [], ◌∷◌, Option, Some, None, Result, Ok, Err, bytes_eq, codes, refl, sym, subst}
+use Rattle.std.proofs.Common.{◌≡◌, ◌≢◌, ◌∙◌, ◌==◌, ◌&&◌, ℕ, Bool, true, false, not, cond, List, [], ◌∷◌, Option, Some}
+use Rattle.std.proofs.Common.{None, Result, Ok, Err, bytes_eq, codes, refl, sym, subst}
 use Rattle.std.proofs.lemmas.Bool.{and_parts, eqb-false, eqb-true, not-true, or_parts, true≢false}
 use Rattle.toml.specs.Data.{Items, Members}
 use Rattle.macs_aes.specs.Keys.{octets_of_key}
@@ -8,7 +9,8 @@ use Rattle.macs_config.proofs.Channels.{bytes_eq-itself}
 use Rattle.macs_commands.specs.CommandFiles.{count}
 use Rattle.macs_plan.specs.Accepting.{IsSound, Refuses}
 use Rattle.macs_plan.specs.Planning.{own_key}
-use Rattle.macs_plan.specs.Reading.{◌>>=◌, is_keys, items_at, keys_of, newest_link, reuses_an, shaped_link, sound_link, table_at, tables_link}
+use Rattle.macs_plan.specs.Reading.{◌>>=◌, is_keys, items_at, keys_of, newest_link, reuses_an, shaped_link, sound_link}
+use Rattle.macs_plan.specs.Reading.{table_at, tables_link}
 use Rattle.macs_plan.specs.Reading.{end_sci, key_pairs}
 use Rattle.macs_plan.specs.declared.link.End.{End}
 use Rattle.macs_plan.specs.declared.link.End.TheVariants.{Left, Right}
@@ -20,11 +22,13 @@ use Rattle.macs_plan.specs.declared.plan_fault.PlanFault.TheVariants as fault
 
 -- ---- what is behind an answer
 
-pub bound : {X Y : Type 0} (r : Result X PlanFault) (f : X → Result Y PlanFault) (y : Y) → (r >>= f) ≡ Ok y → (x : X) × (r ≡ Ok x) × (f x ≡ Ok y)
+pub bound : {X Y : Type 0} (r : Result X PlanFault) (f : X → Result Y PlanFault) (y : Y) → (r >>= f) ≡ Ok y
+    → (x : X) × (r ≡ Ok x) × (f x ≡ Ok y)
 bound (Ok x) f y is = (x, refl, is)
 bound (Err cause) f y is = absurd (cc)
 
-pub passed : (b : Bool) (cause : PlanFault) (r : Result Link PlanFault) (link : Link) → cond b (Err cause) r ≡ Ok link → (b ≡ false) × (r ≡ Ok link)
+pub passed : (b : Bool) (cause : PlanFault) (r : Result Link PlanFault) (link : Link) → cond b (Err cause) r ≡ Ok link
+    → (b ≡ false) × (r ≡ Ok link)
 passed true cause r link is = absurd (cc)
 passed false cause r link is = (refl, is)
 
@@ -41,7 +45,8 @@ same_link a b is = cc
 
 -- the tables of two ends and of pairs, and what is behind each
 pub from_tables : (left right : Members) (items : Items) (link : Link) → tables_link left right items ≡ Ok link
-    → (one other : List ℕ) × (pairs : List KeyPair) × (end_sci place.Left left ≡ Ok one) × (end_sci place.Right right ≡ Ok other)
+    → (one other : List ℕ) × (pairs : List KeyPair) × (end_sci place.Left left ≡ Ok one)
+    × (end_sci place.Right right ≡ Ok other)
     × (key_pairs 1 items ≡ Ok pairs) × (sound_link one other pairs ≡ Ok link)
 from_tables left right items link is =
     let (one, has_one, first) = bound (end_sci place.Left left) _ link is in
@@ -67,7 +72,8 @@ with_tables n left right items = elim left [
   ]
 ]
 
-pub from_file : (n : ℕ) (left right : Option Members) (items : Option Items) (link : Link) → with_tables n left right items ≡ Ok link
+pub from_file : (n : ℕ) (left right : Option Members) (items : Option Items) (link : Link)
+    → with_tables n left right items ≡ Ok link
     → (one two : Members) × (three : Items) × (left ≡ Some one) × (right ≡ Some two) × (items ≡ Some three)
     × (n ≡ 3) × (tables_link one two three ≡ Ok link)
 from_file n (Some left) (Some right) (Some items) link is =
@@ -92,7 +98,8 @@ link_with left right earlier pair = record { left = left; right = right; newest 
 some_same : (a b : KeyPair) → Some a ≡ Some b → a ≡ b
 some_same a b e = cc
 
-alone : (left right : List ℕ) (pair : KeyPair) → left ≢ right → are_distinct (keys_of (pair ∷ [])) ≡ true → IsSound (link_with left right None pair)
+alone : (left right : List ℕ) (pair : KeyPair) → left ≢ right → are_distinct (keys_of (pair ∷ [])) ≡ true
+    → IsSound (link_with left right None pair)
 alone left right pair ends once =
     let l = octets_of_key pair.left in
     let r = octets_of_key pair.right in
@@ -128,10 +135,13 @@ two left right before pair ends once number =
     record {
       ends = ends;
       newest = differ c d c1.0;
-      numbers = λ earlier is. subst (λ (x : KeyPair). pair.an ≢ x.an) (some_same before earlier is) (eqb-false pair.an before.an n1.0);
-      earlier = λ earlier is. subst (λ (x : KeyPair). octets_of_key x.left ≢ octets_of_key x.right) (some_same before earlier is) (differ a b a1.0);
+      numbers = λ earlier is.
+          subst (λ (x : KeyPair). pair.an ≢ x.an) (some_same before earlier is) (eqb-false pair.an before.an n1.0);
+      earlier = λ earlier is. subst (λ (x : KeyPair). octets_of_key x.left ≢ octets_of_key x.right)
+          (some_same before earlier is) (differ a b a1.0);
       keys = λ earlier one other is.
-          subst (λ (x : KeyPair). octets_of_key (own_key x one) ≢ octets_of_key (own_key pair other)) (some_same before earlier is) (keys one other);
+          subst (λ (x : KeyPair). octets_of_key (own_key x one) ≢ octets_of_key (own_key pair other))
+          (some_same before earlier is) (keys one other);
     }
   where
     four : (before pair : KeyPair) (one other : End)
@@ -145,19 +155,22 @@ two left right before pair ends once number =
 
 -- the last pair, and the one before it
 last : (left right : List ℕ) (earlier : Option KeyPair) (pair : KeyPair) → left ≢ right
-    → are_distinct (keys_of (with_earlier earlier (pair ∷ []))) ≡ true → reuses_an (with_earlier earlier (pair ∷ [])) ≡ false
+    → are_distinct (keys_of (with_earlier earlier (pair ∷ []))) ≡ true
+    → reuses_an (with_earlier earlier (pair ∷ [])) ≡ false
     → IsSound (link_with left right earlier pair)
 last left right None pair ends once number = alone left right pair ends once
 last left right (Some before) pair ends once number = two left right before pair ends once number
 
 -- what holds of pairs holds without the first
-later_keys : (pair : KeyPair) (pairs : List KeyPair) → are_distinct (keys_of (pair ∷ pairs)) ≡ true → are_distinct (keys_of pairs) ≡ true
+later_keys : (pair : KeyPair) (pairs : List KeyPair) → are_distinct (keys_of (pair ∷ pairs)) ≡ true
+    → are_distinct (keys_of pairs) ≡ true
 later_keys pair pairs once =
     let first = and_parts (not (is_among (octets_of_key pair.right ∷ keys_of pairs) (octets_of_key pair.left)))
     (are_distinct (octets_of_key pair.right ∷ keys_of pairs)) once in
     (and_parts (not (is_among (keys_of pairs) (octets_of_key pair.right))) (are_distinct (keys_of pairs)) first.1).1
 
-later_numbers : (pair next : KeyPair) (pairs : List KeyPair) → reuses_an (pair ∷ next ∷ pairs) ≡ false → reuses_an (next ∷ pairs) ≡ false
+later_numbers : (pair next : KeyPair) (pairs : List KeyPair) → reuses_an (pair ∷ next ∷ pairs) ≡ false
+    → reuses_an (next ∷ pairs) ≡ false
 later_numbers pair next pairs number = (or_parts (next.an == pair.an) (reuses_an (next ∷ pairs)) number).1
 
 of_link : (made link : Link) → read_as made ≡ read_as link → IsSound made → IsSound link
@@ -175,12 +188,14 @@ newest_sound left right (Some before) (pair ∷ next ∷ pairs) link ends once n
     newest_sound left right (Some pair) (next ∷ pairs) link ends (later_keys before (pair ∷ next ∷ pairs) once)
     (later_numbers before pair (next ∷ pairs) number) is
 
-from_sound : (left right : List ℕ) (pairs : List KeyPair) (link : Link) → sound_link left right pairs ≡ Ok link → IsSound link
+from_sound : (left right : List ℕ) (pairs : List KeyPair) (link : Link) → sound_link left right pairs ≡ Ok link
+    → IsSound link
 from_sound left right pairs link is =
     let one = passed (bytes_eq left right) fault.SameSci _ link is in
     let two = passed (not (are_distinct (keys_of pairs))) fault.SameKey _ link one.1 in
     let three = passed (reuses_an pairs) fault.AnInUse _ link two.1 in
-    newest_sound left right None pairs link (λ same. differ right left one.0 (sym same)) (once (are_distinct (keys_of pairs)) two.0) three.0 three.1
+    newest_sound left right None pairs link (λ same. differ right left one.0 (sym same))
+    (once (are_distinct (keys_of pairs)) two.0) three.0 three.1
   where
     once : (b : Bool) → not b ≡ false → b ≡ true
     once true is = refl
@@ -189,6 +204,7 @@ from_sound left right pairs link is =
 pub refuses : Refuses
 refuses members link is =
     let (left, right, items, at_left, at_right, at_key, three, tables) =
-    from_file (count members) (table_at (codes "left") members) (table_at (codes "right") members) (items_at (codes "key") members) link is in
+    from_file (count members) (table_at (codes "left") members) (table_at (codes "right") members)
+    (items_at (codes "key") members) link is in
     let (one, other, pairs, has_one, has_other, has_pairs, made) = from_tables left right items link tables in
     from_sound one other pairs link made

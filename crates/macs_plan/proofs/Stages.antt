@@ -1,5 +1,6 @@
 -- The stages of a link, each of which leads its end on.
-use Rattle.std.proofs.Common.{◌≡◌, ◌≢◌, ◌∙◌, ℕ, Bool, true, false, ◌||◌, List, bytes_eq, Some, None, Ok, refl, sym, ap, arith}
+use Rattle.std.proofs.Common.{◌≡◌, ◌≢◌, ◌∙◌, ℕ, Bool, true, false, ◌||◌, List, bytes_eq, Some, None, Ok, refl, sym, ap}
+use Rattle.std.proofs.Common.{arith}
 use Rattle.std.proofs.lemmas.Bool.{cases_Bool}
 use Rattle.std.proofs.Common.{inl, inr}
 use Rattle.macs_aes.specs.Keys.{octets_of_key}
@@ -14,8 +15,10 @@ use Rattle.macs_config.specs.declared.association.TxSa.{TxSa}
 use Rattle.macs_config.specs.declared.command.Command.TheVariants.{TxUse, TxRemove, RxAdd, RxRemove}
 use Rattle.macs_config.proofs.Channels.{bytes_eq-itself, same_octets}
 use Rattle.macs_config.proofs.Tables.{put-here, put-other, put_at-here, put_rx-here}
-use Rattle.macs_plan.specs.Accepting.{Begins, Begun, HasKeys, IsGone, IsSound, IsUnspent, Meets, Receives, Rekeyed, Rekeys, Sends}
-use Rattle.macs_plan.specs.Planning.{first_keys, other_end, own_key, pair_before, receive_too, receives, remove_old, sci_of, send_so, sends}
+use Rattle.macs_plan.specs.Accepting.{Begins, Begun, HasKeys, IsGone, IsSound, IsUnspent, Meets, Receives, Rekeyed}
+use Rattle.macs_plan.specs.Accepting.{Rekeys, Sends}
+use Rattle.macs_plan.specs.Planning.{first_keys, other_end, own_key, pair_before, receive_too, receives, remove_old}
+use Rattle.macs_plan.specs.Planning.{sci_of, send_so, sends}
 use Rattle.macs_plan.specs.declared.link.End.{End}
 use Rattle.macs_plan.specs.declared.link.End.TheVariants.{Left, Right}
 use Rattle.macs_plan.specs.declared.link.KeyPair.{KeyPair}
@@ -25,12 +28,14 @@ use Rattle.macs_plan.proofs.Taken.{rx_added, rx_installed, rx_removed, tx_instal
 -- what is at another number of the channel stays
 put_rx-other : {X : Type 0} (f : List ℕ → ℕ → X) (sci : List ℕ) (at number : ℕ) (x : X) → at ≢ number
     → put_at f sci (put (f sci) at x) sci number ≡ f sci number
-put_rx-other f sci at number x differ = ap (λ g. g number) (put_at-here f sci (put (f sci) at x)) ∙ put-other (f sci) at number x differ
+put_rx-other f sci at number x differ = ap (λ g. g number) (put_at-here f sci (put (f sci) at x))
+    ∙ put-other (f sci) at number x differ
 
 before_is : (link : Link) (earlier : KeyPair) → link.before ≡ Some earlier → pair_before link ≡ Ok earlier
 before_is link earlier is = rw is refl
 
-module _ (identity : Identity) (link : Link) (end : End) (earlier : KeyPair) (old : Config) (sound : IsSound link) (has : HasKeys link.newest)
+module _ (identity : Identity) (link : Link) (end : End) (earlier : KeyPair) (old : Config) (sound : IsSound link)
+    (has : HasKeys link.newest)
     (before : link.before ≡ Some earlier) (sent : Sends end earlier old) (received : Receives link end earlier old)
     (gone : IsGone link end link.newest old) (unspent : IsUnspent link end link.newest old) where
   abbrev peer : List ℕ
@@ -121,7 +126,12 @@ module _ (identity : Identity) (link : Link) (end : End) (earlier : KeyPair) (ol
     (
       receive_too link end,
       rw (before_is link earlier before) refl,
-      (one, rx_installed identity old peer new.an (own_key new (other_end end)) received.channel gone.rx unspent.rx unspent.rx_room (has (other_end end)), refl),
+      (
+        one,
+        rx_installed identity old peer new.an (own_key new (other_end end)) received.channel gone.rx unspent.rx
+            unspent.rx_room (has (other_end end)),
+        refl,
+      ),
     ),
     sends_one,
     earlier_one,
@@ -147,7 +157,8 @@ module _ (identity : Identity) (link : Link) (end : End) (earlier : KeyPair) (ol
           rw (before_is link earlier before) refl,
           (
             removed,
-            tx_removed identity two earlier.an new.an _ (put-other old.tx new.an earlier.an (Some new_tx) apart ∙ sent.tx.1) refl apart,
+            tx_removed identity two earlier.an new.an _
+                (put-other old.tx new.an earlier.an (Some new_tx) apart ∙ sent.tx.1) refl apart,
             (three, rx_removed identity removed peer earlier.an _ received.channel earlier_two.rx.1, refl),
           ),
         ),
@@ -234,7 +245,12 @@ module _ (identity : Identity) (link : Link) (end : End) (sound : IsSound link) 
           (
             third,
             rx_added identity second far stranger refl (omega arith),
-            (fourth, rx_installed identity third far pair.an (own_key pair (other_end end)) channel refl refl (omega arith) (has (other_end end)), refl),
+            (
+              fourth,
+              rx_installed identity third far pair.an (own_key pair (other_end end)) channel refl refl
+                  (omega arith) (has (other_end end)),
+              refl,
+            ),
           ),
         ),
       ),

@@ -4,7 +4,8 @@ use Rattle.toml.specs.Data.{Members}
 use Rattle.macs_aes.specs.Keys.{HasItsLength, octets_of_key}
 use Rattle.macs_fields.specs.declared.fields.Offset.{Offset}
 use Rattle.macs_config.specs.Apply.{apply}
-use Rattle.macs_config.specs.Config.{Config, default, has_channel, is_spent, max_spent, rx_fingerprint, this_edition, tx_fingerprint}
+use Rattle.macs_config.specs.Config.{Config, default, has_channel, is_spent, max_spent, rx_fingerprint, this_edition}
+use Rattle.macs_config.specs.Config.{tx_fingerprint}
 use Rattle.macs_config.specs.Identity.{Identity}
 use Rattle.macs_config.specs.declared.association.Protection.{Protection}
 use Rattle.macs_config.specs.declared.association.RxSa.{RxSa}
@@ -25,7 +26,8 @@ pub record IsSound (link : Link) : Type 0 where
   pub ends : link.left ≢ link.right
   pub newest : octets_of_key link.newest.left ≢ octets_of_key link.newest.right
   pub numbers : (earlier : KeyPair) → link.before ≡ Some earlier → link.newest.an ≢ earlier.an
-  pub earlier : (earlier : KeyPair) → link.before ≡ Some earlier → octets_of_key earlier.left ≢ octets_of_key earlier.right
+  pub earlier : (earlier : KeyPair) → link.before ≡ Some earlier
+      → octets_of_key earlier.left ≢ octets_of_key earlier.right
   pub keys : (earlier : KeyPair) (one other : End) → link.before ≡ Some earlier
       → octets_of_key (own_key earlier one) ≢ octets_of_key (own_key link.newest other)
 
@@ -79,10 +81,11 @@ HasKeys pair = (end : End) → HasItsLength (own_key pair end)
 
 -- ---- the laws
 
--- Where one end sends under a pair and the other one receives under it, the frames of the first are received by the second: under its
--- SCI, at their association number and with their key.
+-- Where one end sends under a pair and the other one receives under it, the frames of the first are received by the
+-- second: under its SCI, at their association number and with their key.
 abbrev pub Meets : Type 0
-Meets = (link : Link) (end : End) (pair : KeyPair) (one other : Config) → Sends end pair one → Receives link (other_end end) pair other
+Meets = (link : Link) (end : End) (pair : KeyPair) (one other : Config) → Sends end pair one
+    → Receives link (other_end end) pair other
     → (an : ℕ) × (tx : TxSa) × (rx : RxSa) × (one.encoding ≡ Some an) × (one.tx an ≡ Some tx)
     × (has_channel other (sci_of link end) ≡ true) × (other.rx (sci_of link end) an ≡ Some rx) × (rx.key ≡ tx.key)
 
@@ -97,9 +100,10 @@ abbrev pub Begins : Type 0
 Begins = (identity : Identity) (link : Link) (end : End) → IsSound link → HasKeys link.newest
     → identity.sci ≡ sci_of link end → Begun identity link end
 
--- An end takes the three stages of a new pair. After the first it still sends under the pair before, and receives under both; after the
--- second it sends under the new one, and receives under both; after the third the pair before is gone. So where no end is more than a
--- stage ahead of the other one, each receives under the pair that the other one sends under.
+-- An end takes the three stages of a new pair. After the first it still sends under the pair before, and receives under
+-- both; after the second it sends under the new one, and receives under both; after the third the pair before is gone.
+-- So where no end is more than a stage ahead of the other one, each receives under the pair that the other one sends
+-- under.
 abbrev pub Rekeyed : Identity → Link → End → KeyPair → Config → Type 0
 Rekeyed identity link end earlier old =
     (one : Config) × StageTaken identity link end stage.Receive old one

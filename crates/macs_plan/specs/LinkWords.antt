@@ -1,11 +1,13 @@
 -- What is to be drawn of the words on a link's file: which link it says, and why it says none.
-use Rattle.std.specs.Prelude.{◌≡◌, ◌≢◌, ◌<◌, ◌≤◌, ◌+◌, ◌++◌, ℕ, codes, true, false, List, [], ◌∷◌, Option, Some, None, Ok, Err}
+use Rattle.std.specs.Prelude.{◌≡◌, ◌≢◌, ◌<◌, ◌≤◌, ◌+◌, ◌++◌, ℕ, codes, true, false, List, [], ◌∷◌, Option, Some, None}
+use Rattle.std.specs.Prelude.{Ok, Err}
 use Rattle.toml.specs.Data.{Data, Items, Members, array, get_member, item, no_items, table}
 use Rattle.macs_aes.specs.declared.keys.Key.{Key}
 use Rattle.macs_config.specs.Config.{are_distinct}
 use Rattle.macs_commands.specs.CommandFiles.{count}
 use Rattle.macs_commands.specs.Fields.{an_in, sci_in}
-use Rattle.macs_plan.specs.Reading.{end_sci, file_link, is_keys, key_at, key_pair, key_pairs, keys_of, newest_link, reuses_an}
+use Rattle.macs_plan.specs.Reading.{end_sci, file_link, is_keys, key_at, key_pair, key_pairs, keys_of, newest_link}
+use Rattle.macs_plan.specs.Reading.{reuses_an}
 use Rattle.macs_plan.specs.Reading.{sound_link, tables_link}
 use Rattle.macs_plan.specs.declared.link.KeyPair.{KeyPair}
 use Rattle.macs_plan.specs.declared.link.Link.{Link}
@@ -20,8 +22,8 @@ abbrev pub IsNewest : List KeyPair → Option KeyPair → KeyPair → Type 0
 IsNewest pairs None newest = pairs ≡ newest ∷ []
 IsNewest pairs (Some earlier) newest = (front : List KeyPair) × (pairs ≡ front ++ earlier ∷ newest ∷ [])
 
--- A file that says a link has the keys `left`, `right` and `key` alone: two tables, each with an SCI at `sci` and no other
--- key, and an array of tables, each with a pair of keys. The last pair is the newest. Each such file is taken.
+-- A file that says a link has the keys `left`, `right` and `key` alone: two tables, each with an SCI at `sci` and no
+-- other key, and an array of tables, each with a pair of keys. The last pair is the newest. Each such file is taken.
 pub record LinkWords : Type 0 where
   pub whole : (m : Members) (link : Link) → file_link m ≡ Ok link
       → (left right : Members) × (items : Items) × (get_member (codes "left") m ≡ Some (table left))
@@ -37,7 +39,8 @@ pub record LinkWords : Type 0 where
   pub wrong_left : (left right : Members) (items : Items) (cause : PlanFault) → end_sci place.Left left ≡ Err cause
       → tables_link left right items ≡ Err cause
   pub wrong_right : (left right : Members) (items : Items) (sci : List ℕ) (cause : PlanFault)
-      → end_sci place.Left left ≡ Ok sci → end_sci place.Right right ≡ Err cause → tables_link left right items ≡ Err cause
+      → end_sci place.Left left ≡ Ok sci → end_sci place.Right right ≡ Err cause
+      → tables_link left right items ≡ Err cause
   pub wrong_pairs : (left right : Members) (items : Items) (one other : List ℕ) (cause : PlanFault)
       → end_sci place.Left left ≡ Ok one → end_sci place.Right right ≡ Ok other → key_pairs 1 items ≡ Err cause
       → tables_link left right items ≡ Err cause
@@ -47,8 +50,8 @@ pub record LinkWords : Type 0 where
   pub sci_more : (at : Place) (m : Members) (sci : List ℕ) → sci_in m ≡ Some sci → 1 < count m
       → end_sci at m ≡ Err (fault.Extra at)
 
--- The tables of keys say one pair each, in their order; the first fault is that of the first that has one. A pair is an AN at
--- `an`, and a SAK for the frames of each end at `left` and `right`.
+-- The tables of keys say one pair each, in their order; the first fault is that of the first that has one. A pair is an
+-- AN at `an`, and a SAK for the frames of each end at `left` and `right`.
 pub record PairWords : Type 0 where
   pub last : (at : ℕ) (pairs : List KeyPair) → key_pairs at no_items ≡ Ok pairs → pairs ≡ []
   pub one : (at : ℕ) (value : Data) (items : Items) (pairs : List KeyPair) → key_pairs at (item value items) ≡ Ok pairs
@@ -58,12 +61,14 @@ pub record PairWords : Type 0 where
       → key_pairs (at + 1) items ≡ Ok rest → key_pairs at (item (table m) items) ≡ Ok (first ∷ rest)
   pub first_fault : (at : ℕ) (m : Members) (items : Items) (cause : PlanFault) → key_pair at m ≡ Err cause
       → key_pairs at (item (table m) items) ≡ Err cause
-  pub later_fault : (at : ℕ) (m : Members) (items : Items) (first : KeyPair) (cause : PlanFault) → key_pair at m ≡ Ok first
+  pub later_fault : (at : ℕ) (m : Members) (items : Items) (first : KeyPair) (cause : PlanFault)
+      → key_pair at m ≡ Ok first
       → key_pairs (at + 1) items ≡ Err cause → key_pairs at (item (table m) items) ≡ Err cause
   pub pair : (at : ℕ) (m : Members) (pair : KeyPair) → key_pair at m ≡ Ok pair
       → (an_in m ≡ Some pair.an) × (key_at (codes "left") m ≡ Some pair.left)
       × (key_at (codes "right") m ≡ Some pair.right) × (count m ≤ 3)
-  pub taken : (at : ℕ) (m : Members) (an : ℕ) (left right : Key) → an_in m ≡ Some an → key_at (codes "left") m ≡ Some left
+  pub taken : (at : ℕ) (m : Members) (an : ℕ) (left right : Key) → an_in m ≡ Some an
+      → key_at (codes "left") m ≡ Some left
       → key_at (codes "right") m ≡ Some right → count m ≤ 3
       → key_pair at m ≡ Ok (record { an = an; left = left; right = right })
   pub no_an : (at : ℕ) (m : Members) → an_in m ≡ None → key_pair at m ≡ Err (fault.Value (place.Key at) name.An)
@@ -75,8 +80,8 @@ pub record PairWords : Type 0 where
       → key_at (codes "left") m ≡ Some left → key_at (codes "right") m ≡ Some right → 3 < count m
       → key_pair at m ≡ Err (fault.Extra (place.Key at))
 
--- A link is refused whose ends have one SCI, else one that has a key twice, else one whose pair has the number of the one
--- before it, and no other.
+-- A link is refused whose ends have one SCI, else one that has a key twice, else one whose pair has the number of the
+-- one before it, and no other.
 pub record RefusedWords : Type 0 where
   pub same_sci : (sci : List ℕ) (pairs : List KeyPair) → sound_link sci sci pairs ≡ Err fault.SameSci
   pub same_key : (left right : List ℕ) (pairs : List KeyPair) → left ≢ right → are_distinct (keys_of pairs) ≡ false

@@ -3,7 +3,8 @@ use Rattle.std.specs.Prelude.{ℕ, true, List, [], ◌∷◌, Some, None, Result
 use Rattle.toml.specs.Data.{Members}
 use Rattle.macs_aes.specs.declared.keys.Key.{Key}
 use Rattle.macs_config.specs.declared.command.Command.{Command}
-use Rattle.macs_config.specs.declared.command.Command.TheVariants.{TxInstall, TxUse, TxRemove, RxAdd, RxInstall, RxRemove}
+use Rattle.macs_config.specs.declared.command.Command.TheVariants.{TxInstall, TxUse, TxRemove, RxAdd, RxInstall}
+use Rattle.macs_config.specs.declared.command.Command.TheVariants.{RxRemove}
 use Rattle.macs_plan.specs.Reading.{file_link, ◌>>=◌}
 use Rattle.macs_plan.specs.declared.link.End.{End}
 use Rattle.macs_plan.specs.declared.link.End.TheVariants.{Left, Right}
@@ -40,7 +41,8 @@ receives link pair end = RxInstall (sci_of link (other_end end)) pair.an (own_ke
 -- at the first keys of an end: it sends and receives under the newest pair
 abbrev pub first_keys : Link → End → List Command
 first_keys link end =
-    sends link.newest end ∷ TxUse link.newest.an ∷ RxAdd (sci_of link (other_end end)) ∷ receives link link.newest end ∷ []
+    sends link.newest end ∷ TxUse link.newest.an ∷ RxAdd (sci_of link (other_end end))
+    ∷ receives link link.newest end ∷ []
 
 -- then for each new pair: it receives under it too
 abbrev pub receive_too : Link → End → List Command

@@ -1,5 +1,6 @@
 -- The link that a file says, or the file's first fault.
-use Rattle.std.specs.Prelude.{◌+◌, ◌==◌, ◌||◌, ◌&&◌, not, ℕ, nat_lt, codes, if◌then◌else◌, Bool, false, List, [], ◌∷◌, Option, Some, None, option_and_then, Result, Ok, Err}
+use Rattle.std.specs.Prelude.{◌+◌, ◌==◌, ◌||◌, ◌&&◌, not, ℕ, nat_lt, codes, if◌then◌else◌, Bool, false, List, [], ◌∷◌}
+use Rattle.std.specs.Prelude.{Option, Some, None, option_and_then, Result, Ok, Err}
 use Rattle.std.specs.Str.{bytes_eq}
 use Rattle.toml.specs.Data.{Items, Members, as_array, as_table, get_member, item, no_items, table}
 use Rattle.macs_aes.specs.Keys.{octets_of_key}
@@ -117,7 +118,8 @@ is_keys (item first items) = are_tables (item first items)
 
 -- the link that a file of three keys says
 abbrev pub shaped_link : ℕ → Members → Members → Items → Result Link PlanFault
-shaped_link keys left right items = if (keys == 3) && is_keys items then tables_link left right items else Err fault.Shape
+shaped_link keys left right items = if (keys == 3) && is_keys items then tables_link left right items
+    else Err fault.Shape
 
 -- the link that a file says: its keys are `left`, `right` and `key`, and no other
 abbrev pub file_link : Members → Result Link PlanFault

@@ -3,12 +3,14 @@ use Rattle.std.specs.Prelude.{◌≡◌, ℕ, pos, codes, false, List, [], ◌�
 use Rattle.std.specs.Cmp.Lexicographic.{slice_cmp}
 use Rattle.std.specs.Ordering.{match_ordering, nat_cmp}
 use Rattle.hex.specs.Hex.{encode_lower}
-use Rattle.toml.specs.Data.{Data, Items, Members, array, boolean, integer, item, member, no_items, no_members, string, table}
+use Rattle.toml.specs.Data.{Data, Items, Members, array, boolean, integer, item, member, no_items, no_members, string}
+use Rattle.toml.specs.Data.{table}
 use Rattle.toml.specs.Parse.{parse_document}
 use Rattle.toml.specs.Text.{IsDocumentText}
 use Rattle.macs_aes.specs.Keys.{HasItsLength, octets_of_key}
 use Rattle.macs_config.specs.declared.command.Command.{Command}
-use Rattle.macs_config.specs.declared.command.Command.TheVariants.{SetValidate, SetReplay, SetSciMode, TxInstall, TxUse, TxRemove, RxAdd, RxDrop, RxInstall, RxRemove}
+use Rattle.macs_config.specs.declared.command.Command.TheVariants.{SetValidate, SetReplay, SetSciMode, TxInstall, TxUse}
+use Rattle.macs_config.specs.declared.command.Command.TheVariants.{TxRemove, RxAdd, RxDrop, RxInstall, RxRemove}
 use Rattle.macs_config.specs.declared.command.SciMode.{SciMode}
 use Rattle.macs_config.specs.declared.command.SciMode.TheVariants.{Explicit, EndStation, Implicit}
 use Rattle.macs_config.specs.declared.command.Validate.{Validate}
@@ -98,5 +100,6 @@ HasItsKey command = Unit {0}
 abbrev pub put_member : List ℕ → Data → Members → Members
 put_member key value no_members = member key value no_members
 put_member key value (member other old members) =
-    match_ordering (slice_cmp nat_cmp key other) (member key value (member other old members)) (member other value members)
+    match_ordering (slice_cmp nat_cmp key other) (member key value (member other old members))
+    (member other value members)
     (member other old (put_member key value members))

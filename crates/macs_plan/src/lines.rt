@@ -8,7 +8,8 @@ ghost use Rattle.macs_aes.specs.Keys.{HasItsLength, octets_of_key};
 ghost use Rattle.macs_commands.specs.CommandFiles.{table_command};
 ghost use Rattle.macs_config.specs.declared.command.Command.{Command};
 ghost use Rattle.macs_config.specs.declared.command.Command.TheVariants as told;
-ghost use Rattle.macs_plan.specs.Writing.{HasItsKey, digits, number, put_member, sci_mode_word, table_of, validate_word};
+ghost use Rattle.macs_plan.specs.Writing.{HasItsKey, digits, number, put_member, sci_mode_word};
+ghost use Rattle.macs_plan.specs.Writing.{table_of, validate_word};
 
 use macs_aes::Key;
 use macs_config::laws::command_in_range;
@@ -17,8 +18,8 @@ use macs_fields::{An, Sci};
 use std::alloc::{AllocError, Global};
 use toml::{Table, Value};
 
-/// A table with a value at a key more. Where the table or the value could not be made, or there is no memory, an
-/// error.
+/// A table with a value at a key more. Where the table or the value could not be made, or there is
+/// no memory, an error.
 pub(crate) fn with(
     alloc: Global,
     table: Result<Table, AllocError>,
@@ -26,7 +27,8 @@ pub(crate) fn with(
     value: Result<Value, AllocError>,
 ) -> Result<Table, AllocError>
     ensures { (members : Members) (seen : Data) → IfOk table (λ t. table_view t ≡ members)
-        → IfOk value (λ v. view v ≡ seen) → IfOk result (λ t. table_view t ≡ put_member key.now seen members) }
+        → IfOk value (λ v. view v ≡ seen)
+        → IfOk result (λ t. table_view t ≡ put_member key.now seen members) }
 {
     let Ok(mut table) = table else {
         return Err(AllocError);
@@ -161,7 +163,8 @@ fn tx_install(
     confidential: bool,
     offset: u8,
 ) -> Result<Table, AllocError>
-    ensures { IfOk result (λ t. table_view t ≡ table_of (told.TxInstall an key.now start confidential offset)) }
+    ensures { IfOk result
+        (λ t. table_view t ≡ table_of (told.TxInstall an key.now start confidential offset)) }
 {
     let table = with_word(alloc, "tx-install");
     let table = with(alloc, table, "an", an_value(an));
@@ -213,7 +216,8 @@ fn rx_install(
     start: u32,
     offset: u8,
 ) -> Result<Table, AllocError>
-    ensures { IfOk result (λ t. table_view t ≡ table_of (told.RxInstall sci an key.now start offset)) }
+    ensures { IfOk result
+        (λ t. table_view t ≡ table_of (told.RxInstall sci an key.now start offset)) }
 {
     let table = with_word(alloc, "rx-install");
     let table = with(alloc, table, "sci", sci_value(alloc, sci));

@@ -10,8 +10,8 @@ pub enum End {
     Right,
 }
 
-/// The keys of an association number: of the frames from the left end, and of those from the right end.
-/// It has no `Debug`, so that no key is printed.
+/// The keys of an association number: of the frames from the left end, and of those from the right
+/// end. It has no `Debug`, so that no key is printed.
 #[derive(Clone, Copy, PartialEq, Eq)]
 pub struct KeyPair {
     pub an: An,

@@ -7,7 +7,9 @@ ghost use Rattle.toml.specs.Text.{IsDocumentText};
 ghost use Rattle.toml.specs.View.{table_view};
 ghost use Rattle.macs_config.specs.declared.command.Command.{Command};
 ghost use Rattle.macs_commands.specs.CommandFiles.{file_commands};
-ghost use Rattle.macs_plan.specs.Planning.{file_planned, first_keys, other_end, own_key, pair_before, planned, receive_too, receives, remove_old, sci_of, send_so, sends};
+ghost use Rattle.macs_plan.specs.Planning.{file_planned, first_keys, other_end, own_key};
+ghost use Rattle.macs_plan.specs.Planning.{pair_before, planned, receive_too, receives, remove_old};
+ghost use Rattle.macs_plan.specs.Planning.{sci_of, send_so, sends};
 ghost use Rattle.macs_plan.specs.Writing.{PlansText};
 ghost use Rattle.macs_plan.specs.declared.plan_fault.PlanFault.TheVariants.{Memory};
 
@@ -21,8 +23,8 @@ use macs_fields::Sci;
 use std::alloc::Global;
 use toml::Table;
 
-/// What is done at an end, stage by stage: the first keys; then, for each new pair, both ends first receive under
-/// it too, then send under it, and then the pair before goes.
+/// What is done at an end, stage by stage: the first keys; then, for each new pair, both ends first
+/// receive under it too, then send under it, and then the pair before goes.
 #[derive(Clone, Copy, Debug, PartialEq, Eq)]
 pub enum Stage {
     First,
@@ -142,7 +144,8 @@ fn remove_old(
     end: End,
     earlier: &KeyPair,
 ) -> Result<Vec<Command>, PlanFault>
-    ensures commands { IfOk result (λ commands. commands.items ≡ remove_old link.now end earlier.now) }
+    ensures commands { IfOk result
+        (λ commands. commands.items ≡ remove_old link.now end earlier.now) }
     ensures fault { IfErr result (λ fault. fault ≡ Memory) }
 {
     let commands = [
@@ -165,8 +168,8 @@ fn pair_before(link: &Link) -> Result<KeyPair, PlanFault>
     }
 }
 
-/// The commands of a stage at an end, in order. Refused as `OneKey` where keys are to be changed and the link has
-/// one pair alone, or as `Memory`.
+/// The commands of a stage at an end, in order. Refused as `OneKey` where keys are to be changed
+/// and the link has one pair alone, or as `Memory`.
 pub fn planned(
     alloc: Global,
     link: &Link,
@@ -174,7 +177,8 @@ pub fn planned(
     stage: Stage,
 ) -> Result<Vec<Command>, PlanFault>
     ensures commands { IfOk result (λ commands. planned link.now end stage ≡ Ok commands.items) }
-    ensures fault { IfErr result (λ fault. fault ≢ Memory → planned link.now end stage ≡ Err fault) }
+    ensures fault { IfErr result (λ fault. fault ≢ Memory
+        → planned link.now end stage ≡ Err fault) }
 {
     match stage {
         Stage::First => {
@@ -206,8 +210,10 @@ fn file_planned(
     end: End,
     stage: Stage,
 ) -> Result<Vec<Command>, PlanFault>
-    ensures commands { IfOk result (λ commands. file_planned (table_view file.now) end stage ≡ Ok commands.items) }
-    ensures fault { IfErr result (λ fault. fault ≢ Memory → file_planned (table_view file.now) end stage ≡ Err fault) }
+    ensures commands { IfOk result
+        (λ commands. file_planned (table_view file.now) end stage ≡ Ok commands.items) }
+    ensures fault { IfErr result (λ fault. fault ≢ Memory
+        → file_planned (table_view file.now) end stage ≡ Err fault) }
 {
     let link = link_of(alloc, file)?;
     let _before = link.before;
@@ -215,11 +221,13 @@ fn file_planned(
     Ok(commands)
 }
 
-/// The command file of a stage at an end of the link that a file says, as text. Refused with the file's first
-/// fault, as `OneKey`, or as `Memory`.
+/// The command file of a stage at an end of the link that a file says, as text. Refused with the
+/// file's first fault, as `OneKey`, or as `Memory`.
 pub fn plan(alloc: Global, file: &Table, end: End, stage: Stage) -> Result<String, PlanFault>
-    ensures text { IfOk result (λ text. PlansText (file_planned (table_view file.now) end stage) (string_bytes text)) }
-    ensures fault { IfErr result (λ fault. fault ≢ Memory → file_planned (table_view file.now) end stage ≡ Err fault) }
+    ensures text { IfOk result
+        (λ text. PlansText (file_planned (table_view file.now) end stage) (string_bytes text)) }
+    ensures fault { IfErr result (λ fault. fault ≢ Memory
+        → file_planned (table_view file.now) end stage ≡ Err fault) }
 {
     let commands = file_planned(alloc, file, end, stage)?;
     match command_file(alloc, commands.as_slice()) {

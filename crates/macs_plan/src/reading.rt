@@ -3,7 +3,8 @@
 ghost use Rattle.std.specs.Prelude.{◌≡◌, ◌≢◌, ◌<◌, ◌^◌, length, IfOk, IfErr, Ok, Err};
 ghost use Rattle.toml.specs.View.{items_view, table_view};
 ghost use Rattle.macs_commands.specs.CommandFiles.{are_tables};
-ghost use Rattle.macs_plan.specs.Reading.{end_sci, file_link, is_keys, key_pair, key_pairs, tables_link};
+ghost use Rattle.macs_plan.specs.Reading.{end_sci, file_link, is_keys, key_pair, key_pairs};
+ghost use Rattle.macs_plan.specs.Reading.{tables_link};
 ghost use Rattle.macs_plan.specs.declared.plan_fault.PlanFault.TheVariants.{Memory};
 
 use crate::fields::{an, array, key, keys, sci, table};
@@ -14,13 +15,15 @@ use macs_fields::Sci;
 use std::alloc::Allocator;
 use toml::{Table, Value};
 
-/// The link that a file says. Its keys are `left` and `right`, each a table with the SCI of that end at `sci`, 16
-/// hex digits, and `key`, an array of tables, one for each pair of keys, the newest last. Such a table has the
-/// association number at `an`, 0 to 3, and the SAKs of the frames from each end at `left` and `right`, 32 hex digits
-/// or 64. Refused with the file's first fault, or as `Memory`.
+/// The link that a file says. Its keys are `left` and `right`, each a table with the SCI of that
+/// end at `sci`, 16 hex digits, and `key`, an array of tables, one for each pair of keys, the
+/// newest last. Such a table has the association number at `an`, 0 to 3, and the SAKs of the frames
+/// from each end at `left` and `right`, 32 hex digits or 64. Refused with the file's first fault,
+/// or as `Memory`.
 pub fn link_of<A: Allocator>(alloc: A, file: &Table) -> Result<Link, PlanFault>
     ensures link { IfOk result (λ link. file_link (table_view file.now) ≡ Ok link) }
-    ensures fault { IfErr result (λ fault. fault ≢ Memory → file_link (table_view file.now) ≡ Err fault) }
+    ensures fault { IfErr result (λ fault. fault ≢ Memory
+        → file_link (table_view file.now) ≡ Err fault) }
 {
     let Some(left) = table(file, "left") else {
         return Err(PlanFault::Shape);
@@ -67,7 +70,8 @@ fn tables_link<A: Allocator>(
     ensures link { IfOk result (λ link.
         tables_link (table_view left.now) (table_view right.now) (items_view pairs.now) ≡ Ok link) }
     ensures fault { IfErr result (λ fault. fault ≢ Memory
-        → tables_link (table_view left.now) (table_view right.now) (items_view pairs.now) ≡ Err fault) }
+        → tables_link (table_view left.now) (table_view right.now) (items_view pairs.now)
+        ≡ Err fault) }
 {
     let left = end_sci(Place::Left, left)?;
     let right = end_sci(Place::Right, right)?;
@@ -95,7 +99,8 @@ fn end_sci(place: Place, table: &Table) -> Result<Sci, PlanFault>
 fn key_pairs<A: Allocator>(alloc: A, tables: &[Value]) -> Result<Vec<KeyPair, A>, PlanFault>
     requires { length tables.now < 2 ^ 63 }
     ensures pairs { IfOk result (λ pairs. key_pairs 1 (items_view tables.now) ≡ Ok pairs.items) }
-    ensures fault { IfErr result (λ fault. fault ≢ Memory → key_pairs 1 (items_view tables.now) ≡ Err fault) }
+    ensures fault { IfErr result (λ fault. fault ≢ Memory
+        → key_pairs 1 (items_view tables.now) ≡ Err fault) }
 {
     let mut pairs = Vec::new(alloc);
     for i in 0..tables.len() {

@@ -41,7 +41,8 @@ fn have_key(pairs: &[KeyPair], key: &Key) -> bool
 
 /// Whether the left key of a pair is its right one too, or either is among the keys of later pairs.
 fn comes_again(pair: &KeyPair, later: &[KeyPair]) -> bool
-    ensures { result ≡ (is_among (octets_of_key pair.now.right ∷ keys_of later.now) (octets_of_key pair.now.left)
+    ensures { result
+        ≡ (is_among (octets_of_key pair.now.right ∷ keys_of later.now) (octets_of_key pair.now.left)
         || is_among (keys_of later.now) (octets_of_key pair.now.right)) }
 {
     are_same(&pair.right, &pair.left) || have_key(later, &pair.left) || have_key(later, &pair.right)

@@ -10,7 +10,8 @@ use macs_config::Command;
 use std::alloc::{AllocError, Global};
 use toml::{Table, Value};
 
-/// The command file of these commands, as text: it is read as just these. An error where there is no memory.
+/// The command file of these commands, as text: it is read as just these. An error where there is
+/// no memory.
 pub fn command_file(alloc: Global, commands: &[Command]) -> Result<String, AllocError>
     ensures { IfOk result (λ text. SaysCommands commands.now (string_bytes text)) }
 {
@@ -36,7 +37,8 @@ pub fn command_file(alloc: Global, commands: &[Command]) -> Result<String, Alloc
 
 /// The text of a table, where it could be made.
 fn written(alloc: Global, file: Result<Table, AllocError>) -> Result<String, AllocError>
-    ensures { (members : Members) → IfOk file (λ t. table_view t ≡ members) → members_depth members ≤ 80
+    ensures { (members : Members) → IfOk file (λ t. table_view t ≡ members)
+        → members_depth members ≤ 80
         → IfOk result (λ text. IsTextOf members (string_bytes text)) }
 {
     let Ok(file) = file else {

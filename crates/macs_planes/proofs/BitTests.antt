@@ -1,5 +1,6 @@
 -- Octets by tests of their bits.
-use Rattle.std.proofs.Common.{◌≡◌, ℕ, zero, suc, ◌-◌, ◌*◌, ◌%◌, ◌^◌, ◌<◌, ◌∙◌, List, [], ◌∷◌, map, get_or, length, replicate, bit_and, bit_xor, ap, sym, refl, arith, Bool, false, cond}
+use Rattle.std.proofs.Common.{◌≡◌, ℕ, zero, suc, ◌-◌, ◌*◌, ◌%◌, ◌^◌, ◌<◌, ◌∙◌, List, [], ◌∷◌, map, get_or, length}
+use Rattle.std.proofs.Common.{replicate, bit_and, bit_xor, ap, sym, refl, arith, Bool, false, cond}
 use Rattle.std.specs.Prelude.{if◌then◌else◌, ◌==◌}
 use Rattle.std.specs.Int.{bit_at, w8}
 use Rattle.std.specs.List.{range_with_len}
@@ -27,7 +28,8 @@ get_or-tests t (x ∷ xs) zero h = refl
 get_or-tests t (x ∷ xs) (suc j) h = get_or-tests t xs j (omega arith)
 
 pub word_bit : (octets : List ℕ) (mask j : ℕ) → length octets ≡ 16 → j < 16
-    → bit_at (bit_and (mask_l (map (top 7) (zip2 (λ (a b : ℕ). cond (a == b) (2 ^ 8 - 1) 0) (zip2 bit_and octets (replicate 16 mask)) (replicate 16 mask))) % 2 ^ 64) 65535) j
+    → bit_at (bit_and (mask_l (map (top 7) (zip2 (λ (a b : ℕ). cond (a == b) (2 ^ 8 - 1) 0)
+    (zip2 bit_and octets (replicate 16 mask)) (replicate 16 mask))) % 2 ^ 64) 65535) j
     ≡ tested mask (get_or octets j 0)
 word_bit octets mask j len h =
     let xs : List ℕ = zip2 bit_and octets (replicate 16 mask) in
@@ -35,7 +37,8 @@ word_bit octets mask j len h =
     let within : j < length xs = omega arith in
     let m : ℕ = mask_l (map (λ x. x == mask) xs) in
     let lane : get_or xs j 0 ≡ bit_and (get_or octets j 0) mask =
-    get_or-zip2 bit_and octets (replicate 16 mask) j 0 0 0 (omega arith) h ∙ ap (bit_and (get_or octets j 0)) (get_or-replicate 16 j mask 0 h) in
+    get_or-zip2 bit_and octets (replicate 16 mask) j 0 0 0 (omega arith) h
+    ∙ ap (bit_and (get_or octets j 0)) (get_or-replicate 16 j mask 0 h) in
     ap (λ (n : ℕ). bit_at (bit_and n 65535) j) (bitmask_splat w8 (λ (a b : ℕ). a == b) xs 16 mask size (omega arith))
     ∙ bit_at-and m 65535 j ∙ ap (bit_and (bit_at m j)) (bit_at_ones 16 j h) ∙ and_one (bit_at m j) (bit_at-lt m j)
     ∙ bit_mask_l (map (λ x. x == mask) xs) j
@@ -48,7 +51,8 @@ digit_test (suc zero) (suc m) h k = rw one-mul (rw (eq-eqb (suc m) (suc m) refl)
 digit_test (suc (suc d)) (suc m) h k = absurd (omega arith)
 
 has_bit : (x k m : ℕ) → m ≡ 2 ^ k → 0 < m → tested m x ≡ bit_at x k
-has_bit x k m e h = ap (λ (y : ℕ). if y == m then 1 else 0) (ap (bit_and x) e ∙ and_pow x k ∙ ap (λ (y : ℕ). bit_at x k * y) (sym e)) ∙ digit_test (bit_at x k) m (bit_at-lt x k) h
+has_bit x k m e h = ap (λ (y : ℕ). if y == m then 1 else 0) (ap (bit_and x) e ∙ and_pow x k
+    ∙ ap (λ (y : ℕ). bit_at x k * y) (sym e)) ∙ digit_test (bit_at x k) m (bit_at-lt x k) h
 
 -- an octet from what its tests by eight masks say
 pub tested_octet : (b0 b1 b2 b3 b4 b5 b6 b7 x : ℕ) → x < 256
@@ -66,6 +70,7 @@ tested_octet b0 b1 b2 b3 b4 b5 b6 b7 x small e0 e1 e2 e3 e4 e5 e6 e7 =
     let whole : x % 256 ≡ x = mod-eq_of_lt small in
     cc
 
-pub xor_words_is : (words : List ℕ) (g : ℕ → ℕ) → map (λ j. bit_xor (g j) (octet_in_words words j)) (range_with_len 0 16) ≡ xor_tables (map g (range_with_len 0 16)) (octets_in_words words)
+pub xor_words_is : (words : List ℕ) (g : ℕ → ℕ) → map (λ j. bit_xor (g j) (octet_in_words words j))
+    (range_with_len 0 16) ≡ xor_tables (map g (range_with_len 0 16)) (octets_in_words words)
 unfolding octets_in_words
 xor_words_is words g = refl

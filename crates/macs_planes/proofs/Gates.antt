@@ -5,7 +5,8 @@ use Rattle.macs_planes.proofs.Circuit.{Gate, Xor, And}
 unfoldable pub product_gates : List Gate
 product_gates =
     Xor 0 1 ∷ Xor 2 3 ∷ Xor 0 2 ∷ Xor 1 3 ∷ Xor 10 11 ∷ Xor 4 5 ∷ Xor 6 7 ∷ Xor 4 6 ∷ Xor 5 7 ∷ Xor 15 16 ∷
-    And 8 13 ∷ And 9 14 ∷ And 10 15 ∷ And 11 16 ∷ And 12 17 ∷ Xor 21 22 ∷ Xor 21 20 ∷ Xor 18 23 ∷ Xor 18 24 ∷ Xor 19 23 ∷
+    And 8 13 ∷ And 9 14 ∷ And 10 15 ∷ And 11 16 ∷ And 12 17 ∷ Xor 21 22 ∷ Xor 21 20 ∷ Xor 18 23 ∷ Xor 18 24
+    ∷ Xor 19 23 ∷
     Xor 19 24 ∷ And 0 4 ∷ And 1 5 ∷ And 2 6 ∷ And 3 7 ∷ Xor 29 25 ∷ Xor 30 26 ∷ Xor 31 27 ∷ Xor 32 28 ∷ []
 
 unfoldable pub product_outputs : List ℕ

@@ -16,12 +16,14 @@ both_of x = bit_xor (high_of x) (low_of x)
 
 -- x^17
 norm_of : ℕ → ℕ
-norm_of x = bit_xor (octet_product (low_of x) (both_of x)) (octet_product tower_unit (octet_product (high_of x) (high_of x)))
+norm_of x =
+    bit_xor (octet_product (low_of x) (both_of x)) (octet_product tower_unit (octet_product (high_of x) (high_of x)))
 
 by_tower : ℕ → ℕ
 by_tower x =
     affine (bit_xor (octet_product (both_of x) (fourteenth (norm_of x)))
-    (octet_product tower_root (bit_xor (octet_product (both_of x) (fourteenth (norm_of x))) (octet_product (low_of x) (fourteenth (norm_of x))))))
+    (octet_product tower_root (bit_xor (octet_product (both_of x) (fourteenth (norm_of x)))
+    (octet_product (low_of x) (fourteenth (norm_of x))))))
 
 values_are : map by_tower (range_with_len 0 256) ≡ s_box_values
 unfolding by_tower fourteenth norm_of both_of low_of high_of affine octet_product product_below remainder s_box_values
@@ -30,7 +32,8 @@ values_are = refl
 by_tower-is : (x : ℕ) → x < 256 → by_tower x ≡ s_box x
 by_tower-is x h =
     sym (get_or-map-range_with_len by_tower 0 256 x x 0 h (omega arith))
-    ∙ ap (λ t. get_or t x 0) (values_are ∙ s_box_values-is) ∙ get_or-map-range_with_len s_box 0 256 x x 0 h (omega arith)
+    ∙ ap (λ t. get_or t x 0) (values_are ∙ s_box_values-is)
+    ∙ get_or-map-range_with_len s_box 0 256 x x 0 h (omega arith)
 
 -- the steps of the code, one after another
 pub tower_steps : (x u v w q p n m e f z : ℕ) → x < 256 → u ≡ high_of x → v ≡ low_of x → w ≡ bit_xor u v
@@ -50,5 +53,6 @@ eight_small = refl
 pub octet_small : (planes : List (List ℕ)) (i j : ℕ) → length planes ≡ 8 → octet_in octet_basis planes i j < 256
 octet_small planes i j len =
     let e : combined octet_basis (bits_in planes i j) ≡ combined octet_basis (bits_in planes i j) % 256 =
-    agreed 8 (λ v. combined octet_basis v) (λ v. combined octet_basis v % 256) eight_small (bits_in planes i j) (bits_in_length planes i j ∙ len) (are_bits planes i j) in
+    agreed 8 (λ v. combined octet_basis v) (λ v. combined octet_basis v % 256) eight_small (bits_in planes i j)
+    (bits_in_length planes i j ∙ len) (are_bits planes i j) in
     omega arith

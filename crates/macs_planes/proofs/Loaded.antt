@@ -1,5 +1,6 @@
 -- Planes and words made of tests of bits.
-use Rattle.std.proofs.Common.{◌≡◌, ℕ, ◌+◌, ◌<◌, ◌∙◌, List, [], ◌∷◌, map, get_or, length, replicate, set, slice_index, refl, ap, sym, arith, inl, inr}
+use Rattle.std.proofs.Common.{◌≡◌, ℕ, ◌+◌, ◌<◌, ◌∙◌, List, [], ◌∷◌, map, get_or, length, replicate, set, slice_index}
+use Rattle.std.proofs.Common.{refl, ap, sym, arith, inl, inr}
 use Rattle.std.specs.Int.{bit_at}
 use Rattle.std.specs.List.{range_with_len}
 use Rattle.std.proofs.lemmas.Bool.{cases_lt}
@@ -14,7 +15,8 @@ use Rattle.macs_planes.proofs.EachBlock.{map_same}
 use Rattle.macs_planes.proofs.Moves.{splat_bit}
 
 -- blocks that are sixteen octets each
-pub blocks_whole : (lanes : ℕ) (blocks : List (List ℕ)) → length blocks ≡ lanes → ((i : ℕ) → i < lanes → IsBlock (get_or blocks i [])) → AreBlocks lanes blocks
+pub blocks_whole : (lanes : ℕ) (blocks : List (List ℕ)) → length blocks ≡ lanes
+    → ((i : ℕ) → i < lanes → IsBlock (get_or blocks i [])) → AreBlocks lanes blocks
 blocks_whole lanes blocks len are = record {
   whole = fill_by_all (λ i. map (octet blocks i) (range_with_len 0 16)) blocks lanes [] len
       (λ i h. fill_by_all (octet blocks i) (get_or blocks i []) 16 0 (are i h).0 (λ j k. refl));
@@ -41,7 +43,8 @@ plane_more xs octets i w mask blocks within held e is k j h below = elim (cases_
   | inl lt ↦ ap (λ (v : ℕ). bit_at v j) (get_or-set_other xs i k w 0 (omega arith)) ∙ held k j lt below
   | inr ge ↦
       let same : k ≡ i = omega arith in
-      rw same (ap (λ (v : ℕ). bit_at v j) (get_or-set_same xs i w 0 within) ∙ is j below ∙ ap (λ o. tested mask (get_or o j 0)) e)
+      rw same (ap (λ (v : ℕ). bit_at v j) (get_or-set_same xs i w 0 within) ∙ is j below
+      ∙ ap (λ o. tested mask (get_or o j 0)) e)
 ]
 
 -- eight planes, each of one test
@@ -57,7 +60,8 @@ loaded lanes p0 p1 p2 p3 p4 p5 p6 p7 blocks are h0 h1 h2 h3 h4 h5 h6 h7 =
     (λ j l2 u2.
     let h : i < lanes = omega arith in
     let k : j < 16 = omega arith in
-    tested_octet _ _ _ _ _ _ _ _ (octet blocks i j) (are.small i j h k) (h0 i j h k) (h1 i j h k) (h2 i j h k) (h3 i j h k) (h4 i j h k) (h5 i j h k) (h6 i j h k) (h7 i j h k)))
+    tested_octet _ _ _ _ _ _ _ _ (octet blocks i j) (are.small i j h k) (h0 i j h k) (h1 i j h k) (h2 i j h k)
+    (h3 i j h k) (h4 i j h k) (h5 i j h k) (h6 i j h k) (h7 i j h k)))
     ∙ sym are.whole
 
 -- in bit j of a word the test of octet j
@@ -72,13 +76,16 @@ pub in_words : (w0 w1 w2 w3 w4 w5 w6 w7 : ℕ) (octets : List ℕ) → IsBlock o
 unfolding octets_in_words
 in_words w0 w1 w2 w3 w4 w5 w6 w7 octets is h0 h1 h2 h3 h4 h5 h6 h7 =
     sym (fill_by_all (octet_in_words (w0 ∷ w1 ∷ w2 ∷ w3 ∷ w4 ∷ w5 ∷ w6 ∷ w7 ∷ [])) octets 16 0 is.0
-    (λ j k. sym (tested_octet (bit_at w0 j) (bit_at w1 j) (bit_at w2 j) (bit_at w3 j) (bit_at w4 j) (bit_at w5 j) (bit_at w6 j) (bit_at w7 j)
+    (λ j k. sym (tested_octet (bit_at w0 j) (bit_at w1 j) (bit_at w2 j) (bit_at w3 j) (bit_at w4 j) (bit_at w5 j)
+    (bit_at w6 j) (bit_at w7 j)
     (slice_index octets j) (is.1 j) (h0 j k) (h1 j k) (h2 j k) (h3 j k) (h4 j k) (h5 j k) (h6 j k) (h7 j k))))
 
 -- the octets of words that are in every lane
 pub splat_octet : (lanes w0 w1 w2 w3 w4 w5 w6 w7 i j : ℕ) → i < lanes
-    → octet_in octet_basis (replicate lanes w0 ∷ replicate lanes w1 ∷ replicate lanes w2 ∷ replicate lanes w3 ∷ replicate lanes w4 ∷ replicate lanes w5 ∷ replicate lanes w6 ∷ replicate lanes w7 ∷ []) i j
-    ≡ combined octet_basis (bit_at w0 j ∷ bit_at w1 j ∷ bit_at w2 j ∷ bit_at w3 j ∷ bit_at w4 j ∷ bit_at w5 j ∷ bit_at w6 j ∷ bit_at w7 j ∷ [])
+    → octet_in octet_basis (replicate lanes w0 ∷ replicate lanes w1 ∷ replicate lanes w2 ∷ replicate lanes w3
+    ∷ replicate lanes w4 ∷ replicate lanes w5 ∷ replicate lanes w6 ∷ replicate lanes w7 ∷ []) i j
+    ≡ combined octet_basis (bit_at w0 j ∷ bit_at w1 j ∷ bit_at w2 j ∷ bit_at w3 j ∷ bit_at w4 j ∷ bit_at w5 j
+    ∷ bit_at w6 j ∷ bit_at w7 j ∷ [])
 splat_octet lanes w0 w1 w2 w3 w4 w5 w6 w7 i j h =
     let e0 = splat_bit lanes w0 i j h in let e1 = splat_bit lanes w1 i j h in
     let e2 = splat_bit lanes w2 i j h in let e3 = splat_bit lanes w3 i j h in

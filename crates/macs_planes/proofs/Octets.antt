@@ -1,5 +1,6 @@
 -- Octets of words of 16 bits, and octets in place of words.
-use Rattle.std.proofs.Common.{◌≡◌, ℕ, zero, suc, ◌+◌, ◌*◌, ◌/◌, ◌%◌, ◌^◌, ◌<◌, ◌≤◌, ◌∙◌, List, [], ◌∷◌, get_or, length, ap, ap₂, sym, refl, arith, set, inl, inr}
+use Rattle.std.proofs.Common.{◌≡◌, ℕ, zero, suc, ◌+◌, ◌*◌, ◌/◌, ◌%◌, ◌^◌, ◌<◌, ◌≤◌, ◌∙◌, List, [], ◌∷◌, get_or, length}
+use Rattle.std.proofs.Common.{ap, ap₂, sym, refl, arith, set, inl, inr}
 use Rattle.std.specs.Int.{bit_at}
 use Rattle.std.proofs.lemmas.Bool.{cases_lt}
 use Rattle.std.proofs.lemmas.List.{get_or-set_same, get_or-set_other}
@@ -29,24 +30,31 @@ two : (xs : List ℕ) (i : ℕ) → i + 2 ≤ length xs → chunk i 2 xs ≡ get
 two xs i h =
     let same : i + 0 ≡ i = omega arith in
     pair (chunk i 2 xs) (length-chunk i 2 xs h)
-    ∙ ap₂ (λ (a b : ℕ). a ∷ b ∷ []) (get_or-chunk i 2 xs 0 0 (omega arith) ∙ ap (λ (k : ℕ). get_or xs k 0) same) (get_or-chunk i 2 xs 1 0 (omega arith))
+    ∙ ap₂ (λ (a b : ℕ). a ∷ b ∷ []) (get_or-chunk i 2 xs 0 0 (omega arith) ∙ ap (λ (k : ℕ). get_or xs k 0) same)
+    (get_or-chunk i 2 xs 1 0 (omega arith))
 
 -- the octets of a word that is made of two
-halves : (v lo hi h : ℕ) → v ≡ lo + 256 * (hi + 256 * 0) → lo < 256 → hi < 256 → h < 2 → (x : ℕ) → (h ≡ 0 → x ≡ lo) → (h ≡ 1 → x ≡ hi) → v / 2 ^ (8 * h) % 256 ≡ x
+halves : (v lo hi h : ℕ) → v ≡ lo + 256 * (hi + 256 * 0) → lo < 256 → hi < 256 → h < 2 → (x : ℕ) → (h ≡ 0 → x ≡ lo)
+    → (h ≡ 1 → x ≡ hi) → v / 2 ^ (8 * h) % 256 ≡ x
 halves v lo hi zero e l u k x a b = omega (arith, e, a refl)
 halves v lo hi (suc zero) e l u k x a b = omega (arith, e, b refl)
 halves v lo hi (suc (suc h)) e l u k x a b = absurd (omega arith)
 
 -- the octets of words that are made of octets
-pub octet_of_wider : (lanes : ℕ) (octets : List ℕ) (m : ℕ) → length octets ≡ 2 * lanes → Each1 (λ v. v < 256) octets → m < 2 * lanes
-    → ((k : ℕ) → get_or octets k 0 < 256) → octet_of_words (digits_l 65536 lanes (number_l 256 octets)) m ≡ get_or octets m 0
+pub octet_of_wider : (lanes : ℕ) (octets : List ℕ) (m : ℕ) → length octets ≡ 2 * lanes → Each1 (λ v. v < 256) octets
+    → m < 2 * lanes
+    → ((k : ℕ) → get_or octets k 0 < 256)
+    → octet_of_words (digits_l 65536 lanes (number_l 256 octets)) m ≡ get_or octets m 0
 octet_of_wider lanes octets m len small below each =
     let i : ℕ = m / 2 in
     let within : i < lanes = omega arith in
-    let word : get_or (digits_l 65536 lanes (number_l 256 octets)) i 0 ≡ get_or octets (2 * i) 0 + 256 * (get_or octets (2 * i + 1) 0 + 256 * 0) =
+    let word : get_or (digits_l 65536 lanes (number_l 256 octets)) i 0
+    ≡ get_or octets (2 * i) 0 + 256 * (get_or octets (2 * i + 1) 0 + 256 * 0) =
     get_or_wider 256 2 65536 lanes octets i refl small within ∙ ap (number_l 256) (two octets (2 * i) (omega arith)) in
-    halves _ (get_or octets (2 * i) 0) (get_or octets (2 * i + 1) 0) (m % 2) word (each (2 * i)) (each (2 * i + 1)) (omega arith) (get_or octets m 0)
-    (λ e. ap (λ (k : ℕ). get_or octets k 0) (omega (arith, e))) (λ e. ap (λ (k : ℕ). get_or octets k 0) (omega (arith, e)))
+    halves _ (get_or octets (2 * i) 0) (get_or octets (2 * i + 1) 0) (m % 2) word (each (2 * i)) (each (2 * i + 1))
+    (omega arith) (get_or octets m 0)
+    (λ e. ap (λ (k : ℕ). get_or octets k 0) (omega (arith, e)))
+    (λ e. ap (λ (k : ℕ). get_or octets k 0) (omega (arith, e)))
 
 power_of_256 : (h : ℕ) → h < 2 → 256 ^ h ≡ 2 ^ (8 * h)
 power_of_256 zero k = refl
@@ -69,7 +77,8 @@ beyond [] k h = refl
 beyond (x ∷ xs) zero h = absurd (omega arith)
 beyond (x ∷ xs) (suc k) h = beyond xs k (omega arith)
 
-pub filled_more : {A : Type 0} (P : ℕ → A → Type 0) (d : A) (xs : List A) (i : ℕ) (v : A) → i < length xs → ((k : ℕ) → k < i → P k (get_or xs k d)) → P i v
+pub filled_more : {A : Type 0} (P : ℕ → A → Type 0) (d : A) (xs : List A) (i : ℕ) (v : A) → i < length xs
+    → ((k : ℕ) → k < i → P k (get_or xs k d)) → P i v
     → (k : ℕ) → k < i + 1 → P k (get_or (set xs i v) k d)
 filled_more P d xs i v within held is k h = elim (cases_lt k i) [
   | inl lt ↦ rw (get_or-set_other xs i k v d (omega arith)) (held k lt)
@@ -93,7 +102,8 @@ any_default (x ∷ xs) zero d e h = refl
 any_default (x ∷ xs) (suc i) d e h = any_default xs i d e (omega arith)
 
 -- octets that are known one by one
-pub octets_small : (f : ℕ → ℕ) (xs : List ℕ) (n : ℕ) → length xs ≡ n → ((k : ℕ) → k < n → get_or xs k 0 ≡ f k) → ((k : ℕ) → k < n → f k < 256) → (k : ℕ) → get_or xs k 0 < 256
+pub octets_small : (f : ℕ → ℕ) (xs : List ℕ) (n : ℕ) → length xs ≡ n → ((k : ℕ) → k < n → get_or xs k 0 ≡ f k)
+    → ((k : ℕ) → k < n → f k < 256) → (k : ℕ) → get_or xs k 0 < 256
 octets_small f xs n len is small k = elim (cases_lt k n) [
   | inl lt ↦ omega (arith, is k lt, small k lt)
   | inr ge ↦ omega (arith, beyond xs k (omega arith))

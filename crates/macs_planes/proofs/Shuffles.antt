@@ -1,5 +1,6 @@
 -- Octets of words in other places of the same sixteen.
-use Rattle.std.proofs.Common.{◌≡◌, ℕ, zero, suc, ◌+◌, ◌*◌, ◌/◌, ◌%◌, ◌<◌, ◌∙◌, List, [], map, get_or, length, ap, sym, refl, arith, w8, inl, inr}
+use Rattle.std.proofs.Common.{◌≡◌, ℕ, zero, suc, ◌+◌, ◌*◌, ◌/◌, ◌%◌, ◌<◌, ◌∙◌, List, [], map, get_or, length, ap, sym}
+use Rattle.std.proofs.Common.{refl, arith, w8, inl, inr}
 use Rattle.std.specs.List.{range_with_len}
 use Rattle.std.specs.Simd.Lanes.{Each1, digits_l, number_l}
 use Rattle.std.proofs.lemmas.Bool.{cases_lt}
@@ -17,16 +18,19 @@ digit_small (suc n) x zero = omega arith
 digit_small (suc n) x (suc k) = digit_small n (x / 256) k
 
 -- what the shuffle asks
-pub places_fit : (lanes : ℕ) (places : List ℕ) → lanes % 8 ≡ 0 → length places ≡ 2 * lanes → ((m : ℕ) → m < 2 * lanes → get_or places m 0 < 16)
+pub places_fit : (lanes : ℕ) (places : List ℕ) → lanes % 8 ≡ 0 → length places ≡ 2 * lanes
+    → ((m : ℕ) → m < 2 * lanes → get_or places m 0 < 16)
     → SwzOk w8 16 (2 * lanes) 0 places
 places_fit lanes places whole len small =
     SwzOk-from_below w8 16 (lanes / 8) (2 * lanes) 0 places (omega arith) (omega arith)
     (Each1-from_get_or (λ j. j < 16) places 0 (λ i h. small i (omega arith)))
 
 -- the octets of the words after it
-pub moved_octet : (lanes : ℕ) (words places : List ℕ) (m : ℕ) → lanes % 8 ≡ 0 → Each1 (λ v. v < 65536) words → length places ≡ 2 * lanes
+pub moved_octet : (lanes : ℕ) (words places : List ℕ) (m : ℕ) → lanes % 8 ≡ 0 → Each1 (λ v. v < 65536) words
+    → length places ≡ 2 * lanes
     → ((k : ℕ) → k < 2 * lanes → get_or places k 0 < 16) → m < 2 * lanes
-    → octet_of_words (digits_l 65536 lanes (number_l 256 (swz_l w8 16 (digits_l 256 (2 * lanes) (number_l 65536 words)) 0 places))) m
+    → octet_of_words
+    (digits_l 65536 lanes (number_l 256 (swz_l w8 16 (digits_l 256 (2 * lanes) (number_l 65536 words)) 0 places))) m
     ≡ octet_of_words words (16 * (m / 16) + get_or places m 0)
 moved_octet lanes words places m whole fit len small below =
     let octets : List ℕ = digits_l 256 (2 * lanes) (number_l 65536 words) in
@@ -35,9 +39,11 @@ moved_octet lanes words places m whole fit len small below =
     let at : (k : ℕ) → k < 2 * lanes → get_or taken k 0 ≡ get_or octets (16 * (k / 16) + get_or places k 0) 0 =
     λ k h.
     let from : 0 + k ≡ k = omega arith in
-    get_or-swz_l_below w8 16 octets 0 places k (omega arith) (small k h) ∙ ap (λ (q : ℕ). get_or octets (16 * (q / 16) + get_or places k 0) 0) from in
+    get_or-swz_l_below w8 16 octets 0 places k (omega arith) (small k h)
+    ∙ ap (λ (q : ℕ). get_or octets (16 * (q / 16) + get_or places k 0) 0) from in
     let each : (k : ℕ) → get_or taken k 0 < 256 = λ k. elim (cases_lt k (2 * lanes)) [
-      | inl lt ↦ omega (arith, at k lt, digit_small (2 * lanes) (number_l 65536 words) (16 * (k / 16) + get_or places k 0))
+      | inl lt ↦ omega
+          (arith, at k lt, digit_small (2 * lanes) (number_l 65536 words) (16 * (k / 16) + get_or places k 0))
       | inr ge ↦ omega (arith, beyond taken k (omega arith))
     ] in
     let here : get_or places m 0 < 16 = small m below in
@@ -47,30 +53,38 @@ moved_octet lanes words places m whole fit len small below =
 -- ---- the tables of places
 
 table_place : (table : List (List ℕ)) (f : ℕ → ℕ → ℕ)
-    → map (λ k. get_or (get_or table (k / 32) []) (k % 32) 0) (range_with_len 0 128) ≡ map (λ k. f (k / 32) (k % 32)) (range_with_len 0 128)
+    → map (λ k. get_or (get_or table (k / 32) []) (k % 32) 0) (range_with_len 0 128)
+    ≡ map (λ k. f (k / 32) (k % 32)) (range_with_len 0 128)
     → (t m : ℕ) → t < 4 → m < 32 → get_or (get_or table t []) m 0 ≡ f t m
 table_place table f e t m h k =
     let q : (32 * t + m) / 32 ≡ t = omega arith in
     let r : (32 * t + m) % 32 ≡ m = omega arith in
-    let at : get_or (get_or table ((32 * t + m) / 32) []) ((32 * t + m) % 32) 0 ≡ f ((32 * t + m) / 32) ((32 * t + m) % 32) =
-    sym (get_or-map-range_with_len (λ k. get_or (get_or table (k / 32) []) (k % 32) 0) 0 128 (32 * t + m) (32 * t + m) 0 (omega arith) (omega arith))
+    let at : get_or (get_or table ((32 * t + m) / 32) []) ((32 * t + m) % 32) 0
+    ≡ f ((32 * t + m) / 32) ((32 * t + m) % 32) =
+    sym (get_or-map-range_with_len (λ k. get_or (get_or table (k / 32) []) (k % 32) 0) 0 128 (32 * t + m) (32 * t + m) 0
+    (omega arith) (omega arith))
     ∙ ap (λ xs. get_or xs (32 * t + m) 0) e
-    ∙ get_or-map-range_with_len (λ k. f (k / 32) (k % 32)) 0 128 (32 * t + m) (32 * t + m) 0 (omega arith) (omega arith) in
+    ∙ get_or-map-range_with_len (λ k. f (k / 32) (k % 32)) 0 128 (32 * t + m) (32 * t + m) 0 (omega arith)
+    (omega arith) in
     rw (q, r) at at
 
-next_places : map (λ k. get_or (get_or NEXT (k / 32) []) (k % 32) 0) (range_with_len 0 128) ≡ map (λ k. row_below (k / 32) 1 (k % 32 % 16)) (range_with_len 0 128)
+next_places : map (λ k. get_or (get_or NEXT (k / 32) []) (k % 32) 0) (range_with_len 0 128)
+    ≡ map (λ k. row_below (k / 32) 1 (k % 32 % 16)) (range_with_len 0 128)
 unfolding row_below
 next_places = refl
 
-after_places : map (λ k. get_or (get_or AFTER (k / 32) []) (k % 32) 0) (range_with_len 0 128) ≡ map (λ k. row_below (k / 32) 2 (k % 32 % 16)) (range_with_len 0 128)
+after_places : map (λ k. get_or (get_or AFTER (k / 32) []) (k % 32) 0) (range_with_len 0 128)
+    ≡ map (λ k. row_below (k / 32) 2 (k % 32 % 16)) (range_with_len 0 128)
 unfolding row_below
 after_places = refl
 
-back_places : map (λ k. get_or (get_or BACK (k / 32) []) (k % 32) 0) (range_with_len 0 128) ≡ map (λ k. place_back (k / 32) (k % 32 % 16)) (range_with_len 0 128)
+back_places : map (λ k. get_or (get_or BACK (k / 32) []) (k % 32) 0) (range_with_len 0 128)
+    ≡ map (λ k. place_back (k / 32) (k % 32 % 16)) (range_with_len 0 128)
 unfolding place_back
 back_places = refl
 
-twice_places : map (λ k. get_or TWICE k 0) (range_with_len 0 32) ≡ map (λ k. shifted (shifted (k % 16))) (range_with_len 0 32)
+twice_places : map (λ k. get_or TWICE k 0) (range_with_len 0 32)
+    ≡ map (λ k. shifted (shifted (k % 16))) (range_with_len 0 32)
 unfolding shifted
 twice_places = refl
 
@@ -85,7 +99,8 @@ back_place t m h k = table_place BACK (λ t m. place_back t (m % 16)) back_place
 
 pub twice_place : (m : ℕ) → m < 32 → get_or TWICE m 0 ≡ shifted (shifted (m % 16))
 twice_place m h =
-    sym (get_or-map-range_with_len (λ k. get_or TWICE k 0) 0 32 m m 0 h (omega arith)) ∙ ap (λ xs. get_or xs m 0) twice_places
+    sym (get_or-map-range_with_len (λ k. get_or TWICE k 0) 0 32 m m 0 h (omega arith))
+    ∙ ap (λ xs. get_or xs m 0) twice_places
     ∙ get_or-map-range_with_len (λ k. shifted (shifted (k % 16))) 0 32 m m 0 h (omega arith)
 
 -- ---- places are below sixteen

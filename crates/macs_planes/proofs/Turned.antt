@@ -1,5 +1,6 @@
 -- Rows that ShiftRows has still to turn.
-use Rattle.std.proofs.Common.{◌≡◌, ℕ, zero, suc, ◌-◌, ◌%◌, ◌<◌, ◌≤◌, ◌∙◌, ◌⊎◌, List, [], ◌∷◌, map, slice_index, ap, ap₂, sym, refl, arith, inl, inr}
+use Rattle.std.proofs.Common.{◌≡◌, ℕ, zero, suc, ◌-◌, ◌%◌, ◌<◌, ◌≤◌, ◌∙◌, ◌⊎◌, List, [], ◌∷◌, map, slice_index, ap, ap₂}
+use Rattle.std.proofs.Common.{sym, refl, arith, inl, inr}
 use Rattle.std.specs.List.{range_with_len}
 use Rattle.std.proofs.lemmas.Bool.{cases_lt}
 use Rattle.std.proofs.lemmas.List.FromFn.{get_or-map-range_with_len}
@@ -13,7 +14,8 @@ unfolding turned
 turned_keyed zero k s = refl
 turned_keyed (suc t) k s = ap shift_rows (turned_keyed t k s)
 
-pub all_keyed : (t : ℕ) (k : List ℕ) (blocks : List (List ℕ)) → map (turned t) (keyed k blocks) ≡ keyed (turned t k) (map (turned t) blocks)
+pub all_keyed : (t : ℕ) (k : List ℕ) (blocks : List (List ℕ))
+    → map (turned t) (keyed k blocks) ≡ keyed (turned t k) (map (turned t) blocks)
 all_keyed t k [] = refl
 all_keyed t k (b ∷ blocks) = ap₂ (λ s ss. s ∷ ss) (turned_keyed t k b) (all_keyed t k blocks)
 
@@ -35,7 +37,8 @@ unfolding turned
 none_left s = sym (four_turns s) ∙ ap shift_rows (turned_sub 3 s)
 
 -- one turn more
-next_turn : (r : ℕ) (s : List ℕ) → 1 ≤ r → turned (r % 4) (sub_bytes s) ≡ shift_rows (sub_bytes (turned ((r - 1) % 4) s))
+next_turn : (r : ℕ) (s : List ℕ) → 1 ≤ r
+    → turned (r % 4) (sub_bytes s) ≡ shift_rows (sub_bytes (turned ((r - 1) % 4) s))
 next_turn r s h = elim (cases_lt ((r - 1) % 4) 3) [
   | inl lt ↦
       let more : r % 4 ≡ suc ((r - 1) % 4) = omega arith in
@@ -43,10 +46,12 @@ next_turn r s h = elim (cases_lt ((r - 1) % 4) 3) [
   | inr ge ↦
       let none : r % 4 ≡ 0 = omega arith in
       let three : (r - 1) % 4 ≡ 3 = omega arith in
-      ap (λ (t : ℕ). turned t (sub_bytes s)) none ∙ none_left s ∙ ap (λ (t : ℕ). shift_rows (sub_bytes (turned t s))) (sym three)
+      ap (λ (t : ℕ). turned t (sub_bytes s)) none ∙ none_left s
+      ∙ ap (λ (t : ℕ). shift_rows (sub_bytes (turned t s))) (sym three)
 ]
 
-pub next_turns : (r : ℕ) (blocks : List (List ℕ)) → 1 ≤ r → map (turned (r % 4)) (map sub_bytes blocks) ≡ map shift_rows (map sub_bytes (map (turned ((r - 1) % 4)) blocks))
+pub next_turns : (r : ℕ) (blocks : List (List ℕ)) → 1 ≤ r
+    → map (turned (r % 4)) (map sub_bytes blocks) ≡ map shift_rows (map sub_bytes (map (turned ((r - 1) % 4)) blocks))
 next_turns r [] h = refl
 next_turns r (b ∷ blocks) h = ap₂ (λ s ss. s ∷ ss) (next_turn r b h) (next_turns r blocks h)
 
@@ -73,7 +78,8 @@ pub two_left : (n : ℕ) → (n ≡ 10) ⊎ (n ≡ 14) → (n % 4 ≡ 2) × (2 �
 two_left n (inl ten) = (omega (arith, ten), omega (arith, ten))
 two_left n (inr fourteen) = (omega (arith, fourteen), omega (arith, fourteen))
 
-pub back_at : (t : ℕ) (block : List ℕ) (j : ℕ) → j < 16 → slice_index (turned_back t block) j ≡ slice_index block (place_back t j)
+pub back_at : (t : ℕ) (block : List ℕ) (j : ℕ) → j < 16
+    → slice_index (turned_back t block) j ≡ slice_index block (place_back t j)
 unfolding turned_back
 back_at t block j h = get_or-map-range_with_len (λ j. slice_index block (place_back t j)) 0 16 j j 0 h (omega arith)
 
@@ -81,10 +87,12 @@ back_at t block j h = get_or-map-range_with_len (λ j. slice_index block (place_
 
 unfoldable pub mixed_block : ℕ → List ℕ → List ℕ
 mixed_block t s =
-    map (λ j. mixed_octet (slice_index s j) (slice_index s (row_below t 1 j)) (slice_index s (row_below t 2 j)) (slice_index s (row_below t 3 j))) (range_with_len 0 16)
+    map (λ j. mixed_octet (slice_index s j) (slice_index s (row_below t 1 j)) (slice_index s (row_below t 2 j))
+    (slice_index s (row_below t 3 j))) (range_with_len 0 16)
 
 pub mixed_block_is : (t : ℕ) → t < 4 → (g : ℕ → ℕ)
-    → map (λ j. mixed_octet (g j) (g (row_below t 1 j)) (g (row_below t 2 j)) (g (row_below t 3 j))) (range_with_len 0 16) ≡ mixed_block t (map g (range_with_len 0 16))
+    → map (λ j. mixed_octet (g j) (g (row_below t 1 j)) (g (row_below t 2 j)) (g (row_below t 3 j)))
+    (range_with_len 0 16) ≡ mixed_block t (map g (range_with_len 0 16))
 unfolding mixed_block row_below
 mixed_block_is zero h g = refl
 mixed_block_is (suc zero) h g = refl
@@ -100,11 +108,13 @@ block_mixed (suc (suc zero)) h s = refl
 block_mixed (suc (suc (suc zero))) h s = refl
 block_mixed (suc (suc (suc (suc t)))) h s = absurd (omega arith)
 
-pub blocks_mixed : (t : ℕ) → t < 4 → (blocks : List (List ℕ)) → map (turned t) (map (mixed_block t) blocks) ≡ map mix_columns (map (turned t) blocks)
+pub blocks_mixed : (t : ℕ) → t < 4 → (blocks : List (List ℕ))
+    → map (turned t) (map (mixed_block t) blocks) ≡ map mix_columns (map (turned t) blocks)
 blocks_mixed t h [] = refl
 blocks_mixed t h (b ∷ blocks) = ap₂ (λ s ss. s ∷ ss) (block_mixed t h b) (blocks_mixed t h blocks)
 
 -- ShiftRows twice
-pub turned_twice_is : (g : ℕ → ℕ) → map (λ j. g (shifted (shifted j))) (range_with_len 0 16) ≡ turned 2 (map g (range_with_len 0 16))
+pub turned_twice_is : (g : ℕ → ℕ)
+    → map (λ j. g (shifted (shifted j))) (range_with_len 0 16) ≡ turned 2 (map g (range_with_len 0 16))
 unfolding turned shifted
 turned_twice_is g = refl

@@ -1,5 +1,5 @@
--- Blocks across the lanes of planes. A word of 16 bits of a plane has two octets, the first in its lower half. Bit n of octet
--- 16 g + j belongs to octet j of block 8 g + n.
+-- Blocks across the lanes of planes. A word of 16 bits of a plane has two octets, the first in its lower half. Bit n of
+-- octet 16 g + j belongs to octet j of block 8 g + n.
 use Rattle.std.specs.Prelude.{◌≡◌, ◌<◌, ◌≤◌, ℕ, zero, suc, ◌+◌, ◌*◌, ◌/◌, ◌%◌, ◌^◌, List, [], map, get_or, slice_index}
 use Rattle.std.specs.List.{range_with_len}
 use Rattle.macs_aes.specs.Cipher.{round_key, shift_rows}
@@ -50,8 +50,10 @@ turned_back t block = map (λ j. slice_index block (place_back t j)) (range_with
 -- planes of which each block is the key
 pub record IsKeyPlanes (lanes : ℕ) (key : List ℕ) (planes : List (List ℕ)) : Type 0 where
   pub are : ArePlanes lanes planes
-  pub octets : (m n : ℕ) → m < 2 * lanes → n < 8 → octet_at (blocks_in lanes octet_basis planes) m n ≡ slice_index key (m % 16)
+  pub octets : (m n : ℕ) → m < 2 * lanes → n < 8
+      → octet_at (blocks_in lanes octet_basis planes) m n ≡ slice_index key (m % 16)
 
 -- the planes of the round keys of a key, eleven or fifteen; the rows of that of round i have still to be turned i times
 pub record AreKeyPlanes (lanes : ℕ) (key : List ℕ) (keys : List (List (List ℕ))) : Type 0 where
-  pub each : (i : ℕ) → i ≤ rounds_of key → IsKeyPlanes lanes (turned_back (i % 4) (round_key (key_words key) i)) (get_or keys i [])
+  pub each : (i : ℕ) → i ≤ rounds_of key
+      → IsKeyPlanes lanes (turned_back (i % 4) (round_key (key_words key) i)) (get_or keys i [])

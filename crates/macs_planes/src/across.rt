@@ -1,8 +1,10 @@
 //! Blocks across the lanes of planes, and the cipher's four steps on all of them at a time.
 
-ghost use Rattle.std.specs.Prelude.{◌≡◌, ◌≢◌, ◌<◌, ℕ, List, [], ◌+◌, ◌*◌, ◌/◌, ◌%◌, get_or, length, map};
+ghost use Rattle.std.specs.Prelude.{◌≡◌, ◌≢◌, ◌<◌, ℕ, List, [], ◌+◌, ◌*◌, ◌/◌, ◌%◌, get_or, length};
+ghost use Rattle.std.specs.Prelude.{map};
 ghost use Rattle.macs_aes.specs.Cipher.{mix_columns, mixed_octet, shift_rows, sub_bytes};
-ghost use Rattle.macs_planes.specs.Across.{IsKeyPlanes, blocks_across, octet_at, octet_of_words, row_below, turned};
+ghost use Rattle.macs_planes.specs.Across.{IsKeyPlanes, blocks_across, octet_at, octet_of_words};
+ghost use Rattle.macs_planes.specs.Across.{row_below, turned};
 ghost use Rattle.macs_planes.specs.Bits.{IsBlock};
 ghost use Rattle.macs_planes.specs.Blocks.{ArePlanes, octet};
 ghost use Rattle.macs_planes.specs.RoundKeys.{keyed};
@@ -196,7 +198,9 @@ fn mixed(x: &Planes<LANES>, turns: usize) -> Planes<LANES>
     requires { turns < 4 }
     ensures { (m n : ℕ) → m < OCTETS → n < 8
         → octet_at result m n
-        ≡ mixed_octet (octet_at x.now m n) (octet_at x.now (16 * (m / 16) + row_below turns 1 (m % 16)) n) (octet_at x.now (16 * (m / 16) + row_below turns 2 (m % 16)) n) (octet_at x.now (16 * (m / 16) + row_below turns 3 (m % 16)) n) }
+        ≡ mixed_octet (octet_at x.now m n) (octet_at x.now (16 * (m / 16) + row_below turns 1
+        (m % 16)) n) (octet_at x.now (16 * (m / 16) + row_below turns 2 (m % 16)) n)
+        (octet_at x.now (16 * (m / 16) + row_below turns 3 (m % 16)) n) }
 {
     are_blocks(x);
     let next = moved_each(x, &NEXT[turns]);

@@ -1,15 +1,16 @@
 //! From planes to octets: the bits of an octet, which are one in each plane, are put side by side.
 #![tactic(auto, using(std::proofs::lemmas::Simd::shifts_fit_splat))]
 
-ghost use Rattle.std.specs.Prelude.{◌≡◌, ◌<◌, ◌*◌, ◌/◌, ◌%◌, ◌^◌, ℕ, [], ◌∷◌, get_or, length, slice_index};
+ghost use Rattle.std.specs.Prelude.{◌≡◌, ◌<◌, ◌*◌, ◌/◌, ◌%◌, ◌^◌, ℕ, [], ◌∷◌, get_or, length};
+ghost use Rattle.std.specs.Prelude.{slice_index};
 ghost use Rattle.macs_planes.specs.Blocks.{ArePlanes, zeros};
 ghost use Rattle.macs_planes.specs.Columns.{IsCrossed, IsExchanged};
 
 use macs_aes::Block;
 use std::simd::prelude::*;
 
-/// Eight vectors. Crossed, octets m and m + 8 of block i are the lower and the upper half of lane i of
-/// vector m.
+/// Eight vectors. Crossed, octets m and m + 8 of block i are the lower and the upper half of lane i
+/// of vector m.
 #[derive(Drop)]
 pub(crate) struct Columns<const N: usize> {
     pub(crate) q0: [u16; N],
@@ -22,20 +23,30 @@ pub(crate) struct Columns<const N: usize> {
     pub(crate) q7: [u16; N],
 }
 
-/// Vectors that are next to each other exchange half of their bits: the number of a vector and the place of
-/// a bit within a half exchange their bits of weight 1.
+/// Vectors that are next to each other exchange half of their bits: the number of a vector and the
+/// place of a bit within a half exchange their bits of weight 1.
 #[inline(always)]
 fn exchange_ones<const N: usize>(x: &Columns<N>) -> Columns<N>
-    requires { ArePlanes N (x.now.q0 ∷ x.now.q1 ∷ x.now.q2 ∷ x.now.q3 ∷ x.now.q4 ∷ x.now.q5 ∷ x.now.q6 ∷ x.now.q7 ∷ []) }
-    ensures lanes { ArePlanes N (result.q0 ∷ result.q1 ∷ result.q2 ∷ result.q3 ∷ result.q4 ∷ result.q5 ∷ result.q6 ∷ result.q7 ∷ []) }
-    ensures q0 { IsExchanged N 1 0 (x.now.q0 ∷ x.now.q1 ∷ x.now.q2 ∷ x.now.q3 ∷ x.now.q4 ∷ x.now.q5 ∷ x.now.q6 ∷ x.now.q7 ∷ []) result.q0 }
-    ensures q1 { IsExchanged N 1 1 (x.now.q0 ∷ x.now.q1 ∷ x.now.q2 ∷ x.now.q3 ∷ x.now.q4 ∷ x.now.q5 ∷ x.now.q6 ∷ x.now.q7 ∷ []) result.q1 }
-    ensures q2 { IsExchanged N 1 2 (x.now.q0 ∷ x.now.q1 ∷ x.now.q2 ∷ x.now.q3 ∷ x.now.q4 ∷ x.now.q5 ∷ x.now.q6 ∷ x.now.q7 ∷ []) result.q2 }
-    ensures q3 { IsExchanged N 1 3 (x.now.q0 ∷ x.now.q1 ∷ x.now.q2 ∷ x.now.q3 ∷ x.now.q4 ∷ x.now.q5 ∷ x.now.q6 ∷ x.now.q7 ∷ []) result.q3 }
-    ensures q4 { IsExchanged N 1 4 (x.now.q0 ∷ x.now.q1 ∷ x.now.q2 ∷ x.now.q3 ∷ x.now.q4 ∷ x.now.q5 ∷ x.now.q6 ∷ x.now.q7 ∷ []) result.q4 }
-    ensures q5 { IsExchanged N 1 5 (x.now.q0 ∷ x.now.q1 ∷ x.now.q2 ∷ x.now.q3 ∷ x.now.q4 ∷ x.now.q5 ∷ x.now.q6 ∷ x.now.q7 ∷ []) result.q5 }
-    ensures q6 { IsExchanged N 1 6 (x.now.q0 ∷ x.now.q1 ∷ x.now.q2 ∷ x.now.q3 ∷ x.now.q4 ∷ x.now.q5 ∷ x.now.q6 ∷ x.now.q7 ∷ []) result.q6 }
-    ensures q7 { IsExchanged N 1 7 (x.now.q0 ∷ x.now.q1 ∷ x.now.q2 ∷ x.now.q3 ∷ x.now.q4 ∷ x.now.q5 ∷ x.now.q6 ∷ x.now.q7 ∷ []) result.q7 }
+    requires { ArePlanes N (x.now.q0 ∷ x.now.q1 ∷ x.now.q2 ∷ x.now.q3 ∷ x.now.q4 ∷ x.now.q5
+        ∷ x.now.q6 ∷ x.now.q7 ∷ []) }
+    ensures lanes { ArePlanes N (result.q0 ∷ result.q1 ∷ result.q2 ∷ result.q3 ∷ result.q4
+        ∷ result.q5 ∷ result.q6 ∷ result.q7 ∷ []) }
+    ensures q0 { IsExchanged N 1 0 (x.now.q0 ∷ x.now.q1 ∷ x.now.q2 ∷ x.now.q3 ∷ x.now.q4 ∷ x.now.q5
+        ∷ x.now.q6 ∷ x.now.q7 ∷ []) result.q0 }
+    ensures q1 { IsExchanged N 1 1 (x.now.q0 ∷ x.now.q1 ∷ x.now.q2 ∷ x.now.q3 ∷ x.now.q4 ∷ x.now.q5
+        ∷ x.now.q6 ∷ x.now.q7 ∷ []) result.q1 }
+    ensures q2 { IsExchanged N 1 2 (x.now.q0 ∷ x.now.q1 ∷ x.now.q2 ∷ x.now.q3 ∷ x.now.q4 ∷ x.now.q5
+        ∷ x.now.q6 ∷ x.now.q7 ∷ []) result.q2 }
+    ensures q3 { IsExchanged N 1 3 (x.now.q0 ∷ x.now.q1 ∷ x.now.q2 ∷ x.now.q3 ∷ x.now.q4 ∷ x.now.q5
+        ∷ x.now.q6 ∷ x.now.q7 ∷ []) result.q3 }
+    ensures q4 { IsExchanged N 1 4 (x.now.q0 ∷ x.now.q1 ∷ x.now.q2 ∷ x.now.q3 ∷ x.now.q4 ∷ x.now.q5
+        ∷ x.now.q6 ∷ x.now.q7 ∷ []) result.q4 }
+    ensures q5 { IsExchanged N 1 5 (x.now.q0 ∷ x.now.q1 ∷ x.now.q2 ∷ x.now.q3 ∷ x.now.q4 ∷ x.now.q5
+        ∷ x.now.q6 ∷ x.now.q7 ∷ []) result.q5 }
+    ensures q6 { IsExchanged N 1 6 (x.now.q0 ∷ x.now.q1 ∷ x.now.q2 ∷ x.now.q3 ∷ x.now.q4 ∷ x.now.q5
+        ∷ x.now.q6 ∷ x.now.q7 ∷ []) result.q6 }
+    ensures q7 { IsExchanged N 1 7 (x.now.q0 ∷ x.now.q1 ∷ x.now.q2 ∷ x.now.q3 ∷ x.now.q4 ∷ x.now.q5
+        ∷ x.now.q6 ∷ x.now.q7 ∷ []) result.q7 }
 {
     let q0 = Simd::from_array(x.q0);
     let q1 = Simd::from_array(x.q1);
@@ -65,16 +76,26 @@ fn exchange_ones<const N: usize>(x: &Columns<N>) -> Columns<N>
 /// a bit within a half exchange their bits of weight 2.
 #[inline(always)]
 fn exchange_twos<const N: usize>(x: &Columns<N>) -> Columns<N>
-    requires { ArePlanes N (x.now.q0 ∷ x.now.q1 ∷ x.now.q2 ∷ x.now.q3 ∷ x.now.q4 ∷ x.now.q5 ∷ x.now.q6 ∷ x.now.q7 ∷ []) }
-    ensures lanes { ArePlanes N (result.q0 ∷ result.q1 ∷ result.q2 ∷ result.q3 ∷ result.q4 ∷ result.q5 ∷ result.q6 ∷ result.q7 ∷ []) }
-    ensures q0 { IsExchanged N 2 0 (x.now.q0 ∷ x.now.q1 ∷ x.now.q2 ∷ x.now.q3 ∷ x.now.q4 ∷ x.now.q5 ∷ x.now.q6 ∷ x.now.q7 ∷ []) result.q0 }
-    ensures q1 { IsExchanged N 2 1 (x.now.q0 ∷ x.now.q1 ∷ x.now.q2 ∷ x.now.q3 ∷ x.now.q4 ∷ x.now.q5 ∷ x.now.q6 ∷ x.now.q7 ∷ []) result.q1 }
-    ensures q2 { IsExchanged N 2 2 (x.now.q0 ∷ x.now.q1 ∷ x.now.q2 ∷ x.now.q3 ∷ x.now.q4 ∷ x.now.q5 ∷ x.now.q6 ∷ x.now.q7 ∷ []) result.q2 }
-    ensures q3 { IsExchanged N 2 3 (x.now.q0 ∷ x.now.q1 ∷ x.now.q2 ∷ x.now.q3 ∷ x.now.q4 ∷ x.now.q5 ∷ x.now.q6 ∷ x.now.q7 ∷ []) result.q3 }
-    ensures q4 { IsExchanged N 2 4 (x.now.q0 ∷ x.now.q1 ∷ x.now.q2 ∷ x.now.q3 ∷ x.now.q4 ∷ x.now.q5 ∷ x.now.q6 ∷ x.now.q7 ∷ []) result.q4 }
-    ensures q5 { IsExchanged N 2 5 (x.now.q0 ∷ x.now.q1 ∷ x.now.q2 ∷ x.now.q3 ∷ x.now.q4 ∷ x.now.q5 ∷ x.now.q6 ∷ x.now.q7 ∷ []) result.q5 }
-    ensures q6 { IsExchanged N 2 6 (x.now.q0 ∷ x.now.q1 ∷ x.now.q2 ∷ x.now.q3 ∷ x.now.q4 ∷ x.now.q5 ∷ x.now.q6 ∷ x.now.q7 ∷ []) result.q6 }
-    ensures q7 { IsExchanged N 2 7 (x.now.q0 ∷ x.now.q1 ∷ x.now.q2 ∷ x.now.q3 ∷ x.now.q4 ∷ x.now.q5 ∷ x.now.q6 ∷ x.now.q7 ∷ []) result.q7 }
+    requires { ArePlanes N (x.now.q0 ∷ x.now.q1 ∷ x.now.q2 ∷ x.now.q3 ∷ x.now.q4 ∷ x.now.q5
+        ∷ x.now.q6 ∷ x.now.q7 ∷ []) }
+    ensures lanes { ArePlanes N (result.q0 ∷ result.q1 ∷ result.q2 ∷ result.q3 ∷ result.q4
+        ∷ result.q5 ∷ result.q6 ∷ result.q7 ∷ []) }
+    ensures q0 { IsExchanged N 2 0 (x.now.q0 ∷ x.now.q1 ∷ x.now.q2 ∷ x.now.q3 ∷ x.now.q4 ∷ x.now.q5
+        ∷ x.now.q6 ∷ x.now.q7 ∷ []) result.q0 }
+    ensures q1 { IsExchanged N 2 1 (x.now.q0 ∷ x.now.q1 ∷ x.now.q2 ∷ x.now.q3 ∷ x.now.q4 ∷ x.now.q5
+        ∷ x.now.q6 ∷ x.now.q7 ∷ []) result.q1 }
+    ensures q2 { IsExchanged N 2 2 (x.now.q0 ∷ x.now.q1 ∷ x.now.q2 ∷ x.now.q3 ∷ x.now.q4 ∷ x.now.q5
+        ∷ x.now.q6 ∷ x.now.q7 ∷ []) result.q2 }
+    ensures q3 { IsExchanged N 2 3 (x.now.q0 ∷ x.now.q1 ∷ x.now.q2 ∷ x.now.q3 ∷ x.now.q4 ∷ x.now.q5
+        ∷ x.now.q6 ∷ x.now.q7 ∷ []) result.q3 }
+    ensures q4 { IsExchanged N 2 4 (x.now.q0 ∷ x.now.q1 ∷ x.now.q2 ∷ x.now.q3 ∷ x.now.q4 ∷ x.now.q5
+        ∷ x.now.q6 ∷ x.now.q7 ∷ []) result.q4 }
+    ensures q5 { IsExchanged N 2 5 (x.now.q0 ∷ x.now.q1 ∷ x.now.q2 ∷ x.now.q3 ∷ x.now.q4 ∷ x.now.q5
+        ∷ x.now.q6 ∷ x.now.q7 ∷ []) result.q5 }
+    ensures q6 { IsExchanged N 2 6 (x.now.q0 ∷ x.now.q1 ∷ x.now.q2 ∷ x.now.q3 ∷ x.now.q4 ∷ x.now.q5
+        ∷ x.now.q6 ∷ x.now.q7 ∷ []) result.q6 }
+    ensures q7 { IsExchanged N 2 7 (x.now.q0 ∷ x.now.q1 ∷ x.now.q2 ∷ x.now.q3 ∷ x.now.q4 ∷ x.now.q5
+        ∷ x.now.q6 ∷ x.now.q7 ∷ []) result.q7 }
 {
     let q0 = Simd::from_array(x.q0);
     let q1 = Simd::from_array(x.q1);
@@ -104,16 +125,26 @@ fn exchange_twos<const N: usize>(x: &Columns<N>) -> Columns<N>
 /// a bit within a half exchange their bits of weight 4.
 #[inline(always)]
 fn exchange_fours<const N: usize>(x: &Columns<N>) -> Columns<N>
-    requires { ArePlanes N (x.now.q0 ∷ x.now.q1 ∷ x.now.q2 ∷ x.now.q3 ∷ x.now.q4 ∷ x.now.q5 ∷ x.now.q6 ∷ x.now.q7 ∷ []) }
-    ensures lanes { ArePlanes N (result.q0 ∷ result.q1 ∷ result.q2 ∷ result.q3 ∷ result.q4 ∷ result.q5 ∷ result.q6 ∷ result.q7 ∷ []) }
-    ensures q0 { IsExchanged N 4 0 (x.now.q0 ∷ x.now.q1 ∷ x.now.q2 ∷ x.now.q3 ∷ x.now.q4 ∷ x.now.q5 ∷ x.now.q6 ∷ x.now.q7 ∷ []) result.q0 }
-    ensures q1 { IsExchanged N 4 1 (x.now.q0 ∷ x.now.q1 ∷ x.now.q2 ∷ x.now.q3 ∷ x.now.q4 ∷ x.now.q5 ∷ x.now.q6 ∷ x.now.q7 ∷ []) result.q1 }
-    ensures q2 { IsExchanged N 4 2 (x.now.q0 ∷ x.now.q1 ∷ x.now.q2 ∷ x.now.q3 ∷ x.now.q4 ∷ x.now.q5 ∷ x.now.q6 ∷ x.now.q7 ∷ []) result.q2 }
-    ensures q3 { IsExchanged N 4 3 (x.now.q0 ∷ x.now.q1 ∷ x.now.q2 ∷ x.now.q3 ∷ x.now.q4 ∷ x.now.q5 ∷ x.now.q6 ∷ x.now.q7 ∷ []) result.q3 }
-    ensures q4 { IsExchanged N 4 4 (x.now.q0 ∷ x.now.q1 ∷ x.now.q2 ∷ x.now.q3 ∷ x.now.q4 ∷ x.now.q5 ∷ x.now.q6 ∷ x.now.q7 ∷ []) result.q4 }
-    ensures q5 { IsExchanged N 4 5 (x.now.q0 ∷ x.now.q1 ∷ x.now.q2 ∷ x.now.q3 ∷ x.now.q4 ∷ x.now.q5 ∷ x.now.q6 ∷ x.now.q7 ∷ []) result.q5 }
-    ensures q6 { IsExchanged N 4 6 (x.now.q0 ∷ x.now.q1 ∷ x.now.q2 ∷ x.now.q3 ∷ x.now.q4 ∷ x.now.q5 ∷ x.now.q6 ∷ x.now.q7 ∷ []) result.q6 }
-    ensures q7 { IsExchanged N 4 7 (x.now.q0 ∷ x.now.q1 ∷ x.now.q2 ∷ x.now.q3 ∷ x.now.q4 ∷ x.now.q5 ∷ x.now.q6 ∷ x.now.q7 ∷ []) result.q7 }
+    requires { ArePlanes N (x.now.q0 ∷ x.now.q1 ∷ x.now.q2 ∷ x.now.q3 ∷ x.now.q4 ∷ x.now.q5
+        ∷ x.now.q6 ∷ x.now.q7 ∷ []) }
+    ensures lanes { ArePlanes N (result.q0 ∷ result.q1 ∷ result.q2 ∷ result.q3 ∷ result.q4
+        ∷ result.q5 ∷ result.q6 ∷ result.q7 ∷ []) }
+    ensures q0 { IsExchanged N 4 0 (x.now.q0 ∷ x.now.q1 ∷ x.now.q2 ∷ x.now.q3 ∷ x.now.q4 ∷ x.now.q5
+        ∷ x.now.q6 ∷ x.now.q7 ∷ []) result.q0 }
+    ensures q1 { IsExchanged N 4 1 (x.now.q0 ∷ x.now.q1 ∷ x.now.q2 ∷ x.now.q3 ∷ x.now.q4 ∷ x.now.q5
+        ∷ x.now.q6 ∷ x.now.q7 ∷ []) result.q1 }
+    ensures q2 { IsExchanged N 4 2 (x.now.q0 ∷ x.now.q1 ∷ x.now.q2 ∷ x.now.q3 ∷ x.now.q4 ∷ x.now.q5
+        ∷ x.now.q6 ∷ x.now.q7 ∷ []) result.q2 }
+    ensures q3 { IsExchanged N 4 3 (x.now.q0 ∷ x.now.q1 ∷ x.now.q2 ∷ x.now.q3 ∷ x.now.q4 ∷ x.now.q5
+        ∷ x.now.q6 ∷ x.now.q7 ∷ []) result.q3 }
+    ensures q4 { IsExchanged N 4 4 (x.now.q0 ∷ x.now.q1 ∷ x.now.q2 ∷ x.now.q3 ∷ x.now.q4 ∷ x.now.q5
+        ∷ x.now.q6 ∷ x.now.q7 ∷ []) result.q4 }
+    ensures q5 { IsExchanged N 4 5 (x.now.q0 ∷ x.now.q1 ∷ x.now.q2 ∷ x.now.q3 ∷ x.now.q4 ∷ x.now.q5
+        ∷ x.now.q6 ∷ x.now.q7 ∷ []) result.q5 }
+    ensures q6 { IsExchanged N 4 6 (x.now.q0 ∷ x.now.q1 ∷ x.now.q2 ∷ x.now.q3 ∷ x.now.q4 ∷ x.now.q5
+        ∷ x.now.q6 ∷ x.now.q7 ∷ []) result.q6 }
+    ensures q7 { IsExchanged N 4 7 (x.now.q0 ∷ x.now.q1 ∷ x.now.q2 ∷ x.now.q3 ∷ x.now.q4 ∷ x.now.q5
+        ∷ x.now.q6 ∷ x.now.q7 ∷ []) result.q7 }
 {
     let q0 = Simd::from_array(x.q0);
     let q1 = Simd::from_array(x.q1);
@@ -143,16 +174,26 @@ fn exchange_fours<const N: usize>(x: &Columns<N>) -> Columns<N>
 /// places.
 #[inline(always)]
 pub(crate) fn cross<const N: usize>(x: &Columns<N>) -> Columns<N>
-    requires { ArePlanes N (x.now.q0 ∷ x.now.q1 ∷ x.now.q2 ∷ x.now.q3 ∷ x.now.q4 ∷ x.now.q5 ∷ x.now.q6 ∷ x.now.q7 ∷ []) }
-    ensures lanes { ArePlanes N (result.q0 ∷ result.q1 ∷ result.q2 ∷ result.q3 ∷ result.q4 ∷ result.q5 ∷ result.q6 ∷ result.q7 ∷ []) }
-    ensures q0 { IsCrossed N 0 (x.now.q0 ∷ x.now.q1 ∷ x.now.q2 ∷ x.now.q3 ∷ x.now.q4 ∷ x.now.q5 ∷ x.now.q6 ∷ x.now.q7 ∷ []) result.q0 }
-    ensures q1 { IsCrossed N 1 (x.now.q0 ∷ x.now.q1 ∷ x.now.q2 ∷ x.now.q3 ∷ x.now.q4 ∷ x.now.q5 ∷ x.now.q6 ∷ x.now.q7 ∷ []) result.q1 }
-    ensures q2 { IsCrossed N 2 (x.now.q0 ∷ x.now.q1 ∷ x.now.q2 ∷ x.now.q3 ∷ x.now.q4 ∷ x.now.q5 ∷ x.now.q6 ∷ x.now.q7 ∷ []) result.q2 }
-    ensures q3 { IsCrossed N 3 (x.now.q0 ∷ x.now.q1 ∷ x.now.q2 ∷ x.now.q3 ∷ x.now.q4 ∷ x.now.q5 ∷ x.now.q6 ∷ x.now.q7 ∷ []) result.q3 }
-    ensures q4 { IsCrossed N 4 (x.now.q0 ∷ x.now.q1 ∷ x.now.q2 ∷ x.now.q3 ∷ x.now.q4 ∷ x.now.q5 ∷ x.now.q6 ∷ x.now.q7 ∷ []) result.q4 }
-    ensures q5 { IsCrossed N 5 (x.now.q0 ∷ x.now.q1 ∷ x.now.q2 ∷ x.now.q3 ∷ x.now.q4 ∷ x.now.q5 ∷ x.now.q6 ∷ x.now.q7 ∷ []) result.q5 }
-    ensures q6 { IsCrossed N 6 (x.now.q0 ∷ x.now.q1 ∷ x.now.q2 ∷ x.now.q3 ∷ x.now.q4 ∷ x.now.q5 ∷ x.now.q6 ∷ x.now.q7 ∷ []) result.q6 }
-    ensures q7 { IsCrossed N 7 (x.now.q0 ∷ x.now.q1 ∷ x.now.q2 ∷ x.now.q3 ∷ x.now.q4 ∷ x.now.q5 ∷ x.now.q6 ∷ x.now.q7 ∷ []) result.q7 }
+    requires { ArePlanes N (x.now.q0 ∷ x.now.q1 ∷ x.now.q2 ∷ x.now.q3 ∷ x.now.q4 ∷ x.now.q5
+        ∷ x.now.q6 ∷ x.now.q7 ∷ []) }
+    ensures lanes { ArePlanes N (result.q0 ∷ result.q1 ∷ result.q2 ∷ result.q3 ∷ result.q4
+        ∷ result.q5 ∷ result.q6 ∷ result.q7 ∷ []) }
+    ensures q0 { IsCrossed N 0 (x.now.q0 ∷ x.now.q1 ∷ x.now.q2 ∷ x.now.q3 ∷ x.now.q4 ∷ x.now.q5
+        ∷ x.now.q6 ∷ x.now.q7 ∷ []) result.q0 }
+    ensures q1 { IsCrossed N 1 (x.now.q0 ∷ x.now.q1 ∷ x.now.q2 ∷ x.now.q3 ∷ x.now.q4 ∷ x.now.q5
+        ∷ x.now.q6 ∷ x.now.q7 ∷ []) result.q1 }
+    ensures q2 { IsCrossed N 2 (x.now.q0 ∷ x.now.q1 ∷ x.now.q2 ∷ x.now.q3 ∷ x.now.q4 ∷ x.now.q5
+        ∷ x.now.q6 ∷ x.now.q7 ∷ []) result.q2 }
+    ensures q3 { IsCrossed N 3 (x.now.q0 ∷ x.now.q1 ∷ x.now.q2 ∷ x.now.q3 ∷ x.now.q4 ∷ x.now.q5
+        ∷ x.now.q6 ∷ x.now.q7 ∷ []) result.q3 }
+    ensures q4 { IsCrossed N 4 (x.now.q0 ∷ x.now.q1 ∷ x.now.q2 ∷ x.now.q3 ∷ x.now.q4 ∷ x.now.q5
+        ∷ x.now.q6 ∷ x.now.q7 ∷ []) result.q4 }
+    ensures q5 { IsCrossed N 5 (x.now.q0 ∷ x.now.q1 ∷ x.now.q2 ∷ x.now.q3 ∷ x.now.q4 ∷ x.now.q5
+        ∷ x.now.q6 ∷ x.now.q7 ∷ []) result.q5 }
+    ensures q6 { IsCrossed N 6 (x.now.q0 ∷ x.now.q1 ∷ x.now.q2 ∷ x.now.q3 ∷ x.now.q4 ∷ x.now.q5
+        ∷ x.now.q6 ∷ x.now.q7 ∷ []) result.q6 }
+    ensures q7 { IsCrossed N 7 (x.now.q0 ∷ x.now.q1 ∷ x.now.q2 ∷ x.now.q3 ∷ x.now.q4 ∷ x.now.q5
+        ∷ x.now.q6 ∷ x.now.q7 ∷ []) result.q7 }
 {
     let ones = exchange_ones(x);
     let twos = exchange_twos(&ones);
@@ -162,10 +203,13 @@ pub(crate) fn cross<const N: usize>(x: &Columns<N>) -> Columns<N>
 /// Block i of crossed vectors.
 #[inline(always)]
 pub(crate) fn row<const N: usize>(x: &Columns<N>, i: usize) -> Block
-    requires lanes { ArePlanes N (x.now.q0 ∷ x.now.q1 ∷ x.now.q2 ∷ x.now.q3 ∷ x.now.q4 ∷ x.now.q5 ∷ x.now.q6 ∷ x.now.q7 ∷ []) }
+    requires lanes { ArePlanes N (x.now.q0 ∷ x.now.q1 ∷ x.now.q2 ∷ x.now.q3 ∷ x.now.q4 ∷ x.now.q5
+        ∷ x.now.q6 ∷ x.now.q7 ∷ []) }
     requires within { i < N }
     ensures size { length result ≡ 16 }
-    ensures octets { (j : ℕ) → j < 16 → slice_index result j ≡ get_or (get_or (x.now.q0 ∷ x.now.q1 ∷ x.now.q2 ∷ x.now.q3 ∷ x.now.q4 ∷ x.now.q5 ∷ x.now.q6 ∷ x.now.q7 ∷ []) (j % 8) (zeros N)) i 0 / 2 ^ (8 * (j / 8)) % 256 }
+    ensures octets { (j : ℕ) → j < 16 → slice_index result j
+        ≡ get_or (get_or (x.now.q0 ∷ x.now.q1 ∷ x.now.q2 ∷ x.now.q3 ∷ x.now.q4 ∷ x.now.q5 ∷ x.now.q6
+        ∷ x.now.q7 ∷ []) (j % 8) (zeros N)) i 0 / 2 ^ (8 * (j / 8)) % 256 }
 {
     let [a0, b0] = x.q0[i].to_le_bytes();
     let [a1, b1] = x.q1[i].to_le_bytes();

@@ -21,7 +21,8 @@ fn take_round(blocks: &mut Across, key: &KeyPlanes, round: usize, rounds: usize)
     requires { ArePlanes LANES key.now }
     ensures inner { (k : List ℕ) → IsKeyPlanes LANES k key.now → round < rounds
         → map (turned (round % 4)) blocks.new
-        ≡ keyed (turned (round % 4) k) (map mix_columns (map (turned (round % 4)) (map sub_bytes blocks.old))) }
+        ≡ keyed (turned (round % 4) k)
+        (map mix_columns (map (turned (round % 4)) (map sub_bytes blocks.old))) }
     ensures last { (k : List ℕ) → IsKeyPlanes LANES k key.now → rounds ≤ round
         → blocks.new ≡ keyed k (map sub_bytes blocks.old) }
 {

@@ -1,6 +1,7 @@
 //! Round keys in planes: each block of the planes is the key.
 
-ghost use Rattle.std.specs.Prelude.{◌≡◌, ◌<◌, ◌≤◌, ℕ, List, [], ◌∷◌, ◌*◌, ◌/◌, ◌%◌, get_or, length, slice_index};
+ghost use Rattle.std.specs.Prelude.{◌≡◌, ◌<◌, ◌≤◌, ℕ, List, [], ◌∷◌, ◌*◌, ◌/◌, ◌%◌, get_or, length};
+ghost use Rattle.std.specs.Prelude.{slice_index};
 ghost use Rattle.macs_aes.specs.Cipher.{round_key};
 ghost use Rattle.macs_aes.specs.KeyExpansion.{key_words, rounds_of};
 ghost use Rattle.macs_planes.specs.Across.{AreKeyPlanes, IsKeyPlanes, octet_of_words, turned_back};
@@ -55,7 +56,17 @@ impl Model for KeyPlanes {
 
     ghost view = { λ k. k.p0 ∷ k.p1 ∷ k.p2 ∷ k.p3 ∷ k.p4 ∷ k.p5 ∷ k.p6 ∷ k.p7 ∷ [] };
 
-    ghost inverse = { λ v. record { p0 = get_or v 0 []; p1 = get_or v 1 []; p2 = get_or v 2 []; p3 = get_or v 3 []; p4 = get_or v 4 []; p5 = get_or v 5 []; p6 = get_or v 6 []; p7 = get_or v 7 [] } };
+    ghost inverse = { λ v.
+        record {
+          p0 = get_or v 0 [];
+          p1 = get_or v 1 [];
+          p2 = get_or v 2 [];
+          p3 = get_or v 3 [];
+          p4 = get_or v 4 [];
+          p5 = get_or v 5 [];
+          p6 = get_or v 6 [];
+          p7 = get_or v 7 [];
+        } };
 }
 
 impl KeyPlanes {

@@ -13,7 +13,8 @@ use std::simd::prelude::*;
 /// The xor of each two octets.
 #[inline(always)]
 pub(crate) fn xor<const N: usize>(x: &Planes<N>, y: &Planes<N>) -> Planes<N>
-    ensures { (i j : ℕ) → i < N → j < 16 → octet result i j ≡ bit_xor (octet x.now i j) (octet y.now i j) }
+    ensures { (i j : ℕ) → i < N → j < 16
+        → octet result i j ≡ bit_xor (octet x.now i j) (octet y.now i j) }
 {
     Planes {
         p0: (Simd::from_array(x.p0) ^ Simd::from_array(y.p0)).to_array(),
@@ -51,7 +52,8 @@ pub(crate) fn twice<const N: usize>(x: &Planes<N>) -> Planes<N>
 /// Each octet mixed with the three below it in its column: 2 (a + b) + b + (c + d).
 #[inline(always)]
 pub(crate) fn mix<const N: usize>(x: &Planes<N>) -> Planes<N>
-    ensures { (i j : ℕ) → i < N → j < 16 → octet result i j ≡ mixed_octet (octet x.now i j) (octet x.now i (below 1 j)) (octet x.now i (below 2 j)) (octet x.now i (below 3 j)) }
+    ensures { (i j : ℕ) → i < N → j < 16 → octet result i j ≡ mixed_octet (octet x.now i j)
+        (octet x.now i (below 1 j)) (octet x.now i (below 2 j)) (octet x.now i (below 3 j)) }
 {
     are_blocks(x);
     let next = lift(x);

@@ -1,8 +1,8 @@
-//! SubBytes (FIPS 197, 5.1.1) by arithmetic. An octet is u t + v, where u and v are in the subfield of
-//! sixteen elements and t is the root ff. Its inverse is x^254 = x^16 (x^17)^14: x^16 is the conjugate
-//! u t + (u + v), and x^17, the product of both, is v (u + v) + t^17 u^2, which is in the subfield. So
-//! all products are of elements of the subfield, four planes each; that of u is the sum of those of v and
-//! u + v.
+//! SubBytes (FIPS 197, 5.1.1) by arithmetic. An octet is u t + v, where u and v are in the subfield
+//! of sixteen elements and t is the root ff. Its inverse is x^254 = x^16 (x^17)^14: x^16 is the
+//! conjugate u t + (u + v), and x^17, the product of both, is v (u + v) + t^17 u^2, which is in the
+//! subfield. So all products are of elements of the subfield, four planes each; that of u is the
+//! sum of those of v and u + v.
 
 ghost use Rattle.std.specs.Prelude.{◌≡◌, ◌<◌, ℕ, bit_xor};
 ghost use Rattle.macs_gf.specs.Gf256.{octet_product};
@@ -65,7 +65,8 @@ fn low_part<const N: usize>(x: &Planes<N>) -> Subfield<N>
 /// The affine map (FIPS 197, 5.1.1) of e + (e + f) t.
 #[inline(always)]
 fn affine_of<const N: usize>(e: &Subfield<N>, f: &Subfield<N>) -> Planes<N>
-    ensures { (i j : ℕ) → i < N → j < 16 → octet result i j ≡ affine (bit_xor (octet e.now i j) (octet_product tower_root (bit_xor (octet e.now i j) (octet f.now i j)))) }
+    ensures { (i j : ℕ) → i < N → j < 16 → octet result i j ≡ affine (bit_xor (octet e.now i j)
+        (octet_product tower_root (bit_xor (octet e.now i j) (octet f.now i j)))) }
 {
     let e0 = Simd::from_array(e.p0);
     let e1 = Simd::from_array(e.p1);

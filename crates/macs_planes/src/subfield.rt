@@ -8,8 +8,8 @@ ghost use Rattle.macs_planes.specs.Tower.{fourteenth, tower_unit};
 use std::marker::Model;
 use std::simd::prelude::*;
 
-/// N blocks of octets that are in the subfield: four planes, which count w z, w^2 z, w z^4 and w^2 z^4, where
-/// w is the root bc of x^2 + x + 1 and z the root 5c of x^2 + x + w.
+/// N blocks of octets that are in the subfield: four planes, which count w z, w^2 z, w z^4 and w^2
+/// z^4, where w is the root bc of x^2 + x + 1 and z the root 5c of x^2 + x + w.
 #[derive(Drop)]
 pub(crate) struct Subfield<const N: usize> {
     pub(crate) p0: [u16; N],
@@ -29,7 +29,8 @@ impl<const N: usize> Model for Subfield<N> {
 /// The product of each two octets.
 #[inline(always)]
 pub(crate) fn product<const N: usize>(x: &Subfield<N>, y: &Subfield<N>) -> Subfield<N>
-    ensures { (i j : ℕ) → i < N → j < 16 → octet result i j ≡ octet_product (octet x.now i j) (octet y.now i j) }
+    ensures { (i j : ℕ) → i < N → j < 16
+        → octet result i j ≡ octet_product (octet x.now i j) (octet y.now i j) }
 {
     let x0 = Simd::from_array(x.p0);
     let x1 = Simd::from_array(x.p1);
@@ -101,7 +102,8 @@ pub(crate) fn inverse<const N: usize>(x: &Subfield<N>) -> Subfield<N>
 /// t^17 times the square of each octet, where t is the root ff.
 #[inline(always)]
 pub(crate) fn scaled_square<const N: usize>(x: &Subfield<N>) -> Subfield<N>
-    ensures { (i j : ℕ) → i < N → j < 16 → octet result i j ≡ octet_product tower_unit (octet_product (octet x.now i j) (octet x.now i j)) }
+    ensures { (i j : ℕ) → i < N → j < 16 → octet result i j
+        ≡ octet_product tower_unit (octet_product (octet x.now i j) (octet x.now i j)) }
 {
     let x0 = Simd::from_array(x.p0);
     let x1 = Simd::from_array(x.p1);
@@ -118,7 +120,8 @@ pub(crate) fn scaled_square<const N: usize>(x: &Subfield<N>) -> Subfield<N>
 /// The xor of each two octets.
 #[inline(always)]
 pub(crate) fn add<const N: usize>(x: &Subfield<N>, y: &Subfield<N>) -> Subfield<N>
-    ensures { (i j : ℕ) → i < N → j < 16 → octet result i j ≡ bit_xor (octet x.now i j) (octet y.now i j) }
+    ensures { (i j : ℕ) → i < N → j < 16
+        → octet result i j ≡ bit_xor (octet x.now i j) (octet y.now i j) }
 {
     Subfield {
         p0: (Simd::from_array(x.p0) ^ Simd::from_array(y.p0)).to_array(),

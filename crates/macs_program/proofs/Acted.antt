@@ -1,5 +1,6 @@
 -- What the words of a run come to: help, a refusal, or the doing of an action.
-use Rattle.std.proofs.Common.{◌≡◌, ◌≢◌, ◌↔◌, inl, inr, ℕ, List, Bool, true, Option, Some, None, Result, Ok, Err, refl, subst, sym}
+use Rattle.std.proofs.Common.{◌≡◌, ◌≢◌, ◌↔◌, inl, inr, ℕ, List, Bool, true, Option, Some, None, Result, Ok, Err, refl}
+use Rattle.std.proofs.Common.{subst, sym}
 use Rattle.std.specs.Io.KnownBytes.{Appends}
 use Rattle.std.proofs.lemmas.Result.{IfErr-weaker, IfOk-weaker}
 use Rattle.clap.specs.Words.{Text, subcommand_of, takes}
@@ -29,10 +30,12 @@ no-output (words.Usage cause) is = cc
 no-output words.Memory is = cc
 
 -- where the words ask for nothing that is known, they ask for nothing
-pub asks_nothing : (told : List Text) (asked : Option Topic) → asked ≡ None → ((topic : Topic) → (asked ≡ Some topic) ↔ AsksFor told topic) → AsksForNothing told
+pub asks_nothing : (told : List Text) (asked : Option Topic) → asked ≡ None
+    → ((topic : Topic) → (asked ≡ Some topic) ↔ AsksFor told topic) → AsksForNothing told
 asks_nothing told asked none exactly = λ topic asks. let e = (exactly topic).1 asks in cc
 
-module _ {F R W : Type 0} (state_of : F → FileState) (remaining : R → Option (List ℕ)) (read_failed : R → Bool) (contents : W → Option (List ℕ)) (failed : W → Bool) (told : List Text)
+module _ {F R W : Type 0} (state_of : F → FileState) (remaining : R → Option (List ℕ)) (read_failed : R → Bool)
+    (contents : W → Option (List ℕ)) (failed : W → Bool) (told : List Text)
     (input : R) (old : W) where
   -- help is printed
   pub helps : (topic : Topic) (new : W) → AsksFor told topic → Appends (contents old) (contents new) (topic_text topic)
@@ -68,10 +71,12 @@ module _ {F R W : Type 0} (state_of : F → FileState) (remaining : R → Option
       → result ≡ Err failure → failure ≡ Output → failed new ≡ true
       → Acts state_of remaining read_failed contents failed told input old result input new
   help-fails topic failure result new asked is same broken =
-      subst (λ (r : Result Status Failure). Acts state_of remaining read_failed contents failed told input old r input new)
+      subst (λ (r : Result Status Failure).
+      Acts state_of remaining read_failed contents failed told input old r input new)
       (sym (subst (λ (f : Failure). result ≡ Err f) same is)) (unhelped topic new asked broken)
 
-  refused : (fault : UsageFault) → (failure_status (failure_of_words fault) ≡ ends.Usage → AreRefused told) → AsksForNothing told
+  refused : (fault : UsageFault) → (failure_status (failure_of_words fault) ≡ ends.Usage → AreRefused told)
+      → AsksForNothing told
       → Acts state_of remaining read_failed contents failed told input old (Err (failure_of_words fault)) input old
   refused fault wrong nothing = record {
     replied = tt;
@@ -86,26 +91,32 @@ module _ {F R W : Type 0} (state_of : F → FileState) (remaining : R → Option
   }
 
   -- the words are refused
-  pub refuses : (fault : UsageFault) (failure : Failure) (result : Result Status Failure) → result ≡ Err failure → failure ≡ failure_of_words fault
+  pub refuses : (fault : UsageFault) (failure : Failure) (result : Result Status Failure) → result ≡ Err failure
+      → failure ≡ failure_of_words fault
       → (failure_status (failure_of_words fault) ≡ ends.Usage → AreRefused told) → AsksForNothing told
       → Acts state_of remaining read_failed contents failed told input old result input old
   refuses fault failure result is same wrong nothing =
-      subst (λ (r : Result Status Failure). Acts state_of remaining read_failed contents failed told input old r input old)
+      subst (λ (r : Result Status Failure).
+      Acts state_of remaining read_failed contents failed told input old r input old)
       (sym (subst (λ (f : Failure). result ≡ Err f) same is)) (refused fault wrong nothing)
 
   -- the action that they name is performed
   pub obeys : (action : Action) (result : Result Status Failure) (left : R) (new : W) → takes macsecd told ≡ true
       → Names (subcommand_of macsecd told) action → AsksForNothing told
-      → Performs state_of contents failed action (read_of remaining read_failed input left) old result new → (action ≢ Open → left ≡ input)
+      → Performs state_of contents failed action (read_of remaining read_failed input left) old result new
+      → (action ≢ Open → left ≡ input)
       → Acts state_of remaining read_failed contents failed told input old result left new
   obeys action result left new known names nothing performs unread = record {
     replied = IfOk-weaker result _ _ (λ status done. inr (known, action, names, done)) performs.does;
     status = performs.status;
-    usage = IfErr-weaker result _ _ (λ failure wrong usage. (inr (action, names, (wrong usage).0), (wrong usage).1)) performs.usage;
+    usage = IfErr-weaker result _ _ (λ failure wrong usage. (inr (action, names, (wrong usage).0), (wrong usage).1))
+        performs.usage;
     help = IfErr-weaker result _ _ (λ failure wrong usage. nothing) performs.usage;
-    disk = IfErr-weaker result _ _ (λ failure other disk. (known, action, names, (other disk).0, (other disk).1)) performs.disk;
+    disk = IfErr-weaker result _ _ (λ failure other disk. (known, action, names, (other disk).0, (other disk).1))
+        performs.disk;
     before = IfErr-weaker result _ _ (λ failure printed other. inr (action, names, printed other)) performs.before;
     fails = IfErr-weaker result _ _ (λ failure fails. inr (inr (action, names, fails))) performs.fails;
     broken = performs.broken;
-    unread = λ wrong. unread (λ is. wrong (known, subst (λ (a : Action). Names (subcommand_of macsecd told) a) is names));
+    unread =
+        λ wrong. unread (λ is. wrong (known, subst (λ (a : Action). Names (subcommand_of macsecd told) a) is names));
   }

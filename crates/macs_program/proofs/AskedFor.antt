@@ -1,11 +1,13 @@
 -- Captures that are asked for, one after another.
-use Rattle.std.proofs.Common.{◌≡◌, ◌⊎◌, ◌∙◌, ℕ, true, false, List, [], ◌∷◌, ap, append_assoc, subst, sym, Option, Some, None, Result, Ok, Err, inl, inr}
+use Rattle.std.proofs.Common.{◌≡◌, ◌⊎◌, ◌∙◌, ℕ, true, false, List, [], ◌∷◌, ap, append_assoc, subst, sym, Option, Some}
+use Rattle.std.proofs.Common.{None, Result, Ok, Err, inl, inr}
 use Rattle.macs_program.specs.CaptureFiles.{Asked, Asks, AsksInOrder, Makes, Opens}
 use Rattle.macs_program.specs.declared.failure.Failure.{Failure}
 use Rattle.macs_program.specs.declared.status.Status.{Status}
 
 -- one, and then another one
-pub asked-both : (before between after : Option (List Asked)) (first second : Asked) → Asks before between (first ∷ []) → Asks between after (second ∷ [])
+pub asked-both : (before between after : Option (List Asked)) (first second : Asked) → Asks before between (first ∷ [])
+    → Asks between after (second ∷ [])
     → Asks before after (first ∷ second ∷ [])
 asked-both None between after first second one two = tt
 asked-both (Some before) between after first second one two =
@@ -25,6 +27,7 @@ module _ (from to : List ℕ) (before after : Option (List Asked)) where
         ];
       })
 
-  pub both : (result : Result Status Failure) → Asks before after (Opens from true ∷ Makes to true ∷ []) → AsksInOrder from to before after result
+  pub both : (result : Result Status Failure) → Asks before after (Opens from true ∷ Makes to true ∷ [])
+      → AsksInOrder from to before after result
   both (Ok status) asked = record { order = asked; front = tt }
   both (Err failure) asked = record { order = tt; front = inr (inr asked) }

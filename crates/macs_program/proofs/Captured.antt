@@ -16,15 +16,20 @@ use Rattle.macs_program.specs.Capturing.{EndsFlushed, FailsToFlush, IsFlushed, P
 use Rattle.macs_program.specs.Judging.{JudgesCapture}
 use Rattle.macs_program.specs.declared.failure.Failure.{Failure}
 
-pub flushed-or-not : (before after : SinkState) (answer : Result (Unit {0}) WriteFailed) → Keeps before.held after.held → OnOk answer (after.flushed ≡ true)
-    → OnOk answer (after.failed ≡ before.failed) → OnErr answer (after.failed ≡ true) → IsFlushed before after ⊎ FailsToFlush before after
-flushed-or-not before after (Ok done) held flushed writes failed = inl (record { held = held; writes = writes; flushed = flushed })
+pub flushed-or-not : (before after : SinkState) (answer : Result (Unit {0}) WriteFailed) → Keeps before.held after.held
+    → OnOk answer (after.flushed ≡ true)
+    → OnOk answer (after.failed ≡ before.failed) → OnErr answer (after.failed ≡ true)
+    → IsFlushed before after ⊎ FailsToFlush before after
+flushed-or-not before after (Ok done) held flushed writes failed =
+    inl (record { held = held; writes = writes; flushed = flushed })
 flushed-or-not before after (Err fault) held flushed writes failed = inr (record { held = held; fails = failed })
 
-module _ {D : Type 0} (disk_of : D → Disk) (old : Run D) (endpoint : EndpointValue D) (source : SourceState) (before after : SinkState)
+module _ {D : Type 0} (disk_of : D → Disk) (old : Run D) (endpoint : EndpointValue D) (source : SourceState)
+    (before after : SinkState)
     (answer : Result Summary RunFault) where
   -- a run, and what it wrote handed on
-  pub captured : (side : Side) (result : Result Summary Failure) → RunsOver disk_of side old answer (run_of endpoint source before)
+  pub captured : (side : Side) (result : Result Summary Failure)
+      → RunsOver disk_of side old answer (run_of endpoint source before)
       → EndsFlushed answer result before after → PassesCapture disk_of side old result (run_of endpoint source after)
   captured side (Ok summary) runs (is, flushed) = (
     before,
@@ -36,10 +41,12 @@ module _ {D : Type 0} (disk_of : D → Disk) (old : Run D) (endpoint : EndpointV
   -- the same with its verdicts
   pub judged : (verdicts : List Verdict) (result : Result Summary Failure)
       → JudgesRun disk_of Common old answer verdicts (run_of endpoint source before)
-      → EndsFlushed answer result before after → JudgesCapture disk_of old result verdicts (run_of endpoint source after)
+      → EndsFlushed answer result before after
+      → JudgesCapture disk_of old result verdicts (run_of endpoint source after)
   judged verdicts (Ok summary) runs (is, flushed) = (
     before,
-    subst (λ (a : Result Summary RunFault). JudgesRun disk_of Common old a verdicts (run_of endpoint source before)) is runs,
+    subst (λ (a : Result Summary RunFault).
+        JudgesRun disk_of Common old a verdicts (run_of endpoint source before)) is runs,
     flushed,
   )
   judged verdicts (Err failure) runs ends = (before, answer, runs, ends)

@@ -22,7 +22,8 @@ code-disk ends.Disk is = refl
 code-disk ends.Fault is = cc
 
 -- a run that is done or refused ends with 0 or 3
-pub not-failed : {P : Type 0} (status : Status) (code : ℕ) → (status ≡ ends.Done) ⊎ (status ≡ ends.Refused) → code ≡ code_of status → code ≢ 0 → code ≢ 3 → P
+pub not-failed : {P : Type 0} (status : Status) (code : ℕ) → (status ≡ ends.Done) ⊎ (status ≡ ends.Refused)
+    → code ≡ code_of status → code ≢ 0 → code ≢ 3 → P
 not-failed status code (inl done) is zero three = absurd (zero (is ∙ ap code_of done))
 not-failed status code (inr refused) is zero three = absurd (three (is ∙ ap code_of refused))
 
@@ -42,6 +43,7 @@ unsuccessful (failures.Input fault) = ((λ e. cc), (λ e. cc))
 unsuccessful failures.Output = ((λ e. cc), (λ e. cc))
 
 -- a run that fails ends with neither
-pub no-success : {P : Type 0} (failure : Failure) (code : ℕ) → code ≡ code_of (failure_status failure) → (code ≡ 0) ⊎ (code ≡ 3) → P
+pub no-success : {P : Type 0} (failure : Failure) (code : ℕ) → code ≡ code_of (failure_status failure)
+    → (code ≡ 0) ⊎ (code ≡ 3) → P
 no-success failure code is (inl zero) = absurd ((unsuccessful failure).0 (sym is ∙ zero))
 no-success failure code is (inr three) = absurd ((unsuccessful failure).1 (sym is ∙ three))

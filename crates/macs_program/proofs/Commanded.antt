@@ -1,11 +1,13 @@
 -- A command file that was read.
-use Rattle.std.proofs.Common.{◌≡◌, ℕ, ◌++◌, List, [], length, take, Option, Some, None, IfSome, option_map, length-take, ap, subst, ◌∙◌, arith}
+use Rattle.std.proofs.Common.{◌≡◌, ℕ, ◌++◌, List, [], length, take, Option, Some, None, IfSome, option_map, length-take}
+use Rattle.std.proofs.Common.{ap, subst, ◌∙◌, arith}
 use Rattle.std.proofs.lemmas.List.{take_all}
 use Rattle.macs_config.specs.declared.command.Command.{Command}
 use Rattle.macs_program.specs.Applying.{SaysCommands}
 
 -- a file that says commands was read whole
-says-whole : (input octets : List ℕ) (commands : List Command) → input ≡ take 1048577 octets → SaysCommands input commands → SaysCommands octets commands
+says-whole : (input octets : List ℕ) (commands : List Command) → input ≡ take 1048577 octets
+    → SaysCommands input commands → SaysCommands octets commands
 says-whole input octets commands read says =
     let short = says.short in
     let count = length-take 1048577 octets in

@@ -56,7 +56,8 @@ use Rattle.macs_program.specs.declared.open_input.InputFault.TheVariants as faul
 use Rattle.macs_program.specs.declared.open_input.OpenInput.{OpenInput}
 use Rattle.macs_program.proofs.TextLines.{lines-ended, lines-last, lines-nil, trimmed-other, trimmed-return}
 use Rattle.macs_words.specs.declared.action.Action.{Action}
-use Rattle.macs_words.specs.declared.action.Action.TheVariants.{About, Apply, Check, Examine, Format, Key, Open, Protect, Relay, Show, Validate}
+use Rattle.macs_words.specs.declared.action.Action.TheVariants.{About, Apply, Check, Examine, Format, Key, Open}
+use Rattle.macs_words.specs.declared.action.Action.TheVariants.{Protect, Relay, Show, Validate}
 
 -- ---- one answer
 
@@ -407,9 +408,11 @@ no_input input failure (inr (inl (at, is, first))) named =
     inr (not_lines input.octets (subst (λ (f : InputFault). IfSome input.octets
     (λ all. IsFirst (InputFaultHolds (take 20001 all)) input_faults f))
     (input_of at fault.Input failure is named) first))
-no_input input failure (inr (inr (inl memory))) named = absurd (let both : failures.Memory ≡ failures.Input fault.Input =
+no_input input failure (inr (inr (inl memory))) named =
+    absurd (let both : failures.Memory ≡ failures.Input fault.Input =
     sym memory ∙ named in cc)
-no_input input failure (inr (inr (inr output))) named = absurd (let both : failures.Output ≡ failures.Input fault.Input =
+no_input input failure (inr (inr (inr output))) named =
+    absurd (let both : failures.Output ≡ failures.Input fault.Input =
     sym output ∙ named in cc)
 
 pub line-words : LineWords

@@ -1,5 +1,6 @@
 -- The lines of verdicts, one after another.
-use Rattle.std.proofs.Common.{◌≡◌, ◌≢◌, ◌≤◌, ◌<◌, ◌⊎◌, ◌∙◌, ◌+◌, ◌++◌, ◌^◌, ℕ, Bool, true, false, List, [], ◌∷◌, length, codes}
+use Rattle.std.proofs.Common.{◌≡◌, ◌≢◌, ◌≤◌, ◌<◌, ◌⊎◌, ◌∙◌, ◌+◌, ◌++◌, ◌^◌, ℕ, Bool, true, false, List, [], ◌∷◌, length}
+use Rattle.std.proofs.Common.{codes}
 use Rattle.std.proofs.Common.{Option, Result, Ok, Err, IfErr, IfOk, inl, inr, ap, arith, append_assoc, refl, subst, sym}
 use Rattle.std.proofs.KnownBytes.{Appends-nil, Appends-trans}
 use Rattle.std.specs.Io.KnownBytes.{Appends}
@@ -15,7 +16,8 @@ use Rattle.macs_rxsc.specs.declared.verdict.Reason.TheVariants as reason
 use Rattle.macs_rxsc.specs.declared.verdict.Verdict.{Verdict}
 use Rattle.macs_rxsc.specs.declared.verdict.Verdict.TheVariants.{Delivered, Discarded, HeldBack}
 use Rattle.macs_texts.specs.Counting.{verdict_words}
-use Rattle.macs_program.specs.Judging.{IsOfRun, JudgesCapture, PrintsEach, StopsEach, TellsLine, ValidatesEach, verdict_line}
+use Rattle.macs_program.specs.Judging.{IsOfRun, JudgesCapture, PrintsEach, StopsEach, TellsLine, ValidatesEach}
+use Rattle.macs_program.specs.Judging.{verdict_line}
 use Rattle.macs_program.specs.Judging.{verdict_lines}
 use Rattle.macs_program.specs.Summing.{pass_status, summary_line}
 use Rattle.macs_edge.specs.declared.settling.Side.TheVariants.{Common}
@@ -55,10 +57,12 @@ next count at new is few counts = omega (arith, is, few, counts)
 
 module _ {W : Type 0} (contents : W → Option (List ℕ)) (failed : W → Bool) where
   -- once a line could not be printed none is
-  stays-failed : (verdicts : List Verdict) (old new : Telling VerdictLines W) → TellsAll (TellsLine contents failed) old verdicts new
+  stays-failed : (verdicts : List Verdict) (old new : Telling VerdictLines W)
+      → TellsAll (TellsLine contents failed) old verdicts new
       → old.teller.has_failed ≡ true → failed old.to ≡ true → (new.teller.has_failed ≡ true) × (failed new.to ≡ true)
   stays-failed [] old new same is broken =
-      subst (λ (t : Telling VerdictLines W). (t.teller.has_failed ≡ true) × (failed t.to ≡ true)) (sym same) (is, broken)
+      subst (λ (t : Telling VerdictLines W). (t.teller.has_failed ≡ true) × (failed t.to ≡ true)) (sym same)
+      (is, broken)
   stays-failed (verdict ∷ more) old new (between, inl (was, same, kept), later) is broken =
       stays-failed more between new later (ap (λ (l : VerdictLines). l.has_failed) same ∙ is) (ap failed kept ∙ broken)
   stays-failed (verdict ∷ more) old new (between, inr (inl (was, still, count, printed)), later) is broken =
@@ -70,18 +74,21 @@ module _ {W : Type 0} (contents : W → Option (List ℕ)) (failed : W → Bool)
   lines-told : (verdicts : List Verdict) (at : ℕ) (old new : Telling VerdictLines W)
       → TellsAll (TellsLine contents failed) old verdicts new → old.teller.has_failed ≡ false → old.teller.count ≡ at
       → at + length verdicts < 2 ^ 64
-      → ((new.teller.has_failed ≡ false) × Appends (contents old.to) (contents new.to) (verdict_lines (at + 1) verdicts))
+      → ((new.teller.has_failed ≡ false)
+      × Appends (contents old.to) (contents new.to) (verdict_lines (at + 1) verdicts))
       ⊎ ((new.teller.has_failed ≡ true) × (failed new.to ≡ true))
   lines-told [] at old new same none is few = inl (
     subst (λ (t : Telling VerdictLines W). t.teller.has_failed ≡ false) (sym same) none,
-    subst (λ (t : Telling VerdictLines W). Appends (contents old.to) (contents t.to) []) (sym same) (Appends-nil (contents old.to)),
+    subst (λ (t : Telling VerdictLines W). Appends (contents old.to) (contents t.to) []) (sym same)
+        (Appends-nil (contents old.to)),
   )
   lines-told (verdict ∷ more) at old new (between, inl (was, same, kept), later) none is few =
       absurd (let wrong : true ≡ false = sym was ∙ none in cc)
   lines-told (verdict ∷ more) at old new (between, inr (inr (fails, broken)), later) none is few =
       inr (stays-failed more between new later fails broken)
   lines-told (verdict ∷ more) at old new (between, inr (inl (was, still, count, printed)), later) none is few =
-      let number : between.teller.count ≡ at + 1 = next old.teller.count at between.teller.count is (omega (arith, few)) count in
+      let number : between.teller.count ≡ at + 1 =
+      next old.teller.count at between.teller.count is (omega (arith, few)) count in
       let here : Appends (contents old.to) (contents between.to) (verdict_line (at + 1) verdict) =
       subst (λ (n : ℕ). Appends (contents old.to) (contents between.to) (verdict_line n verdict)) number printed in
       elim (lines-told more (at + 1) between new later still number (omega (arith, few))) [
@@ -129,7 +136,8 @@ module _ {W : Type 0} (contents : W → Option (List ℕ)) (failed : W → Bool)
     ]
 
     -- each was
-    pub each-printed : (result : Result Summary Failure) → IsJudged result → IfErr result IsOfRun → lines.has_failed ≡ false
+    pub each-printed : (result : Result Summary Failure) → IsJudged result → IfErr result IsOfRun
+        → lines.has_failed ≡ false
         → PrintsEach disk_of contents failed old before result new after
     each-printed (Ok summary) (verdicts, judges, telling) run is = elim (told (Ok summary) verdicts judges telling) [
       | inl (fine, printed) ↦ (verdicts, judges, printed)
@@ -142,7 +150,8 @@ module _ {W : Type 0} (contents : W → Option (List ℕ)) (failed : W → Bool)
 
   module _ {D : Type 0} (disk_of : D → Disk) (is_all : Bool) (old new : Run D) (before : W) where
     -- a run that fails, with its line
-    pub each-stopped : (after : W) (fault failure : Failure) (result : Result Status Failure) → result ≡ Err failure → failure ≡ fault
+    pub each-stopped : (after : W) (fault failure : Failure) (result : Result Status Failure) → result ≡ Err failure
+        → failure ≡ fault
         → StopsEach disk_of contents failed old before fault new after
         → ValidatesEach disk_of contents failed is_all old before result new after
     each-stopped after fault failure result is same stops =
@@ -153,7 +162,8 @@ module _ {W : Type 0} (contents : W → Option (List ℕ)) (failed : W → Bool)
     pub each-unsummed : (between after : W) (summary : Summary) (fault : Failure) → fault ≡ Output → failed after ≡ true
         → PrintsEach disk_of contents failed old before (Ok summary) new between
         → StopsEach disk_of contents failed old before fault new after
-    each-unsummed between after summary fault is broken (verdicts, judges, printed) = inr (is, broken, Ok summary, verdicts, judges)
+    each-unsummed between after summary fault is broken (verdicts, judges, printed) =
+        inr (is, broken, Ok summary, verdicts, judges)
 
     -- it is
     pub each-summed : (between after : W) (summary : Summary) (status : Status) (told said : List ℕ) → told ≡ said

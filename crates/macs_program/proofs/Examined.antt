@@ -1,5 +1,6 @@
 -- What is said of the disk in a file, and how that fails.
-use Rattle.std.proofs.Common.{◌≡◌, ◌≢◌, ◌≤◌, ◌⊎◌, ◌∙◌, ◌/◌, ◌%◌, inl, inr, ℕ, List, length, Result, Ok, Err, ap, refl, subst, sym}
+use Rattle.std.proofs.Common.{◌≡◌, ◌≢◌, ◌≤◌, ◌⊎◌, ◌∙◌, ◌/◌, ◌%◌, inl, inr, ℕ, List, length, Result, Ok, Err, ap, refl}
+use Rattle.std.proofs.Common.{subst, sym}
 use Rattle.std.specs.Prelude.{IsErrOf}
 use Rattle.std.specs.declared.alloc.Global.{Global}
 use Rattle.macs_config.specs.Config.{this_edition}
@@ -23,7 +24,8 @@ use Rattle.macs_store.specs.Found.{IsUnfitTo, StandingIs}
 use Rattle.macs_store.specs.Replay.{meaning_of}
 use Rattle.macs_store.specs.Standing.{Standing}
 use Rattle.macs_program.specs.Copying.{CopyFails, IsCopy}
-use Rattle.macs_program.specs.Examining.{ExaminationFails, ExamineFails, IsJournalOf, IsLaidCopy, IsNotExamined, IsNotOpened, Says, figures_of}
+use Rattle.macs_program.specs.Examining.{ExaminationFails, ExamineFails, IsJournalOf, IsLaidCopy, IsNotExamined}
+use Rattle.macs_program.specs.Examining.{IsNotOpened, Says, figures_of}
 use Rattle.macs_program.specs.Failing.{failure_status}
 use Rattle.macs_program.specs.Trying.{failure_in_memory}
 use Rattle.macs_program.specs.declared.failure.DiskFault.TheVariants as disk
@@ -42,19 +44,22 @@ pub figures-read : (format : Format) (area generation used : ℕ) (c : Content) 
 figures-read format area generation used c one two three four = rw (one, two, three, four) refl
 
 -- what is found stands for what a store has, which was opened on a disk that reads the same
-pub found-stands : (image left : Image) (sectors : ℕ) (content : Content) (standing : Standing) → left ≡ image → HasJournal image content
+pub found-stands : (image left : Image) (sectors : ℕ) (content : Content) (standing : Standing) → left ≡ image
+    → HasJournal image content
     → StandingIs this_edition sectors left (Ok standing) → IsJournalOf image content standing
 found-stands image left sectors content standing same found (large, stands) =
     let here = subst (λ (i : Image). HasJournal i stands.content) same stands.found in
     record {
       found = found;
-      stands = ap (λ (c : Content). meaning_of this_edition c) (one_content image content stands.content found here) ∙ stands.stands;
+      stands = ap (λ (c : Content). meaning_of this_edition c) (one_content image content stands.content found here)
+          ∙ stands.stands;
     }
 
 -- ---- refusals
 
 -- a refusal, as a failure
-pub refused-so : (copy : Disk) (fault : JournalFault) (failure : Failure) → failure ≡ failure_in_memory (disk.Journal fault)
+pub refused-so : (copy : Disk) (fault : JournalFault) (failure : Failure)
+    → failure ≡ failure_in_memory (disk.Journal fault)
     → (fault ≢ journal.Disk → IsUnfitTo this_edition copy.sectors (now copy).seen fault) → IsNotOpened copy failure
 refused-so copy journal.Stopped failure is known = inr (journal.Stopped, is, known (λ e. cc))
 refused-so copy journal.TooSmall failure is known = inr (journal.TooSmall, is, known (λ e. cc))
@@ -65,7 +70,8 @@ refused-so copy journal.BadJournal failure is known = inr (journal.BadJournal, i
 refused-so copy journal.GenerationsSpent failure is known = inr (journal.GenerationsSpent, is, known (λ e. cc))
 
 -- a journal was found, and no endpoint is opened on a disk that reads the same
-pub not-told : (copy left : Disk) (failure : Failure) (content : Content) → HasJournal (now copy).seen content → (now left).seen ≡ (now copy).seen
+pub not-told : (copy left : Disk) (failure : Failure) (content : Content) → HasJournal (now copy).seen content
+    → (now left).seen ≡ (now copy).seen
     → left.sectors ≡ copy.sectors → IsNotOpened left failure → IsNotExamined copy failure
 not-told copy left failure content found seen sectors (inl memory) = inl memory
 not-told copy left failure content found seen sectors (inr (fault, is, known)) = inr (
@@ -77,26 +83,31 @@ not-told copy left failure content found seen sectors (inr (fault, is, known)) =
 )
 
 -- no journal was found, and none that is bad
-pub not-found : (copy : Disk) (fault : JournalFault) (failure : Failure) → failure ≡ failure_in_memory (disk.Journal fault)
-    → fault ≢ journal.BadJournal → (fault ≢ journal.Disk → JournalIs copy.sectors (now copy).seen (Err fault)) → IsNotExamined copy failure
+pub not-found : (copy : Disk) (fault : JournalFault) (failure : Failure)
+    → failure ≡ failure_in_memory (disk.Journal fault)
+    → fault ≢ journal.BadJournal → (fault ≢ journal.Disk → JournalIs copy.sectors (now copy).seen (Err fault))
+    → IsNotExamined copy failure
 not-found copy journal.Stopped failure is other known = absurd (known (λ e. cc))
 not-found copy journal.TooSmall failure is other known = inr (journal.TooSmall, is, known (λ e. cc), λ e bad. cc)
 not-found copy journal.Disk failure is other known = inl is
 not-found copy journal.AlreadyFormatted failure is other known = absurd (known (λ e. cc))
-not-found copy journal.NotFormatted failure is other known = inr (journal.NotFormatted, is, known (λ e. cc), λ e bad. cc)
+not-found copy journal.NotFormatted failure is other known =
+    inr (journal.NotFormatted, is, known (λ e. cc), λ e bad. cc)
 not-found copy journal.BadJournal failure is other known = absurd (other refl)
 not-found copy journal.GenerationsSpent failure is other known = absurd (known (λ e. cc))
 
 -- a bad one was found
 pub bad-found : (copy : Disk) (fault : JournalFault) → fault ≡ journal.BadJournal
-    → (fault ≢ journal.Disk → JournalIs copy.sectors (now copy).seen (Err fault)) → (least_sectors ≤ copy.sectors) × IsBadJournal (now copy).seen
+    → (fault ≢ journal.Disk → JournalIs copy.sectors (now copy).seen (Err fault))
+    → (least_sectors ≤ copy.sectors) × IsBadJournal (now copy).seen
 bad-found copy fault same known =
     let no : fault ≢ journal.Disk = λ e. (let clash : journal.BadJournal ≡ journal.Disk = sym same ∙ e in cc) in
     subst (λ (f : JournalFault). JournalIs copy.sectors (now copy).seen (Err f)) same (known no)
 
 -- its disk is given back as it reads
 pub left-bad : (copy left : Disk) (fault : JournalFault) → fault ≡ journal.BadJournal
-    → (fault ≢ journal.Disk → JournalIs copy.sectors (now copy).seen (Err fault)) → left.sectors ≡ copy.sectors → IsLeftBy fault (now copy) (now left)
+    → (fault ≢ journal.Disk → JournalIs copy.sectors (now copy).seen (Err fault)) → left.sectors ≡ copy.sectors
+    → IsLeftBy fault (now copy) (now left)
     → (least_sectors ≤ left.sectors) × ((now left).durable ≡ (now copy).seen)
 left-bad copy left fault same known sectors kept =
     let synced = subst (λ (f : JournalFault). IsLeftBy f (now copy) (now left)) same kept in (
@@ -111,36 +122,47 @@ of-copy file failure (inl (fault, is, length)) = of-file fault failure is
 of-copy file failure (inr (is, few)) = inr (disk.Journal journal.TooSmall, is)
 
 -- want of memory, or a fault of the disk
-pub of-examination : {F : Type 0} (state_of : F → FileState) (failure : Failure) → ExaminationFails state_of failure → IsOfDisk failure
+pub of-examination : {F : Type 0} (state_of : F → FileState) (failure : Failure) → ExaminationFails state_of failure
+    → IsOfDisk failure
 of-examination state_of failure (inl (fault, is)) = of-file fault failure is
 of-examination state_of failure (inr (inl (file, fails))) = of-copy (state_of file) failure fails
 of-examination state_of failure (inr (inr (file, copy, layout, is_copy, inl memory))) = inl memory
-of-examination state_of failure (inr (inr (file, copy, layout, is_copy, inr (fault, is, known, none)))) = inr (disk.Journal fault, is)
+of-examination state_of failure (inr (inr (file, copy, layout, is_copy, inr (fault, is, known, none)))) =
+    inr (disk.Journal fault, is)
 
-pub examining-no-usage : {F : Type 0} (state_of : F → FileState) (failure : Failure) → ExamineFails state_of failure → failure_status failure ≢ Usage
+pub examining-no-usage : {F : Type 0} (state_of : F → FileState) (failure : Failure) → ExamineFails state_of failure
+    → failure_status failure ≢ Usage
 examining-no-usage state_of failure (inl output) = λ e. let f = sym e ∙ ap failure_status output in cc
 examining-no-usage state_of failure (inr fails) = disk-no-usage failure (of-examination state_of failure fails)
 
 -- ---- what is said
 
-pub said-status : (image : Image) (layout : Layout) (text : List ℕ) (status : Status) → Says image layout text status → (status ≡ Done) ⊎ (status ≡ Refused)
+pub said-status : (image : Image) (layout : Layout) (text : List ℕ) (status : Status) → Says image layout text status
+    → (status ≡ Done) ⊎ (status ≡ Refused)
 said-status image layout text status (inl (content, standing, journal, is, done)) = inl done
 said-status image layout text status (inr (at, fault, is, refused)) = inr refused
 
 -- ---- the file
 
 -- a copy was made, and then the layout was found
-pub laid-copy : (old new : FileState) (copy : MemDisk Global) (layout : Layout) → (Behaves old → new ≡ old) → (Behaves old → old.size % 512 ≡ 0)
-    → (Behaves old → least_sectors ≤ old.size / 512) → (Behaves old → IsSure old → IsCopy old (disk_of copy)) → (Behaves new → IsSure new → layout ≡ layout_in new) → IsLaidCopy old copy layout
+pub laid-copy : (old new : FileState) (copy : MemDisk Global) (layout : Layout) → (Behaves old → new ≡ old)
+    → (Behaves old → old.size % 512 ≡ 0)
+    → (Behaves old → least_sectors ≤ old.size / 512) → (Behaves old → IsSure old → IsCopy old (disk_of copy))
+    → (Behaves new → IsSure new → layout ≡ layout_in new) → IsLaidCopy old copy layout
 laid-copy old new copy layout same whole enough copied found = λ behaves. (
   whole behaves,
   enough behaves,
-  λ sure. (copied behaves sure, carried (λ (f : FileState). layout ≡ layout_in f) old new (same behaves) behaves sure found),
+  λ sure. (
+    copied behaves sure,
+    carried (λ (f : FileState). layout ≡ layout_in f) old new (same behaves) behaves sure found,
+  ),
 )
 
 -- a layout that is not found for the length of the file is not found for its length before
-pub no-layout : {T : Type 0} (old new : FileState) (result : Result T FileFault) (fault : FileFault) → result ≡ Err fault → (Behaves old → new ≡ old)
-    → (IsErrOf result file_faults.Length → Behaves new → new.size % 512 ≢ 0) → fault ≡ file_faults.Length → Behaves old → old.size % 512 ≢ 0
+pub no-layout : {T : Type 0} (old new : FileState) (result : Result T FileFault) (fault : FileFault)
+    → result ≡ Err fault → (Behaves old → new ≡ old)
+    → (IsErrOf result file_faults.Length → Behaves new → new.size % 512 ≢ 0) → fault ≡ file_faults.Length
+    → Behaves old → old.size % 512 ≢ 0
 no-layout old new result fault is same known_length named behaves =
     let still = same behaves in
     let known = known_length (rw is (ap Err named)) (subst Behaves (sym still) behaves) in

@@ -28,7 +28,8 @@ fault-status (Device refill.GenerationsSpent) is = cc
 fault-status (Device refill.Disk) is = cc
 
 -- a run over a capture does not fail for its words
-pub run-status : (failure : Failure) → ((fault : RunFault) × (failure ≡ failure_of_run fault)) ⊎ (failure ≡ Capture) → failure_status failure ≢ Usage
+pub run-status : (failure : Failure) → ((fault : RunFault) × (failure ≡ failure_of_run fault)) ⊎ (failure ≡ Capture)
+    → failure_status failure ≢ Usage
 run-status failure (inl (fault, same)) is = fault-status fault (ap failure_status (sym same) ∙ is)
 run-status failure (inr same) is = let e = ap failure_status (sym same) ∙ is in cc
 
@@ -49,13 +50,17 @@ fault-no-output (Device refill.GenerationsSpent) is = cc
 fault-no-output (Device refill.Disk) is = cc
 
 -- nor for standard output
-pub run-no-output : (failure : Failure) → ((fault : RunFault) × (failure ≡ failure_of_run fault)) ⊎ (failure ≡ Capture) → failure ≢ Output
+pub run-no-output : (failure : Failure) → ((fault : RunFault) × (failure ≡ failure_of_run fault)) ⊎ (failure ≡ Capture)
+    → failure ≢ Output
 run-no-output failure (inl (fault, same)) is = fault-no-output fault (sym same ∙ is)
 run-no-output failure (inr same) is = let e = sym same ∙ is in cc
 
--- words that are wrong usage are not taken, or lack something, where those that are taken are refused for memory or for that alone
-pub not-taken : {A : Type 0} (result : Result A UsageFault) (fault : UsageFault) (taken : Bool) (Lacks : Type 0) → result ≡ Err fault
-    → (taken ≡ true → IfErr result (λ f. (f ≡ words.Memory) ⊎ Lacks)) → failure_status (failure_of_words fault) ≡ Usage → (taken ≢ true) ⊎ Lacks
+-- words that are wrong usage are not taken, or lack something, where those that are taken are refused for memory or for
+-- that alone
+pub not-taken : {A : Type 0} (result : Result A UsageFault) (fault : UsageFault) (taken : Bool) (Lacks : Type 0)
+    → result ≡ Err fault
+    → (taken ≡ true → IfErr result (λ f. (f ≡ words.Memory) ⊎ Lacks))
+    → failure_status (failure_of_words fault) ≡ Usage → (taken ≢ true) ⊎ Lacks
 not-taken result (words.Usage cause) false Lacks is only usage = inl (λ known. cc)
 not-taken {A} result (words.Usage cause) true Lacks is only usage =
     elim (subst (λ (r : Result A UsageFault). IfErr r (λ f. (f ≡ words.Memory) ⊎ Lacks)) is (only refl)) [

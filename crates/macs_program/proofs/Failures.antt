@@ -9,7 +9,8 @@ use Rattle.macs_program.specs.Failing.{failure_of_file, failure_status}
 use Rattle.macs_program.specs.declared.failure.DiskFault.{DiskFault}
 use Rattle.macs_program.specs.declared.failure.DiskFault.TheVariants as disk_faults
 use Rattle.macs_program.specs.declared.failure.Failure.{Failure}
-use Rattle.macs_program.specs.declared.failure.Failure.TheVariants.{Capture, Commands, Control, Disk, Memory, Output, Wire}
+use Rattle.macs_program.specs.declared.failure.Failure.TheVariants.{Capture, Commands, Control, Disk, Memory, Output}
+use Rattle.macs_program.specs.declared.failure.Failure.TheVariants.{Wire}
 use Rattle.macs_program.specs.declared.status.Status.TheVariants.{Usage}
 
 -- ---- want of memory, or one other failure

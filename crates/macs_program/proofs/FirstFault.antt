@@ -8,14 +8,16 @@ use Rattle.macs_program.specs.declared.values.ValueFault.{ValueFault}
 use Rattle.macs_program.specs.declared.values.ValueFault.TheVariants as value
 
 -- where nothing is the first that holds, none holds
-pub nothing_first : {R : Type 0} (Holds : R → Type 0) (order : List R) → ((fault : R) → ¬ IsFirst Holds order fault) → NoneHolds Holds order
+pub nothing_first : {R : Type 0} (Holds : R → Type 0) (order : List R) → ((fault : R) → ¬ IsFirst Holds order fault)
+    → NoneHolds Holds order
 nothing_first Holds [] h = tt
 nothing_first Holds (r ∷ rs) h =
     let out : ¬ Holds r = λ held. h r (inl (held, refl)) in
     (out, nothing_first Holds rs (λ fault first. h fault (inr (out, first))))
 
 -- an error that is handed on in another result
-pub handed_on : {R S T : Type 0} (Holds : R → Type 0) (order : List R) (before : Result S R) (after : Result T R) (error : R)
+pub handed_on : {R S T : Type 0} (Holds : R → Type 0) (order : List R) (before : Result S R)
+    (after : Result T R) (error : R)
     → before ≡ Err error → after ≡ Err error → ((fault : R) → (before ≡ Err fault) ↔ IsFirst Holds order fault)
     → (fault : R) → (after ≡ Err fault) ↔ IsFirst Holds order fault
 handed_on Holds order before after error was is exactly fault = (
@@ -24,13 +26,15 @@ handed_on Holds order before after error was is exactly fault = (
 )
 
 -- the first that holds does hold
-pub first-holds : {R : Type 0} (Holds : R → Type 0) (order : List R) (fault : R) → IsFirst Holds order fault → Holds fault
+pub first-holds : {R : Type 0} (Holds : R → Type 0) (order : List R) (fault : R) → IsFirst Holds order fault
+    → Holds fault
 first-holds Holds [] fault first = absurd first
 first-holds Holds (r ∷ rs) fault (inl (held, same)) = subst Holds (sym same) held
 first-holds Holds (r ∷ rs) fault (inr (out, later)) = first-holds Holds rs fault later
 
 -- what is taken has none of the faults of a value
-pub value-taken : (sci : List ℕ) (tx_block rx_block : ℕ) (block : Option (List ℕ)) (identity : Identity) (layout : Layout)
+pub value-taken : (sci : List ℕ) (tx_block rx_block : ℕ) (block : Option (List ℕ)) (identity : Identity)
+    (layout : Layout)
     → SpellsIdentity sci tx_block rx_block identity → SpellsLayout block layout → (fault : ValueFault)
     → ¬ ValueFaultHolds sci tx_block rx_block block fault
 value-taken sci tx_block rx_block block identity layout spelled lies value.Sci held = held identity.sci spelled.sci_is

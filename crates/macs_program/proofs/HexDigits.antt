@@ -1,5 +1,6 @@
 -- Two hex digits of an octet, as they are formatted and as `encode_lower` has them.
-use Rattle.std.proofs.Common.{◌≡◌, ℕ, zero, suc, ◌+◌, ◌-◌, ◌/◌, ◌%◌, ◌^◌, ◌<◌, ◌&&◌, Bool, true, false, List, [], ◌∷◌, ◌++◌, length, take, slice_index, refl, ap, arith, inl, inr}
+use Rattle.std.proofs.Common.{◌≡◌, ℕ, zero, suc, ◌+◌, ◌-◌, ◌/◌, ◌%◌, ◌^◌, ◌<◌, ◌&&◌, Bool, true, false, List, [], ◌∷◌}
+use Rattle.std.proofs.Common.{◌++◌, length, take, slice_index, refl, ap, arith, inl, inr}
 use Rattle.std.specs.Fmt.{char_count, digits, format_spec, padded_integral}
 use Rattle.std.specs.Str.{bytes_eq}
 use Rattle.std.proofs.lemmas.Bool.{and_parts, cases_lt}
@@ -38,17 +39,21 @@ same_below-at (suc n) octet h lt =
 
 -- an octet is formatted as its two digits
 pub formatted-octet : (octet : ℕ) → octet < 256 → formatted octet ≡ pair_of octet
-formatted-octet octet h = (bytes_eq-Decides (formatted octet) (pair_of octet)).0 (same_below-at 256 octet same_below-256 h)
+formatted-octet octet h =
+    (bytes_eq-Decides (formatted octet) (pair_of octet)).0 (same_below-at 256 octet same_below-256 h)
 
 -- the digits of one more octet
-pub encode_lower-push : (octets : List ℕ) (octet : ℕ) → encode_lower (octets ++ octet ∷ []) ≡ encode_lower octets ++ pair_of octet
+pub encode_lower-push : (octets : List ℕ) (octet : ℕ)
+    → encode_lower (octets ++ octet ∷ []) ≡ encode_lower octets ++ pair_of octet
 unfolding encode_with
 encode_lower-push [] octet = refl
 encode_lower-push (first ∷ rest) octet =
-    ap (λ (digits : List ℕ). slice_index lower_digits (first / 16) ∷ slice_index lower_digits (first % 16) ∷ digits) (encode_lower-push rest octet)
+    ap (λ (digits : List ℕ). slice_index lower_digits (first / 16) ∷ slice_index lower_digits (first % 16) ∷ digits)
+    (encode_lower-push rest octet)
 
 -- the digits of the octets up to the next one
 pub encode_lower-more : (octets : List ℕ) (i : ℕ) → i < length octets → slice_index octets i < 256
     → encode_lower (take (i + 1) octets) ≡ encode_lower (take i octets) ++ formatted (slice_index octets i)
 encode_lower-more octets i within small =
-    rw (take_more octets i 0 within, formatted-octet (slice_index octets i) small) (encode_lower-push (take i octets) (slice_index octets i))
+    rw (take_more octets i 0 within, formatted-octet (slice_index octets i) small)
+    (encode_lower-push (take i octets) (slice_index octets i))

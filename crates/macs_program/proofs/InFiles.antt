@@ -1,5 +1,6 @@
 -- What a subcommand does with an endpoint, from what its parts answer, and what comes of it on a disk in a file.
-use Rattle.std.proofs.Common.{◌≡◌, ◌≢◌, ◌⊎◌, ◌∙◌, inl, inr, Bool, true, List, [], ℕ, Option, Result, Ok, Err, IfErr, IfOk, ap, refl, sym, subst}
+use Rattle.std.proofs.Common.{◌≡◌, ◌≢◌, ◌⊎◌, ◌∙◌, inl, inr, Bool, true, List, [], ℕ, Option, Result, Ok, Err, IfErr}
+use Rattle.std.proofs.Common.{IfOk, ap, refl, sym, subst}
 use Rattle.std.proofs.KnownBytes.{Appends-nil}
 use Rattle.std.specs.Io.KnownBytes.{Appends}
 use Rattle.macs_config.specs.declared.command.Command.{Command}
@@ -16,10 +17,12 @@ use Rattle.macs_endpoint.specs.Opening.{IsOpening}
 use Rattle.macs_endpoint.specs.Value.{EndpointValue}
 use Rattle.macs_journal.specs.declared.recovery.RecoverRefused.{RecoverRefused}
 use Rattle.macs_pcap.specs.States.{SinkState, SourceState}
-use Rattle.macs_program.proofs.Failures.{MemoryOr, capture-no-output, capture-no-usage, commands-no-output, commands-no-usage, disk-no-output, disk-no-usage, of-opening, output-no-usage}
+use Rattle.macs_program.proofs.Failures.{MemoryOr, capture-no-output, capture-no-usage, commands-no-output}
+use Rattle.macs_program.proofs.Failures.{commands-no-usage, disk-no-output, disk-no-usage, of-opening, output-no-usage}
 use Rattle.macs_program.specs.Applying.{AppliesAll, AppliesSome, EndsRun, SaysCommands, outcome_lines}
 use Rattle.macs_program.specs.Capturing.{EndsPass, PassesCapture}
-use Rattle.macs_program.specs.Endpoints.{AppliesIn, BreaksOff, BreaksOffIn, IsDiskIn, IsOpeningIn, OpeningFails, PassEndsIn, PassesIn, ShowsIn, shown_text}
+use Rattle.macs_program.specs.Endpoints.{AppliesIn, BreaksOff, BreaksOffIn, IsDiskIn, IsOpeningIn, OpeningFails}
+use Rattle.macs_program.specs.Endpoints.{PassEndsIn, PassesIn, ShowsIn, shown_text}
 use Rattle.macs_program.specs.Failing.{failure_of_file, failure_of_journal, failure_status}
 use Rattle.macs_program.specs.Summing.{pass_status, summary_line}
 use Rattle.macs_program.specs.Tasks.{DoesApply, DoesPass, DoesShow, Doing, IsRunIn}
@@ -30,7 +33,8 @@ use Rattle.macs_program.specs.declared.status.Status.TheVariants as ends
 
 -- ---- opening
 
-pub opening-in : {F : Type 0} (file : F → FileState) (disk : FileDisk F) (opened : Result (EndpointValue (FileDisk F)) (RecoverRefused (FileDisk F)))
+pub opening-in : {F : Type 0} (file : F → FileState) (disk : FileDisk F)
+    (opened : Result (EndpointValue (FileDisk F)) (RecoverRefused (FileDisk F)))
     → IsDiskIn file disk → IsOpening (disk_in_file file) disk opened → IsOpeningIn file opened
 opening-in file disk opened there opening = record { disk = disk; is_disk = there; opening = opening }
 
@@ -41,8 +45,10 @@ module _ {F W : Type 0} (file : F → FileState) (done : Doing (FileDisk F) W) (
   no-disk fault failure result is same (cause, given) =
       inl (record { failure = failure; is = is; fails = inl (cause, same ∙ given); silent = refl })
 
-  pub refused-in : (refused : RecoverRefused (FileDisk F)) (opened : Result (EndpointValue (FileDisk F)) (RecoverRefused (FileDisk F))) (failure : Failure)
-      → opened ≡ Err refused → IsOpeningIn file opened → failure ≡ failure_of_journal refused.fault → IsRunIn file done before (Err failure) before
+  pub refused-in : (refused : RecoverRefused (FileDisk F))
+      (opened : Result (EndpointValue (FileDisk F)) (RecoverRefused (FileDisk F))) (failure : Failure)
+      → opened ≡ Err refused → IsOpeningIn file opened → failure ≡ failure_of_journal refused.fault
+      → IsRunIn file done before (Err failure) before
   refused-in refused opened failure is there same = inl (record {
     failure = failure;
     is = refl;
@@ -51,13 +57,15 @@ module _ {F W : Type 0} (file : F → FileState) (done : Doing (FileDisk F) W) (
       left = refused.disk;
       fault = refused.fault;
       is_disk = there.is_disk;
-      refuses = subst (λ (r : Result (EndpointValue (FileDisk F)) (RecoverRefused (FileDisk F))). IsOpening (disk_in_file file) there.disk r) is there.opening;
+      refuses = subst (λ (r : Result (EndpointValue (FileDisk F)) (RecoverRefused (FileDisk F))).
+          IsOpening (disk_in_file file) there.disk r) is there.opening;
       is = same;
     });
     silent = refl;
   })
 
-  pub done-in : (after : W) (old new : EndpointValue (FileDisk F)) (opened : Result (EndpointValue (FileDisk F)) (RecoverRefused (FileDisk F)))
+  pub done-in : (after : W) (old new : EndpointValue (FileDisk F))
+      (opened : Result (EndpointValue (FileDisk F)) (RecoverRefused (FileDisk F)))
       (result : Result Status Failure) → opened ≡ Ok old → IsOpeningIn file opened → done old before result new after
       → IsRunIn file done before result after
   done-in after old new opened result is there does = inr (record {
@@ -66,20 +74,23 @@ module _ {F W : Type 0} (file : F → FileState) (done : Doing (FileDisk F) W) (
     endpoint = record {
       disk = there.disk;
       is_disk = there.is_disk;
-      opens = subst (λ (r : Result (EndpointValue (FileDisk F)) (RecoverRefused (FileDisk F))). IsOpening (disk_in_file file) there.disk r) is there.opening;
+      opens = subst (λ (r : Result (EndpointValue (FileDisk F)) (RecoverRefused (FileDisk F))).
+          IsOpening (disk_in_file file) there.disk r) is there.opening;
     };
     does = does;
   })
 
 -- ---- commands
 
-module _ {D W : Type 0} (disk_of : D → Disk) (contents : W → Option (List ℕ)) (has_failed : W → Bool) (old : EndpointValue D) (before : W) where
+module _ {D W : Type 0} (disk_of : D → Disk) (contents : W → Option (List ℕ)) (has_failed : W → Bool)
+    (old : EndpointValue D) (before : W) where
   -- without a command file nothing is done
   pub none-applied : (fault failure : Failure) (result : Result Status Failure) → result ≡ Err failure → failure ≡ fault
       → (fault ≡ Memory) ⊎ (fault ≡ Commands) → DoesApply disk_of contents has_failed old before result old before
   none-applied fault failure result is same names =
       let named = subst (λ (f : Failure). MemoryOr Commands f) (sym same) names in
-      subst (λ (r : Result Status Failure). DoesApply disk_of contents has_failed old before r old before) (sym is) (record {
+      subst (λ (r : Result Status Failure). DoesApply disk_of contents has_failed old before r old before)
+      (sym is) (record {
         printed = tt;
         ended = inl (named, refl, refl);
         broken = λ output. absurd (commands-no-output failure named output);
@@ -112,12 +123,14 @@ module _ {D W : Type 0} (disk_of : D → Disk) (contents : W → Option (List �
     broken = broken;
   }
 
-ends-no-usage : {D : Type 0} (disk_of : D → Disk) (old : EndpointValue D) (command : Command) (failure : Failure) (new : EndpointValue D)
+ends-no-usage : {D : Type 0} (disk_of : D → Disk) (old : EndpointValue D) (command : Command) (failure : Failure)
+    (new : EndpointValue D)
     → EndsRun disk_of old command failure new → failure_status failure ≢ ends.Usage
 ends-no-usage disk_of old command failure new (inl ended) is = let e = ap failure_status (sym ended.3) ∙ is in cc
 ends-no-usage disk_of old command failure new (inr ended) is = let e = ap failure_status (sym ended.0) ∙ is in cc
 
-module _ {D : Type 0} (disk_of : D → Disk) (old : EndpointValue D) (known told : Option (List ℕ)) (failure : Failure) (new : EndpointValue D) where
+module _ {D : Type 0} (disk_of : D → Disk) (old : EndpointValue D) (known told : Option (List ℕ)) (failure : Failure)
+    (new : EndpointValue D) where
   broken-off-no-usage : BreaksOff disk_of old known told failure new → failure_status failure ≢ ends.Usage
   broken-off-no-usage (inl none) is = commands-no-usage failure none.0 is
   broken-off-no-usage (inr front) is =
@@ -125,30 +138,37 @@ module _ {D : Type 0} (disk_of : D → Disk) (old : EndpointValue D) (known told
 
   broken-off-lines : BreaksOff disk_of old known told failure new → failure ≢ Output
       → (outcomes : List (Option Refusal)) × Appends known told (outcome_lines 1 outcomes)
-  broken-off-lines (inl none) other = ([], subst (λ (k : Option (List ℕ)). Appends known k []) (sym none.2) (Appends-nil known))
+  broken-off-lines (inl none) other =
+      ([], subst (λ (k : Option (List ℕ)). Appends known k []) (sym none.2) (Appends-nil known))
   broken-off-lines (inr front) other = (front.applies.outcomes, front.applies.printed other)
 
 -- what `apply` comes to
-pub record AppliedIn {F W : Type 0} (file : F → FileState) (contents : W → Option (List ℕ)) (has_failed : W → Bool) (before : W)
+pub record AppliedIn {F W : Type 0} (file : F → FileState) (contents : W → Option (List ℕ)) (has_failed : W → Bool)
+    (before : W)
     (result : Result Status Failure) (after : W) : Type 0 where
   pub printed : IfOk result (λ status. AppliesIn file (contents before) (contents after) status)
-  pub ended : IfErr result (λ failure. OpeningFails file failure ⊎ BreaksOffIn file (contents before) (contents after) failure)
+  pub ended : IfErr result
+      (λ failure. OpeningFails file failure ⊎ BreaksOffIn file (contents before) (contents after) failure)
   pub failed : IfErr result (λ failure. failure_status failure ≢ ends.Usage)
   pub lines : IfErr result (λ failure. failure ≢ Output
       → (outcomes : List (Option Refusal)) × Appends (contents before) (contents after) (outcome_lines 1 outcomes))
   pub broken : IfErr result (λ failure. failure ≡ Output → has_failed after ≡ true)
 
-module _ {F W : Type 0} (file : F → FileState) (contents : W → Option (List ℕ)) (has_failed : W → Bool) (before after : W) where
-  none-applied-in : (failure : Failure) → OpeningFails file failure → after ≡ before → AppliedIn file contents has_failed before (Err failure) after
+module _ {F W : Type 0} (file : F → FileState) (contents : W → Option (List ℕ)) (has_failed : W → Bool)
+    (before after : W) where
+  none-applied-in : (failure : Failure) → OpeningFails file failure → after ≡ before
+      → AppliedIn file contents has_failed before (Err failure) after
   none-applied-in failure fails silent = record {
     printed = tt;
     ended = inl fails;
     failed = disk-no-usage failure (of-opening file failure fails);
-    lines = λ other. ([], subst (λ (w : W). Appends (contents before) (contents w) []) (sym silent) (Appends-nil (contents before)));
+    lines = λ other.
+        ([], subst (λ (w : W). Appends (contents before) (contents w) []) (sym silent) (Appends-nil (contents before)));
     broken = λ output. absurd (disk-no-output failure (of-opening file failure fails) output);
   }
 
-  pub applied-in : (result : Result Status Failure) → IsRunIn file (DoesApply (disk_in_file file) contents has_failed) before result after
+  pub applied-in : (result : Result Status Failure)
+      → IsRunIn file (DoesApply (disk_in_file file) contents has_failed) before result after
       → AppliedIn file contents has_failed before result after
   applied-in result (inl none) =
       subst (λ (r : Result Status Failure). AppliedIn file contents has_failed before r after) (sym none.is)
@@ -163,14 +183,17 @@ module _ {F W : Type 0} (file : F → FileState) (contents : W → Option (List 
   applied-in (Err failure) (inr run) = record {
     printed = tt;
     ended = inr (record { old = run.old; new = run.new; endpoint = run.endpoint; ends = run.does.ended });
-    failed = broken-off-no-usage (disk_in_file file) run.old (contents before) (contents after) failure run.new run.does.ended;
-    lines = broken-off-lines (disk_in_file file) run.old (contents before) (contents after) failure run.new run.does.ended;
+    failed = broken-off-no-usage (disk_in_file file) run.old (contents before) (contents after) failure run.new
+        run.does.ended;
+    lines =
+        broken-off-lines (disk_in_file file) run.old (contents before) (contents after) failure run.new run.does.ended;
     broken = run.does.broken;
   }
 
 -- ---- what is shown
 
-module _ {D W : Type 0} (contents : W → Option (List ℕ)) (has_failed : W → Bool) (old : EndpointValue D) (before : W) where
+module _ {D W : Type 0} (contents : W → Option (List ℕ)) (has_failed : W → Bool) (old : EndpointValue D)
+    (before : W) where
   pub no-text : (failure : Failure) (result : Result Status Failure) → result ≡ Err failure → failure ≡ Memory
       → DoesShow contents has_failed old before result old before
   no-text failure result is memory =
@@ -182,7 +205,8 @@ module _ {D W : Type 0} (contents : W → Option (List ℕ)) (has_failed : W →
         broken = λ output. absurd (let e = sym memory ∙ output in cc);
       })
 
-  pub not-shown : (after : W) (fault failure : Failure) (result : Result Status Failure) → result ≡ Err failure → failure ≡ fault → fault ≡ Output
+  pub not-shown : (after : W) (fault failure : Failure) (result : Result Status Failure) → result ≡ Err failure
+      → failure ≡ fault → fault ≡ Output
       → has_failed after ≡ true → DoesShow contents has_failed old before result old after
   not-shown after fault failure result is same output broken =
       subst (λ (r : Result Status Failure). DoesShow contents has_failed old before r old after) (sym is) (record {
@@ -193,7 +217,8 @@ module _ {D W : Type 0} (contents : W → Option (List ℕ)) (has_failed : W →
         broken = λ output. broken;
       })
 
-  pub text-shown : (after : W) (text told : List ℕ) → told ≡ text → text ≡ shown_text old → Appends (contents before) (contents after) told
+  pub text-shown : (after : W) (text told : List ℕ) → told ≡ text → text ≡ shown_text old
+      → Appends (contents before) (contents after) told
       → DoesShow contents has_failed old before (Ok ends.Done) old after
   text-shown after text told same is printed = record {
     same = refl;
@@ -204,7 +229,8 @@ module _ {D W : Type 0} (contents : W → Option (List ℕ)) (has_failed : W →
   }
 
 -- what `show` comes to
-pub record ShownIn {F W : Type 0} (file : F → FileState) (contents : W → Option (List ℕ)) (has_failed : W → Bool) (before : W)
+pub record ShownIn {F W : Type 0} (file : F → FileState) (contents : W → Option (List ℕ)) (has_failed : W → Bool)
+    (before : W)
     (result : Result Status Failure) (after : W) : Type 0 where
   pub printed : IfOk result (λ status. ShowsIn file (contents before) (contents after) × (status ≡ ends.Done))
   pub ended : IfErr result (λ failure. OpeningFails file failure ⊎ (failure ≡ Memory) ⊎ (failure ≡ Output))
@@ -212,8 +238,10 @@ pub record ShownIn {F W : Type 0} (file : F → FileState) (contents : W → Opt
   pub silent : IfErr result (λ failure. failure ≢ Output → after ≡ before)
   pub broken : IfErr result (λ failure. failure ≡ Output → has_failed after ≡ true)
 
-module _ {F W : Type 0} (file : F → FileState) (contents : W → Option (List ℕ)) (has_failed : W → Bool) (before after : W) where
-  none-shown-in : (failure : Failure) → OpeningFails file failure → after ≡ before → ShownIn file contents has_failed before (Err failure) after
+module _ {F W : Type 0} (file : F → FileState) (contents : W → Option (List ℕ)) (has_failed : W → Bool)
+    (before after : W) where
+  none-shown-in : (failure : Failure) → OpeningFails file failure → after ≡ before
+      → ShownIn file contents has_failed before (Err failure) after
   none-shown-in failure fails silent = record {
     printed = tt;
     ended = inl fails;
@@ -244,14 +272,17 @@ module _ {F W : Type 0} (file : F → FileState) (contents : W → Option (List 
 
 -- ---- captures
 
-module _ {D W : Type 0} (disk_of : D → Disk) (contents : W → Option (List ℕ)) (has_failed : W → Bool) (side : Side) (is_all : Bool) (old : EndpointValue D)
+module _ {D W : Type 0} (disk_of : D → Disk) (contents : W → Option (List ℕ)) (has_failed : W → Bool) (side : Side)
+    (is_all : Bool) (old : EndpointValue D)
     (before : W) where
   -- without both captures nothing is done
   pub no-capture : (fault failure : Failure) (result : Result Status Failure) → result ≡ Err failure → failure ≡ fault
-      → (fault ≡ Memory) ⊎ (fault ≡ Capture) → DoesPass disk_of contents has_failed side is_all old before result old before
+      → (fault ≡ Memory) ⊎ (fault ≡ Capture)
+      → DoesPass disk_of contents has_failed side is_all old before result old before
   no-capture fault failure result is same names =
       let named = subst (λ (f : Failure). MemoryOr Capture f) (sym same) names in
-      subst (λ (r : Result Status Failure). DoesPass disk_of contents has_failed side is_all old before r old before) (sym is) (record {
+      subst (λ (r : Result Status Failure). DoesPass disk_of contents has_failed side is_all old before r old before)
+      (sym is) (record {
         printed = tt;
         ended = inl (named, refl);
         failed = capture-no-usage failure named;
@@ -259,37 +290,42 @@ module _ {D W : Type 0} (disk_of : D → Disk) (contents : W → Option (List �
         broken = λ output. absurd (capture-no-output failure named output);
       })
 
-  pub frames-passed : (new : EndpointValue D) (after : W) (source source_left : SourceState) (sink sink_left : SinkState) (result : Result Status Failure)
+  pub frames-passed : (new : EndpointValue D) (after : W) (source source_left : SourceState)
+      (sink sink_left : SinkState) (result : Result Status Failure)
       → IfOk result (λ status. (summary : Summary)
       × PassesCapture disk_of side (run_of old source sink) (Ok summary) (run_of new source_left sink_left)
       × Appends (contents before) (contents after) (summary_line side summary) × (status ≡ pass_status is_all summary))
-      → IfErr result (λ failure. EndsPass disk_of side (run_of old source sink) failure (run_of new source_left sink_left))
+      → IfErr result
+      (λ failure. EndsPass disk_of side (run_of old source sink) failure (run_of new source_left sink_left))
       → IfErr result (λ failure. failure_status failure ≢ ends.Usage)
       → IfErr result (λ failure. failure ≢ Output → after ≡ before)
       → IfErr result (λ failure. failure ≡ Output → has_failed after ≡ true)
       → DoesPass disk_of contents has_failed side is_all old before result new after
-  frames-passed new after source source_left sink sink_left (Ok status) (summary, passes, printed, is) ended failed silent broken = record {
-    printed = (
-      summary,
-      record { source = source; source_left = source_left; sink = sink; sink_left = sink_left; passes = passes },
-      printed,
-      is,
-    );
-    ended = tt;
-    failed = tt;
-    silent = tt;
-    broken = tt;
-  }
+  frames-passed new after source source_left sink sink_left (Ok status) (summary, passes, printed, is) ended failed
+      silent broken = record {
+        printed = (
+          summary,
+          record { source = source; source_left = source_left; sink = sink; sink_left = sink_left; passes = passes },
+          printed,
+          is,
+        );
+        ended = tt;
+        failed = tt;
+        silent = tt;
+        broken = tt;
+      }
   frames-passed new after source source_left sink sink_left (Err failure) passed ended failed silent broken = record {
     printed = tt;
-    ended = inr (record { source = source; source_left = source_left; sink = sink; sink_left = sink_left; ends = ended });
+    ended =
+        inr (record { source = source; source_left = source_left; sink = sink; sink_left = sink_left; ends = ended });
     failed = failed;
     silent = silent;
     broken = broken;
   }
 
 -- what `protect` and `validate` come to
-pub record PassedIn {F W : Type 0} (file : F → FileState) (contents : W → Option (List ℕ)) (has_failed : W → Bool) (side : Side) (is_all : Bool) (before : W)
+pub record PassedIn {F W : Type 0} (file : F → FileState) (contents : W → Option (List ℕ)) (has_failed : W → Bool)
+    (side : Side) (is_all : Bool) (before : W)
     (result : Result Status Failure) (after : W) : Type 0 where
   pub printed : IfOk result (λ status. (summary : Summary) × PassesIn file side summary
       × Appends (contents before) (contents after) (summary_line side summary) × (status ≡ pass_status is_all summary))
@@ -298,7 +334,8 @@ pub record PassedIn {F W : Type 0} (file : F → FileState) (contents : W → Op
   pub silent : IfErr result (λ failure. failure ≢ Output → after ≡ before)
   pub broken : IfErr result (λ failure. failure ≡ Output → has_failed after ≡ true)
 
-module _ {F W : Type 0} (file : F → FileState) (contents : W → Option (List ℕ)) (has_failed : W → Bool) (side : Side) (is_all : Bool) (before after : W) where
+module _ {F W : Type 0} (file : F → FileState) (contents : W → Option (List ℕ)) (has_failed : W → Bool) (side : Side)
+    (is_all : Bool) (before after : W) where
   none-passed-in : (failure : Failure) → OpeningFails file failure → after ≡ before
       → PassedIn file contents has_failed side is_all before (Err failure) after
   none-passed-in failure fails silent = record {
@@ -309,7 +346,8 @@ module _ {F W : Type 0} (file : F → FileState) (contents : W → Option (List 
     broken = λ output. absurd (disk-no-output failure (of-opening file failure fails) output);
   }
 
-  pub passed-in : (result : Result Status Failure) → IsRunIn file (DoesPass (disk_in_file file) contents has_failed side is_all) before result after
+  pub passed-in : (result : Result Status Failure)
+      → IsRunIn file (DoesPass (disk_in_file file) contents has_failed side is_all) before result after
       → PassedIn file contents has_failed side is_all before result after
   passed-in result (inl none) =
       subst (λ (r : Result Status Failure). PassedIn file contents has_failed side is_all before r after) (sym none.is)
@@ -317,7 +355,8 @@ module _ {F W : Type 0} (file : F → FileState) (contents : W → Option (List 
   passed-in (Ok status) (inr run) =
       let (summary, passes, printed, is) = run.does.printed in
       record {
-        printed = (summary, record { old = run.old; new = run.new; endpoint = run.endpoint; passes = passes }, printed, is);
+        printed =
+            (summary, record { old = run.old; new = run.new; endpoint = run.endpoint; passes = passes }, printed, is);
         ended = tt;
         failed = tt;
         silent = tt;

@@ -1,5 +1,6 @@
 -- How the disk in a file lies there, and a copy of its sectors.
-use Rattle.std.proofs.Common.{◌≡◌, ◌≢◌, ◌∙◌, ◌↔◌, ◌⊎◌, ◌≤◌, ◌<◌, ◌+◌, ◌/◌, ◌==◌, inl, inr, ℕ, Bool, true, false, IsTrue, if◌then◌else◌, List, drop, length, ap, arith, refl, subst, sym}
+use Rattle.std.proofs.Common.{◌≡◌, ◌≢◌, ◌∙◌, ◌↔◌, ◌⊎◌, ◌≤◌, ◌<◌, ◌+◌, ◌/◌, ◌==◌, inl, inr, ℕ, Bool, true, false, IsTrue}
+use Rattle.std.proofs.Common.{if◌then◌else◌, List, drop, length, ap, arith, refl, subst, sym}
 use Rattle.std.proofs.lemmas.Bool.{cases_lt, le-leb, lt-leb}
 use Rattle.std.proofs.lemmas.Slice.Eq.{starts_is}
 use Rattle.std.specs.Cmp.{unsigned_Decides}
@@ -38,7 +39,8 @@ unfolding layout_in
 by-mark file marked long known = let yes = le-leb (place Spaced 1028 + 512) file.size long in rw (yes, known) refl
 
 -- where the front of a sector of its own says whether a file is spaced, it is laid out so
-pub by-front : (file : FileState) (sectors : ℕ) (is : Bool) → (IsTrue is ↔ HasFront file sectors 8224 spaced_mark) → sectors ≡ file.size / 512
+pub by-front : (file : FileState) (sectors : ℕ) (is : Bool) → (IsTrue is ↔ HasFront file sectors 8224 spaced_mark)
+    → sectors ≡ file.size / 512
     → (if is then Spaced else Packed) ≡ layout_in file
 by-front file sectors true known count =
     let front = known.0 refl in
@@ -48,7 +50,8 @@ by-front file sectors false known count = elim (cases_lt file.size (place Spaced
   | inr long ↦ go (is_marked (mark_in file)) refl long
 ]
   where
-    go : (marked : Bool) → is_marked (mark_in file) ≡ marked → place Spaced 1028 + 512 ≤ file.size → Packed ≡ layout_in file
+    go : (marked : Bool) → is_marked (mark_in file) ≡ marked → place Spaced 1028 + 512 ≤ file.size
+        → Packed ≡ layout_in file
     go true is long =
         let within : 8224 < sectors = omega (arith, long, count) in
         absurd (let e = known.1 (within, front-marked (mark_in file) is) in cc)
@@ -57,7 +60,8 @@ by-front file sectors false known count = elim (cases_lt file.size (place Spaced
 -- ---- sectors
 
 -- one sector more is written
-pub one-written : (old new : DiskState) (at : ℕ) (octets : List ℕ) (want : ℕ → List ℕ) → new ≡ state_after_write old at octets → octets ≡ want at
+pub one-written : (old new : DiskState) (at : ℕ) (octets : List ℕ) (want : ℕ → List ℕ)
+    → new ≡ state_after_write old at octets → octets ≡ want at
     → ((k : ℕ) → k < at → old.seen k ≡ want k) → (k : ℕ) → k < at + 1 → new.seen k ≡ want k
 one-written old new at octets want is here before k below = ap (λ (s : DiskState). s.seen k) is ∙ go (k == at) refl
   where

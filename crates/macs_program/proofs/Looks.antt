@@ -4,11 +4,14 @@ use Rattle.macs_disk.specs.Files.{Behaves, FileState, IsSure}
 use Rattle.macs_journal.specs.Areas.{IsArea}
 
 -- what is known of a file after a call that left it alone
-pub carried : (Q : FileState → Type 0) (old new : FileState) → new ≡ old → Behaves old → IsSure old → (Behaves new → IsSure new → Q new) → Q old
-carried Q old new same behaves sure known = subst Q same (known (subst Behaves (sym same) behaves) (subst IsSure (sym same) sure))
+pub carried : (Q : FileState → Type 0) (old new : FileState) → new ≡ old → Behaves old → IsSure old
+    → (Behaves new → IsSure new → Q new) → Q old
+carried Q old new same behaves sure known =
+    subst Q same (known (subst Behaves (sym same) behaves) (subst IsSure (sym same) sure))
 
 -- one of two holds, where the first is known not to
-pub either_holds : {A B : Type 0} (first second : Bool) → (IsTrue first ↔ A) → (IsTrue second ↔ B) → first ≡ false → IsTrue second ↔ (A ⊎ B)
+pub either_holds : {A B : Type 0} (first second : Bool) → (IsTrue first ↔ A) → (IsTrue second ↔ B) → first ≡ false
+    → IsTrue second ↔ (A ⊎ B)
 either_holds {A} {B} first second one two not_first = (λ is. inr (two.0 is), go)
   where
     go : A ⊎ B → IsTrue second

@@ -1,5 +1,6 @@
 -- Why a file is not made the disk of a new endpoint.
-use Rattle.std.proofs.Common.{◌≡◌, ◌≢◌, ◌↔◌, ◌⊎◌, ◌∙◌, ◌/◌, inl, inr, ℕ, Bool, true, List, Option, Some, Result, Ok, Err, IfErr, IfOk, refl, subst, sym}
+use Rattle.std.proofs.Common.{◌≡◌, ◌≢◌, ◌↔◌, ◌⊎◌, ◌∙◌, ◌/◌, inl, inr, ℕ, Bool, true, List, Option, Some, Result, Ok}
+use Rattle.std.proofs.Common.{Err, IfErr, IfOk, refl, subst, sym}
 use Rattle.std.specs.Io.KnownBytes.{Appends}
 use Rattle.std.specs.Prelude.{codes}
 use Rattle.macs_config.specs.Identity.{Identity}
@@ -24,8 +25,10 @@ use Rattle.macs_program.specs.declared.status.Status.TheVariants as ends
 use Rattle.macs_program.specs.declared.values.ValueFault.{ValueFault}
 
 -- what was settled is what is not written over
-pub taken : (is_over : Bool) (before settled : FileState) (sectors : ℕ) (fault : DiskFault) → Settles before settled → sectors ≡ before.size / 512
-    → (fault ≡ disk.Journal journal.Disk) ⊎ Permits is_over settled sectors (Some fault) → (fault ≡ disk.Journal journal.Disk) ⊎ IsTaken is_over before fault
+pub taken : (is_over : Bool) (before settled : FileState) (sectors : ℕ) (fault : DiskFault) → Settles before settled
+    → sectors ≡ before.size / 512
+    → (fault ≡ disk.Journal journal.Disk) ⊎ Permits is_over settled sectors (Some fault)
+    → (fault ≡ disk.Journal journal.Disk) ⊎ IsTaken is_over before fault
 taken is_over before settled sectors fault settles count (inl device) = inl device
 taken is_over before settled sectors fault settles count (inr permits) = inr (record {
   settled = settled;
@@ -45,13 +48,16 @@ of-the-disk : (failure : Failure) → IsOfDisk failure → IsAfterValues failure
 of-the-disk failure (inl memory) = subst IsAfterValues (sym memory) tt
 of-the-disk failure (inr (fault, is)) = subst IsAfterValues (sym is) tt
 
-module _ {F W : Type 0} (file : F → FileState) (contents : W → Option (List ℕ)) (has_failed : W → Bool) (is_over : Bool) (layout : Layout)
+module _ {F W : Type 0} (file : F → FileState) (contents : W → Option (List ℕ)) (has_failed : W → Bool) (is_over : Bool)
+    (layout : Layout)
     (identity : Identity) (before : W) where
   pub not-made : (fault failure : Failure) (result : Result Status Failure) → result ≡ Err failure → failure ≡ fault
-      → FormatFails file is_over identity fault → (fault ≡ failures.Memory) ⊎ ((cause : DiskFault) × (fault ≡ failures.Disk cause))
+      → FormatFails file is_over identity fault
+      → (fault ≡ failures.Memory) ⊎ ((cause : DiskFault) × (fault ≡ failures.Disk cause))
       → MakesDisk file contents has_failed is_over layout identity before result before
   not-made fault failure result is same fails names =
-      subst (λ (r : Result Status Failure). MakesDisk file contents has_failed is_over layout identity before r before) (sym is) (record {
+      subst (λ (r : Result Status Failure). MakesDisk file contents has_failed is_over layout identity before r before)
+      (sym is) (record {
         printed = tt;
         ended = inl (subst (λ (f : Failure). FormatFails file is_over identity f) (sym same) fails);
         failed = subst IsAfterValues (sym same) (of-the-disk fault names);
@@ -60,10 +66,13 @@ module _ {F W : Type 0} (file : F → FileState) (contents : W → Option (List 
       })
 
   -- the disk is made, and the line cannot be written
-  pub not-told : (after : W) (fault failure : Failure) (result : Result Status Failure) → result ≡ Err failure → failure ≡ fault
-      → fault ≡ failures.Output → has_failed after ≡ true → MakesDisk file contents has_failed is_over layout identity before result after
+  pub not-told : (after : W) (fault failure : Failure) (result : Result Status Failure) → result ≡ Err failure
+      → failure ≡ fault
+      → fault ≡ failures.Output → has_failed after ≡ true
+      → MakesDisk file contents has_failed is_over layout identity before result after
   not-told after fault failure result is same output broken =
-      subst (λ (r : Result Status Failure). MakesDisk file contents has_failed is_over layout identity before r after) (sym is) (record {
+      subst (λ (r : Result Status Failure). MakesDisk file contents has_failed is_over layout identity before r after)
+      (sym is) (record {
         printed = tt;
         ended = inr (same ∙ output);
         failed = subst IsAfterValues (sym (same ∙ output)) tt;
@@ -71,14 +80,17 @@ module _ {F W : Type 0} (file : F → FileState) (contents : W → Option (List 
         broken = λ written. broken;
       })
 
-  pub made-told : (after : W) → Formats file is_over layout identity → Appends (contents before) (contents after) (line (codes "formatted"))
+  pub made-told : (after : W) → Formats file is_over layout identity
+      → Appends (contents before) (contents after) (line (codes "formatted"))
       → MakesDisk file contents has_failed is_over layout identity before (Ok ends.Done) after
-  made-told after formats printed = record { printed = (formats, printed, refl); ended = tt; failed = tt; silent = tt; broken = tt }
+  made-told after formats printed =
+      record { printed = (formats, printed, refl); ended = tt; failed = tt; silent = tt; broken = tt }
 
 -- ---- the values come first
 
 -- where the values are ones, no fault of a value is answered, and none is there
-no-value : {T U : Type 0} (Holds : ValueFault → Type 0) (order : List ValueFault) (before : Result T ValueFault) (value : T)
+no-value : {T U : Type 0} (Holds : ValueFault → Type 0) (order : List ValueFault)
+    (before : Result T ValueFault) (value : T)
     (after : Result U Failure) → before ≡ Ok value → IfErr after IsAfterValues
     → ((fault : ValueFault) → (before ≡ Err fault) ↔ IsFirst Holds order fault)
     → (fault : ValueFault) → (after ≡ Err (failures.Value fault)) ↔ IsFirst Holds order fault
@@ -89,7 +101,8 @@ no-value {T} {U} Holds order before value after was later exactly fault = (
 
 -- the fault of a value that is handed on in a failure
 value-handed : {T U : Type 0} (Holds : ValueFault → Type 0) (order : List ValueFault) (before : Result T ValueFault)
-    (after : Result U Failure) (error : ValueFault) (failure : Failure) → before ≡ Err error → after ≡ Err failure → failure ≡ failures.Value error
+    (after : Result U Failure) (error : ValueFault) (failure : Failure) → before ≡ Err error → after ≡ Err failure
+    → failure ≡ failures.Value error
     → ((fault : ValueFault) → (before ≡ Err fault) ↔ IsFirst Holds order fault)
     → (fault : ValueFault) → (after ≡ Err (failures.Value fault)) ↔ IsFirst Holds order fault
 value-handed Holds order before after error failure was is same exactly fault = (
@@ -113,26 +126,37 @@ after-no-usage failures.Commands is = absurd is
 after-no-usage (failures.Input fault) is = absurd is
 
 -- what `format` comes to, by what says of the values that they spell something, and of a fault that it holds
-pub record FormattedBy {F W : Type 0} (file : F → FileState) (contents : W → Option (List ℕ)) (has_failed : W → Bool) (is_over : Bool)
-    (Spells : Identity → Type 0) (Lays : Layout → Type 0) (Holds : ValueFault → Type 0) (before : W) (result : Result Status Failure)
+pub record FormattedBy {F W : Type 0} (file : F → FileState) (contents : W → Option (List ℕ)) (has_failed : W → Bool)
+    (is_over : Bool)
+    (Spells : Identity → Type 0) (Lays : Layout → Type 0) (Holds : ValueFault → Type 0) (before : W)
+    (result : Result Status Failure)
     (after : W) : Type 0 where
   pub printed : IfOk result (λ status. (identity : Identity) × Spells identity × (layout : Layout) × Lays layout
-      × Formats file is_over layout identity × Appends (contents before) (contents after) (line (codes "formatted")) × (status ≡ ends.Done))
-  pub usage : IfErr result (λ failure. failure_status failure ≡ ends.Usage → ((fault : ValueFault) × Holds fault) × (after ≡ before))
+      × Formats file is_over layout identity × Appends (contents before) (contents after) (line (codes "formatted"))
+      × (status ≡ ends.Done))
+  pub usage : IfErr result (λ failure. failure_status failure ≡ ends.Usage
+      → ((fault : ValueFault) × Holds fault) × (after ≡ before))
   pub value : (fault : ValueFault) → (result ≡ Err (failures.Value fault)) ↔ IsFirst Holds value_faults fault
-  pub ended : IfErr result (λ failure. ((fault : ValueFault) × (failure ≡ failures.Value fault) × IsFirst Holds value_faults fault)
-      ⊎ ((identity : Identity) × Spells identity × FormatFails file is_over identity failure) ⊎ (failure ≡ failures.Output))
+  pub ended : IfErr result
+      (λ failure. ((fault : ValueFault) × (failure ≡ failures.Value fault) × IsFirst Holds value_faults fault)
+      ⊎ ((identity : Identity) × Spells identity × FormatFails file is_over identity failure)
+      ⊎ (failure ≡ failures.Output))
   pub silent : IfErr result (λ failure. failure ≢ failures.Output → after ≡ before)
   pub broken : IfErr result (λ failure. failure ≡ failures.Output → has_failed after ≡ true)
 
-module _ {F W T : Type 0} (file : F → FileState) (contents : W → Option (List ℕ)) (has_failed : W → Bool) (is_over : Bool)
-    (Spells : Identity → Type 0) (Lays : Layout → Type 0) (Holds : ValueFault → Type 0) (before : W) (given : Result T ValueFault)
+module _ {F W T : Type 0} (file : F → FileState) (contents : W → Option (List ℕ)) (has_failed : W → Bool)
+    (is_over : Bool)
+    (Spells : Identity → Type 0) (Lays : Layout → Type 0) (Holds : ValueFault → Type 0) (before : W)
+    (given : Result T ValueFault)
     (exactly : (fault : ValueFault) → (given ≡ Err fault) ↔ IsFirst Holds value_faults fault) where
-  pub value-refused : (fault : ValueFault) (failure : Failure) (result : Result Status Failure) → given ≡ Err fault → result ≡ Err failure
-      → failure ≡ failures.Value fault → FormattedBy file contents has_failed is_over Spells Lays Holds before result before
+  pub value-refused : (fault : ValueFault) (failure : Failure) (result : Result Status Failure) → given ≡ Err fault
+      → result ≡ Err failure
+      → failure ≡ failures.Value fault
+      → FormattedBy file contents has_failed is_over Spells Lays Holds before result before
   value-refused fault failure result was is same =
       let first = (exactly fault).0 was in
-      subst (λ (r : Result Status Failure). FormattedBy file contents has_failed is_over Spells Lays Holds before r before) (sym is) (record {
+      subst (λ (r : Result Status Failure).
+      FormattedBy file contents has_failed is_over Spells Lays Holds before r before) (sym is) (record {
         printed = tt;
         usage = λ usage. ((fault, first-holds Holds value_faults fault first), refl);
         value = value-handed {U = Status} Holds value_faults given (Err failure) fault failure was refl same exactly;
@@ -141,7 +165,8 @@ module _ {F W T : Type 0} (file : F → FileState) (contents : W → Option (Lis
         broken = λ output. absurd (let e = sym same ∙ output in cc);
       })
 
-  pub formatted-by : (value : T) (identity : Identity) (layout : Layout) (result : Result Status Failure) (after : W) → given ≡ Ok value
+  pub formatted-by : (value : T) (identity : Identity) (layout : Layout) (result : Result Status Failure) (after : W)
+      → given ≡ Ok value
       → Spells identity → Lays layout → MakesDisk file contents has_failed is_over layout identity before result after
       → FormattedBy file contents has_failed is_over Spells Lays Holds before result after
   formatted-by value identity layout (Ok status) after was spelled laid made =

@@ -1,5 +1,6 @@
 -- What each subcommand comes to, as the doing of an action.
-use Rattle.std.proofs.Common.{Bor, ◌≡◌, ◌≢◌, ◌⊎◌, inl, inr, ℕ, List, Bool, true, false, if◌then◌else◌, Option, IfSome, Result, IfErr, IfOk, refl, sym, subst, ◌∙◌, ap, Some, None}
+use Rattle.std.proofs.Common.{Bor, ◌≡◌, ◌≢◌, ◌⊎◌, inl, inr, ℕ, List, Bool, true, false, if◌then◌else◌, Option, IfSome}
+use Rattle.std.proofs.Common.{Result, IfErr, IfOk, refl, sym, subst, ◌∙◌, ap, Some, None}
 use Rattle.std.specs.Io.KnownBytes.{Appends}
 use Rattle.std.specs.List.{list_any}
 use Rattle.std.specs.Prelude.{◌&&◌, is_some, nat_lt}
@@ -25,7 +26,8 @@ use Rattle.macs_program.specs.declared.failure.Failure.TheVariants.{Output}
 use Rattle.macs_program.specs.declared.status.Status.{Status}
 use Rattle.macs_program.specs.declared.status.Status.TheVariants as ends
 use Rattle.macs_words.specs.declared.action.Action.{Action}
-use Rattle.macs_words.specs.declared.action.Action.TheVariants.{Open, Format, Apply, Show, Protect, Validate, Relay, Ask, Key, Inspect, Check, Examine, About}
+use Rattle.macs_words.specs.declared.action.Action.TheVariants.{Open, Format, Apply, Show, Protect, Validate, Relay}
+use Rattle.macs_words.specs.declared.action.Action.TheVariants.{Ask, Key, Inspect, Check, Examine, About}
 use Rattle.macs_words.specs.declared.action.WireEnds.{WireEnds}
 use Rattle.macs_words.specs.declared.action.Question.{Question}
 use Rattle.macs_words.specs.declared.action.Question.TheVariants as question
@@ -55,7 +57,8 @@ asking-no-usage (failures.Input fault) is = absurd is
 asking-no-usage failures.Output is = λ e. cc
 
 -- a failure of `key` is no wrong usage, and none of the disk
-key-no-usage : (failure : Failure) → IsOfKey failure → (failure_status failure ≢ ends.Usage) × (failure_status failure ≢ ends.Disk)
+key-no-usage : (failure : Failure) → IsOfKey failure
+    → (failure_status failure ≢ ends.Usage) × (failure_status failure ≢ ends.Disk)
 key-no-usage failures.Random is = ((λ e. cc), (λ e. cc))
 key-no-usage failures.Output is = ((λ e. cc), (λ e. cc))
 key-no-usage (failures.Usage cause) is = absurd is
@@ -71,7 +74,8 @@ key-no-usage failures.Memory is = absurd is
 key-no-usage (failures.Input fault) is = absurd is
 
 -- nor is one of `inspect`
-inspecting-no-usage : (failure : Failure) → IsOfInspecting failure → (failure_status failure ≢ ends.Usage) × (failure_status failure ≢ ends.Disk)
+inspecting-no-usage : (failure : Failure) → IsOfInspecting failure
+    → (failure_status failure ≢ ends.Usage) × (failure_status failure ≢ ends.Disk)
 inspecting-no-usage failures.Capture is = ((λ e. cc), (λ e. cc))
 inspecting-no-usage failures.Memory is = ((λ e. cc), (λ e. cc))
 inspecting-no-usage failures.Output is = ((λ e. cc), (λ e. cc))
@@ -87,30 +91,38 @@ inspecting-no-usage (failures.CommandFile cause) is = absurd is
 inspecting-no-usage (failures.Input fault) is = absurd is
 
 -- nor is one of `check`
-checking-no-usage : (failure : Failure) → CheckFails failure → (failure_status failure ≢ ends.Usage) × (failure_status failure ≢ ends.Disk)
-checking-no-usage failure (inl is) = ((λ e. let f = sym e ∙ ap failure_status is in cc), (λ e. let f = sym e ∙ ap failure_status is in cc))
-checking-no-usage failure (inr (inl is)) = ((λ e. let f = sym e ∙ ap failure_status is in cc), (λ e. let f = sym e ∙ ap failure_status is in cc))
-checking-no-usage failure (inr (inr (octets, inl is))) = ((λ e. let f = sym e ∙ ap failure_status is in cc), (λ e. let f = sym e ∙ ap failure_status is in cc))
+checking-no-usage : (failure : Failure) → CheckFails failure
+    → (failure_status failure ≢ ends.Usage) × (failure_status failure ≢ ends.Disk)
+checking-no-usage failure (inl is) =
+    ((λ e. let f = sym e ∙ ap failure_status is in cc), (λ e. let f = sym e ∙ ap failure_status is in cc))
+checking-no-usage failure (inr (inl is)) =
+    ((λ e. let f = sym e ∙ ap failure_status is in cc), (λ e. let f = sym e ∙ ap failure_status is in cc))
+checking-no-usage failure (inr (inr (octets, inl is))) =
+    ((λ e. let f = sym e ∙ ap failure_status is in cc), (λ e. let f = sym e ∙ ap failure_status is in cc))
 checking-no-usage failure (inr (inr (octets, inr (text, is, said)))) =
     ((λ e. let f = sym e ∙ ap failure_status is in cc), (λ e. let f = sym e ∙ ap failure_status is in cc))
 
-done-or-refused : (refused : Bool) → ((if refused then ends.Refused else ends.Done) ≡ ends.Done) ⊎ ((if refused then ends.Refused else ends.Done) ≡ ends.Refused)
+done-or-refused : (refused : Bool) → ((if refused then ends.Refused else ends.Done) ≡ ends.Done)
+    ⊎ ((if refused then ends.Refused else ends.Done) ≡ ends.Refused)
 done-or-refused true = inr refl
 done-or-refused false = inl refl
 
-pass-ends : (is_all : Bool) (summary : Summary) (status : Status) → status ≡ pass_status is_all summary → (status ≡ ends.Done) ⊎ (status ≡ ends.Refused)
+pass-ends : (is_all : Bool) (summary : Summary) (status : Status) → status ≡ pass_status is_all summary
+    → (status ≡ ends.Done) ⊎ (status ≡ ends.Refused)
 pass-ends is_all summary status is = elim (done-or-refused (is_all && nat_lt 0 summary.dropped)) [
   | inl done ↦ inl (is ∙ done)
   | inr refused ↦ inr (is ∙ refused)
 ]
 
-applied-status : (outcomes : List (Option Refusal)) (status : Status) → status ≡ outcomes_status outcomes → (status ≡ ends.Done) ⊎ (status ≡ ends.Refused)
+applied-status : (outcomes : List (Option Refusal)) (status : Status) → status ≡ outcomes_status outcomes
+    → (status ≡ ends.Done) ⊎ (status ≡ ends.Refused)
 applied-status outcomes status is = elim (done-or-refused (list_any is_some outcomes)) [
   | inl done ↦ inl (is ∙ done)
   | inr refused ↦ inr (is ∙ refused)
 ]
 
-module _ {F W : Type 0} (state_of : F → FileState) (contents : W → Option (List ℕ)) (failed : W → Bool) (input : InputRead) (old : W)
+module _ {F W : Type 0} (state_of : F → FileState) (contents : W → Option (List ℕ)) (failed : W → Bool)
+    (input : InputRead) (old : W)
     (result : Result Status Failure) (new : W) where
   -- it is no wrong usage
   abbrev NoUsage : Type 0
@@ -124,7 +136,8 @@ module _ {F W : Type 0} (state_of : F → FileState) (contents : W → Option (L
   abbrev Broken : Type 0
   Broken = IfErr result (λ failure. failure ≡ Output → failed new ≡ true)
 
-  no-usage : (action : Action) → NoUsage → IfErr result (λ failure. failure_status failure ≡ ends.Usage → WrongValues action × (new ≡ old))
+  no-usage : (action : Action) → NoUsage
+      → IfErr result (λ failure. failure_status failure ≡ ends.Usage → WrongValues action × (new ≡ old))
   no-usage action other = IfErr-weaker result _ _ (λ failure never usage. absurd (never usage)) other
 
   before : Silent → IfErr result (λ failure. failure ≢ Output → contents new ≡ contents old)
@@ -134,7 +147,8 @@ module _ {F W : Type 0} (state_of : F → FileState) (contents : W → Option (L
   kept silent = IfErr-weaker result _ _ (λ failure still disk. ap contents (still (of-disk failure disk))) silent
 
   pub opens : IfOk result (λ status. IfSome input.octets (λ octets. Prints octets (contents old) (contents new) status))
-      → IfOk result (λ status. (status ≡ ends.Done) ⊎ (status ≡ ends.Refused)) → IfErr result (λ failure. failure_status failure ≡ ends.Fault) → Silent
+      → IfOk result (λ status. (status ≡ ends.Done) ⊎ (status ≡ ends.Refused))
+      → IfErr result (λ failure. failure_status failure ≡ ends.Fault) → Silent
       → IfErr result (FailsAs state_of Open input (contents old) (contents new)) → Broken
       → Performs state_of contents failed Open input old result new
   opens printed status is_fault silent fails broken = record {
@@ -148,13 +162,17 @@ module _ {F W : Type 0} (state_of : F → FileState) (contents : W → Option (L
   }
 
   pub formats : (disk sci : Bor (List ℕ)) (tx_block rx_block : ℕ) (block : Option (Bor (List ℕ))) (is_over : Bool)
-      → IfOk result (Does state_of (Format disk sci tx_block rx_block block is_over) input (contents old) (contents new))
-      → IfErr result (λ failure. failure_status failure ≡ ends.Usage → WrongValues (Format disk sci tx_block rx_block block is_over) × (new ≡ old)) → Silent
-      → IfErr result (FailsAs state_of (Format disk sci tx_block rx_block block is_over) input (contents old) (contents new)) → Broken
+      → IfOk result
+      (Does state_of (Format disk sci tx_block rx_block block is_over) input (contents old) (contents new))
+      → IfErr result (λ failure. failure_status failure ≡ ends.Usage
+      → WrongValues (Format disk sci tx_block rx_block block is_over) × (new ≡ old)) → Silent
+      → IfErr result (FailsAs state_of (Format disk sci tx_block rx_block block is_over) input (contents old)
+      (contents new)) → Broken
       → Performs state_of contents failed (Format disk sci tx_block rx_block block is_over) input old result new
   formats disk sci tx_block rx_block block is_over done usage silent fails broken = record {
     does = done;
-    status = IfOk-weaker result _ _ (λ status all. let (identity, sci_is, layout, layout_is, formatted, printed, is) = all in inl is) done;
+    status = IfOk-weaker result _ _
+        (λ status all. let (identity, sci_is, layout, layout_is, formatted, printed, is) = all in inl is) done;
     usage = usage;
     disk = IfErr-weaker result _ _ (λ failure same disk. ((λ is. absurd cc), same disk)) (kept silent);
     before = before silent;
@@ -162,13 +180,16 @@ module _ {F W : Type 0} (state_of : F → FileState) (contents : W → Option (L
     broken = broken;
   }
 
-  pub applies : (disk file : Bor (List ℕ)) → IfOk result (Does state_of (Apply disk file) input (contents old) (contents new)) → NoUsage
-      → IfErr result (λ failure. failure ≢ Output → (outcomes : List (Option Refusal)) × Appends (contents old) (contents new) (outcome_lines 1 outcomes))
+  pub applies : (disk file : Bor (List ℕ))
+      → IfOk result (Does state_of (Apply disk file) input (contents old) (contents new)) → NoUsage
+      → IfErr result (λ failure. failure ≢ Output
+      → (outcomes : List (Option Refusal)) × Appends (contents old) (contents new) (outcome_lines 1 outcomes))
       → IfErr result (FailsAs state_of (Apply disk file) input (contents old) (contents new)) → Broken
       → Performs state_of contents failed (Apply disk file) input old result new
   applies disk file done other lines fails broken = record {
     does = done;
-    status = IfOk-weaker result _ _ (λ status all. applied-status all.applies.applies.outcomes status all.applies.applies.status_is) done;
+    status = IfOk-weaker result _ _
+        (λ status all. applied-status all.applies.applies.outcomes status all.applies.applies.status_is) done;
     usage = no-usage (Apply disk file) other;
     disk = IfErr-weaker result _ _ (λ failure printed disk. ((λ is. absurd cc), printed (of-disk failure disk))) lines;
     before = lines;
@@ -176,7 +197,8 @@ module _ {F W : Type 0} (state_of : F → FileState) (contents : W → Option (L
     broken = broken;
   }
 
-  pub shows : (disk : Bor (List ℕ)) → IfOk result (Does state_of (Show disk) input (contents old) (contents new)) → NoUsage → Silent
+  pub shows : (disk : Bor (List ℕ)) → IfOk result (Does state_of (Show disk) input (contents old) (contents new))
+      → NoUsage → Silent
       → IfErr result (FailsAs state_of (Show disk) input (contents old) (contents new)) → Broken
       → Performs state_of contents failed (Show disk) input old result new
   shows disk done other silent fails broken = record {
@@ -189,12 +211,14 @@ module _ {F W : Type 0} (state_of : F → FileState) (contents : W → Option (L
     broken = broken;
   }
 
-  pub protects : (disk from to : Bor (List ℕ)) (is_all : Bool) → IfOk result (Does state_of (Protect disk from to is_all) input (contents old) (contents new)) → NoUsage → Silent
+  pub protects : (disk from to : Bor (List ℕ)) (is_all : Bool)
+      → IfOk result (Does state_of (Protect disk from to is_all) input (contents old) (contents new)) → NoUsage → Silent
       → IfErr result (FailsAs state_of (Protect disk from to is_all) input (contents old) (contents new)) → Broken
       → Performs state_of contents failed (Protect disk from to is_all) input old result new
   protects disk from to is_all done other silent fails broken = record {
     does = done;
-    status = IfOk-weaker result _ _ (λ status all. let (summary, passes, printed, is) = all in pass-ends is_all summary status is) done;
+    status = IfOk-weaker result _ _ (λ status all. let (summary, passes, printed, is) = all in
+        pass-ends is_all summary status is) done;
     usage = no-usage (Protect disk from to is_all) other;
     disk = IfErr-weaker result _ _ (λ failure same disk. ((λ is. absurd cc), same disk)) (kept silent);
     before = before silent;
@@ -202,12 +226,15 @@ module _ {F W : Type 0} (state_of : F → FileState) (contents : W → Option (L
     broken = broken;
   }
 
-  pub validates : (disk from to : Bor (List ℕ)) (is_all : Bool) → IfOk result (Does state_of (Validate disk from to is_all false) input (contents old) (contents new)) → NoUsage → Silent
-      → IfErr result (FailsAs state_of (Validate disk from to is_all false) input (contents old) (contents new)) → Broken
+  pub validates : (disk from to : Bor (List ℕ)) (is_all : Bool) → IfOk result
+      (Does state_of (Validate disk from to is_all false) input (contents old) (contents new)) → NoUsage → Silent
+      → IfErr result (FailsAs state_of (Validate disk from to is_all false) input (contents old) (contents new))
+      → Broken
       → Performs state_of contents failed (Validate disk from to is_all false) input old result new
   validates disk from to is_all done other silent fails broken = record {
     does = done;
-    status = IfOk-weaker result _ _ (λ status all. let (summary, passes, printed, is) = all in pass-ends is_all summary status is) done;
+    status = IfOk-weaker result _ _ (λ status all. let (summary, passes, printed, is) = all in
+        pass-ends is_all summary status is) done;
     usage = no-usage (Validate disk from to is_all false) other;
     disk = IfErr-weaker result _ _ (λ failure same disk. ((λ is. absurd cc), same disk)) (kept silent);
     before = before silent;
@@ -215,13 +242,15 @@ module _ {F W : Type 0} (state_of : F → FileState) (contents : W → Option (L
     broken = broken;
   }
 
-  pub judges : (disk from to : Bor (List ℕ)) (is_all : Bool) → IfOk result (Does state_of (Validate disk from to is_all true) input (contents old) (contents new))
+  pub judges : (disk from to : Bor (List ℕ)) (is_all : Bool)
+      → IfOk result (Does state_of (Validate disk from to is_all true) input (contents old) (contents new))
       → NoUsage → IfErr result (λ failure. failure ≢ Output → PrintsVerdicts (contents old) (contents new))
       → IfErr result (FailsAs state_of (Validate disk from to is_all true) input (contents old) (contents new)) → Broken
       → Performs state_of contents failed (Validate disk from to is_all true) input old result new
   judges disk from to is_all done other front fails broken = record {
     does = done;
-    status = IfOk-weaker result _ _ (λ status all. let (summary, verdicts, passes, printed, is) = all in pass-ends is_all summary status is) done;
+    status = IfOk-weaker result _ _ (λ status all. let (summary, verdicts, passes, printed, is) = all in
+        pass-ends is_all summary status is) done;
     usage = no-usage (Validate disk from to is_all true) other;
     disk = IfErr-weaker result _ _ (λ failure printed disk. ((λ is. absurd cc), printed (of-disk failure disk))) front;
     before = front;
@@ -234,12 +263,15 @@ module _ {F W : Type 0} (state_of : F → FileState) (contents : W → Option (L
       → Performs state_of contents failed (Validate disk from to is_all b) input old result new
       → Performs state_of contents failed (Validate disk from to is_all is_each) input old result new
   validates-so disk from to is_all is_each b is performs =
-      subst (λ (x : Bool). Performs state_of contents failed (Validate disk from to is_all x) input old result new) (sym is) performs
+      subst (λ (x : Bool). Performs state_of contents failed (Validate disk from to is_all x) input old result new)
+      (sym is) performs
 
   pub relays : (disk : Bor (List ℕ)) (controlled common : WireEnds) (running : Running)
       → IfOk result (Does state_of (Relay disk controlled common running) input (contents old) (contents new))
-      → IfErr result (λ failure. failure_status failure ≡ ends.Usage → WrongValues (Relay disk controlled common running) × (new ≡ old)) → Silent
-      → IfErr result (FailsAs state_of (Relay disk controlled common running) input (contents old) (contents new)) → Broken
+      → IfErr result (λ failure. failure_status failure ≡ ends.Usage
+      → WrongValues (Relay disk controlled common running) × (new ≡ old)) → Silent
+      → IfErr result (FailsAs state_of (Relay disk controlled common running) input (contents old) (contents new))
+      → Broken
       → Performs state_of contents failed (Relay disk controlled common running) input old result new
   relays disk controlled common running done usage silent fails broken = record {
     does = done;
@@ -259,7 +291,8 @@ module _ {F W : Type 0} (state_of : F → FileState) (contents : W → Option (L
   answer-status question.Stop status printed = inl printed.2
   answer-status (question.Apply file) status printed = applied-status printed.0 status printed.2
 
-  pub asks : (path : Bor (List ℕ)) (asked : Question) → IfOk result (PrintsAnswer asked (contents old) (contents new)) → IfErr result IsOfAsking
+  pub asks : (path : Bor (List ℕ)) (asked : Question) → IfOk result (PrintsAnswer asked (contents old) (contents new))
+      → IfErr result IsOfAsking
       → IfErr result (λ failure. failure ≢ Output → PrintsFront asked (contents old) (contents new)) → Broken
       → Performs state_of contents failed (Ask path asked) input old result new
   asks path asked done fails front broken = record {
@@ -272,7 +305,8 @@ module _ {F W : Type 0} (state_of : F → FileState) (contents : W → Option (L
     broken = broken;
   }
 
-  pub keys : (is_long : Bool) → IfOk result (λ status. GivesKey is_long (contents old) (contents new) × (status ≡ ends.Done)) → IfErr result IsOfKey
+  pub keys : (is_long : Bool) → IfOk result
+      (λ status. GivesKey is_long (contents old) (contents new) × (status ≡ ends.Done)) → IfErr result IsOfKey
       → Silent → Broken → Performs state_of contents failed (Key is_long) input old result new
   keys is_long done fails silent broken = record {
     does = done;
@@ -284,8 +318,10 @@ module _ {F W : Type 0} (state_of : F → FileState) (contents : W → Option (L
     broken = broken;
   }
 
-  pub inspects : (from : Bor (List ℕ)) → IfOk result (λ status. Inspects (contents old) (contents new) × (status ≡ ends.Done)) → IfErr result IsOfInspecting
-      → IfErr result (InspectFails (contents old) (contents new)) → IfErr result (λ failure. failure ≢ Output → PrintsFrames (contents old) (contents new))
+  pub inspects : (from : Bor (List ℕ)) → IfOk result
+      (λ status. Inspects (contents old) (contents new) × (status ≡ ends.Done)) → IfErr result IsOfInspecting
+      → IfErr result (InspectFails (contents old) (contents new))
+      → IfErr result (λ failure. failure ≢ Output → PrintsFrames (contents old) (contents new))
       → Broken → Performs state_of contents failed (Inspect from) input old result new
   inspects from done ours fails front broken = record {
     does = done;
@@ -298,19 +334,24 @@ module _ {F W : Type 0} (state_of : F → FileState) (contents : W → Option (L
   }
 
   -- how a check ends that printed what it was to print
-  check-status : (disk : Option (Bor (List ℕ))) (status : Status) → Checks state_of disk (contents old) (contents new) status
+  check-status : (disk : Option (Bor (List ℕ))) (status : Status)
+      → Checks state_of disk (contents old) (contents new) status
       → (status ≡ ends.Done) ⊎ (status ≡ ends.Refused)
   check-status None status printed = inl printed.1
   check-status (Some disk) status printed = applied-status printed.outcomes status printed.status_is
 
   -- a failure of a check is no wrong usage
-  check-no-usage : (disk : Option (Bor (List ℕ))) (failure : Failure) → CheckEnds state_of disk failure → failure_status failure ≢ ends.Usage
+  check-no-usage : (disk : Option (Bor (List ℕ))) (failure : Failure) → CheckEnds state_of disk failure
+      → failure_status failure ≢ ends.Usage
   check-no-usage None failure is = (checking-no-usage failure is).0
   check-no-usage (Some disk) failure (inl is) = (checking-no-usage failure is).0
-  check-no-usage (Some disk) failure (inr (octets, commands, says, fails)) = disk-no-usage failure (of-trial state_of commands failure fails)
+  check-no-usage (Some disk) failure (inr (octets, commands, says, fails)) =
+      disk-no-usage failure (of-trial state_of commands failure fails)
 
-  pub checks : (file : Bor (List ℕ)) (disk : Option (Bor (List ℕ))) → IfOk result (Checks state_of disk (contents old) (contents new))
-      → IfErr result (CheckEnds state_of disk) → Silent → Broken → Performs state_of contents failed (Check file disk) input old result new
+  pub checks : (file : Bor (List ℕ)) (disk : Option (Bor (List ℕ)))
+      → IfOk result (Checks state_of disk (contents old) (contents new))
+      → IfErr result (CheckEnds state_of disk) → Silent → Broken
+      → Performs state_of contents failed (Check file disk) input old result new
   checks file disk done fails silent broken = record {
     does = done;
     status = IfOk-weaker result _ _ (check-status disk) done;
@@ -322,7 +363,8 @@ module _ {F W : Type 0} (state_of : F → FileState) (contents : W → Option (L
   }
 
   pub examines : (disk : Bor (List ℕ)) → IfOk result (PrintsExamined state_of (contents old) (contents new))
-      → IfErr result (ExamineFails state_of) → Silent → Broken → Performs state_of contents failed (Examine disk) input old result new
+      → IfErr result (ExamineFails state_of) → Silent → Broken
+      → Performs state_of contents failed (Examine disk) input old result new
   examines disk done fails silent broken = record {
     does = done;
     status = IfOk-weaker result _ _ (λ status (text, is, printed). said-status _ _ _ _ is.says) done;

@@ -1,5 +1,6 @@
 -- What a run reads and prints, where the octets are known.
-use Rattle.std.proofs.Common.{◌≡◌, ℕ, ◌++◌, List, [], ◌∷◌, length, take, Option, Some, None, IfSome, option_map, length-take, ap, subst, ◌∙◌, ◌⊎◌, inl, inr, arith}
+use Rattle.std.proofs.Common.{◌≡◌, ℕ, ◌++◌, List, [], ◌∷◌, length, take, Option, Some, None, IfSome, option_map}
+use Rattle.std.proofs.Common.{length-take, ap, subst, ◌∙◌, ◌⊎◌, inl, inr, arith}
 use Rattle.std.proofs.lemmas.List.{take_all}
 use Rattle.std.specs.Io.KnownBytes.{Appends}
 use Rattle.macs_fields.specs.First.{IsFirst}
@@ -20,7 +21,8 @@ appended-read None limit text h = tt
 appended-read (Some octets) limit text h = h
 
 -- an input that spells a request was read whole
-read-whole : (input octets : List ℕ) (answer : Opened) → input ≡ take 20001 octets → Answers input answer → Answers octets answer
+read-whole : (input octets : List ℕ) (answer : Opened) → input ≡ take 20001 octets → Answers input answer
+    → Answers octets answer
 read-whole input octets answer read answers =
     let short = answers.spelled.four.0 in
     let count = length-take 20001 octets in
@@ -28,24 +30,29 @@ read-whole input octets answer read answers =
     subst (λ (x : List ℕ). Answers x answer) (read ∙ whole) answers
 
 -- a text that was printed is an equal one
-pub prints-text : (before after : Option (List ℕ)) (text other : List ℕ) → text ≡ other → Appends before after text → Appends before after other
+pub prints-text : (before after : Option (List ℕ)) (text other : List ℕ) → text ≡ other → Appends before after text
+    → Appends before after other
 prints-text before after text other same printed = subst (λ (x : List ℕ). Appends before after x) same printed
 
 -- the answer to what was read is printed
 pub prints : (remaining before after : Option (List ℕ)) (input line : List ℕ) (answer : Opened) (status : Status)
-    → IfSome remaining (λ octets. input ≡ take 20001 octets) → Answers input answer → line ≡ answer_text answer ++ 10 ∷ []
-    → Appends before after line → status ≡ answer_status answer → IfSome remaining (λ octets. Prints octets before after status)
+    → IfSome remaining (λ octets. input ≡ take 20001 octets) → Answers input answer
+    → line ≡ answer_text answer ++ 10 ∷ []
+    → Appends before after line → status ≡ answer_status answer
+    → IfSome remaining (λ octets. Prints octets before after status)
 prints None before after input line answer status read answers text printed end = tt
 prints (Some octets) before after input line answer status read answers text printed end =
     (answer, read-whole input octets answer read answers, prints-text before after line _ text printed, end)
 
 -- an answer ends the run as done or refused
-pub answered : (answer : Opened) (status : Status) → status ≡ answer_status answer → (status ≡ Done) ⊎ (status ≡ Refused)
+pub answered : (answer : Opened) (status : Status) → status ≡ answer_status answer
+    → (status ≡ Done) ⊎ (status ≡ Refused)
 answered (answers.Valid an pn plain) status is = inl is
 answered (answers.Refused fault) status is = inr is
 
 -- the first fault of what was read is that of the input, as far as it is read
-pub refused-first : (remaining : Option (List ℕ)) (input slice : List ℕ) (fault : InputFault) → IfSome remaining (λ octets. input ≡ take 20001 octets)
+pub refused-first : (remaining : Option (List ℕ)) (input slice : List ℕ) (fault : InputFault)
+    → IfSome remaining (λ octets. input ≡ take 20001 octets)
     → slice ≡ input → IsFirst (InputFaultHolds slice) input_faults fault
     → IfSome remaining (λ octets. IsFirst (InputFaultHolds (take 20001 octets)) input_faults fault)
 refused-first None input slice fault read same first = tt

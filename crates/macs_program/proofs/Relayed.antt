@@ -1,5 +1,6 @@
 -- What a relay comes to, between two wires that are new; and how it is refused for an address.
-use Rattle.std.proofs.Common.{◌≡◌, ◌≢◌, ◌↔◌, ◌⊎◌, ◌∙◌, ℕ, Bool, true, List, Option, Result, Ok, Err, IfErr, IfOk, inl, inr, refl, subst, sym}
+use Rattle.std.proofs.Common.{◌≡◌, ◌≢◌, ◌↔◌, ◌⊎◌, ◌∙◌, ℕ, Bool, true, List, Option, Result, Ok, Err, IfErr, IfOk, inl}
+use Rattle.std.proofs.Common.{inr, refl, subst, sym}
 use Rattle.std.specs.Io.KnownBytes.{Appends}
 use Rattle.macs_disk.specs.Disk.{Disk}
 use Rattle.macs_disk.specs.FileDisks.{disk_in_file}
@@ -19,7 +20,8 @@ use Rattle.macs_program.proofs.Failures.{IsOfSocket, disk-no-output, of-opening,
 use Rattle.macs_program.specs.Addresses.{AddressFaultHolds, SpellsBoth, address_faults}
 use Rattle.macs_program.specs.Endpoints.{OpeningFails}
 use Rattle.macs_program.specs.Failing.{failure_of_refill, failure_status}
-use Rattle.macs_program.specs.Relaying.{ComesTo, Course, EndsRelay, IsAfterAddresses, IsOfRelay, IsRun, RelayEndsIn, Relays, StopsRelay, attended, new_wire}
+use Rattle.macs_program.specs.Relaying.{ComesTo, Course, EndsRelay, IsAfterAddresses, IsOfRelay, IsRun, RelayEndsIn}
+use Rattle.macs_program.specs.Relaying.{Relays, StopsRelay, attended, new_wire}
 use Rattle.macs_program.specs.Summing.{relay_line}
 use Rattle.macs_program.specs.Tasks.{DoesRelay, IsRunIn}
 use Rattle.macs_program.specs.declared.addresses.AddressFault.{AddressFault}
@@ -29,27 +31,34 @@ use Rattle.macs_program.specs.declared.failure.Failure.TheVariants.{Address}
 use Rattle.macs_program.specs.declared.status.Status.{Status}
 use Rattle.macs_program.specs.declared.status.Status.TheVariants as ends
 
-between-new : {D : Type 0} (disk_of : D → Disk) (course : Course) (summary : RelaySummary) (old new : EndpointValue D) (first second controlled common : WireState)
+between-new : {D : Type 0} (disk_of : D → Disk) (course : Course) (summary : RelaySummary) (old new : EndpointValue D)
+    (first second controlled common : WireState)
     → first ≡ new_wire → second ≡ new_wire
     → IsRun disk_of course (relay_of old first second empty_lane empty_lane) (Ok summary) new controlled common
     → Relays disk_of course old summary new
 between-new disk_of course summary old new first second controlled common one other relayed = record {
   controlled = controlled;
   common = common;
-  relayed = subst (λ (w : WireState). IsRun disk_of course (relay_of old w new_wire empty_lane empty_lane) (Ok summary) new controlled common) one
-      (subst (λ (w : WireState). IsRun disk_of course (relay_of old first w empty_lane empty_lane) (Ok summary) new controlled common) other relayed);
+  relayed = subst (λ (w : WireState).
+      IsRun disk_of course (relay_of old w new_wire empty_lane empty_lane) (Ok summary) new controlled common) one
+      (subst (λ (w : WireState). IsRun disk_of course (relay_of old first w empty_lane empty_lane) (Ok summary) new
+      controlled common) other relayed);
 }
 
 -- ---- how a relay ends that is not done
 
-ends-new : {D : Type 0} (disk_of : D → Disk) (course : Course) (old new : EndpointValue D) (first second controlled common : WireState) (failure : Failure)
-    → first ≡ new_wire → second ≡ new_wire → EndsRelay disk_of course (relay_of old first second empty_lane empty_lane) failure new controlled common
+ends-new : {D : Type 0} (disk_of : D → Disk) (course : Course) (old new : EndpointValue D)
+    (first second controlled common : WireState) (failure : Failure)
+    → first ≡ new_wire → second ≡ new_wire
+    → EndsRelay disk_of course (relay_of old first second empty_lane empty_lane) failure new controlled common
     → StopsRelay disk_of course old failure new
 ends-new disk_of course old new first second controlled common failure one other ends = record {
   controlled = controlled;
   common = common;
-  ends = subst (λ (w : WireState). EndsRelay disk_of course (relay_of old w new_wire empty_lane empty_lane) failure new controlled common) one
-      (subst (λ (w : WireState). EndsRelay disk_of course (relay_of old first w empty_lane empty_lane) failure new controlled common) other ends);
+  ends = subst (λ (w : WireState).
+      EndsRelay disk_of course (relay_of old w new_wire empty_lane empty_lane) failure new controlled common) one
+      (subst (λ (w : WireState). EndsRelay disk_of course (relay_of old first w empty_lane empty_lane) failure new
+      controlled common) other ends);
 }
 
 refill-behind : (fault : RefillFault) → IsAfterAddresses (failure_of_refill fault)
@@ -59,9 +68,12 @@ refill-behind refill.GenerationsSpent = tt
 refill-behind refill.Disk = tt
 
 -- how a relay ends
-ends-behind : {D : Type 0} (disk_of : D → Disk) (course : Course) (old : Relay D) (failure : Failure) (endpoint : EndpointValue D)
-    (controlled common : WireState) → EndsRelay disk_of course old failure endpoint controlled common → IsAfterAddresses failure
-ends-behind disk_of course old failure endpoint controlled common (inl ends) = subst IsAfterAddresses (sym ends.1) (refill-behind ends.0)
+ends-behind : {D : Type 0} (disk_of : D → Disk) (course : Course) (old : Relay D) (failure : Failure)
+    (endpoint : EndpointValue D)
+    (controlled common : WireState) → EndsRelay disk_of course old failure endpoint controlled common
+    → IsAfterAddresses failure
+ends-behind disk_of course old failure endpoint controlled common (inl ends) =
+    subst IsAfterAddresses (sym ends.1) (refill-behind ends.0)
 ends-behind disk_of course old failure endpoint controlled common (inr ends) = subst IsAfterAddresses (sym ends.0) tt
 
 -- such failures are ones of a relay, and no wrong usage
@@ -96,7 +108,8 @@ behind-no-usage failures.Commands is = absurd is
 behind-no-usage (failures.Input fault) is = absurd is
 
 -- where the addresses are ones, and what fails comes after them, no fault of an address is reported, and none is there
-no-address : {T U : Type 0} (Holds : AddressFault → Type 0) (order : List AddressFault) (before : Result T AddressFault) (value : T)
+no-address : {T U : Type 0} (Holds : AddressFault → Type 0) (order : List AddressFault)
+    (before : Result T AddressFault) (value : T)
     (after : Result U Failure) → before ≡ Ok value → IfErr after IsAfterAddresses
     → ((fault : AddressFault) → (before ≡ Err fault) ↔ IsFirst Holds order fault)
     → (fault : AddressFault) → (after ≡ Err (Address fault)) ↔ IsFirst Holds order fault
@@ -106,8 +119,10 @@ no-address {T} {U} Holds order before value after was behind exactly fault = (
 )
 
 -- the fault of an address that is handed on in a failure
-address-handed : {T U : Type 0} (Holds : AddressFault → Type 0) (order : List AddressFault) (before : Result T AddressFault)
-    (after : Result U Failure) (error : AddressFault) (failure : Failure) → before ≡ Err error → after ≡ Err failure → failure ≡ Address error
+address-handed : {T U : Type 0} (Holds : AddressFault → Type 0) (order : List AddressFault)
+    (before : Result T AddressFault)
+    (after : Result U Failure) (error : AddressFault) (failure : Failure) → before ≡ Err error → after ≡ Err failure
+    → failure ≡ Address error
     → ((fault : AddressFault) → (before ≡ Err fault) ↔ IsFirst Holds order fault)
     → (fault : AddressFault) → (after ≡ Err (Address fault)) ↔ IsFirst Holds order fault
 address-handed Holds order before after error failure was is same exactly fault = (
@@ -131,13 +146,15 @@ wire-behind failure (inl memory) = subst IsAfterAddresses (sym memory) tt
 wire-behind failure (inr (inl wire)) = subst IsAfterAddresses (sym wire) tt
 wire-behind failure (inr (inr control)) = subst IsAfterAddresses (sym control) tt
 
-module _ {D W : Type 0} (disk_of : D → Disk) (contents : W → Option (List ℕ)) (has_failed : W → Bool) (course : Course) (old : EndpointValue D) (before : W) where
+module _ {D W : Type 0} (disk_of : D → Disk) (contents : W → Option (List ℕ)) (has_failed : W → Bool) (course : Course)
+    (old : EndpointValue D) (before : W) where
   -- without both wires, or the control socket, nothing is done
   pub no-wire : (fault failure : Failure) (result : Result Status Failure) → result ≡ Err failure → failure ≡ fault
       → IsOfSocket fault → DoesRelay disk_of contents has_failed course old before result old before
   no-wire fault failure result is same names =
       let named = subst IsOfSocket (sym same) names in
-      subst (λ (r : Result Status Failure). DoesRelay disk_of contents has_failed course old before r old before) (sym is) (record {
+      subst (λ (r : Result Status Failure). DoesRelay disk_of contents has_failed course old before r old before)
+      (sym is) (record {
         printed = tt;
         ended = inl (named, refl);
         failed = wire-behind failure named;
@@ -145,82 +162,107 @@ module _ {D W : Type 0} (disk_of : D → Disk) (contents : W → Option (List �
         broken = λ output. absurd (socket-no-output failure named output);
       })
 
-  pub frames-relayed : (new : EndpointValue D) (after : W) (first second controlled common : WireState) (result : Result Status Failure)
+  pub frames-relayed : (new : EndpointValue D) (after : W) (first second controlled common : WireState)
+      (result : Result Status Failure)
       → first ≡ new_wire → second ≡ new_wire
       → IfOk result (λ status. (summary : RelaySummary)
       × IsRun disk_of course (relay_of old first second empty_lane empty_lane) (Ok summary) new controlled common
       × Appends (contents before) (contents after) (relay_line summary) × (status ≡ ends.Done))
-      → IfErr result (λ failure. EndsRelay disk_of course (relay_of old first second empty_lane empty_lane) failure new controlled common)
+      → IfErr result (λ failure.
+      EndsRelay disk_of course (relay_of old first second empty_lane empty_lane) failure new controlled common)
       → IfErr result (λ failure. failure ≢ failures.Output → after ≡ before)
       → IfErr result (λ failure. failure ≡ failures.Output → has_failed after ≡ true)
       → DoesRelay disk_of contents has_failed course old before result new after
-  frames-relayed new after first second controlled common (Ok status) one other (summary, relayed, printed, is) ended silent broken = record {
-    printed = (summary, between-new disk_of course summary old new first second controlled common one other relayed, printed, is);
-    ended = tt;
-    failed = tt;
-    silent = tt;
-    broken = tt;
-  }
+  frames-relayed new after first second controlled common (Ok status) one other (summary, relayed, printed, is) ended
+      silent broken = record {
+        printed = (
+          summary,
+          between-new disk_of course summary old new first second controlled common one other relayed,
+          printed,
+          is,
+        );
+        ended = tt;
+        failed = tt;
+        silent = tt;
+        broken = tt;
+      }
   frames-relayed new after first second controlled common (Err failure) one other relayed ended silent broken = record {
     printed = tt;
     ended = inr (ends-new disk_of course old new first second controlled common failure one other ended);
-    failed = ends-behind disk_of course (relay_of old first second empty_lane empty_lane) failure new controlled common ended;
+    failed = ends-behind disk_of course (relay_of old first second empty_lane empty_lane) failure new controlled
+        common ended;
     silent = silent;
     broken = broken;
   }
 
-module _ {D W : Type 0} (disk_of : D → Disk) (contents : W → Option (List ℕ)) (has_failed : W → Bool) (turns : ℕ) (old : EndpointValue D) (before : W) where
+module _ {D W : Type 0} (disk_of : D → Disk) (contents : W → Option (List ℕ)) (has_failed : W → Bool) (turns : ℕ)
+    (old : EndpointValue D) (before : W) where
   -- one that is attended, between two wires that are new
-  pub frames-attended : (new : EndpointValue D) (after : W) (first second controlled common : WireState) (result : Result Status Failure)
+  pub frames-attended : (new : EndpointValue D) (after : W) (first second controlled common : WireState)
+      (result : Result Status Failure)
       → first ≡ new_wire → second ≡ new_wire
       → IfOk result (λ status. (summary : RelaySummary) × (events : List DeskEvent)
-      × IsAttended disk_of turns (relay_of old first second empty_lane empty_lane) events (Ok summary) new controlled common
+      × IsAttended disk_of turns (relay_of old first second empty_lane empty_lane) events (Ok summary) new
+      controlled common
       × Appends (contents before) (contents after) (relay_line summary) × (status ≡ ends.Done))
-      → IfErr result (λ failure. EndsRelay disk_of (attended turns) (relay_of old first second empty_lane empty_lane) failure new controlled common)
+      → IfErr result (λ failure. EndsRelay disk_of (attended turns) (relay_of old first second empty_lane empty_lane)
+      failure new controlled common)
       → IfErr result (λ failure. failure ≢ failures.Output → after ≡ before)
       → IfErr result (λ failure. failure ≡ failures.Output → has_failed after ≡ true)
       → DoesRelay disk_of contents has_failed (attended turns) old before result new after
-  frames-attended new after first second controlled common (Ok status) one other (summary, events, attends, printed, is) ended silent broken =
-      frames-relayed disk_of contents has_failed (attended turns) old before new after first second controlled common (Ok status) one other
+  frames-attended new after first second controlled common (Ok status) one other (summary, events, attends, printed, is)
+      ended silent broken =
+      frames-relayed disk_of contents has_failed (attended turns) old before new after first second controlled common
+      (Ok status) one other
       (summary, (events, attends), printed, is) ended silent broken
   frames-attended new after first second controlled common (Err failure) one other attends ended silent broken =
-      frames-relayed disk_of contents has_failed (attended turns) old before new after first second controlled common (Err failure) one other
+      frames-relayed disk_of contents has_failed (attended turns) old before new after first second controlled common
+      (Err failure) one other
       tt ended silent broken
 
 -- ---- what `relay` comes to
 
-pub record RelayedIn {F W : Type 0} (file : F → FileState) (contents : W → Option (List ℕ)) (has_failed : W → Bool) (controlled common : WireEnds)
+pub record RelayedIn {F W : Type 0} (file : F → FileState) (contents : W → Option (List ℕ)) (has_failed : W → Bool)
+    (controlled common : WireEnds)
     (course : Course) (before : W) (result : Result Status Failure) (after : W) : Type 0 where
-  pub printed : IfOk result (λ status. (summary : RelaySummary) × ComesTo file course summary × SpellsBoth controlled common
+  pub printed : IfOk result
+      (λ status. (summary : RelaySummary) × ComesTo file course summary × SpellsBoth controlled common
       × Appends (contents before) (contents after) (relay_line summary) × (status ≡ ends.Done))
-  pub address : (fault : AddressFault) → (result ≡ Err (Address fault)) ↔ IsFirst (AddressFaultHolds controlled common) address_faults fault
+  pub address : (fault : AddressFault)
+      → (result ≡ Err (Address fault)) ↔ IsFirst (AddressFaultHolds controlled common) address_faults fault
   pub usage : IfErr result (λ failure. failure_status failure ≡ ends.Usage
       → ((fault : AddressFault) × AddressFaultHolds controlled common fault) × (after ≡ before))
   pub ended : IfErr result (λ failure. ((fault : AddressFault) × (failure ≡ Address fault)
-      × IsFirst (AddressFaultHolds controlled common) address_faults fault) ⊎ OpeningFails file failure ⊎ RelayEndsIn file course failure)
+      × IsFirst (AddressFaultHolds controlled common) address_faults fault) ⊎ OpeningFails file failure
+      ⊎ RelayEndsIn file course failure)
   pub names : IfErr result IsOfRelay
   pub silent : IfErr result (λ failure. failure ≢ failures.Output → after ≡ before)
   pub broken : IfErr result (λ failure. failure ≡ failures.Output → has_failed after ≡ true)
 
-disk-behind : {F : Type 0} (file : F → FileState) (failure : Failure) → OpeningFails file failure → IsAfterAddresses failure
+disk-behind : {F : Type 0} (file : F → FileState) (failure : Failure) → OpeningFails file failure
+    → IsAfterAddresses failure
 disk-behind file failure fails = elim (of-opening file failure fails) [
   | inl memory ↦ subst IsAfterAddresses (sym memory) tt
   | inr fault ↦ subst IsAfterAddresses (sym fault.1) tt
 ]
 
-module _ {F W T : Type 0} (file : F → FileState) (contents : W → Option (List ℕ)) (has_failed : W → Bool) (controlled common : WireEnds) (course : Course)
+module _ {F W T : Type 0} (file : F → FileState) (contents : W → Option (List ℕ)) (has_failed : W → Bool)
+    (controlled common : WireEnds) (course : Course)
     (before : W) (addresses : Result T AddressFault)
-    (exactly : (fault : AddressFault) → (addresses ≡ Err fault) ↔ IsFirst (AddressFaultHolds controlled common) address_faults fault) where
+    (exactly : (fault : AddressFault)
+    → (addresses ≡ Err fault) ↔ IsFirst (AddressFaultHolds controlled common) address_faults fault) where
   abbrev Comes : Result Status Failure → W → Type 0
   Comes result after = RelayedIn file contents has_failed controlled common course before result after
 
-  pub refused-in : (fault : AddressFault) (failure : Failure) (result : Result Status Failure) → addresses ≡ Err fault → result ≡ Err failure
+  pub refused-in : (fault : AddressFault) (failure : Failure) (result : Result Status Failure) → addresses ≡ Err fault
+      → result ≡ Err failure
       → failure ≡ Address fault → RelayedIn file contents has_failed controlled common course before result before
   refused-in fault failure result was is same =
       let first = (exactly fault).0 was in
       subst (λ (r : Result Status Failure). Comes r before) (sym is) (record {
         printed = tt;
-        address = address-handed {U = Status} (AddressFaultHolds controlled common) address_faults addresses (Err failure) fault failure was refl same exactly;
+        address = address-handed {U = Status} (AddressFaultHolds controlled common) address_faults addresses
+            (Err failure) fault failure was refl same exactly;
         usage = λ usage. ((fault, first-holds (AddressFaultHolds controlled common) address_faults fault first), refl);
         ended = inl (fault, same, first);
         names = subst IsOfRelay (sym same) tt;
@@ -228,13 +270,15 @@ module _ {F W T : Type 0} (file : F → FileState) (contents : W → Option (Lis
         broken = λ output. absurd (let e = sym same ∙ output in cc);
       })
 
-  none-relayed-in : (value : T) (after : W) (failure : Failure) → addresses ≡ Ok value → OpeningFails file failure → after ≡ before
+  none-relayed-in : (value : T) (after : W) (failure : Failure) → addresses ≡ Ok value → OpeningFails file failure
+      → after ≡ before
       → Comes (Err failure) after
   none-relayed-in value after failure was fails silent =
       let behind = disk-behind file failure fails in
       record {
         printed = tt;
-        address = no-address {U = Status} (AddressFaultHolds controlled common) address_faults addresses value (Err failure) was behind exactly;
+        address = no-address {U = Status} (AddressFaultHolds controlled common) address_faults addresses value
+            (Err failure) was behind exactly;
         usage = λ usage. absurd (behind-no-usage failure behind usage);
         ended = inr (inl fails);
         names = behind-of-relay failure behind;
@@ -242,11 +286,13 @@ module _ {F W T : Type 0} (file : F → FileState) (contents : W → Option (Lis
         broken = λ output. absurd (disk-no-output failure (of-opening file failure fails) output);
       }
 
-  pub relayed-in : (value : T) (after : W) (result : Result Status Failure) → addresses ≡ Ok value → SpellsBoth controlled common
+  pub relayed-in : (value : T) (after : W) (result : Result Status Failure) → addresses ≡ Ok value
+      → SpellsBoth controlled common
       → IsRunIn file (DoesRelay (disk_in_file file) contents has_failed course) before result after
       → RelayedIn file contents has_failed controlled common course before result after
   relayed-in value after result was spelled (inl none) =
-      subst (λ (r : Result Status Failure). Comes r after) (sym none.is) (none-relayed-in value after none.failure was none.fails none.silent)
+      subst (λ (r : Result Status Failure). Comes r after) (sym none.is)
+      (none-relayed-in value after none.failure was none.fails none.silent)
   relayed-in value after (Ok status) was spelled (inr run) =
       let (summary, relays, printed, is) = run.does.printed in
       record {
@@ -264,7 +310,8 @@ module _ {F W T : Type 0} (file : F → FileState) (contents : W → Option (Lis
           printed,
           is,
         );
-        address = no-address {U = Status} (AddressFaultHolds controlled common) address_faults addresses value (Ok status) was tt exactly;
+        address = no-address {U = Status} (AddressFaultHolds controlled common) address_faults addresses value
+            (Ok status) was tt exactly;
         usage = tt;
         ended = tt;
         names = tt;
@@ -273,7 +320,8 @@ module _ {F W T : Type 0} (file : F → FileState) (contents : W → Option (Lis
       }
   relayed-in value after (Err failure) was spelled (inr run) = record {
     printed = tt;
-    address = no-address {U = Status} (AddressFaultHolds controlled common) address_faults addresses value (Err failure) was run.does.failed exactly;
+    address = no-address {U = Status} (AddressFaultHolds controlled common) address_faults addresses value (Err failure)
+        was run.does.failed exactly;
     usage = λ usage. absurd (behind-no-usage failure run.does.failed usage);
     ended = inr (inr (record { old = run.old; new = run.new; endpoint = run.endpoint; ends = run.does.ended }));
     names = behind-of-relay failure run.does.failed;

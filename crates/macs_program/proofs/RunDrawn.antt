@@ -1,5 +1,6 @@
 -- All that is to be drawn from words on whole runs.
-use Rattle.std.proofs.Common.{◌≡◌, ◌⊎◌, ◌++◌, inl, inr, ℕ, Bool, List, Option, None, length, refl, subst, Ok, ◌*◌, ◌∙◌, ap, arith}
+use Rattle.std.proofs.Common.{◌≡◌, ◌⊎◌, ◌++◌, inl, inr, ℕ, Bool, List, Option, None, length, refl, subst, Ok, ◌*◌, ◌∙◌}
+use Rattle.std.proofs.Common.{ap, arith}
 use Rattle.std.specs.Prelude.{option_map, string_bytes}
 use Rattle.std.specs.Borrow.{Bor}
 use Rattle.std.specs.Io.KnownBytes.{Appends}
@@ -66,7 +67,8 @@ seen-in file Spaced at =
     let same : 512 * (8 * at) ≡ 4096 * at = omega arith in ap (λ (p : ℕ). values_from file.seen p 512) same
 
 passed : {F : Type 0} (file : F → FileState) (side : Side) (is_all : Bool) (before after : Option (List ℕ))
-    (status : Status) → (summary : Summary) × PassesIn file side summary × Appends before after (summary_line side summary)
+    (status : Status)
+    → (summary : Summary) × PassesIn file side summary × Appends before after (summary_line side summary)
     × (status ≡ pass_status is_all summary)
     → (summary : Summary) × (old : EndpointValue (FileDisk F)) × (new : EndpointValue (FileDisk F))
     × IsEndpointIn file old × (source : SourceState) × (left : SourceState) × (sink : SinkState) × (sunk : SinkState)
@@ -260,7 +262,8 @@ of_check failure (inr (inl unprinted)) = inr (inl unprinted)
 of_check failure (inr (inr (octets, inl memory))) = inr (inr (inl memory))
 of_check failure (inr (inr (octets, inr (said, is, holds)))) = inr (inr (inr (octets, said, is, holds)))
 
-passing : {D : Type 0} (disk_of : D → Disk) (side : Side) (old : EndpointValue D) (failure : Failure) (new : EndpointValue D)
+passing : {D : Type 0} (disk_of : D → Disk) (side : Side) (old : EndpointValue D) (failure : Failure)
+    (new : EndpointValue D)
     → PassEnds disk_of side old failure new
     → (((failure ≡ failures.Memory) ⊎ (failure ≡ failures.Capture)) × (new ≡ old))
     ⊎ ((source : SourceState) × (left : SourceState) × (sink : SinkState) × (sunk : SinkState)
@@ -290,7 +293,8 @@ fail-words file = record {
   of_validate = λ path from to is_all input before after failure is. is;
   of_judging = λ path from to is_all input before after failure is. is;
   judging = λ failure is. (is.old, is.new, is.endpoint, judging (disk_in_file file) is.old failure is.new is.ends);
-  passing = λ side failure is. (is.old, is.new, is.endpoint, passing (disk_in_file file) side is.old failure is.new is.ends);
+  passing =
+      λ side failure is. (is.old, is.new, is.endpoint, passing (disk_in_file file) side is.old failure is.new is.ends);
   of_relay = λ path controlled common running input before after failure is. is;
   of_ask = λ path asked input before after failure is. of_asking failure is;
   of_key = λ is_long input before after failure is. of_key failure is;

@@ -15,7 +15,8 @@ spells-decoded line n octets decoded =
     (omega (arith, digits, parts.2), whole)
 
 -- a line that spells so many octets decodes to them at that size
-decode_sized-spelled : (line : List ℕ) (n : ℕ) (octets : List ℕ) → SpellsSized line n octets → decode_sized line n ≡ Ok octets
+decode_sized-spelled : (line : List ℕ) (n : ℕ) (octets : List ℕ) → SpellsSized line n octets
+    → decode_sized line n ≡ Ok octets
 decode_sized-spelled line n octets spelled =
     let parts = decode_of-ok line octets spelled.1 in
     decode_sized-twice line n (omega (arith, spelled.0, parts.2)) ∙ spelled.1
@@ -31,7 +32,8 @@ spelled-sized line n read is = rw is (go (decode_sized line n) refl)
     go (Err fault) e = λ octets spelled. let d = decode_sized-spelled line n octets spelled in cc
 
 -- a line of neither length is no key
-pub no-key : (line : List ℕ) → ((octets : List ℕ) → ¬ SpellsSized line 16 octets) → ((octets : List ℕ) → ¬ SpellsSized line 32 octets)
+pub no-key : (line : List ℕ) → ((octets : List ℕ) → ¬ SpellsSized line 16 octets)
+    → ((octets : List ℕ) → ¬ SpellsSized line 32 octets)
     → (key : List ℕ) → ¬ SpellsKey line key
 no-key line short long key (inl size, spelled) = short key (size, spelled)
 no-key line short long key (inr size, spelled) = long key (size, spelled)

@@ -1,5 +1,6 @@
 -- All that is to be drawn from words on texts.
-use Rattle.std.proofs.Common.{◌≡◌, ◌≢◌, ◌<◌, ◌+◌, ◌++◌, ◌∷◌, [], ◌∙◌, ℕ, Bool, true, false, List, Option, Some, None, refl, sym, ap, append_assoc}
+use Rattle.std.proofs.Common.{◌≡◌, ◌≢◌, ◌<◌, ◌+◌, ◌++◌, ◌∷◌, [], ◌∙◌, ℕ, Bool, true, false, List, Option, Some, None}
+use Rattle.std.proofs.Common.{refl, sym, ap, append_assoc}
 use Rattle.std.specs.Prelude.{◌==◌, codes, drop, if◌then◌else◌, nat_lt}
 use Rattle.std.proofs.lemmas.Bool.{lt-ltb, ne_eqb}
 use Rattle.std.proofs.Common.{arith}
@@ -53,7 +54,8 @@ line-texts = record {
   kept = λ at. kept_as at (codes " ok");
   refused = λ at r. refused_as at (codes " refused ") r;
   names = refl;
-  more = λ at outcome outcomes. ap (λ (l : List ℕ). l ++ outcome_lines (at + 1) outcomes) (sym (append-nil (outcome_line at outcome)));
+  more = λ at outcome outcomes.
+      ap (λ (l : List ℕ). l ++ outcome_lines (at + 1) outcomes) (sym (append-nil (outcome_line at outcome)));
   valid = λ an pn plain. refl;
   answers = λ an pn plain fault. (refl, refl, refl, refl);
   refusals = refl;
@@ -207,7 +209,8 @@ show-texts = record {
   no_tx = λ s an is. no_tx an (s.config.tx an) (s.next an) is;
   unnumbered_tx = λ s an is. unnumbered_tx an (s.config.tx an) (s.next an) is;
   channel = λ s sci. refl;
-  rx = λ s sci an sa numbers is same. rx_at sci an (Some sa) (s.config.rx sci an) (Some numbers) (s.numbers sci an) is same;
+  rx = λ s sci an sa numbers is same.
+      rx_at sci an (Some sa) (s.config.rx sci an) (Some numbers) (s.numbers sci an) is same;
   no_rx = λ s sci an is. no_rx sci an (s.config.rx sci an) (s.numbers sci an) is;
   unnumbered_rx = λ s sci an is. unnumbered_rx sci an (s.config.rx sci an) (s.numbers sci an) is;
   spent = λ config. refl;

@@ -1,5 +1,7 @@
 -- The lines of a text, as they are cut off one by one.
-use Rattle.std.proofs.Common.{◌≡◌, ◌≢◌, ℕ, zero, suc, ◌+◌, ◌-◌, ◌<◌, ◌≤◌, ◌==◌, Bool, true, false, List, [], ◌∷◌, length, take, drop, slice_index, slice_index_or, if◌then◌else◌, ◌++◌, nat_lt, Option, Some, None, length-append, length-drop, length-take, refl, ap, ◌∙◌, arith}
+use Rattle.std.proofs.Common.{◌≡◌, ◌≢◌, ℕ, zero, suc, ◌+◌, ◌-◌, ◌<◌, ◌≤◌, ◌==◌, Bool, true, false, List, [], ◌∷◌}
+use Rattle.std.proofs.Common.{length, take, drop, slice_index, slice_index_or, if◌then◌else◌, ◌++◌, nat_lt, Option}
+use Rattle.std.proofs.Common.{Some, None, length-append, length-drop, length-take, refl, ap, ◌∙◌, arith}
 use Rattle.std.specs.Prelude.{Contains}
 use Rattle.std.specs.List.{position, position_or_len}
 use Rattle.std.proofs.Math.Seq.{take-append_seam}
@@ -88,7 +90,8 @@ count-other octet rest h = rw h refl
 abbrev CutsAtFeed : List ℕ → Type 0
 CutsAtFeed text = lines text ≡ take (count text) text ∷ lines (drop (count text + 1) text)
 
-cuts-octet : (octet : ℕ) (rest : List ℕ) → count (octet ∷ rest) < length (octet ∷ rest) → (count rest < length rest → CutsAtFeed rest) → CutsAtFeed (octet ∷ rest)
+cuts-octet : (octet : ℕ) (rest : List ℕ) → count (octet ∷ rest) < length (octet ∷ rest)
+    → (count rest < length rest → CutsAtFeed rest) → CutsAtFeed (octet ∷ rest)
 cuts-octet octet rest within below = go (is_feed octet) refl
   where
     go : (feed : Bool) → is_feed octet ≡ feed → CutsAtFeed (octet ∷ rest)
@@ -108,7 +111,8 @@ one_line-octet : (octet : ℕ) (rest : List ℕ) → length (octet ∷ rest) ≤
     → (0 < length rest → length rest ≤ count rest → lines rest ≡ rest ∷ []) → lines (octet ∷ rest) ≡ (octet ∷ rest) ∷ []
 one_line-octet octet rest none below = go (is_feed octet) refl
   where
-    last : (others : List ℕ) → (0 < length others → lines others ≡ others ∷ []) → led_by octet (lines others) ≡ (octet ∷ others) ∷ []
+    last : (others : List ℕ) → (0 < length others → lines others ≡ others ∷ [])
+        → led_by octet (lines others) ≡ (octet ∷ others) ∷ []
     last [] h = rw lines-nil refl
     last (next ∷ others) h = rw (h (omega arith)) refl
 
@@ -130,7 +134,8 @@ pub lines-cut : (text : List ℕ) (end : ℕ) → position is_feed text ≡ Some
     → lines text ≡ take end text ∷ lines (take (length text - (end + 1)) (drop (end + 1) text))
 lines-cut text end found = go (nat_lt (count text) (length text)) refl found
   where
-    go : (within : Bool) → nat_lt (count text) (length text) ≡ within → (if within then Some (count text) else None) ≡ Some end
+    go : (within : Bool) → nat_lt (count text) (length text) ≡ within
+        → (if within then Some (count text) else None) ≡ Some end
         → lines text ≡ take end text ∷ lines (take (length text - (end + 1)) (drop (end + 1) text))
     go true within same =
         let place : count text ≡ end = cc in
@@ -144,7 +149,8 @@ lines-cut text end found = go (nat_lt (count text) (length text)) refl found
 pub lines-uncut : (text : List ℕ) → 0 < length text → position is_feed text ≡ None → lines text ≡ text ∷ lines []
 lines-uncut text some none = rw lines-nil (lines-no_feed text some (go (nat_lt (count text) (length text)) refl none))
   where
-    go : (within : Bool) → nat_lt (count text) (length text) ≡ within → (if within then Some (count text) else None) ≡ None
+    go : (within : Bool) → nat_lt (count text) (length text) ≡ within
+        → (if within then Some (count text) else None) ≡ None
         → length text ≤ count text
     go true within same = cc
     go false within same = ltb-false _ _ within
@@ -160,13 +166,15 @@ length-lines text some = go (position is_feed text) refl
 -- ---- four lines
 
 -- a text has so many lines more than what is after its first four
-length-cut : (text second third fourth rest a b d e : List ℕ) → lines text ≡ a ∷ lines second → lines second ≡ b ∷ lines third
+length-cut : (text second third fourth rest a b d e : List ℕ) → lines text ≡ a ∷ lines second
+    → lines second ≡ b ∷ lines third
     → lines third ≡ d ∷ lines fourth → lines fourth ≡ e ∷ lines rest → length (lines text) ≡ 4 + length (lines rest)
 length-cut text second third fourth rest a b d e one two three four =
     omega (arith, ap length one, ap length two, ap length three, ap length four)
 
 -- a text with something after its first four lines has more
-pub more_than_four : (text second third fourth rest a b d e : List ℕ) → lines text ≡ a ∷ lines second → lines second ≡ b ∷ lines third
+pub more_than_four : (text second third fourth rest a b d e : List ℕ) → lines text ≡ a ∷ lines second
+    → lines second ≡ b ∷ lines third
     → lines third ≡ d ∷ lines fourth → lines fourth ≡ e ∷ lines rest → 0 < length rest → length (lines text) ≢ 4
 more_than_four text second third fourth rest a b d e one two three four some =
     let behind = length-lines rest some in
@@ -174,7 +182,8 @@ more_than_four text second third fourth rest a b d e one two three four some =
     λ is. omega (arith, is)
 
 -- a text with nothing after its first four lines has four
-pub exactly_four : (text second third fourth rest a b d e : List ℕ) → lines text ≡ a ∷ lines second → lines second ≡ b ∷ lines third
+pub exactly_four : (text second third fourth rest a b d e : List ℕ) → lines text ≡ a ∷ lines second
+    → lines second ≡ b ∷ lines third
     → lines third ≡ d ∷ lines fourth → lines fourth ≡ e ∷ lines rest → length rest ≡ 0 → length (lines text) ≡ 4
 exactly_four text second third fourth rest a b d e one two three four none =
     let all = length-cut text second third fourth rest a b d e one two three four in

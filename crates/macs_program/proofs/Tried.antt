@@ -1,5 +1,6 @@
 -- Commands that were given to an endpoint in memory, and how that fails.
-use Rattle.std.proofs.Common.{◌≡◌, ◌⊎◌, ◌∙◌, ◌+◌, ◌<◌, ◌≤◌, ◌++◌, inl, inr, ℕ, suc, Bool, if◌then◌else◌, is_some, List, [], ◌∷◌, length, take, drop, get_or, Option, Some, append_assoc, ap, subst, sym, arith}
+use Rattle.std.proofs.Common.{◌≡◌, ◌⊎◌, ◌∙◌, ◌+◌, ◌<◌, ◌≤◌, ◌++◌, inl, inr, ℕ, suc, Bool, if◌then◌else◌, is_some, List}
+use Rattle.std.proofs.Common.{[], ◌∷◌, length, take, drop, get_or, Option, Some, append_assoc, ap, subst, sym, arith}
 use Rattle.std.specs.Borrow.{Bor}
 use Rattle.clap.specs.Words.{Text}
 use Rattle.std.proofs.Math.Seq.{drop-cons}
@@ -15,7 +16,8 @@ use Rattle.macs_journal.specs.declared.fault.JournalFault.TheVariants as journal
 use Rattle.macs_program.specs.Applying.{Applies, SaysCommands, answer_of, outcomes_status}
 use Rattle.macs_program.specs.Checking.{CheckEnds}
 use Rattle.macs_program.specs.Copying.{CopyFails}
-use Rattle.macs_program.specs.Trying.{EndsOn, EndsTrial, StopsAt, TrialEnds, TrialFails, failure_in_memory, would_line, would_lines}
+use Rattle.macs_program.specs.Trying.{EndsOn, EndsTrial, StopsAt, TrialEnds, TrialFails, failure_in_memory, would_line}
+use Rattle.macs_program.specs.Trying.{would_lines}
 use Rattle.macs_program.specs.declared.failure.DiskFault.{DiskFault}
 use Rattle.macs_program.specs.declared.failure.DiskFault.TheVariants as disk
 use Rattle.macs_program.specs.declared.failure.Failure.{Failure}
@@ -27,16 +29,19 @@ use Rattle.macs_program.proofs.Failures.{IsOfDisk, of-file}
 
 -- ---- one command more
 
-pub one-tried : {D : Type 0} (disk_of : D → Disk) (old between new : EndpointValue D) (commands : List Command) (i : ℕ) (d command : Command)
+pub one-tried : {D : Type 0} (disk_of : D → Disk) (old between new : EndpointValue D) (commands : List Command) (i : ℕ)
+    (d command : Command)
     (outcomes : List (Option Refusal)) (outcome : Option Refusal) → i < length commands → command ≡ get_or commands i d
-    → Applies disk_of old (take i commands) outcomes between → IsCall disk_of between (Commands command) (Ran (answer_of outcome)) new
+    → Applies disk_of old (take i commands) outcomes between
+    → IsCall disk_of between (Commands command) (Ran (answer_of outcome)) new
     → Applies disk_of old (take (i + 1) commands) (outcomes ++ outcome ∷ []) new
 one-tried disk_of old between new commands i d command outcomes outcome within next so_far call =
     subst (λ (all : List Command). Applies disk_of old all (outcomes ++ outcome ∷ []) new)
     (ap (λ (last : Command). take i commands ++ last ∷ []) next ∙ sym (take_more commands i d within))
     (applies-more disk_of old between new (take i commands) outcomes command outcome so_far call)
 
-pub stopped-at : {D : Type 0} (disk_of : D → Disk) (old between : EndpointValue D) (commands : List Command) (i : ℕ) (d command : Command)
+pub stopped-at : {D : Type 0} (disk_of : D → Disk) (old between : EndpointValue D) (commands : List Command) (i : ℕ)
+    (d command : Command)
     (outcomes : List (Option Refusal)) (failure : Failure) → i < length commands → command ≡ get_or commands i d
     → Applies disk_of old (take i commands) outcomes between → EndsTrial disk_of between command failure
     → TrialEnds disk_of old commands failure
@@ -44,7 +49,8 @@ stopped-at disk_of old between commands i d command outcomes failure within next
   done = take i commands;
   next = command;
   left = drop (i + 1) commands;
-  all = parted commands i d within ∙ ap (λ (here : Command). take i commands ++ here ∷ drop (i + 1) commands) (sym next);
+  all = parted commands i d within
+      ∙ ap (λ (here : Command). take i commands ++ here ∷ drop (i + 1) commands) (sym next);
   outcomes = outcomes;
   between = between;
   applied = so_far;
@@ -53,7 +59,8 @@ stopped-at disk_of old between commands i d command outcomes failure within next
 
 -- ---- one line more
 
-pub line-more : (text new one : List ℕ) (i : ℕ) (outcomes : List (Option Refusal)) (d outcome : Option Refusal) (whole : List ℕ)
+pub line-more : (text new one : List ℕ) (i : ℕ) (outcomes : List (Option Refusal)) (d outcome : Option Refusal)
+    (whole : List ℕ)
     → i < length outcomes → outcome ≡ get_or outcomes i d → one ≡ would_line (i + 1) outcome → new ≡ text ++ one
     → text ++ would_lines (i + 1) (drop i outcomes) ≡ whole
     → new ++ would_lines (i + 1 + 1) (drop (i + 1) outcomes) ≡ whole
@@ -74,12 +81,16 @@ lines-end text i outcomes whole behind so_far =
     sym (append-nil text) ∙ ap (λ (os : List (Option Refusal)). text ++ would_lines (i + 1) os) (sym none) ∙ so_far
 
 -- how the run ends, with one outcome more
-pub status-next : (outcomes : List (Option Refusal)) (i : ℕ) (d outcome : Option Refusal) (status new : Status) (refused : Bool)
-    → i < length outcomes → outcome ≡ get_or outcomes i d → refused ≡ is_some outcome → new ≡ (if refused then Refused else status)
+pub status-next : (outcomes : List (Option Refusal)) (i : ℕ) (d outcome : Option Refusal) (status new : Status)
+    (refused : Bool)
+    → i < length outcomes → outcome ≡ get_or outcomes i d → refused ≡ is_some outcome
+    → new ≡ (if refused then Refused else status)
     → status ≡ outcomes_status (take i outcomes) → new ≡ outcomes_status (take (i + 1) outcomes)
 status-next outcomes i d outcome status new refused within next is new_is so_far =
-    new_is ∙ ap (λ (b : Bool). if b then Refused else status) is ∙ ap (λ (s : Status). if is_some outcome then Refused else s) so_far
-    ∙ sym (status-more (take i outcomes) outcome) ∙ ap (λ (last : Option Refusal). outcomes_status (take i outcomes ++ last ∷ [])) next
+    new_is ∙ ap (λ (b : Bool). if b then Refused else status) is
+    ∙ ap (λ (s : Status). if is_some outcome then Refused else s) so_far
+    ∙ sym (status-more (take i outcomes) outcome)
+    ∙ ap (λ (last : Option Refusal). outcomes_status (take i outcomes ++ last ∷ [])) next
     ∙ ap outcomes_status (sym (take_more outcomes i d within))
 
 -- ---- how it fails: for want of memory, or with a fault of the disk
@@ -96,7 +107,8 @@ in-memory (disk.Journal journal.NotFormatted) failure is = inr (disk.Journal jou
 in-memory (disk.Journal journal.BadJournal) failure is = inr (disk.Journal journal.BadJournal, is)
 in-memory (disk.Journal journal.GenerationsSpent) failure is = inr (disk.Journal journal.GenerationsSpent, is)
 
-ends-on : {D : Type 0} (disk_of : D → Disk) (copy : D) (commands : List Command) (failure : Failure) → EndsOn disk_of copy commands failure
+ends-on : {D : Type 0} (disk_of : D → Disk) (copy : D) (commands : List Command) (failure : Failure)
+    → EndsOn disk_of copy commands failure
     → IsOfDisk failure
 ends-on disk_of copy commands failure (inl (left, fault, refuses, is)) = in-memory (disk.Journal fault) failure is
 ends-on disk_of copy commands failure (inr (old, opens, inl memory)) = inl memory
@@ -106,14 +118,16 @@ copy-fails : (file : FileState) (failure : Failure) → CopyFails file failure �
 copy-fails file failure (inl (fault, is, length)) = of-file fault failure is
 copy-fails file failure (inr (is, few)) = inr (disk.Journal journal.TooSmall, is)
 
-pub of-trial : {F : Type 0} (state_of : F → FileState) (commands : List Command) (failure : Failure) → TrialFails state_of commands failure
+pub of-trial : {F : Type 0} (state_of : F → FileState) (commands : List Command) (failure : Failure)
+    → TrialFails state_of commands failure
     → IsOfDisk failure
 of-trial state_of commands failure (inl (fault, is)) = of-file fault failure is
 of-trial state_of commands failure (inr (inl (file, fails))) = copy-fails (state_of file) failure fails
 of-trial state_of commands failure (inr (inr (file, copy, is_copy, ends))) = ends-on _ copy commands failure ends
 
 -- what is to be printed of a trial is not
-pub trial-ended : {F : Type 0} (state_of : F → FileState) (given : Bor Text) (octets : List ℕ) (commands : List Command) (failure : Failure)
+pub trial-ended : {F : Type 0} (state_of : F → FileState) (given : Bor Text) (octets : List ℕ) (commands : List Command)
+    (failure : Failure)
     → SaysCommands octets commands → (failure ≡ Output) ⊎ (failure ≡ Memory) ⊎ TrialFails state_of commands failure
     → CheckEnds state_of (Some given) failure
 trial-ended state_of given octets commands failure says (inl output) = inl (inr (inl output))

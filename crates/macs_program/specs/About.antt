@@ -9,8 +9,10 @@ use Rattle.macs_program.specs.declared.build.TheConstants.{COMMIT, LEVEL}
 abbrev pub word_line : List ℕ → List ℕ → List ℕ
 word_line name word = line (name ++ (codes " " ++ word))
 
--- its version, the commit of its sources, the processors that it is built for, and the formats of the journal that it writes and reads
+-- its version, the commit of its sources, the processors that it is built for, and the formats of the journal that it
+-- writes and reads
 abbrev pub about_text : List ℕ
 about_text =
     topic_text Version ++ (word_line (codes "commit") COMMIT.now ++ (word_line (codes "built for") LEVEL.now
-    ++ (word_line (codes "journal writes format") (codes "2") ++ word_line (codes "journal reads formats") (codes "1, 2"))))
+    ++ (word_line (codes "journal writes format") (codes "2")
+    ++ word_line (codes "journal reads formats") (codes "1, 2"))))

@@ -14,7 +14,8 @@ pub record SpellsEnds (ends : WireEnds) (wire : WireAddresses) : Type 0 where
 
 -- the ends of both wires are spelled
 abbrev pub SpellsBoth : WireEnds → WireEnds → Type 0
-SpellsBoth controlled common = (first : WireAddresses) × (second : WireAddresses) × SpellsEnds controlled first × SpellsEnds common second
+SpellsBoth controlled common = (first : WireAddresses) × (second : WireAddresses) × SpellsEnds controlled first
+    × SpellsEnds common second
 
 -- the text spells no address
 abbrev pub SpellsNone : List ℕ → Type 0

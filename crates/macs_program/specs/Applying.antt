@@ -1,5 +1,6 @@
 -- What `apply` does with a command file, and the lines that it prints.
-use Rattle.std.specs.Prelude.{◌≡◌, ◌≢◌, ◌⊎◌, ◌≤◌, ◌+◌, ℕ, List, [], ◌∷◌, ◌++◌, length, codes, if◌then◌else◌, Option, Some, None, IfSome, is_some, Result, Ok, Err}
+use Rattle.std.specs.Prelude.{◌≡◌, ◌≢◌, ◌⊎◌, ◌≤◌, ◌+◌, ℕ, List, [], ◌∷◌, ◌++◌, length, codes, if◌then◌else◌, Option}
+use Rattle.std.specs.Prelude.{Some, None, IfSome, is_some, Result, Ok, Err}
 use Rattle.std.specs.Fmt.{decimal}
 use Rattle.std.specs.Io.KnownBytes.{Appends}
 use Rattle.std.specs.List.{list_any}
@@ -68,7 +69,8 @@ answer_of None = Ok tt
 answer_of (Some refusal) = Err (ran.Refused refusal)
 
 -- these commands are given to the endpoint, one after another, and each is kept or refused
-abbrev pub Applies : {D : Type 0} → (D → Disk) → EndpointValue D → List Command → List (Option Refusal) → EndpointValue D → Type 0
+abbrev pub Applies : {D : Type 0} → (D → Disk) → EndpointValue D → List Command → List (Option Refusal)
+    → EndpointValue D → Type 0
 Applies disk_of old [] outcomes new = (outcomes ≡ []) × (new ≡ old)
 Applies {D} disk_of old (command ∷ more) outcomes new =
     (outcome : Option Refusal) × (rest : List (Option Refusal)) × (between : EndpointValue D)
@@ -83,8 +85,8 @@ commit_fault fault ran.GenerationsSpent = fault ≡ disk.Journal journal.Generat
 commit_fault fault ran.Disk = fault ≡ disk.Journal journal.Disk
 commit_fault fault (ran.Refused refusal) = ⊥
 
--- A command ends the run, after so many that were kept or refused: a fault of the disk in its place, with no line; or its line cannot
--- be written
+-- A command ends the run, after so many that were kept or refused: a fault of the disk in its place, with no line; or
+-- its line cannot be written
 abbrev pub EndsRun : {D : Type 0} → (D → Disk) → EndpointValue D → Command → Failure → EndpointValue D → Type 0
 EndsRun disk_of old command failure new =
     ((fault : DiskFault) × (answer : CommandFault) × commit_fault fault answer × (failure ≡ failures.Disk fault)
@@ -93,15 +95,17 @@ EndsRun disk_of old command failure new =
     × (outcome : Option Refusal) × IsCall disk_of old (Commands command) (Ran (answer_of outcome)) new)
 
 -- all of these commands are given to the endpoint, and a line is printed for each once it is answered
-pub record AppliesAll {D : Type 0} (disk_of : D → Disk) (old : EndpointValue D) (commands : List Command) (before after : Option (List ℕ)) (status : Status) (new : EndpointValue D) : Type 0 where
+pub record AppliesAll {D : Type 0} (disk_of : D → Disk) (old : EndpointValue D) (commands : List Command)
+    (before after : Option (List ℕ)) (status : Status) (new : EndpointValue D) : Type 0 where
   pub outcomes : List (Option Refusal)
   pub applied : Applies disk_of old commands outcomes new
   pub printed : Appends before after (outcome_lines 1 outcomes)
   pub status_is : status ≡ outcomes_status outcomes
 
--- Some of these commands are given to the endpoint, and the next one ends the run. Unless it was its line that could not be written, a line
--- is printed for each before it and no other
-pub record AppliesSome {D : Type 0} (disk_of : D → Disk) (old : EndpointValue D) (commands : List Command) (before after : Option (List ℕ)) (failure : Failure) (new : EndpointValue D) : Type 0 where
+-- Some of these commands are given to the endpoint, and the next one ends the run. Unless it was its line that could
+-- not be written, a line is printed for each before it and no other
+pub record AppliesSome {D : Type 0} (disk_of : D → Disk) (old : EndpointValue D) (commands : List Command)
+    (before after : Option (List ℕ)) (failure : Failure) (new : EndpointValue D) : Type 0 where
   pub done : List Command
   pub next : Command
   pub left : List Command

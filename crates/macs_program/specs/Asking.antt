@@ -15,12 +15,14 @@ use Rattle.macs_journal.specs.declared.fault.JournalFault.TheVariants as journal
 -- a line a command, with its number, and the status of them all; or the text of the answer
 abbrev pub PrintsAnswer : Question → Option (List ℕ) → Option (List ℕ) → Status → Type 0
 PrintsAnswer (Apply file) before after status =
-    (outcomes : List (Option Refusal)) × Appends before after (outcome_lines 1 outcomes) × (status ≡ outcomes_status outcomes)
+    (outcomes : List (Option Refusal)) × Appends before after (outcome_lines 1 outcomes)
+    × (status ≡ outcomes_status outcomes)
 PrintsAnswer asked before after status = (text : List ℕ) × Appends before after text × (status ≡ ends.Done)
 
 -- what was printed before a failure: the lines of the commands before it, and of other questions nothing
 abbrev pub PrintsFront : Question → Option (List ℕ) → Option (List ℕ) → Type 0
-PrintsFront (Apply file) before after = (outcomes : List (Option Refusal)) × Appends before after (outcome_lines 1 outcomes)
+PrintsFront (Apply file) before after = (outcomes : List (Option Refusal))
+    × Appends before after (outcome_lines 1 outcomes)
 PrintsFront asked before after = after ≡ before
 
 -- the failures of `ask`: nobody answers, or the relay ended; the command file, memory and standard output
@@ -34,4 +36,5 @@ IsOfAsking other = ⊥
 
 -- what a status of an answer says where the request was not done: the relay ended, it had no memory, or it is no answer
 abbrev pub failure_in : ℕ → Failure
-failure_in status = if status == 4 then failures.Disk (disk.Journal journal.Stopped) else (if status == 5 then failures.Memory else failures.Control)
+failure_in status = if status == 4 then failures.Disk (disk.Journal journal.Stopped)
+    else (if status == 5 then failures.Memory else failures.Control)

@@ -1,5 +1,6 @@
 -- Which captures a run asks for, and in which order.
-use Rattle.std.specs.Prelude.{◌≡◌, ◌⊎◌, ◌++◌, ⊤, ℕ, Bool, true, false, List, [], ◌∷◌, Option, Some, None, Result, OnErr, OnOk}
+use Rattle.std.specs.Prelude.{◌≡◌, ◌⊎◌, ◌++◌, ⊤, ℕ, Bool, true, false, List, [], ◌∷◌, Option, Some, None, Result, OnErr}
+use Rattle.std.specs.Prelude.{OnOk}
 use Rattle.macs_program.specs.declared.failure.Failure.{Failure}
 use Rattle.macs_program.specs.declared.status.Status.{Status}
 
@@ -13,8 +14,11 @@ abbrev pub Asks : Option (List Asked) → Option (List Asked) → List Asked →
 Asks None after more = ⊤
 Asks (Some before) after more = after ≡ Some (before ++ more)
 
--- INPUT is opened, then OUTPUT is made, and nothing else; where the run fails, as far as it came: OUTPUT is not made where INPUT is not opened
-pub record AsksInOrder (from to : List ℕ) (before after : Option (List Asked)) (result : Result Status Failure) : Type 0 where
+-- INPUT is opened, then OUTPUT is made, and nothing else; where the run fails, as far as it came: OUTPUT is not made
+-- where INPUT is not opened
+pub record AsksInOrder (from to : List ℕ) (before after : Option (List Asked))
+    (result : Result Status Failure) : Type 0 where
   pub order : OnOk result (Asks before after (Opens from true ∷ Makes to true ∷ []))
   pub front : OnErr result (Asks before after (Opens from false ∷ [])
-      ⊎ Asks before after (Opens from true ∷ Makes to false ∷ []) ⊎ Asks before after (Opens from true ∷ Makes to true ∷ []))
+      ⊎ Asks before after (Opens from true ∷ Makes to false ∷ [])
+      ⊎ Asks before after (Opens from true ∷ Makes to true ∷ []))

@@ -22,9 +22,11 @@ pub record FailsToFlush (before after : SinkState) : Type 0 where
   pub held : Keeps before.held after.held
   pub fails : after.failed ≡ true
 
--- how a run fails: with the fault of its answer, whether the sink could be flushed then or not; or with a flush that failed
+-- how a run fails: with the fault of its answer, whether the sink could be flushed then or not; or with a flush that
+-- failed
 abbrev pub EndsWith : Result Summary RunFault → Failure → SinkState → SinkState → Type 0
-EndsWith (Err fault) failure before after = (failure ≡ failure_of_run fault) × (IsFlushed before after ⊎ FailsToFlush before after)
+EndsWith (Err fault) failure before after = (failure ≡ failure_of_run fault)
+    × (IsFlushed before after ⊎ FailsToFlush before after)
 EndsWith (Ok summary) failure before after = (failure ≡ failures.Capture) × FailsToFlush before after
 
 -- what was written in a run with this answer is handed on, after a fault too
@@ -32,13 +34,15 @@ abbrev pub EndsFlushed : Result Summary RunFault → Result Summary Failure → 
 EndsFlushed answer (Ok summary) before after = (answer ≡ Ok summary) × IsFlushed before after
 EndsFlushed answer (Err failure) before after = EndsWith answer failure before after
 
--- The run goes over the capture, and then all that was written is handed on, after a fault too. A fault of the run is the failure; without
--- one it is a flush that failed
+-- The run goes over the capture, and then all that was written is handed on, after a fault too. A fault of the run is
+-- the failure; without one it is a flush that failed
 abbrev pub PassesCapture : {D : Type 0} → (D → Disk) → Side → Run D → Result Summary Failure → Run D → Type 0
 PassesCapture disk_of side old (Ok summary) new =
-    (sink : SinkState) × RunsOver disk_of side old (Ok summary) (run_of new.endpoint new.source sink) × IsFlushed sink new.sink
+    (sink : SinkState) × RunsOver disk_of side old (Ok summary) (run_of new.endpoint new.source sink)
+    × IsFlushed sink new.sink
 PassesCapture disk_of side old (Err failure) new =
-    (sink : SinkState) × (answer : Result Summary RunFault) × RunsOver disk_of side old answer (run_of new.endpoint new.source sink)
+    (sink : SinkState) × (answer : Result Summary RunFault)
+    × RunsOver disk_of side old answer (run_of new.endpoint new.source sink)
     × EndsWith answer failure sink new.sink
 
 -- How a run with its line fails: as the run does; or the run does not, and its line cannot be written

@@ -1,5 +1,6 @@
 -- What `check` says of a command file, and of the commands on a disk.
-use Rattle.std.specs.Prelude.{◌≡◌, ◌⊎◌, ◌<◌, ◌≤◌, ◌==◌, ◌++◌, if◌then◌else◌, ⊤, ℕ, List, length, codes, Option, Some, None, Err, string_bytes}
+use Rattle.std.specs.Prelude.{◌≡◌, ◌⊎◌, ◌<◌, ◌≤◌, ◌==◌, ◌++◌, if◌then◌else◌, ⊤, ℕ, List, length, codes, Option, Some}
+use Rattle.std.specs.Prelude.{None, Err, string_bytes}
 use Rattle.std.specs.Fmt.{decimal}
 use Rattle.std.specs.Io.KnownBytes.{Appends}
 use Rattle.std.specs.Borrow.{Bor}
@@ -56,7 +57,8 @@ key_reason name.Sci = codes "not 16 hex digits"
 abbrev pub fault_text : ConfigFault → List ℕ
 fault_text config.Shape = codes "command file: not tables [[command]] alone"
 fault_text (config.Word at) = codes "command " ++ (decimal at ++ codes " do: not a command")
-fault_text (config.Key at name) = codes "command " ++ (decimal at ++ (codes " " ++ (key_word name ++ (codes ": " ++ key_reason name))))
+fault_text (config.Key at name) =
+    codes "command " ++ (decimal at ++ (codes " " ++ (key_word name ++ (codes ": " ++ key_reason name))))
 fault_text (config.Extra at) = codes "command " ++ (decimal at ++ codes ": a key that it does not have")
 fault_text config.Memory = codes "memory"
 
@@ -89,16 +91,19 @@ Complains Holds failure =
 -- the number of commands is printed that some octets say
 abbrev pub PrintsCount : Option (List ℕ) → Option (List ℕ) → Type 0
 PrintsCount before after =
-    (octets : List ℕ) × (commands : List Command) × SaysCommands octets commands × Appends before after (count_line (length commands))
+    (octets : List ℕ) × (commands : List Command) × SaysCommands octets commands
+    × Appends before after (count_line (length commands))
 
 -- the file is not read; or something is said of its octets, or there is no memory; or what is to be printed cannot be
 abbrev pub CheckFails : Failure → Type 0
-CheckFails failure = (failure ≡ failures.Commands) ⊎ (failure ≡ failures.Output) ⊎ ((octets : List ℕ) × Complains (IsSaidOfFile octets) failure)
+CheckFails failure = (failure ≡ failures.Commands) ⊎ (failure ≡ failures.Output)
+    ⊎ ((octets : List ℕ) × Complains (IsSaidOfFile octets) failure)
 
 -- ---- with a disk, where `state_of` says what files are, and without one
 
 -- the number of commands is printed, or what each would be answered on the disk
-abbrev pub Checks : {F : Type 0} → (F → FileState) → Option (Bor Text) → Option (List ℕ) → Option (List ℕ) → Status → Type 0
+abbrev pub Checks : {F : Type 0} → (F → FileState) → Option (Bor Text) → Option (List ℕ) → Option (List ℕ)
+    → Status → Type 0
 Checks state_of None before after status = PrintsCount before after × (status ≡ ends.Done)
 Checks state_of (Some disk) before after status = PrintsTrial state_of before after status
 

@@ -1,5 +1,5 @@
--- What is in a file before it is written over, by the sectors of 512 octets that it has. Those of a disk lie in it packed, or spaced
--- one to a block of eight.
+-- What is in a file before it is written over, by the sectors of 512 octets that it has. Those of a disk lie in it
+-- packed, or spaced one to a block of eight.
 use Rattle.std.specs.Prelude.{◌≡◌, ◌<◌, ◌⊎◌, ◌*◌, ◌==◌, ◌||◌, if◌then◌else◌, ℕ, List, get_or}
 use Rattle.macs_disk.specs.Files.{FileState, values_from}
 use Rattle.macs_disk.specs.Layouts.{mark}
@@ -39,8 +39,8 @@ HasOpenGate file sectors = (area : ℕ) × IsArea area × HasFrontInEither file 
 abbrev pub HasHeadMark : FileState → ℕ → Type 0
 HasHeadMark file sectors = (area : ℕ) × IsArea area × HasFrontInEither file sectors (head_body area) head_mark
 
--- what a `format` writes elsewhere than in the head, where its disk is packed or spaced: the gate of the head, the first record, and
--- the mark of a spaced file
+-- what a `format` writes elsewhere than in the head, where its disk is packed or spaced: the gate of the head, the
+-- first record, and the mark of a spaced file
 abbrev pub leftover : ℕ → List ℕ
 leftover number =
     if number == 1 || number == 8 then open_gate

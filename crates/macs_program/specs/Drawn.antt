@@ -1,7 +1,8 @@
 -- What is to be drawn from words of the program's contracts: of answers, of commands that are given, of new disks, of
 -- captures and of lines.
 use Rattle.std.specs.Prelude.{◌≡◌, ◌≢◌, ◌≤◌, ◌⊎◌, ◌↔◌, ◌+◌, ◌/◌, ◌++◌, true, false, ℕ, Bool, List, [], ◌∷◌, length}
-use Rattle.std.specs.Prelude.{codes, map, replicate, slice_index_or, take, Contains, Option, Some, None, IfSome, Result, Ok, Err}
+use Rattle.std.specs.Prelude.{codes, map, replicate, slice_index_or, take, Contains, Option, Some, None, IfSome, Result}
+use Rattle.std.specs.Prelude.{Ok, Err}
 use Rattle.std.specs.Borrow.{Bor}
 use Rattle.std.specs.Io.KnownBytes.{Appends, Keeps}
 use Rattle.std.specs.Net.Grammar.{IsSocketText}
@@ -74,15 +75,17 @@ use Rattle.macs_program.specs.declared.status.Status.{Status}
 use Rattle.macs_program.specs.declared.status.Status.TheVariants as ends
 use Rattle.macs_words.specs.declared.action.WireEnds.{WireEnds}
 use Rattle.macs_words.specs.declared.action.Action.{Action}
-use Rattle.macs_words.specs.declared.action.Action.TheVariants.{About, Apply, Check, Examine, Format, Key, Open, Protect}
+use Rattle.macs_words.specs.declared.action.Action.TheVariants.{About, Apply, Check, Examine, Format, Key, Open}
+use Rattle.macs_words.specs.declared.action.Action.TheVariants.{Protect}
 use Rattle.macs_words.specs.declared.action.Action.TheVariants.{Relay, Show, Validate}
 use Rattle.macs_words.specs.declared.pace.Running.{Running}
 
 -- ---- `open`
 
 -- To one input belongs one line, and one status. The four lines are a key, an SCI, an offset and a frame, in at most
--- 20,000 octets, and four such lines are taken. The answer is that of the frame under this key, SCI and offset: verified
--- as this plain frame, with the AN and the PN of its SecTAG, where no fault holds, or refused for the first one.
+-- 20,000 octets, and four such lines are taken. The answer is that of the frame under this key, SCI and offset:
+-- verified as this plain frame, with the AN and the PN of its SecTAG, where no fault holds, or refused for the first
+-- one.
 pub record AnswerWords : Type 0 where
   pub one : (input : List ℕ) (a b : Opened) → Answers input a → Answers input b → (answer_text a ≡ answer_text b)
       × (answer_status a ≡ answer_status b)

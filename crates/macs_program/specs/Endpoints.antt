@@ -28,11 +28,13 @@ use Rattle.macs_program.specs.declared.status.Status.{Status}
 
 -- a disk was opened in a file as long as it is, where this is what a file is, and no call of it was made yet
 pub record IsDiskIn {F : Type 0} (file : F → FileState) (disk : FileDisk F) : Type 0 where
-  pub known : Behaves (file (file_given disk)) → IsOpened (file (file_given disk)) 0 (layout_of disk) (disk_in_file file disk)
+  pub known : Behaves (file (file_given disk))
+      → IsOpened (file (file_given disk)) 0 (layout_of disk) (disk_in_file file disk)
   pub fresh : IsFresh (disk_in_file file disk)
 
 -- this is what an opening of such a disk answered
-pub record IsOpeningIn {F : Type 0} (file : F → FileState) (opened : Result (EndpointValue (FileDisk F)) (RecoverRefused (FileDisk F))) : Type 0 where
+pub record IsOpeningIn {F : Type 0} (file : F → FileState)
+    (opened : Result (EndpointValue (FileDisk F)) (RecoverRefused (FileDisk F))) : Type 0 where
   pub disk : FileDisk F
   pub is_disk : IsDiskIn file disk
   pub opening : IsOpening (disk_in_file file) disk opened
@@ -60,7 +62,8 @@ OpeningFails file failure = ((fault : FileFault) × (failure ≡ failure_of_file
 
 -- the commands that some command file says are given to an endpoint, all of them, and a line is printed for each
 pub record AppliesFile {D : Type 0} (disk_of : D
-    → Disk) (old : EndpointValue D) (before after : Option (List ℕ)) (status : Status) (new : EndpointValue D) : Type 0 where
+    → Disk) (old : EndpointValue D) (before after : Option (List ℕ)) (status : Status)
+    (new : EndpointValue D) : Type 0 where
   pub octets : List ℕ
   pub commands : List Command
   pub says : SaysCommands octets commands
@@ -68,27 +71,31 @@ pub record AppliesFile {D : Type 0} (disk_of : D
 
 -- the commands of some command file end at one of them
 pub record AppliesFront {D : Type 0} (disk_of : D
-    → Disk) (old : EndpointValue D) (before after : Option (List ℕ)) (failure : Failure) (new : EndpointValue D) : Type 0 where
+    → Disk) (old : EndpointValue D) (before after : Option (List ℕ)) (failure : Failure)
+    (new : EndpointValue D) : Type 0 where
   pub octets : List ℕ
   pub commands : List Command
   pub says : SaysCommands octets commands
   pub applies : AppliesSome disk_of old commands before after failure new
 
 -- there is no command file, or no memory, and nothing is done and printed; or the commands of one end at one of them
-abbrev pub BreaksOff : {D : Type 0} → (D → Disk) → EndpointValue D → Option (List ℕ) → Option (List ℕ) → Failure → EndpointValue D → Type 0
+abbrev pub BreaksOff : {D : Type 0} → (D → Disk) → EndpointValue D → Option (List ℕ) → Option (List ℕ) → Failure
+    → EndpointValue D → Type 0
 BreaksOff disk_of old before after failure new =
     (((failure ≡ failures.Memory) ⊎ (failure ≡ failures.Commands)) × (new ≡ old) × (after ≡ before))
     ⊎ AppliesFront disk_of old before after failure new
 
 -- the commands of a file are given to an endpoint on a disk in a file, and their lines are printed
-pub record AppliesIn {F : Type 0} (file : F → FileState) (before after : Option (List ℕ)) (status : Status) : Type 0 where
+pub record AppliesIn {F : Type 0} (file : F → FileState) (before after : Option (List ℕ))
+    (status : Status) : Type 0 where
   pub old : EndpointValue (FileDisk F)
   pub new : EndpointValue (FileDisk F)
   pub endpoint : IsEndpointIn file old
   pub applies : AppliesFile (disk_in_file file) old before after status new
 
 -- they are not, or not all of them
-pub record BreaksOffIn {F : Type 0} (file : F → FileState) (before after : Option (List ℕ)) (failure : Failure) : Type 0 where
+pub record BreaksOffIn {F : Type 0} (file : F → FileState) (before after : Option (List ℕ))
+    (failure : Failure) : Type 0 where
   pub old : EndpointValue (FileDisk F)
   pub new : EndpointValue (FileDisk F)
   pub endpoint : IsEndpointIn file old
@@ -109,7 +116,8 @@ pub record ShowsIn {F : Type 0} (file : F → FileState) (before after : Option 
 -- ---- captures
 
 -- a capture is taken through an endpoint into another one
-pub record PassesBetween {D : Type 0} (disk_of : D → Disk) (side : Side) (old : EndpointValue D) (summary : Summary) (new : EndpointValue D) : Type 0 where
+pub record PassesBetween {D : Type 0} (disk_of : D → Disk) (side : Side) (old : EndpointValue D) (summary : Summary)
+    (new : EndpointValue D) : Type 0 where
   pub source : SourceState
   pub source_left : SourceState
   pub sink : SinkState
@@ -124,7 +132,8 @@ pub record PassesIn {F : Type 0} (file : F → FileState) (side : Side) (summary
   pub passes : PassesBetween (disk_in_file file) side old summary new
 
 -- it is not, or not whole
-pub record StopsBetween {D : Type 0} (disk_of : D → Disk) (side : Side) (old : EndpointValue D) (failure : Failure) (new : EndpointValue D) : Type 0 where
+pub record StopsBetween {D : Type 0} (disk_of : D → Disk) (side : Side) (old : EndpointValue D) (failure : Failure)
+    (new : EndpointValue D) : Type 0 where
   pub source : SourceState
   pub source_left : SourceState
   pub sink : SinkState
@@ -134,7 +143,8 @@ pub record StopsBetween {D : Type 0} (disk_of : D → Disk) (side : Side) (old :
 -- a capture cannot be opened, or there is no memory, and nothing is done with the endpoint; or the run ends
 abbrev pub PassEnds : {D : Type 0} → (D → Disk) → Side → EndpointValue D → Failure → EndpointValue D → Type 0
 PassEnds disk_of side old failure new =
-    (((failure ≡ failures.Memory) ⊎ (failure ≡ failures.Capture)) × (new ≡ old)) ⊎ StopsBetween disk_of side old failure new
+    (((failure ≡ failures.Memory) ⊎ (failure ≡ failures.Capture)) × (new ≡ old))
+    ⊎ StopsBetween disk_of side old failure new
 
 -- so it ends with an endpoint on a disk in a file
 pub record PassEndsIn {F : Type 0} (file : F → FileState) (side : Side) (failure : Failure) : Type 0 where

@@ -28,9 +28,9 @@ use Rattle.macs_program.specs.declared.examined_text.Figures.{Figures}
 -- how many of its slots have records; then the ceilings of transmit associations by their numbers, and of each channel
 -- those of its receive associations, a line each where there is one; last how many keys are spent on either side, and
 -- that the journal is whole. The figures are those of the content that is found. The first
--- fault is the head of area 0 that is none, or that of area 1 that is none or at odds with it, or else that of the first
--- slot of the current area: its body, where the slot counts and has no record, or its gate, where that is closed before an
--- open one. A slot counts that is of the snapshot, or whose gate is open.
+-- fault is the head of area 0 that is none, or that of area 1 that is none or at odds with it, or else that of the
+-- first slot of the current area: its body, where the slot counts and has no record, or its gate, where that is closed
+-- before an open one. A slot counts that is of the snapshot, or whose gate is open.
 pub record ExamineTexts : Type 0 where
   pub order : (layout : Layout) (figures : Figures) (s : Standing) → examined_text layout figures s
       ≡ figures_text layout figures ++ (concat (map (tx_ceiling_text s) (0 ∷ 1 ∷ 2 ∷ 3 ∷ []))

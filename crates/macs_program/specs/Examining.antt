@@ -1,4 +1,5 @@
--- What `examine` says of the disk in a file: what the recovery of its journal finds on a copy of it in memory, or its first fault.
+-- What `examine` says of the disk in a file: what the recovery of its journal finds on a copy of it in memory, or its
+-- first fault.
 use Rattle.std.specs.Prelude.{◌≡◌, ◌≤◌, ◌⊎◌, ◌/◌, ◌%◌, ◌++◌, ℕ, List, [], length, map, codes, Option, Some, None}
 use Rattle.std.specs.Fmt.{decimal}
 use Rattle.std.specs.Io.KnownBytes.{Appends}
@@ -112,7 +113,8 @@ pub record IsJournalOf (image : Image) (content : Content) (standing : Standing)
 abbrev pub SaysFault : Image → List ℕ → Status → Type 0
 SaysFault image text status = (at : ℕ) × IsFirstFault image at × (text ≡ fault_line at) × (status ≡ ends.Refused)
 
--- this is said of a disk with this image, which lies in a file in this layout, and the run ends so: what is found, or its first fault
+-- this is said of a disk with this image, which lies in a file in this layout, and the run ends so: what is found, or
+-- its first fault
 abbrev pub Says : Image → Layout → List ℕ → Status → Type 0
 Says image layout text status =
     ((content : Content) × (standing : Standing) × IsJournalOf image content standing
@@ -135,10 +137,12 @@ IsNotExamined copy failure =
 
 -- ---- on a disk in a file
 
--- a copy of the disk in a file of whole sectors, no fewer than a journal has, and the layout in which it lies there, where this is what the file is
+-- a copy of the disk in a file of whole sectors, no fewer than a journal has, and the layout in which it lies there,
+-- where this is what the file is
 abbrev pub IsLaidCopy : FileState → MemDisk Global → Layout → Type 0
 IsLaidCopy file copy layout =
-    Behaves file → (file.size % 512 ≡ 0) × (least_sectors ≤ file.size / 512) × (IsSure file → IsCopy file (disk_of copy) × (layout ≡ layout_in file))
+    Behaves file → (file.size % 512 ≡ 0) × (least_sectors ≤ file.size / 512)
+    × (IsSure file → IsCopy file (disk_of copy) × (layout ≡ layout_in file))
 
 -- this is said of the disk in a file, and the run ends so
 pub record ExaminesIn {F : Type 0} (state_of : F → FileState) (text : List ℕ) (status : Status) : Type 0 where
@@ -160,7 +164,8 @@ ExaminationFails {F} state_of failure =
 
 -- that is printed
 abbrev pub PrintsExamined : {F : Type 0} → (F → FileState) → Option (List ℕ) → Option (List ℕ) → Status → Type 0
-PrintsExamined state_of before after status = (text : List ℕ) × ExaminesIn state_of text status × Appends before after text
+PrintsExamined state_of before after status = (text : List ℕ) × ExaminesIn state_of text status
+    × Appends before after text
 
 -- it is not: it cannot be printed, or nothing is said
 abbrev pub ExamineFails : {F : Type 0} → (F → FileState) → Failure → Type 0

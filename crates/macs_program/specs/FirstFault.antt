@@ -48,7 +48,8 @@ AreSound image area count n = (j : ℕ) → j < n → IsSound image area count j
 abbrev pub HasOpenBehind : Image → ℕ → ℕ → Type 0
 HasOpenBehind image area slot = (behind : ℕ) × (slot < behind) × (behind < slots) × IsGateOpen image area (behind + 1)
 
--- the sector of a slot that is at fault: its body, where the slot counts and has no record; its gate, where it does not count, and one behind it is open
+-- the sector of a slot that is at fault: its body, where the slot counts and has no record; its gate, where it does not
+-- count, and one behind it is open
 abbrev pub IsSlotFault : Image → ℕ → ℕ → ℕ → ℕ → Type 0
 IsSlotFault image area count slot at =
     ((at ≡ slot_body area slot) × Counts image area count slot × ¬ HasRecord (image (slot_body area slot)))
@@ -61,7 +62,8 @@ pub record IsAreaFault (image : Image) (area count at : ℕ) : Type 0 where
   pub before : AreSound image area count slot
   pub fault : IsSlotFault image area count slot at
 
--- an area has none: all slots count and have records, or those before one that does not count, and behind which no gate is open
+-- an area has none: all slots count and have records, or those before one that does not count, and behind which no gate
+-- is open
 pub record IsFaultless (image : Image) (area count : ℕ) : Type 0 where
   pub free : ℕ
   pub before : AreSound image area count free

@@ -1,5 +1,6 @@
 -- `validate --each`: the verdict on each frame of a capture, as a line.
-use Rattle.std.specs.Prelude.{◌≡◌, ◌≢◌, ◌⊎◌, ◌+◌, ◌++◌, ℕ, Bool, true, false, List, [], ◌∷◌, codes, Option, Result, Ok, Err}
+use Rattle.std.specs.Prelude.{◌≡◌, ◌≢◌, ◌⊎◌, ◌+◌, ◌++◌, ℕ, Bool, true, false, List, [], ◌∷◌, codes, Option, Result, Ok}
+use Rattle.std.specs.Prelude.{Err}
 use Rattle.std.specs.Prelude.{IfErr, IfOk}
 use Rattle.std.specs.Fmt.{decimal}
 use Rattle.std.specs.Io.KnownBytes.{Appends}
@@ -43,7 +44,8 @@ verdict_lines at (verdict ∷ more) = verdict_line at verdict ++ verdict_lines (
 abbrev pub PrintsVerdicts : Option (List ℕ) → Option (List ℕ) → Type 0
 PrintsVerdicts before after = (verdicts : List Verdict) × Appends before after (verdict_lines 1 verdicts)
 
--- The line of a verdict is printed, by the number that comes next; or that fails. Once a line could not be printed no other one is
+-- The line of a verdict is printed, by the number that comes next; or that fails. Once a line could not be printed no
+-- other one is
 abbrev pub TellsLine : {W : Type 0} → (W → Option (List ℕ)) → (W → Bool) → Tells VerdictLines W
 TellsLine contents failed old before verdict new after =
     ((old.has_failed ≡ true) × (new ≡ old) × (after ≡ before))
@@ -57,17 +59,21 @@ TellsLine contents failed old before verdict new after =
 abbrev pub IsOfRun : Failure → Type 0
 IsOfRun failure = ((fault : RunFault) × (failure ≡ failure_of_run fault)) ⊎ (failure ≡ failures.Capture)
 
--- The run goes over the capture with these verdicts on its frames, and then all that was written is handed on, after a fault too
+-- The run goes over the capture with these verdicts on its frames, and then all that was written is handed on, after a
+-- fault too
 abbrev pub JudgesCapture : {D : Type 0} → (D → Disk) → Run D → Result Summary Failure → List Verdict → Run D → Type 0
 JudgesCapture disk_of old (Ok summary) verdicts new =
-    (sink : SinkState) × JudgesRun disk_of Common old (Ok summary) verdicts (run_of new.endpoint new.source sink) × IsFlushed sink new.sink
+    (sink : SinkState) × JudgesRun disk_of Common old (Ok summary) verdicts (run_of new.endpoint new.source sink)
+    × IsFlushed sink new.sink
 JudgesCapture disk_of old (Err failure) verdicts new =
     (sink : SinkState) × (answer : Result Summary RunFault)
-    × JudgesRun disk_of Common old answer verdicts (run_of new.endpoint new.source sink) × EndsWith answer failure sink new.sink
+    × JudgesRun disk_of Common old answer verdicts (run_of new.endpoint new.source sink)
+    × EndsWith answer failure sink new.sink
 
--- How it fails where a line is printed for each verdict: as the run does, after the lines of all its verdicts; or a line cannot be
--- printed, whatever the run comes to
-abbrev pub StopsEach : {D W : Type 0} → (D → Disk) → (W → Option (List ℕ)) → (W → Bool) → Run D → W → Failure → Run D → W → Type 0
+-- How it fails where a line is printed for each verdict: as the run does, after the lines of all its verdicts; or a
+-- line cannot be printed, whatever the run comes to
+abbrev pub StopsEach : {D W : Type 0} → (D → Disk) → (W → Option (List ℕ)) → (W → Bool) → Run D → W → Failure → Run D
+    → W → Type 0
 StopsEach disk_of contents failed old before failure new after =
     (IsOfRun failure × (verdicts : List Verdict) × JudgesCapture disk_of old (Err failure) verdicts new
     × Appends (contents before) (contents after) (verdict_lines 1 verdicts))
@@ -75,15 +81,18 @@ StopsEach disk_of contents failed old before failure new after =
     × (answer : Result Summary Failure) × (verdicts : List Verdict) × JudgesCapture disk_of old answer verdicts new)
 
 -- such a run, after the lines of all its verdicts; or it fails
-abbrev pub PrintsEach : {D W : Type 0} → (D → Disk) → (W → Option (List ℕ)) → (W → Bool) → Run D → W → Result Summary Failure → Run D → W
+abbrev pub PrintsEach : {D W : Type 0} → (D → Disk) → (W → Option (List ℕ)) → (W → Bool) → Run D → W
+    → Result Summary Failure → Run D → W
     → Type 0
 PrintsEach disk_of contents failed old before (Ok summary) new after =
     (verdicts : List Verdict) × JudgesCapture disk_of old (Ok summary) verdicts new
     × Appends (contents before) (contents after) (verdict_lines 1 verdicts)
-PrintsEach disk_of contents failed old before (Err failure) new after = StopsEach disk_of contents failed old before failure new after
+PrintsEach disk_of contents failed old before (Err failure) new after =
+    StopsEach disk_of contents failed old before failure new after
 
 -- and its own line is printed after them
-pub record ValidatesEach {D W : Type 0} (disk_of : D → Disk) (contents : W → Option (List ℕ)) (failed : W → Bool) (is_all : Bool)
+pub record ValidatesEach {D W : Type 0} (disk_of : D → Disk) (contents : W → Option (List ℕ)) (failed : W → Bool)
+    (is_all : Bool)
     (old : Run D) (before : W) (result : Result Status Failure) (new : Run D) (after : W) : Type 0 where
   pub printed : IfOk result (λ status. (summary : Summary) × (verdicts : List Verdict)
       × JudgesCapture disk_of old (Ok summary) verdicts new
@@ -101,7 +110,8 @@ EndsEach disk_of old failure new =
     × JudgesCapture disk_of old answer verdicts new)
 
 -- a capture is validated by an endpoint into another one, with these verdicts
-pub record JudgesBetween {D : Type 0} (disk_of : D → Disk) (old : EndpointValue D) (summary : Summary) (verdicts : List Verdict)
+pub record JudgesBetween {D : Type 0} (disk_of : D → Disk) (old : EndpointValue D) (summary : Summary)
+    (verdicts : List Verdict)
     (new : EndpointValue D) : Type 0 where
   pub source : SourceState
   pub source_left : SourceState
@@ -110,7 +120,8 @@ pub record JudgesBetween {D : Type 0} (disk_of : D → Disk) (old : EndpointValu
   pub judges : JudgesCapture disk_of (run_of old source sink) (Ok summary) verdicts (run_of new source_left sink_left)
 
 -- it is not, or not whole
-pub record StopsJudging {D : Type 0} (disk_of : D → Disk) (old : EndpointValue D) (failure : Failure) (new : EndpointValue D) : Type 0 where
+pub record StopsJudging {D : Type 0} (disk_of : D → Disk) (old : EndpointValue D) (failure : Failure)
+    (new : EndpointValue D) : Type 0 where
   pub source : SourceState
   pub source_left : SourceState
   pub sink : SinkState
@@ -123,8 +134,10 @@ JudgingEnds disk_of old failure new =
     (((failure ≡ failures.Memory) ⊎ (failure ≡ failures.Capture)) × (new ≡ old)) ⊎ StopsJudging disk_of old failure new
 
 -- `validate --each`: so it is done with an endpoint and a stream
-pub record DoesJudge {D W : Type 0} (disk_of : D → Disk) (contents : W → Option (List ℕ)) (has_failed : W → Bool) (is_all : Bool)
-    (old : EndpointValue D) (before : W) (result : Result Status Failure) (new : EndpointValue D) (after : W) : Type 0 where
+pub record DoesJudge {D W : Type 0} (disk_of : D → Disk) (contents : W → Option (List ℕ)) (has_failed : W → Bool)
+    (is_all : Bool)
+    (old : EndpointValue D) (before : W) (result : Result Status Failure) (new : EndpointValue D)
+    (after : W) : Type 0 where
   pub printed : IfOk result (λ status. (summary : Summary) × (verdicts : List Verdict)
       × JudgesBetween disk_of old summary verdicts new
       × Appends (contents before) (contents after) (verdict_lines 1 verdicts ++ summary_line Common summary)

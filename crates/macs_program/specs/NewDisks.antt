@@ -1,5 +1,6 @@
 -- Which files become the disk of a new endpoint, by what the device has of them.
-use Rattle.std.specs.Prelude.{◌≡◌, ◌≢◌, ◌⊎◌, ◌/◌, if◌then◌else◌, ⊤, ℕ, Bool, true, List, Option, Some, None, Result, Ok, Err, IfErr, IfOk, codes}
+use Rattle.std.specs.Prelude.{◌≡◌, ◌≢◌, ◌⊎◌, ◌/◌, if◌then◌else◌, ⊤, ℕ, Bool, true, List, Option, Some, None, Result, Ok}
+use Rattle.std.specs.Prelude.{Err, IfErr, IfOk, codes}
 use Rattle.std.specs.Io.KnownBytes.{Appends}
 use Rattle.macs_config.specs.Identity.{Identity}
 use Rattle.macs_disk.specs.FileDisks.{IsBlank, disk_in_file, file_given, file_left}
@@ -30,7 +31,8 @@ refusal_of contents.Other is_over = if is_over then None else Some disk.File
 
 -- a file of so many sectors holds something that is not written over for this reason, or with None something that is
 abbrev pub Permits : Bool → FileState → ℕ → Option DiskFault → Type 0
-Permits is_over file sectors refusal = (held : Contents) × ContentsAre file sectors held × (refusal_of held is_over ≡ refusal)
+Permits is_over file sectors refusal = (held : Contents) × ContentsAre file sectors held
+    × (refusal_of held is_over ≡ refusal)
 
 -- a file that is made a disk, by what it holds when it was settled: no endpoint, and nothing else, or that may be lost
 pub record IsFree (is_over : Bool) (file : FileState) : Type 0 where
@@ -38,11 +40,14 @@ pub record IsFree (is_over : Bool) (file : FileState) : Type 0 where
   pub settles : Settles file settled
   pub permits : Permits is_over settled (file.size / 512) None
 
--- a file that was free for it became the disk of a new endpoint: a blank disk of this layout was made in it, and formatted
-pub record Formats {F : Type 0} (file : F → FileState) (is_over : Bool) (layout : Layout) (identity : Identity) : Type 0 where
+-- a file that was free for it became the disk of a new endpoint: a blank disk of this layout was made in it, and
+-- formatted
+pub record Formats {F : Type 0} (file : F → FileState) (is_over : Bool) (layout : Layout)
+    (identity : Identity) : Type 0 where
   pub blank : FileDisk F
   pub free : Behaves (file (file_given blank)) → IsFree is_over (file (file_given blank))
-  pub made : Behaves (file (file_given blank)) → IsBlank (file (file_given blank)) (file (file_left blank)) layout (disk_in_file file blank)
+  pub made : Behaves (file (file_given blank))
+      → IsBlank (file (file_given blank)) (file (file_left blank)) layout (disk_in_file file blank)
   pub new : FileDisk F
   pub formats : IsFormat (disk_in_file file) blank identity (Ok tt) new
 
@@ -52,16 +57,16 @@ pub record IsTaken (is_over : Bool) (file : FileState) (fault : DiskFault) : Typ
   pub settles : Settles file settled
   pub permits : Permits is_over settled (file.size / 512) (Some fault)
 
--- Why no blank disk is made in a file: it does not serve as one of a disk, for this fault; or it cannot be looked at, or holds what is not
--- written over
+-- Why no blank disk is made in a file: it does not serve as one of a disk, for this fault; or it cannot be looked at,
+-- or holds what is not written over
 abbrev pub BlankFails : Bool → FileState → Failure → Type 0
 BlankFails is_over file failure =
     ((fault : FileFault) × (failure ≡ failure_of_file fault))
     ⊎ ((fault : DiskFault) × (failure ≡ failures.Disk fault)
     × (Behaves file → (fault ≡ disk.Journal journal.Disk) ⊎ IsTaken is_over file fault))
 
--- Why no file becomes the disk of a new endpoint: there is no file that serves as one of a disk, or its name is not durable; or none that may
--- be written over; or the blank disk in it is not formatted, for this fault
+-- Why no file becomes the disk of a new endpoint: there is no file that serves as one of a disk, or its name is not
+-- durable; or none that may be written over; or the blank disk in it is not formatted, for this fault
 abbrev pub FormatFails : {F : Type 0} → (F → FileState) → Bool → Identity → Failure → Type 0
 FormatFails {F} file is_over identity failure =
     ((fault : FileFault) × (failure ≡ failure_of_file fault))
@@ -77,7 +82,8 @@ IsAfterValues failures.Output = ⊤
 IsAfterValues other = ⊥
 
 -- a file becomes the disk of a new endpoint and a line says so; or none does, or the line cannot be written
-pub record MakesDisk {F W : Type 0} (file : F → FileState) (contents : W → Option (List ℕ)) (has_failed : W → Bool) (is_over : Bool) (layout : Layout)
+pub record MakesDisk {F W : Type 0} (file : F → FileState) (contents : W → Option (List ℕ)) (has_failed : W → Bool)
+    (is_over : Bool) (layout : Layout)
     (identity : Identity) (before : W) (result : Result Status Failure) (after : W) : Type 0 where
   pub printed : IfOk result (λ status. Formats file is_over layout identity
       × Appends (contents before) (contents after) (line (codes "formatted")) × (status ≡ ends.Done))

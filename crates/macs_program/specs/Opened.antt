@@ -22,7 +22,8 @@ use Rattle.macs_program.specs.declared.status.Status.TheVariants as ends
 
 -- under the request's key, SCI and offset the fault of its frame holds
 abbrev pub FrameFaultHolds : OpenInput → OpenFault → Type 0
-FrameFaultHolds request = OpenFaultHolds request.frame.items (octets_of_key request.key) request.sci (octets_of request.offset)
+FrameFaultHolds request =
+    OpenFaultHolds request.frame.items (octets_of_key request.key) request.sci (octets_of request.offset)
 
 -- no fault holds, and under the request's key, SCI and offset its frame is verified as this plain frame; its SecTAG has
 -- this AN and this PN

@@ -43,8 +43,8 @@ RunsAs file course old result new controlled common =
 -- It takes the turns that are given, and where it waits and none are, 2^64 - 1. Nobody attends it exactly where it has
 -- neither a control socket nor a file of counters. What it comes to, an endpoint that was opened on a disk in a file
 -- came to, in such a relay. While it waits the system is asked whether a wire can be read (POLLIN is 1). Where it ends
--- otherwise, nothing was done with the endpoint, since a wire or a socket is not bound, or there is no memory; or a step
--- was answered with a fault, which has its name; or it came to its summary, and that is not written.
+-- otherwise, nothing was done with the endpoint, since a wire or a socket is not bound, or there is no memory; or a
+-- step was answered with a fault, which has its name; or it came to its summary, and that is not written.
 pub record RelayWords {F : Type 0} (file : F → FileState) : Type 0 where
   pub sleepless : (turns : ℕ) → turns_of (Sleepless turns) ≡ turns
   pub waiting : (limit : Milliseconds) (turns : ℕ) → turns_of (Waiting limit (Some turns)) ≡ turns

@@ -1,5 +1,6 @@
 -- What a relay of the program comes to, and how it ends.
-use Rattle.std.specs.Prelude.{◌≡◌, ◌⊎◌, ◌-◌, ◌^◌, ◌||◌, ⊤, ℕ, Bool, true, false, List, None, Some, is_some, Result, Ok, Err}
+use Rattle.std.specs.Prelude.{◌≡◌, ◌⊎◌, ◌-◌, ◌^◌, ◌||◌, ⊤, ℕ, Bool, true, false, List, None, Some, is_some, Result, Ok}
+use Rattle.std.specs.Prelude.{Err}
 use Rattle.macs_disk.specs.Disk.{Disk}
 use Rattle.macs_disk.specs.FileDisks.{disk_in_file}
 use Rattle.macs_disk.specs.Files.{FileState}
@@ -29,7 +30,8 @@ turns_of (Sleepless turns) = turns
 turns_of (Waiting limit None) = 2 ^ 64 - 1
 turns_of (Waiting limit (Some turns)) = turns
 
--- how many receives in a row a wire of it leaves out at most, where it gives nothing: none where the relay does not sleep
+-- how many receives in a row a wire of it leaves out at most, where it gives nothing: none where the relay does not
+-- sleep
 abbrev pub left_out : Pace → ℕ
 left_out (Sleepless turns) = 0
 left_out (Waiting limit turns) = 7
@@ -56,14 +58,18 @@ abbrev pub course_of : Running → Course
 course_of running = record { attended = is_attended running; turns = turns_of running.pace }
 
 -- Frames are relayed, and a desk that attends it hands in commands, is given what becomes of them, and may end it
-abbrev pub IsRunBy : Bool → {D : Type 0} → (D → Disk) → ℕ → Relay D → Result RelaySummary RefillFault → EndpointValue D → WireState → WireState → Type 0
-IsRunBy false disk_of turns old result endpoint controlled common = IsRelayed disk_of turns old result endpoint controlled common
+abbrev pub IsRunBy : Bool → {D : Type 0} → (D → Disk) → ℕ → Relay D → Result RelaySummary RefillFault → EndpointValue D
+    → WireState → WireState → Type 0
+IsRunBy false disk_of turns old result endpoint controlled common =
+    IsRelayed disk_of turns old result endpoint controlled common
 IsRunBy true disk_of turns old result endpoint controlled common =
     (events : List DeskEvent) × IsAttended disk_of turns old events result endpoint controlled common
 
 -- a relay is run as the words want it: with or without a desk, for so many turns, or until it ends
-abbrev pub IsRun : {D : Type 0} → (D → Disk) → Course → Relay D → Result RelaySummary RefillFault → EndpointValue D → WireState → WireState → Type 0
-IsRun disk_of course old result endpoint controlled common = IsRunBy course.attended disk_of course.turns old result endpoint controlled common
+abbrev pub IsRun : {D : Type 0} → (D → Disk) → Course → Relay D → Result RelaySummary RefillFault → EndpointValue D
+    → WireState → WireState → Type 0
+IsRun disk_of course old result endpoint controlled common =
+    IsRunBy course.attended disk_of course.turns old result endpoint controlled common
 
 -- a relay comes to this summary: of an endpoint that was opened on a disk in a file, where this is what a file is,
 -- between two new wires
@@ -73,16 +79,20 @@ pub record ComesTo {F : Type 0} (file : F → FileState) (course : Course) (summ
   pub controlled : WireState
   pub common : WireState
   pub endpoint : IsEndpointIn file old
-  pub relayed : IsRun (disk_in_file file) course (relay_of old new_wire new_wire empty_lane empty_lane) (Ok summary) new controlled common
+  pub relayed : IsRun (disk_in_file file) course (relay_of old new_wire new_wire empty_lane empty_lane) (Ok summary) new
+      controlled common
 
 -- how a relay fails: with the fault that has the name of a step's; or it is at its end, and its line cannot be written
-abbrev pub EndsRelay : {D : Type 0} → (D → Disk) → Course → Relay D → Failure → EndpointValue D → WireState → WireState → Type 0
+abbrev pub EndsRelay : {D : Type 0} → (D → Disk) → Course → Relay D → Failure → EndpointValue D → WireState
+    → WireState → Type 0
 EndsRelay disk_of course old failure endpoint controlled common =
-    ((fault : RefillFault) × (failure ≡ failure_of_refill fault) × IsRun disk_of course old (Err fault) endpoint controlled common)
+    ((fault : RefillFault) × (failure ≡ failure_of_refill fault)
+    × IsRun disk_of course old (Err fault) endpoint controlled common)
     ⊎ ((failure ≡ failures.Output)
     × (summary : RelaySummary) × IsRun disk_of course old (Ok summary) endpoint controlled common)
 
--- the failures that `relay` ends with: an address, the disk, a wire, the control socket, memory and standard output, and no capture, command file or input
+-- the failures that `relay` ends with: an address, the disk, a wire, the control socket, memory and standard output,
+-- and no capture, command file or input
 abbrev pub IsOfRelay : Failure → Type 0
 IsOfRelay (failures.Address fault) = ⊤
 IsOfRelay (failures.Disk fault) = ⊤
@@ -102,21 +112,27 @@ IsAfterAddresses failures.Output = ⊤
 IsAfterAddresses other = ⊥
 
 -- from this endpoint a relay between two wires that are new comes to this
-pub record Relays {D : Type 0} (disk_of : D → Disk) (course : Course) (old : EndpointValue D) (summary : RelaySummary) (new : EndpointValue D) : Type 0 where
+pub record Relays {D : Type 0} (disk_of : D → Disk) (course : Course) (old : EndpointValue D) (summary : RelaySummary)
+    (new : EndpointValue D) : Type 0 where
   pub controlled : WireState
   pub common : WireState
-  pub relayed : IsRun disk_of course (relay_of old new_wire new_wire empty_lane empty_lane) (Ok summary) new controlled common
+  pub relayed : IsRun disk_of course (relay_of old new_wire new_wire empty_lane empty_lane) (Ok summary) new
+      controlled common
 
 -- between two new wires a relay from this endpoint ends with this failure
-pub record StopsRelay {D : Type 0} (disk_of : D → Disk) (course : Course) (old : EndpointValue D) (failure : Failure) (new : EndpointValue D) : Type 0 where
+pub record StopsRelay {D : Type 0} (disk_of : D → Disk) (course : Course) (old : EndpointValue D) (failure : Failure)
+    (new : EndpointValue D) : Type 0 where
   pub controlled : WireState
   pub common : WireState
-  pub ends : EndsRelay disk_of course (relay_of old new_wire new_wire empty_lane empty_lane) failure new controlled common
+  pub ends : EndsRelay disk_of course (relay_of old new_wire new_wire empty_lane empty_lane) failure new
+      controlled common
 
--- a wire or the control socket cannot be bound, or there is no memory, and nothing is done with the endpoint; or the relay ends
+-- a wire or the control socket cannot be bound, or there is no memory, and nothing is done with the endpoint; or the
+-- relay ends
 abbrev pub RelayEnds : {D : Type 0} → (D → Disk) → Course → EndpointValue D → Failure → EndpointValue D → Type 0
 RelayEnds disk_of course old failure new =
-    (((failure ≡ failures.Memory) ⊎ (failure ≡ failures.Wire) ⊎ (failure ≡ failures.Control)) × (new ≡ old)) ⊎ StopsRelay disk_of course old failure new
+    (((failure ≡ failures.Memory) ⊎ (failure ≡ failures.Wire) ⊎ (failure ≡ failures.Control)) × (new ≡ old))
+    ⊎ StopsRelay disk_of course old failure new
 
 -- so it ends with an endpoint on a disk in a file
 pub record RelayEndsIn {F : Type 0} (file : F → FileState) (course : Course) (failure : Failure) : Type 0 where

@@ -1,5 +1,6 @@
 -- How a run of the program ends.
-use Rattle.std.specs.Prelude.{◌≡◌, ◌≢◌, ◌⊎◌, ◌++◌, Bool, true, false, ℕ, List, take, Option, option_map, IfErr, IfOk, IfSome, Result, codes}
+use Rattle.std.specs.Prelude.{◌≡◌, ◌≢◌, ◌⊎◌, ◌++◌, Bool, true, false, ℕ, List, take, Option, option_map, IfErr, IfOk}
+use Rattle.std.specs.Prelude.{IfSome, Result, codes}
 use Rattle.std.specs.Io.KnownBytes.{Appends}
 use Rattle.clap.specs.Words.{Text, subcommand_of, takes}
 use Rattle.macs_config.specs.Identity.{Identity}
@@ -33,7 +34,8 @@ use Rattle.macs_program.specs.Summing.{pass_status, relay_line, summary_line}
 use Rattle.macs_program.specs.Values.{SpellsIdentity, SpellsLayout, ValueFaultHolds, value_faults}
 use Rattle.macs_words.specs.Words.{AreRefused, AsksFor, AsksForNothing, Names, macsecd}
 use Rattle.macs_words.specs.declared.action.Action.{Action}
-use Rattle.macs_words.specs.declared.action.Action.TheVariants.{Open, Format, Apply, Show, Protect, Validate, Relay, Ask, Key, Inspect, Check, Examine, About}
+use Rattle.macs_words.specs.declared.action.Action.TheVariants.{Open, Format, Apply, Show, Protect, Validate, Relay}
+use Rattle.macs_words.specs.declared.action.Action.TheVariants.{Ask, Key, Inspect, Check, Examine, About}
 use Rattle.macs_program.specs.declared.addresses.AddressFault.{AddressFault}
 use Rattle.macs_program.specs.declared.opened.Opened.{Opened}
 use Rattle.macs_program.specs.declared.failure.Failure.{Failure}
@@ -49,15 +51,19 @@ use Rattle.macs_program.specs.declared.values.ValueFault.{ValueFault}
 -- `open`: the answer that belongs to the input is printed as one line, and the run ends with its status
 abbrev pub Prints : List ℕ → Option (List ℕ) → Option (List ℕ) → Status → Type 0
 Prints input before after status =
-    (answer : Opened) × Answers input answer × Appends before after (line (answer_text answer)) × (status ≡ answer_status answer)
+    (answer : Opened) × Answers input answer × Appends before after (line (answer_text answer))
+    × (status ≡ answer_status answer)
 
--- What a run prints that does what it is asked for, where `state_of` says what files are. Which file has a name is not known here: the lines are
--- those of what is done with some endpoint that was opened on a disk in a file; that of a relay is what some endpoint comes to
-abbrev pub Does : {F : Type 0} → (F → FileState) → Action → InputRead → Option (List ℕ) → Option (List ℕ) → Status → Type 0
+-- What a run prints that does what it is asked for, where `state_of` says what files are. Which file has a name is not
+-- known here: the lines are those of what is done with some endpoint that was opened on a disk in a file; that of a
+-- relay is what some endpoint comes to
+abbrev pub Does : {F : Type 0} → (F → FileState) → Action → InputRead → Option (List ℕ) → Option (List ℕ)
+    → Status → Type 0
 Does state_of Open input before after status = IfSome input.octets (λ octets. Prints octets before after status)
 Does state_of (Format disk sci tx_block rx_block block is_over) input before after status =
     (identity : Identity) × SpellsIdentity sci.now tx_block rx_block identity
-    × (layout : Layout) × SpellsLayout (option_map (λ text. text.now) block) layout × Formats state_of is_over layout identity
+    × (layout : Layout) × SpellsLayout (option_map (λ text. text.now) block) layout
+    × Formats state_of is_over layout identity
     × Appends before after (line (codes "formatted")) × (status ≡ ends.Done)
 Does state_of (Apply disk file) input before after status =
     AppliesIn state_of before after status
@@ -70,7 +76,8 @@ Does state_of (Validate disk from to is_all false) input before after status =
     × Appends before after (summary_line Common summary) × (status ≡ pass_status is_all summary)
 Does state_of (Validate disk from to is_all true) input before after status =
     (summary : Summary) × (verdicts : List Verdict) × JudgesIn state_of summary verdicts
-    × Appends before after (verdict_lines 1 verdicts ++ summary_line Common summary) × (status ≡ pass_status is_all summary)
+    × Appends before after (verdict_lines 1 verdicts ++ summary_line Common summary)
+    × (status ≡ pass_status is_all summary)
 Does state_of (Relay disk controlled common running) input before after status =
     (summary : RelaySummary) × ComesTo state_of (course_of running) summary × SpellsBoth controlled common
     × Appends before after (relay_line summary) × (status ≡ ends.Done)
@@ -82,16 +89,18 @@ Does state_of (Examine disk) input before after status = PrintsExamined state_of
 Does state_of About input before after status = Appends before after about_text × (status ≡ ends.Done)
 
 -- a run that does not fail is asked for help and prints it, or its words are taken and name an action, and it does that
-abbrev pub Replies : {F : Type 0} → (F → FileState) → List Text → InputRead → Option (List ℕ) → Option (List ℕ) → Status → Type 0
+abbrev pub Replies : {F : Type 0} → (F → FileState) → List Text → InputRead → Option (List ℕ) → Option (List ℕ)
+    → Status → Type 0
 Replies state_of words input before after status =
     ((topic : Topic) × AsksFor words topic × Appends before after (topic_text topic) × (status ≡ ends.Done))
     ⊎ ((takes macsecd words ≡ true)
     × (action : Action) × Names (subcommand_of macsecd words) action × Does state_of action input before after status)
 
--- What was printed before a failure: of `apply` and of `ask PATH apply` the lines of the commands before it, of `inspect` those of the frames
--- before it, of `validate --each` those of the verdicts before it, else nothing
+-- What was printed before a failure: of `apply` and of `ask PATH apply` the lines of the commands before it, of
+-- `inspect` those of the frames before it, of `validate --each` those of the verdicts before it, else nothing
 abbrev pub HasPrinted : Action → Option (List ℕ) → Option (List ℕ) → Type 0
-HasPrinted (Apply disk file) before after = (outcomes : List (Option Refusal)) × Appends before after (outcome_lines 1 outcomes)
+HasPrinted (Apply disk file) before after = (outcomes : List (Option Refusal))
+    × Appends before after (outcome_lines 1 outcomes)
 HasPrinted (Validate disk from to is_all true) before after = PrintsVerdicts before after
 HasPrinted (Ask path asked) before after = PrintsFront asked before after
 HasPrinted (Inspect from) before after = PrintsFrames before after
@@ -104,30 +113,39 @@ WrongValues (Format disk sci tx_block rx_block block is_over) =
 WrongValues (Relay disk controlled common running) = (fault : AddressFault) × AddressFaultHolds controlled common fault
 WrongValues action = ⊥
 
--- How `open` fails: a read failed, or the input, of which 20,001 octets at most are read, has this first fault; or there is no memory; or a print
--- failed
+-- How `open` fails: a read failed, or the input, of which 20,001 octets at most are read, has this first fault; or
+-- there is no memory; or a print failed
 abbrev pub OpenFails : InputRead → Failure → Type 0
 OpenFails input failure =
     ((failure ≡ Input request_faults.Input) × (input.has_failed ≡ true))
-    ⊎ ((fault : InputFault) × (failure ≡ Input fault) × IfSome input.octets (λ all. IsFirst (InputFaultHolds (take 20001 all)) input_faults fault))
+    ⊎ ((fault : InputFault) × (failure ≡ Input fault)
+    × IfSome input.octets (λ all. IsFirst (InputFaultHolds (take 20001 all)) input_faults fault))
     ⊎ (failure ≡ Memory) ⊎ (failure ≡ Output)
 
--- How an action fails, where `state_of` says what files are: for the first value of the words that is none, for the opening of the endpoint, or as
--- what is done with it ends
-abbrev pub FailsAs : {F : Type 0} → (F → FileState) → Action → InputRead → Option (List ℕ) → Option (List ℕ) → Failure → Type 0
+-- How an action fails, where `state_of` says what files are: for the first value of the words that is none, for the
+-- opening of the endpoint, or as what is done with it ends
+abbrev pub FailsAs : {F : Type 0} → (F → FileState) → Action → InputRead → Option (List ℕ) → Option (List ℕ)
+    → Failure → Type 0
 FailsAs state_of Open input before after failure = OpenFails input failure
 FailsAs state_of (Format disk sci tx_block rx_block block is_over) octets before after failure =
     ((fault : ValueFault) × (failure ≡ Value fault)
     × IsFirst (ValueFaultHolds sci.now tx_block rx_block (option_map (λ text. text.now) block)) value_faults fault)
-    ⊎ ((identity : Identity) × SpellsIdentity sci.now tx_block rx_block identity × FormatFails state_of is_over identity failure)
+    ⊎ ((identity : Identity) × SpellsIdentity sci.now tx_block rx_block identity
+    × FormatFails state_of is_over identity failure)
     ⊎ (failure ≡ Output)
-FailsAs state_of (Apply disk file) octets before after failure = OpeningFails state_of failure ⊎ BreaksOffIn state_of before after failure
-FailsAs state_of (Show disk) octets before after failure = OpeningFails state_of failure ⊎ (failure ≡ Memory) ⊎ (failure ≡ Output)
-FailsAs state_of (Protect disk from to is_all) octets before after failure = OpeningFails state_of failure ⊎ PassEndsIn state_of Controlled failure
-FailsAs state_of (Validate disk from to is_all false) octets before after failure = OpeningFails state_of failure ⊎ PassEndsIn state_of Common failure
-FailsAs state_of (Validate disk from to is_all true) octets before after failure = OpeningFails state_of failure ⊎ JudgingEndsIn state_of failure
+FailsAs state_of (Apply disk file) octets before after failure = OpeningFails state_of failure
+    ⊎ BreaksOffIn state_of before after failure
+FailsAs state_of (Show disk) octets before after failure = OpeningFails state_of failure ⊎ (failure ≡ Memory)
+    ⊎ (failure ≡ Output)
+FailsAs state_of (Protect disk from to is_all) octets before after failure = OpeningFails state_of failure
+    ⊎ PassEndsIn state_of Controlled failure
+FailsAs state_of (Validate disk from to is_all false) octets before after failure = OpeningFails state_of failure
+    ⊎ PassEndsIn state_of Common failure
+FailsAs state_of (Validate disk from to is_all true) octets before after failure = OpeningFails state_of failure
+    ⊎ JudgingEndsIn state_of failure
 FailsAs state_of (Relay disk controlled common running) octets before after failure =
-    ((fault : AddressFault) × (failure ≡ Address fault) × IsFirst (AddressFaultHolds controlled common) address_faults fault)
+    ((fault : AddressFault) × (failure ≡ Address fault)
+    × IsFirst (AddressFaultHolds controlled common) address_faults fault)
     ⊎ OpeningFails state_of failure ⊎ RelayEndsIn state_of (course_of running) failure
 FailsAs state_of (Ask path asked) octets before after failure = IsOfAsking failure
 FailsAs state_of (Key is_long) octets before after failure = IsOfKey failure
@@ -143,24 +161,29 @@ is_on_frames (Validate disk from to is_all is_each) = true
 is_on_frames (Relay disk controlled common running) = true
 is_on_frames action = false
 
--- An action is done, with a status of these two, or fails. A failure that is wrong usage is that of a wrong value, and nothing was
--- printed; one of the disk is that of another action than `open`; and one of the output is that of a print that failed
-pub record Performs {F W : Type 0} (state_of : F → FileState) (contents : W → Option (List ℕ)) (failed : W → Bool) (action : Action)
+-- An action is done, with a status of these two, or fails. A failure that is wrong usage is that of a wrong value, and
+-- nothing was printed; one of the disk is that of another action than `open`; and one of the output is that of a print
+-- that failed
+pub record Performs {F W : Type 0} (state_of : F → FileState) (contents : W → Option (List ℕ)) (failed : W → Bool)
+    (action : Action)
     (input : InputRead) (old : W) (result : Result Status Failure) (new : W) : Type 0 where
   pub does : IfOk result (Does state_of action input (contents old) (contents new))
   pub status : IfOk result (λ end. (end ≡ ends.Done) ⊎ (end ≡ ends.Refused))
   pub usage : IfErr result (λ failure. failure_status failure ≡ ends.Usage → WrongValues action × (new ≡ old))
-  pub disk : IfErr result (λ failure. failure_status failure ≡ ends.Disk → (action ≢ Open) × HasPrinted action (contents old) (contents new))
+  pub disk : IfErr result (λ failure. failure_status failure ≡ ends.Disk
+      → (action ≢ Open) × HasPrinted action (contents old) (contents new))
   pub before : IfErr result (λ failure. failure ≢ Output → HasPrinted action (contents old) (contents new))
   pub fails : IfErr result (FailsAs state_of action input (contents old) (contents new))
   pub broken : IfErr result (λ failure. failure ≡ Output → failed new ≡ true)
 
 -- how a run fails: its words are refused, or help cannot be printed, or the words name an action that fails so
-abbrev pub FailsFor : {F : Type 0} → (F → FileState) → List Text → InputRead → Option (List ℕ) → Option (List ℕ) → Failure → Type 0
+abbrev pub FailsFor : {F : Type 0} → (F → FileState) → List Text → InputRead → Option (List ℕ) → Option (List ℕ)
+    → Failure → Type 0
 FailsFor state_of words octets before after failure =
     ((fault : UsageFault) × (failure ≡ failure_of_words fault))
     ⊎ ((topic : Topic) × AsksFor words topic × (failure ≡ Output))
-    ⊎ ((action : Action) × Names (subcommand_of macsecd words) action × FailsAs state_of action octets before after failure)
+    ⊎ ((action : Action) × Names (subcommand_of macsecd words) action
+    × FailsAs state_of action octets before after failure)
 
 -- what was printed before a failure: nothing, or the lines of the commands or frames before it
 abbrev pub PrintedBefore : List Text → Option (List ℕ) → Option (List ℕ) → Type 0
@@ -172,19 +195,25 @@ abbrev pub HasWrongValues : List Text → Type 0
 HasWrongValues words =
     (action : Action) × Names (subcommand_of macsecd words) action × WrongValues action
 
--- What a run does but for the line of a failure: it replies, with a status of these two, or fails. A failure that is wrong usage is that of words which
--- ask for no help, and nothing was printed; one of the disk is that of an action that the words name, other than `open`; and one of the output is that of
--- a print that failed. The input is left unread by all words but those that name `open`
-pub record Acts {F R W : Type 0} (state_of : F → FileState) (remaining : R → Option (List ℕ)) (read_failed : R → Bool) (contents : W → Option (List ℕ)) (failed : W → Bool)
+-- What a run does but for the line of a failure: it replies, with a status of these two, or fails. A failure that is
+-- wrong usage is that of words which ask for no help, and nothing was printed; one of the disk is that of an action
+-- that the words name, other than `open`; and one of the output is that of a print that failed. The input is left
+-- unread by all words but those that name `open`
+pub record Acts {F R W : Type 0} (state_of : F → FileState) (remaining : R → Option (List ℕ)) (read_failed : R → Bool)
+    (contents : W → Option (List ℕ)) (failed : W → Bool)
     (words : List Text) (input : R) (old : W) (result : Result Status Failure) (left : R) (new : W) : Type 0 where
-  pub replied : IfOk result (Replies state_of words (read_of remaining read_failed input left) (contents old) (contents new))
+  pub replied : IfOk result
+      (Replies state_of words (read_of remaining read_failed input left) (contents old) (contents new))
   pub status : IfOk result (λ end. (end ≡ ends.Done) ⊎ (end ≡ ends.Refused))
-  pub usage : IfErr result (λ failure. failure_status failure ≡ ends.Usage → (AreRefused words ⊎ HasWrongValues words) × (new ≡ old))
+  pub usage : IfErr result (λ failure. failure_status failure ≡ ends.Usage
+      → (AreRefused words ⊎ HasWrongValues words) × (new ≡ old))
   pub help : IfErr result (λ failure. failure_status failure ≡ ends.Usage → AsksForNothing words)
   pub disk : IfErr result (λ failure. failure_status failure ≡ ends.Disk → (takes macsecd words ≡ true)
-      × (action : Action) × Names (subcommand_of macsecd words) action × (action ≢ Open) × HasPrinted action (contents old) (contents new))
+      × (action : Action) × Names (subcommand_of macsecd words) action × (action ≢ Open)
+      × HasPrinted action (contents old) (contents new))
   pub before : IfErr result (λ failure. failure ≢ Output → PrintedBefore words (contents old) (contents new))
-  pub fails : IfErr result (FailsFor state_of words (read_of remaining read_failed input left) (contents old) (contents new))
+  pub fails : IfErr result
+      (FailsFor state_of words (read_of remaining read_failed input left) (contents old) (contents new))
   pub broken : IfErr result (λ failure. failure ≡ Output → failed new ≡ true)
   pub unread : ((takes macsecd words ≡ true) × Names (subcommand_of macsecd words) Open → ⊥) → left ≡ input
 

@@ -1,6 +1,7 @@
--- What is to be drawn from words on whole runs: what a run replies, what each action does and how it fails, and what was
--- printed before.
-use Rattle.std.specs.Prelude.{◌≡◌, ◌≢◌, ◌⊎◌, ◌<◌, ◌≤◌, ◌/◌, ◌%◌, ◌++◌, ◌∷◌, [], true, false, ℕ, Bool, List, length, take, codes}
+-- What is to be drawn from words on whole runs: what a run replies, what each action does and how it fails, and what
+-- was printed before.
+use Rattle.std.specs.Prelude.{◌≡◌, ◌≢◌, ◌⊎◌, ◌<◌, ◌≤◌, ◌/◌, ◌%◌, ◌++◌, ◌∷◌, [], true, false, ℕ, Bool, List, length}
+use Rattle.std.specs.Prelude.{take, codes}
 use Rattle.std.specs.Prelude.{string_bytes, Option, option_map, Some, None, IfSome, Ok, Err}
 use Rattle.std.specs.Borrow.{Bor}
 use Rattle.std.specs.Io.KnownBytes.{Appends}
@@ -50,7 +51,8 @@ use Rattle.macs_texts.specs.Showing.{show_text}
 use Rattle.macs_words.specs.Help.{topic_text}
 use Rattle.macs_words.specs.Words.{AsksFor, Names, macsecd}
 use Rattle.macs_words.specs.declared.action.Action.{Action}
-use Rattle.macs_words.specs.declared.action.Action.TheVariants.{About, Apply, Ask, Check, Examine, Format, Inspect, Key, Open, Protect}
+use Rattle.macs_words.specs.declared.action.Action.TheVariants.{About, Apply, Ask, Check, Examine, Format, Inspect, Key}
+use Rattle.macs_words.specs.declared.action.Action.TheVariants.{Open, Protect}
 use Rattle.macs_words.specs.declared.action.Action.TheVariants.{Relay, Show, Validate}
 use Rattle.macs_words.specs.declared.action.Question.{Question}
 use Rattle.macs_words.specs.declared.action.Question.TheVariants as question
@@ -98,12 +100,12 @@ use Rattle.macs_program.specs.declared.values.ValueFault.{ValueFault}
 -- one that may be written over, blanks it in the layout of its words and formats it with the identity of its words;
 -- `apply` gives the commands of a file to an endpoint in a file, and prints a line for each; `show` prints its text,
 -- as it was opened; `examine` prints what the journal is that is found on a copy of the disk in a file, and what its
--- records stand for, or the sector of its first fault; `protect` and `validate` take a capture through it, each from its own side, and
--- `validate --each` prints the line of each verdict before its own; `relay` prints what it came to; `ask` prints lines
--- of outcomes, or a text; `key` prints as many octets as it is to, in hex; `inspect` prints a line for each record of a
--- capture, up to its end; `about` prints one text; `check` prints how many commands some octets say, or, with a disk, a
--- line for each: what the endpoint on a copy of the disk in a file answers to it, where each sector of the copy is that
--- of the disk. Of a capture that is given, and a key that is given, it is this one.
+-- records stand for, or the sector of its first fault; `protect` and `validate` take a capture through it, each from
+-- its own side, and `validate --each` prints the line of each verdict before its own; `relay` prints what it came to;
+-- `ask` prints lines of outcomes, or a text; `key` prints as many octets as it is to, in hex; `inspect` prints a line
+-- for each record of a capture, up to its end; `about` prints one text; `check` prints how many commands some octets
+-- say, or, with a disk, a line for each: what the endpoint on a copy of the disk in a file answers to it, where each
+-- sector of the copy is that of the disk. Of a capture that is given, and a key that is given, it is this one.
 pub record ReplyWords {F : Type 0} (file : F → FileState) : Type 0 where
   pub replied : (words : List Text) (input : InputRead) (before after : Option (List ℕ)) (status : Status)
       → Replies file words input before after status
@@ -232,13 +234,12 @@ pub record ReplyWords {F : Type 0} (file : F → FileState) : Type 0 where
 
 -- A run that fails has words that are refused, or cannot print help, or the words name the action that fails so. Each
 -- action fails for this: `open` for a read that failed, for the first fault of its input, for memory or its output;
--- `format` for the first fault of its values, for the file, or for its output; those with an endpoint for its opening, or
--- as what is done with it ends; `relay` also for the first fault of its addresses; `ask`, `key`, `inspect`, `about` and
--- `check` for what is named here, and for nothing else. `examine` fails for its output, for a file that is not opened or
--- of which there is no copy, for memory, or for a fault that is of no sector, for which no endpoint is opened on the
--- copy. `check`
--- with a disk fails as without one; or the file is not opened, or there is no copy of its disk; or no endpoint is opened
--- on that, there is no memory, or a command ends the run.
+-- `format` for the first fault of its values, for the file, or for its output; those with an endpoint for its opening,
+-- or as what is done with it ends; `relay` also for the first fault of its addresses; `ask`, `key`, `inspect`, `about`
+-- and `check` for what is named here, and for nothing else. `examine` fails for its output, for a file that is not
+-- opened or of which there is no copy, for memory, or for a fault that is of no sector, for which no endpoint is opened
+-- on the copy. `check` with a disk fails as without one; or the file is not opened, or there is no copy of its disk; or
+-- no endpoint is opened on that, there is no memory, or a command ends the run.
 pub record FailWords {F : Type 0} (file : F → FileState) : Type 0 where
   pub failed : (words : List Text) (input : InputRead) (before after : Option (List ℕ)) (failure : Failure)
       → FailsFor file words input before after failure
@@ -358,8 +359,9 @@ pub record FailWords {F : Type 0} (file : F → FileState) : Type 0 where
       × (failure ≡ failure_in_memory fault))))
 
 -- Before a failure nothing was printed, or what the action that the words name had printed: `ask PATH apply` lines of
--- outcomes, from the first one on, and another `ask` nothing; `inspect` the lines of some records; `validate --each` those
--- of some verdicts. Wrong values are those of a `format` or of a `relay` that the words name, and a fault of them holds.
+-- outcomes, from the first one on, and another `ask` nothing; `inspect` the lines of some records; `validate --each`
+-- those of some verdicts. Wrong values are those of a `format` or of a `relay` that the words name, and a fault of them
+-- holds.
 pub record BeforeWords : Type 0 where
   pub before : (words : List Text) (before after : Option (List ℕ)) → PrintedBefore words before after
       → (after ≡ before)

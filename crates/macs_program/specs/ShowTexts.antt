@@ -36,7 +36,8 @@ pub record ShowTexts : Type 0 where
   pub replay_on : (replay : Replay) → replay.on ≡ true
       → replay_line replay ≡ (codes "replay " ++ (codes "on" ++ (codes " window " ++ decimal replay.window))) ++ 10 ∷ []
   pub replay_off : (replay : Replay) → replay.on ≡ false
-      → replay_line replay ≡ (codes "replay " ++ (codes "off" ++ (codes " window " ++ decimal replay.window))) ++ 10 ∷ []
+      → replay_line replay
+      ≡ (codes "replay " ++ (codes "off" ++ (codes " window " ++ decimal replay.window))) ++ 10 ∷ []
   pub modes : (mode_line mode.Explicit ≡ codes "sci-mode explicit" ++ 10 ∷ [])
       × (mode_line mode.EndStation ≡ codes "sci-mode end-station" ++ 10 ∷ [])
       × (mode_line mode.Implicit ≡ codes "sci-mode implicit" ++ 10 ∷ [])

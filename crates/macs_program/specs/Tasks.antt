@@ -8,7 +8,8 @@ use Rattle.macs_edge.specs.declared.capture_runs.Summary.{Summary}
 use Rattle.macs_edge.specs.declared.relaying.RelaySummary.{RelaySummary}
 use Rattle.macs_edge.specs.declared.settling.Side.{Side}
 use Rattle.macs_endpoint.specs.Value.{EndpointValue}
-use Rattle.macs_program.specs.Endpoints.{AppliesFile, BreaksOff, IsEndpointIn, OpeningFails, PassEnds, PassesBetween, shown_text}
+use Rattle.macs_program.specs.Endpoints.{AppliesFile, BreaksOff, IsEndpointIn, OpeningFails, PassEnds, PassesBetween}
+use Rattle.macs_program.specs.Endpoints.{shown_text}
 use Rattle.macs_program.specs.Failing.{failure_status}
 use Rattle.macs_program.specs.Relaying.{Course, IsAfterAddresses, RelayEnds, Relays}
 use Rattle.macs_program.specs.Summing.{pass_status, relay_line, summary_line}
@@ -24,14 +25,16 @@ Doing D W = EndpointValue D → W → Result Status Failure → EndpointValue D 
 -- ---- on a disk in a file
 
 -- no endpoint is opened there, which is the failure, and nothing is printed
-pub record IsNotOpened {F W : Type 0} (file : F → FileState) (before : W) (result : Result Status Failure) (after : W) : Type 0 where
+pub record IsNotOpened {F W : Type 0} (file : F → FileState) (before : W) (result : Result Status Failure)
+    (after : W) : Type 0 where
   pub failure : Failure
   pub is : result ≡ Err failure
   pub fails : OpeningFails file failure
   pub silent : after ≡ before
 
 -- an endpoint is opened there, and this is done with it
-pub record IsDoneWith {F W : Type 0} (file : F → FileState) (done : Doing (FileDisk F) W) (before : W) (result : Result Status Failure)
+pub record IsDoneWith {F W : Type 0} (file : F → FileState) (done : Doing (FileDisk F) W) (before : W)
+    (result : Result Status Failure)
     (after : W) : Type 0 where
   pub old : EndpointValue (FileDisk F)
   pub new : EndpointValue (FileDisk F)
@@ -45,24 +48,29 @@ IsRunIn file done before result after = IsNotOpened file before result after ⊎
 -- ---- what each does
 
 -- `apply`: the commands of a file are given to the endpoint, or not all of them
-pub record DoesApply {D W : Type 0} (disk_of : D → Disk) (contents : W → Option (List ℕ)) (has_failed : W → Bool) (old : EndpointValue D) (before : W)
+pub record DoesApply {D W : Type 0} (disk_of : D → Disk) (contents : W → Option (List ℕ)) (has_failed : W → Bool)
+    (old : EndpointValue D) (before : W)
     (result : Result Status Failure) (new : EndpointValue D) (after : W) : Type 0 where
   pub printed : IfOk result (λ status. AppliesFile disk_of old (contents before) (contents after) status new)
   pub ended : IfErr result (λ failure. BreaksOff disk_of old (contents before) (contents after) failure new)
   pub broken : IfErr result (λ failure. failure ≡ Output → has_failed after ≡ true)
 
 -- `show`: the text of the endpoint is printed, which stays as it is
-pub record DoesShow {D W : Type 0} (contents : W → Option (List ℕ)) (has_failed : W → Bool) (old : EndpointValue D) (before : W)
+pub record DoesShow {D W : Type 0} (contents : W → Option (List ℕ)) (has_failed : W → Bool) (old : EndpointValue D)
+    (before : W)
     (result : Result Status Failure) (new : EndpointValue D) (after : W) : Type 0 where
   pub same : new ≡ old
-  pub printed : IfOk result (λ status. Appends (contents before) (contents after) (shown_text old) × (status ≡ ends.Done))
+  pub printed : IfOk result
+      (λ status. Appends (contents before) (contents after) (shown_text old) × (status ≡ ends.Done))
   pub ended : IfErr result (λ failure. (failure ≡ Memory) ⊎ (failure ≡ Output))
   pub silent : IfErr result (λ failure. failure ≢ Output → after ≡ before)
   pub broken : IfErr result (λ failure. failure ≡ Output → has_failed after ≡ true)
 
 -- `protect` and `validate`: a capture is taken through the endpoint into another one, or not whole
-pub record DoesPass {D W : Type 0} (disk_of : D → Disk) (contents : W → Option (List ℕ)) (has_failed : W → Bool) (side : Side) (is_all : Bool)
-    (old : EndpointValue D) (before : W) (result : Result Status Failure) (new : EndpointValue D) (after : W) : Type 0 where
+pub record DoesPass {D W : Type 0} (disk_of : D → Disk) (contents : W → Option (List ℕ)) (has_failed : W → Bool)
+    (side : Side) (is_all : Bool)
+    (old : EndpointValue D) (before : W) (result : Result Status Failure) (new : EndpointValue D)
+    (after : W) : Type 0 where
   pub printed : IfOk result (λ status. (summary : Summary) × PassesBetween disk_of side old summary new
       × Appends (contents before) (contents after) (summary_line side summary) × (status ≡ pass_status is_all summary))
   pub ended : IfErr result (λ failure. PassEnds disk_of side old failure new)
@@ -71,8 +79,10 @@ pub record DoesPass {D W : Type 0} (disk_of : D → Disk) (contents : W → Opti
   pub broken : IfErr result (λ failure. failure ≡ Output → has_failed after ≡ true)
 
 -- `relay`: frames are relayed through the endpoint between two wires
-pub record DoesRelay {D W : Type 0} (disk_of : D → Disk) (contents : W → Option (List ℕ)) (has_failed : W → Bool) (course : Course)
-    (old : EndpointValue D) (before : W) (result : Result Status Failure) (new : EndpointValue D) (after : W) : Type 0 where
+pub record DoesRelay {D W : Type 0} (disk_of : D → Disk) (contents : W → Option (List ℕ)) (has_failed : W → Bool)
+    (course : Course)
+    (old : EndpointValue D) (before : W) (result : Result Status Failure) (new : EndpointValue D)
+    (after : W) : Type 0 where
   pub printed : IfOk result (λ status. (summary : RelaySummary) × Relays disk_of course old summary new
       × Appends (contents before) (contents after) (relay_line summary) × (status ≡ ends.Done))
   pub ended : IfErr result (λ failure. RelayEnds disk_of course old failure new)

@@ -1,6 +1,7 @@
 -- What is to be drawn from words on texts, in the order in which an operator meets them: the lines of answers and
 -- outcomes, the names of failures and their statuses, and what `inspect` and `check` say.
-use Rattle.std.specs.Prelude.{◌≡◌, ◌≢◌, ◌⊎◌, ◌<◌, ◌≤◌, ◌+◌, ◌++◌, ◌∷◌, [], true, false, ℕ, List, length, map, codes, replicate, string_bytes}
+use Rattle.std.specs.Prelude.{◌≡◌, ◌≢◌, ◌⊎◌, ◌<◌, ◌≤◌, ◌+◌, ◌++◌, ◌∷◌, [], true, false, ℕ, List, length, map, codes}
+use Rattle.std.specs.Prelude.{replicate, string_bytes}
 use Rattle.std.specs.Prelude.{Option, Some, None, Err}
 use Rattle.std.specs.Fmt.{decimal}
 use Rattle.std.specs.Int.{w32, to_be_bytes}
@@ -53,7 +54,8 @@ use Rattle.macs_program.specs.Asking.{failure_in}
 use Rattle.macs_program.specs.Checking.{IsSaidOfFile, count_line, fault_text, key_reason, key_word}
 use Rattle.macs_program.specs.Failing.{address_fault_text, disk_fault_text, failure_of_asking, failure_of_bind}
 use Rattle.macs_program.specs.Failing.{failure_of_capture, failure_of_commands, failure_of_control, failure_of_file}
-use Rattle.macs_program.specs.Failing.{failure_of_journal, failure_of_run, failure_of_words, failure_status, failure_text, input_fault_text, value_fault_text}
+use Rattle.macs_program.specs.Failing.{failure_of_journal, failure_of_run, failure_of_words, failure_status}
+use Rattle.macs_program.specs.Failing.{failure_text, input_fault_text, value_fault_text}
 use Rattle.macs_program.specs.Inspecting.{AreLinesOf, IsLineOf, IsSaidOf, bit_text, bits_text, name_text}
 use Rattle.macs_program.specs.Inspecting.{numbers_text, tag_text}
 use Rattle.macs_program.specs.Judging.{verdict_lines}
@@ -197,8 +199,8 @@ pub record FailureTexts : Type 0 where
 
 -- ---- orders of faults
 
--- The faults of the values of `format`, of the addresses of `relay`, of the lines of `open` and of a frame are looked for
--- in these orders, and each of the first three says that its own word or line spells none of what it is to spell. A
+-- The faults of the values of `format`, of the addresses of `relay`, of the lines of `open` and of a frame are looked
+-- for in these orders, and each of the first three says that its own word or line spells none of what it is to spell. A
 -- command file has 1,048,576 octets at most.
 pub record FaultOrders : Type 0 where
   pub values : value_faults ≡ value.Sci ∷ value.TxBlock ∷ value.RxBlock ∷ value.DeviceBlock ∷ []
@@ -230,8 +232,8 @@ pub record FaultOrders : Type 0 where
 -- ---- `inspect` and `check`
 
 -- The lines of records follow each other, numbered on. One has its number and what is said of its frame: the name of
--- the first fault of its SecTAG, or the AN, the PN, the SL, the bits E and C, the SCI where it is spelled out, and how many
--- octets the frame has.
+-- the first fault of its SecTAG, or the AN, the PN, the SL, the bits E and C, the SCI where it is spelled out, and how
+-- many octets the frame has.
 pub record FrameTexts : Type 0 where
   pub none : (at : ℕ) (text : List ℕ) → AreLinesOf at [] text → text ≡ []
   pub more : (at : ℕ) (taken : CaptureRecord) (records : List CaptureRecord) (text : List ℕ)
@@ -255,9 +257,9 @@ pub record FrameTexts : Type 0 where
       × (name_text EndStation ≡ codes " es") × (name_text Implicit ≡ [])
 
 -- `check` says how many commands there are, or that the file is too long, no text, no TOML, or the first fault of its
--- commands: that of its tables, of a command's word, of a key, by its name and what it is not, or that there is a key too
--- many. With a disk the line of a command has its number and says `would be ok`, or `would be refused` with the name of its
--- refusal; the lines follow each other, numbered on.
+-- commands: that of its tables, of a command's word, of a key, by its name and what it is not, or that there is a key
+-- too many. With a disk the line of a command has its number and says `would be ok`, or `would be refused` with the
+-- name of its refusal; the lines follow each other, numbered on.
 pub record CheckTexts : Type 0 where
   pub one : count_line 1 ≡ (decimal 1 ++ codes " command") ++ 10 ∷ []
   pub none : count_line 0 ≡ (decimal 0 ++ codes " commands") ++ 10 ∷ []

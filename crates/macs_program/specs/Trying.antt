@@ -1,4 +1,5 @@
--- What `check FILE DISK` does: the commands are given to the endpoint on a copy in memory of the disk, as `apply` gives them.
+-- What `check FILE DISK` does: the commands are given to the endpoint on a copy in memory of the disk, as `apply` gives
+-- them.
 use Rattle.std.specs.Prelude.{◌≡◌, ◌⊎◌, ◌≤◌, ◌+◌, ◌/◌, ◌%◌, ◌++◌, ℕ, List, [], ◌∷◌, codes, Option, Some, None, Err}
 use Rattle.std.specs.Fmt.{decimal}
 use Rattle.std.specs.Io.KnownBytes.{Appends}
@@ -56,10 +57,12 @@ failure_in_memory fault = failures.Disk fault
 abbrev pub EndsTrial : {D : Type 0} → (D → Disk) → EndpointValue D → Command → Failure → Type 0
 EndsTrial {D} disk_of old command failure =
     (fault : DiskFault) × (answer : CommandFault) × commit_fault fault answer
-    × (new : EndpointValue D) × IsCall disk_of old (Commands command) (Ran (Err answer)) new × (failure ≡ failure_in_memory fault)
+    × (new : EndpointValue D) × IsCall disk_of old (Commands command) (Ran (Err answer)) new
+    × (failure ≡ failure_in_memory fault)
 
 -- so it is with one of these commands, after some that were kept or refused
-pub record StopsAt {D : Type 0} (disk_of : D → Disk) (old : EndpointValue D) (commands : List Command) (failure : Failure) : Type 0 where
+pub record StopsAt {D : Type 0} (disk_of : D → Disk) (old : EndpointValue D) (commands : List Command)
+    (failure : Failure) : Type 0 where
   pub done : List Command
   pub next : Command
   pub left : List Command
@@ -74,7 +77,8 @@ abbrev pub TrialEnds : {D : Type 0} → (D → Disk) → EndpointValue D → Lis
 TrialEnds disk_of old commands failure = (failure ≡ failures.Memory) ⊎ StopsAt disk_of old commands failure
 
 -- an endpoint is opened on a disk, and these commands are given to it, one after another
-pub record TriesOn {D : Type 0} (disk_of : D → Disk) (copy : D) (commands : List Command) (outcomes : List (Option Refusal)) : Type 0 where
+pub record TriesOn {D : Type 0} (disk_of : D → Disk) (copy : D) (commands : List Command)
+    (outcomes : List (Option Refusal)) : Type 0 where
   pub old : EndpointValue D
   pub new : EndpointValue D
   pub opens : Opens disk_of copy old
@@ -83,7 +87,8 @@ pub record TriesOn {D : Type 0} (disk_of : D → Disk) (copy : D) (commands : Li
 -- no endpoint is opened there, or not all commands are given to it
 abbrev pub EndsOn : {D : Type 0} → (D → Disk) → D → List Command → Failure → Type 0
 EndsOn {D} disk_of copy commands failure =
-    ((left : D) × (fault : JournalFault) × RefusesOpening disk_of copy left fault × (failure ≡ failure_in_memory (disk.Journal fault)))
+    ((left : D) × (fault : JournalFault) × RefusesOpening disk_of copy left fault
+    × (failure ≡ failure_in_memory (disk.Journal fault)))
     ⊎ ((old : EndpointValue D) × Opens disk_of copy old × TrialEnds disk_of old commands failure)
 
 -- ---- on a disk in a file
@@ -95,13 +100,15 @@ IsCopyIn state_of file copy =
     × (IsSure (state_of file) → IsCopy (state_of file) (disk_of copy))
 
 -- the commands are given to the endpoint on a copy of the disk in a file
-pub record TriesIn {F : Type 0} (state_of : F → FileState) (commands : List Command) (outcomes : List (Option Refusal)) : Type 0 where
+pub record TriesIn {F : Type 0} (state_of : F → FileState) (commands : List Command)
+    (outcomes : List (Option Refusal)) : Type 0 where
   pub file : F
   pub copy : MemDisk Global
   pub is_copy : IsCopyIn state_of file copy
   pub tries : TriesOn disk_of copy commands outcomes
 
--- they are not, or not all of them: the file is not opened; or there is no copy; or it has no endpoint, or one of the commands ends the run
+-- they are not, or not all of them: the file is not opened; or there is no copy; or it has no endpoint, or one of the
+-- commands ends the run
 abbrev pub TrialFails : {F : Type 0} → (F → FileState) → List Command → Failure → Type 0
 TrialFails {F} state_of commands failure =
     ((fault : FileFault) × (failure ≡ failure_of_file fault))
@@ -111,7 +118,8 @@ TrialFails {F} state_of commands failure =
 -- ---- whole
 
 -- the lines of the commands that some octets say are printed, with what each would be answered
-pub record PrintsTrial {F : Type 0} (state_of : F → FileState) (before after : Option (List ℕ)) (status : Status) : Type 0 where
+pub record PrintsTrial {F : Type 0} (state_of : F → FileState) (before after : Option (List ℕ))
+    (status : Status) : Type 0 where
   pub octets : List ℕ
   pub commands : List Command
   pub says : SaysCommands octets commands

@@ -20,8 +20,8 @@ fn word_line(alloc: Global, name: &str, word: &str) -> Result<String, AllocError
     ended(format!(in alloc; "{name} {word}")?)
 }
 
-/// What is said of the program: its version, the commit of its sources, its processors, and which formats of the journal
-/// it writes and reads.
+/// What is said of the program: its version, the commit of its sources, its processors, and which
+/// formats of the journal it writes and reads.
 fn about_text(alloc: Global) -> Result<String, AllocError>
     ensures { IfOk result (λ text. string_bytes text ≡ about_text) }
 {
@@ -34,11 +34,13 @@ fn about_text(alloc: Global) -> Result<String, AllocError>
     joined(String::from_str(alloc, Topic::Version.text()), text)
 }
 
-/// `about`: prints which program this is. It fails as `Memory`, and as `Output` where the text cannot be printed.
+/// `about`: prints which program this is. It fails as `Memory`, and as `Output` where the text
+/// cannot be printed.
 pub fn about<W: Stream>(alloc: Global, out: &mut W) -> Result<Status, Failure>
     ensures printed { IfOk result (λ status.
         Appends (W.contents out.old) (W.contents out.new) about_text × (status ≡ Status.Done)) }
-    ensures ended { IfErr result (λ failure. (failure ≡ Failure.Memory) ⊎ (failure ≡ Failure.Output)) }
+    ensures ended { IfErr result
+        (λ failure. (failure ≡ Failure.Memory) ⊎ (failure ≡ Failure.Output)) }
     ensures silent { IfErr result (λ failure. failure ≢ Failure.Output → out.new ≡ out.old) }
     ensures broken { IfErr result (λ failure. failure ≡ Failure.Output → W.failed out.new ≡ true) }
 {

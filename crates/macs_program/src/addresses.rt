@@ -4,7 +4,8 @@ ghost use Rattle.std.specs.Prelude.{◌≡◌, ◌↔◌, ◌⊎◌, IfErr, IfOk
 ghost use Rattle.std.specs.Net.Grammar.{IsSocketText};
 ghost use Rattle.std.specs.declared.net.SocketAddr.{SocketAddr};
 ghost use Rattle.macs_fields.specs.First.{IsFirst};
-ghost use Rattle.macs_program.specs.Addresses.{AddressFaultHolds, SpellsEnds, SpellsNone, address_faults};
+ghost use Rattle.macs_program.specs.Addresses.{AddressFaultHolds, SpellsEnds, SpellsNone};
+ghost use Rattle.macs_program.specs.Addresses.{address_faults};
 
 use macs_words::WireEnds;
 use std::net::SocketAddr;
@@ -59,8 +60,8 @@ fn address_of(text: &str) -> Option<SocketAddr>
     text.parse().ok()
 }
 
-/// The addresses that the ends of a wire spell. Refused with the fault that is given for the first text that is no
-/// address and port.
+/// The addresses that the ends of a wire spell. Refused with the fault that is given for the first
+/// text that is no address and port.
 fn wire_of(
     ends: WireEnds,
     own_fault: AddressFault,
@@ -68,7 +69,8 @@ fn wire_of(
 ) -> Result<WireAddresses, AddressFault>
     ensures spelled { IfOk result (SpellsEnds ends.entry) }
     ensures fault { IfErr result (λ fault. (SpellsNone ends.entry.own.now × (fault ≡ own_fault))
-        ⊎ ((own : SocketAddr) × IsSocketText ends.entry.own.now own × SpellsNone ends.entry.peer.now × (fault ≡ peer_fault))) }
+        ⊎ ((own : SocketAddr) × IsSocketText ends.entry.own.now own
+        × SpellsNone ends.entry.peer.now × (fault ≡ peer_fault))) }
 {
     let Some(own) = address_of(ends.own) else {
         return Err(own_fault);
@@ -79,10 +81,11 @@ fn wire_of(
     Ok(WireAddresses { own, peer })
 }
 
-/// The addresses that the words spell. Refused with the first of `Own1`, `Peer1`, `Own2` and `Peer2` whose
-/// text is no address and port.
+/// The addresses that the words spell. Refused with the first of `Own1`, `Peer1`, `Own2` and
+/// `Peer2` whose text is no address and port.
 pub fn addresses_of(controlled: WireEnds, common: WireEnds) -> Result<Addresses, AddressFault>
-    ensures controlled { IfOk result (λ addresses. SpellsEnds controlled.entry addresses.controlled) }
+    ensures controlled { IfOk result
+        (λ addresses. SpellsEnds controlled.entry addresses.controlled) }
     ensures common { IfOk result (λ addresses. SpellsEnds common.entry addresses.common) }
     ensures fault { (fault : AddressFault) → (result ≡ Err fault)
         ↔ IsFirst (AddressFaultHolds controlled.entry common.entry) address_faults fault }

@@ -1,6 +1,7 @@
 //! `apply`: the commands of a file, one after another.
 
-ghost use Rattle.std.specs.Prelude.{◌≡◌, ◌≢◌, ◌+◌, ◌⊎◌, List, Option, is_some, if◌then◌else◌, true, IfErr, IfOk, OnOk, Ok, Err};
+ghost use Rattle.std.specs.Prelude.{◌≡◌, ◌≢◌, ◌+◌, ◌⊎◌, List, Option, is_some, if◌then◌else◌, true};
+ghost use Rattle.std.specs.Prelude.{IfErr, IfOk, OnOk, Ok, Err};
 ghost use Rattle.std.specs.Io.KnownBytes.{Appends};
 ghost use Rattle.toml.specs.Data.{Members};
 ghost use Rattle.toml.specs.Parse.{parse_document};
@@ -11,7 +12,8 @@ ghost use Rattle.macs_commands.specs.CommandFiles.{file_commands};
 ghost use Rattle.macs_endpoint.specs.Calls.{IsCall};
 ghost use Rattle.macs_endpoint.specs.State.{Commands, Ran};
 ghost use Rattle.macs_endpoint.specs.declared.fault.CommandFault.{CommandFault};
-ghost use Rattle.macs_program.specs.Applying.{AppliesAll, AppliesSome, EndsRun, SaysCommands, answer_of, commit_fault};
+ghost use Rattle.macs_program.specs.Applying.{AppliesAll, AppliesSome, EndsRun, SaysCommands};
+ghost use Rattle.macs_program.specs.Applying.{answer_of, commit_fault};
 ghost use Rattle.macs_program.specs.Applying.{outcome_line};
 
 use crate::failure::{DiskFault, Failure};
@@ -46,7 +48,8 @@ fn table_of(alloc: Global, text: &str) -> Result<Table, Failure>
 
 /// The commands of a table.
 fn commands_told(alloc: Global, table: &Table) -> Result<Vec<Command>, Failure>
-    ensures said { IfOk result (λ commands. file_commands (table_view table.now) ≡ Ok commands.items) }
+    ensures said { IfOk result
+        (λ commands. file_commands (table_view table.now) ≡ Ok commands.items) }
     ensures fault { IfErr result (λ failure. (failure ≡ Failure.Memory)
         ⊎ ((failure ≡ Failure.Commands)
         × ((commands : List Command) → ¬ (file_commands (table_view table.now) ≡ Ok commands)))) }
@@ -55,12 +58,13 @@ fn commands_told(alloc: Global, table: &Table) -> Result<Vec<Command>, Failure>
     Ok(commands)
 }
 
-/// The commands that a file says. It fails as `Memory`, or as `Commands` where it says none: it is too
-/// long, no text, no TOML, or has a fault of its own.
+/// The commands that a file says. It fails as `Memory`, or as `Commands` where it says none: it is
+/// too long, no text, no TOML, or has a fault of its own.
 pub fn commands_in(alloc: Global, octets: &[u8]) -> Result<Vec<Command>, Failure>
     ensures said { IfOk result (λ commands. SaysCommands octets.now commands.items) }
     ensures fault { IfErr result (λ failure. (failure ≡ Failure.Memory)
-        ⊎ ((failure ≡ Failure.Commands) × ((commands : List Command) → ¬ SaysCommands octets.now commands))) }
+        ⊎ ((failure ≡ Failure.Commands)
+        × ((commands : List Command) → ¬ SaysCommands octets.now commands))) }
 {
     if octets.len() > MAX_FILE {
         return Err(Failure::Commands);
@@ -129,10 +133,12 @@ fn apply_command<D: SectorDisk, W: Stream>(
     command: Command,
     out: &mut W,
 ) -> Result<bool, Failure>
-    ensures applied { IfOk result (λ refused. (outcome : Option Refusal) × (refused ≡ is_some outcome)
+    ensures applied { IfOk result
+        (λ refused. (outcome : Option Refusal) × (refused ≡ is_some outcome)
         × IsCall D.disk endpoint.old (Commands command) (Ran (answer_of outcome)) endpoint.new
         × Appends (W.contents out.old) (W.contents out.new) (outcome_line at outcome)) }
-    ensures ended { IfErr result (λ failure. EndsRun D.disk endpoint.old command failure endpoint.new) }
+    ensures ended { IfErr result
+        (λ failure. EndsRun D.disk endpoint.old command failure endpoint.new) }
     ensures silent { IfErr result (λ failure. failure ≢ Failure.Output → out.new ≡ out.old) }
     ensures broken { IfErr result (λ failure. failure ≡ Failure.Output → W.failed out.new ≡ true) }
 {
@@ -150,10 +156,10 @@ pub fn status_after(status: Status, is_refused: bool) -> Status
 }
 
 /// Gives these commands to the endpoint, one after another, and prints a line for each once it is
-/// answered: the line of a command that is kept is its acknowledgement. A refused one changes nothing, and
-/// the next one follows. It fails as `Disk` at the first command that is neither kept nor refused, with no
-/// line for it; and as `Output` at the first line that cannot be written and flushed, whose command was
-/// answered.
+/// answered: the line of a command that is kept is its acknowledgement. A refused one changes
+/// nothing, and the next one follows. It fails as `Disk` at the first command that is neither kept
+/// nor refused, with no line for it; and as `Output` at the first line that cannot be written and
+/// flushed, whose command was answered.
 pub fn apply_commands<D: SectorDisk, W: Stream>(
     endpoint: &mut Endpoint<D>,
     commands: &[Command],

@@ -1,6 +1,7 @@
 //! `ask`: what a running relay is asked over its control socket, and what it answers.
 
-ghost use Rattle.std.specs.Prelude.{◌≡◌, ◌≢◌, ◌⊎◌, ◌++◌, ℕ, List, Option, is_some, true, IfErr, IfOk, IfSome};
+ghost use Rattle.std.specs.Prelude.{◌≡◌, ◌≢◌, ◌⊎◌, ◌++◌, ℕ, List, Option, is_some, true, IfErr};
+ghost use Rattle.std.specs.Prelude.{IfOk, IfSome};
 ghost use Rattle.std.specs.Io.KnownBytes.{Appends};
 ghost use Rattle.macs_config.specs.declared.refusal.Refusal.{Refusal};
 ghost use Rattle.macs_program.specs.Applying.{outcome_line, outcome_lines, outcomes_status};
@@ -49,8 +50,8 @@ fn asker_at<N: Net>(net: &N, path: &str) -> Result<Asker<PatientStream>, Failure
     }
 }
 
-/// What a relay answers to a request. It fails as `Memory`, where there is none here, and as `Control` where the
-/// relay goes away or does not answer.
+/// What a relay answers to a request. It fails as `Memory`, where there is none here, and as
+/// `Control` where the relay goes away or does not answer.
 fn answer_to<S: Connection>(
     alloc: Global,
     asker: &mut Asker<S>,
@@ -163,7 +164,8 @@ fn apply_one<S: Connection, W: Stream>(
     command: Command,
     out: &mut W,
 ) -> Result<bool, Failure>
-    ensures printed { IfOk result (λ refused. (outcome : Option Refusal) × (refused ≡ is_some outcome)
+    ensures printed { IfOk result
+        (λ refused. (outcome : Option Refusal) × (refused ≡ is_some outcome)
         × Appends (W.contents out.old) (W.contents out.new) (outcome_line at outcome)) }
     ensures failed { IfErr result IsOfAsking }
     ensures silent { IfErr result (λ failure. failure ≢ Failure.Output → out.new ≡ out.old) }
@@ -186,7 +188,8 @@ fn apply_each<S: Connection, W: Stream>(
         × Appends (W.contents out.old) (W.contents out.new) (outcome_lines 1 outcomes)
         × (status ≡ outcomes_status outcomes)) }
     ensures failed { IfErr result IsOfAsking }
-    ensures front { IfErr result (λ failure. failure ≢ Failure.Output → (outcomes : List (Option Refusal))
+    ensures front { IfErr result (λ failure. failure ≢ Failure.Output
+        → (outcomes : List (Option Refusal))
         × Appends (W.contents out.old) (W.contents out.new) (outcome_lines 1 outcomes)) }
     ensures broken { IfErr result (λ failure. failure ≡ Failure.Output → W.failed out.new ≡ true) }
 {
@@ -210,7 +213,8 @@ fn ask_apply<T: Files + Net, W: Stream>(
         × Appends (W.contents out.old) (W.contents out.new) (outcome_lines 1 outcomes)
         × (status ≡ outcomes_status outcomes)) }
     ensures failed { IfErr result IsOfAsking }
-    ensures front { IfErr result (λ failure. failure ≢ Failure.Output → (outcomes : List (Option Refusal))
+    ensures front { IfErr result (λ failure. failure ≢ Failure.Output
+        → (outcomes : List (Option Refusal))
         × Appends (W.contents out.old) (W.contents out.new) (outcome_lines 1 outcomes)) }
     ensures broken { IfErr result (λ failure. failure ≡ Failure.Output → W.failed out.new ≡ true) }
 {
@@ -219,9 +223,9 @@ fn ask_apply<T: Files + Net, W: Stream>(
     apply_each(alloc, &mut asker, commands.as_slice(), out)
 }
 
-/// `ask`: asks a running relay, and prints its answer. It fails first as `Control`, where no relay is at the socket;
-/// then for the command file; as `Disk` with `Stopped`, where the relay ended before it answered a command; and as
-/// `Control`, where it went away.
+/// `ask`: asks a running relay, and prints its answer. It fails first as `Control`, where no relay
+/// is at the socket; then for the command file; as `Disk` with `Stopped`, where the relay ended
+/// before it answered a command; and as `Control`, where it went away.
 pub fn ask<T: Files + Net, W: Stream>(
     rt: &T,
     alloc: Global,
@@ -229,7 +233,8 @@ pub fn ask<T: Files + Net, W: Stream>(
     question: Question,
     out: &mut W,
 ) -> Result<Status, Failure>
-    ensures printed { IfOk result (PrintsAnswer question.entry (W.contents out.old) (W.contents out.new)) }
+    ensures printed { IfOk result
+        (PrintsAnswer question.entry (W.contents out.old) (W.contents out.new)) }
     ensures failed { IfErr result IsOfAsking }
     ensures front { IfErr result (λ failure. failure ≢ Failure.Output
         → PrintsFront question.entry (W.contents out.old) (W.contents out.new)) }

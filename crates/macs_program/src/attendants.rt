@@ -21,8 +21,9 @@ fn limit_of(pace: Pace) -> u16 {
     }
 }
 
-/// A desk over the sockets of both wires, and over the control socket and the file of counters, where there are to be
-/// ones. It fails as `Memory`; and as `Control`, where the control socket cannot be bound.
+/// A desk over the sockets of both wires, and over the control socket and the file of counters,
+/// where there are to be ones. It fails as `Memory`; and as `Control`, where the control socket
+/// cannot be bound.
 pub fn desk_for<'a, T: Files + Net + Clock>(
     rt: &'a T,
     alloc: Global,

@@ -1,5 +1,6 @@
-//! What `tools/tree_for` writes of the build into its copies of this file: of which commit the sources are, where that was
-//! asked for, and for which processors the program is. In the repository it is what is written here.
+//! What `tools/tree_for` writes of the build into its copies of this file: of which commit the
+//! sources are, where that was asked for, and for which processors the program is. In the
+//! repository it is what is written here.
 
 /// The commit of the sources.
 pub const COMMIT: &str = "unknown";

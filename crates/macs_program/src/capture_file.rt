@@ -9,19 +9,20 @@ use std::io;
 
 /// A file that is read as a capture, or written as one.
 pub trait CaptureFile: DiskFile {
-    /// Claims the file until it is closed, along with other readers. An error where another open of the
-    /// file has claimed it for itself alone.
+    /// Claims the file until it is closed, along with other readers. An error where another open of
+    /// the file has claimed it for itself alone.
     fn share(&mut self) -> io::Result<()>
         ensures steady { (Self.file self.new).behaves ≡ (Self.file self.old).behaves }
         ensures effect { Behaves (Self.file self.old) → Self.file self.new ≡ Self.file self.old };
 
-    /// Cuts the file to nothing. What becomes of a file that is not claimed is not said, since others may
-    /// write to it.
+    /// Cuts the file to nothing. What becomes of a file that is not claimed is not said, since
+    /// others may write to it.
     fn cut(&mut self) -> io::Result<()>
         ensures steady { (Self.file self.new).behaves ≡ (Self.file self.old).behaves }
         ensures ok { Behaves (Self.file self.old) → IsClaimed (Self.file self.old)
             → OnOk result (Self.file self.new ≡ file_cut (Self.file self.old)) }
-        ensures err { Behaves (Self.file self.old) → OnErr result (Self.file self.new ≡ Self.file self.old) };
+        ensures err { Behaves (Self.file self.old)
+            → OnErr result (Self.file self.new ≡ Self.file self.old) };
 }
 
 impl CaptureFile for File {

@@ -1,6 +1,7 @@
 //! Where the captures of a run come from and go to, by their names.
 
-ghost use Rattle.std.specs.Prelude.{◌≡◌, ◌⊎◌, List, Option, [], ◌∷◌, None, false, true, IfErr, OnErr, OnOk};
+ghost use Rattle.std.specs.Prelude.{◌≡◌, ◌⊎◌, List, Option, [], ◌∷◌, None, false, true, IfErr};
+ghost use Rattle.std.specs.Prelude.{OnErr, OnOk};
 ghost use Rattle.macs_program.specs.CaptureFiles.{Asked, Asks, Makes, Opens};
 
 use crate::capture_file::CaptureFile;
@@ -10,7 +11,8 @@ use macs_pcap::{Sink, Source};
 use std::alloc::Global;
 use std::rt::Files;
 
-/// What opens the captures of a run. It may be known for what it was asked; of the system that is not known.
+/// What opens the captures of a run. It may be known for what it was asked; of the system that is
+/// not known.
 pub trait Captures {
     /// A capture that is read.
     type Input: Source + Drop;
@@ -18,21 +20,28 @@ pub trait Captures {
     /// A capture that is written.
     type Output: Sink + Drop;
 
-    /// The captures that it was asked for so far, in their order, and what it answered, where that is known.
+    /// The captures that it was asked for so far, in their order, and what it answered, where that
+    /// is known.
     ghost asked: { Self → Option (List Asked) } = { λ _. None };
 
     /// The capture of this name, to be read. It fails as `Memory`, and else as `Capture`.
     fn open(&mut self, path: &str) -> Result<Self::Input, Failure>
-        ensures opened { OnOk result (Asks (asked self.old) (asked self.new) (Opens path.now true ∷ [])) }
-        ensures refused { OnErr result (Asks (asked self.old) (asked self.new) (Opens path.now false ∷ [])) }
-        ensures failed { IfErr result (λ failure. (failure ≡ Failure.Memory) ⊎ (failure ≡ Failure.Capture)) };
+        ensures opened { OnOk result
+            (Asks (asked self.old) (asked self.new) (Opens path.now true ∷ [])) }
+        ensures refused { OnErr result
+            (Asks (asked self.old) (asked self.new) (Opens path.now false ∷ [])) }
+        ensures failed { IfErr result
+            (λ failure. (failure ≡ Failure.Memory) ⊎ (failure ≡ Failure.Capture)) };
 
-    /// The capture of this name, to be written: it is made, or its file cut to nothing. It fails as `Memory`, and
-    /// else as `Capture`.
+    /// The capture of this name, to be written: it is made, or its file cut to nothing. It fails as
+    /// `Memory`, and else as `Capture`.
     fn make(&mut self, path: &str) -> Result<Self::Output, Failure>
-        ensures made { OnOk result (Asks (asked self.old) (asked self.new) (Makes path.now true ∷ [])) }
-        ensures refused { OnErr result (Asks (asked self.old) (asked self.new) (Makes path.now false ∷ [])) }
-        ensures failed { IfErr result (λ failure. (failure ≡ Failure.Memory) ⊎ (failure ≡ Failure.Capture)) };
+        ensures made { OnOk result
+            (Asks (asked self.old) (asked self.new) (Makes path.now true ∷ [])) }
+        ensures refused { OnErr result
+            (Asks (asked self.old) (asked self.new) (Makes path.now false ∷ [])) }
+        ensures failed { IfErr result
+            (λ failure. (failure ≡ Failure.Memory) ⊎ (failure ≡ Failure.Capture)) };
 }
 
 /// The captures in files of the system.

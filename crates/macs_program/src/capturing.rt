@@ -73,7 +73,8 @@ pub(crate) fn handed_on<W: Sink>(
     sink: &mut W,
 ) -> Result<Summary, Failure>
     ensures ended { EndsFlushed answer result (W.state sink.old) (W.state sink.new) }
-    ensures failed { IfErr result (λ failure. ((fault : RunFault) × (failure ≡ failure_of_run fault))
+    ensures failed { IfErr result
+        (λ failure. ((fault : RunFault) × (failure ≡ failure_of_run fault))
         ⊎ (failure ≡ Failure.Capture)) }
 {
     let flushed = sink.flush();
@@ -84,8 +85,8 @@ pub(crate) fn handed_on<W: Sink>(
     }
 }
 
-/// Takes a whole capture through an endpoint, and hands on all that was written, where a fault ended
-/// the run too.
+/// Takes a whole capture through an endpoint, and hands on all that was written, where a fault
+/// ended the run too.
 fn run_capture<D: SectorDisk, R: Source, W: Sink>(
     alloc: Global,
     endpoint: &mut Endpoint<D>,
@@ -96,17 +97,19 @@ fn run_capture<D: SectorDisk, R: Source, W: Sink>(
     ensures runs { PassesCapture D.disk side
         (run_of endpoint.old (R.state source.old) (W.state sink.old)) result
         (run_of endpoint.new (R.state source.new) (W.state sink.new)) }
-    ensures failed { IfErr result (λ failure. ((fault : RunFault) × (failure ≡ failure_of_run fault))
+    ensures failed { IfErr result
+        (λ failure. ((fault : RunFault) × (failure ≡ failure_of_run fault))
         ⊎ (failure ≡ Failure.Capture)) }
 {
     let answer = run_side(alloc, endpoint, side, source, sink);
     handed_on(answer, sink)
 }
 
-/// Takes a whole capture through an endpoint, hands on all that was written, and prints what became of its
-/// frames. It fails with the first fault of the run: as `Capture` or `Memory` at the header or a record, as
-/// `Disk` at a reservation; without one, as `Capture` where what was written cannot be handed on. Nothing is
-/// printed then. Else it fails as `Output` where the line cannot be written.
+/// Takes a whole capture through an endpoint, hands on all that was written, and prints what became
+/// of its frames. It fails with the first fault of the run: as `Capture` or `Memory` at the header
+/// or a record, as `Disk` at a reservation; without one, as `Capture` where what was written cannot
+/// be handed on. Nothing is printed then. Else it fails as `Output` where the line cannot be
+/// written.
 pub fn pass_frames<D: SectorDisk, R: Source, S: Sink, W: Stream>(
     alloc: Global,
     endpoint: &mut Endpoint<D>,

@@ -1,6 +1,8 @@
-//! `check`: whether the commands of a file can be read, and else the first fault; and what they would be answered.
+//! `check`: whether the commands of a file can be read, and else the first fault; and what they
+//! would be answered.
 
-ghost use Rattle.std.specs.Prelude.{◌≡◌, ◌≢◌, ◌⊎◌, ◌++◌, ◌<◌, ◌^◌, ◌==◌, if◌then◌else◌, codes, ℕ, List, Option, true, IfErr, IfOk, IfSome, string_bytes};
+ghost use Rattle.std.specs.Prelude.{◌≡◌, ◌≢◌, ◌⊎◌, ◌++◌, ◌<◌, ◌^◌, ◌==◌, if◌then◌else◌, codes, ℕ};
+ghost use Rattle.std.specs.Prelude.{List, Option, true, IfErr, IfOk, IfSome, string_bytes};
 ghost use Rattle.std.specs.Io.KnownBytes.{Appends};
 ghost use Rattle.toml.specs.Data.{Members};
 ghost use Rattle.toml.specs.View.{table_view};
@@ -9,7 +11,8 @@ ghost use Rattle.macs_config.specs.declared.refusal.Refusal.{Refusal};
 ghost use Rattle.macs_commands.specs.CommandFiles.{file_commands};
 ghost use Rattle.std.specs.Prelude.{Ok, Some};
 ghost use Rattle.macs_program.specs.Applying.{SaysCommands, outcomes_status};
-ghost use Rattle.macs_program.specs.Checking.{CheckEnds, Checks, Complains, HasFault, IsSaidOfFile, IsSaidOfText};
+ghost use Rattle.macs_program.specs.Checking.{CheckEnds, Checks, Complains, HasFault, IsSaidOfFile};
+ghost use Rattle.macs_program.specs.Checking.{IsSaidOfText};
 ghost use Rattle.macs_program.specs.Checking.{count_line, fault_text, key_reason, key_word};
 ghost use Rattle.macs_program.specs.Trying.{TrialFails, TriesIn, would_lines};
 
@@ -87,7 +90,8 @@ fn fault_text(alloc: Global, fault: ConfigFault) -> Result<String, AllocError>
 
 /// The failure that says this of a command file, unless there is no memory for it.
 fn failure_saying(text: Result<String, AllocError>) -> Failure
-    ensures { (said : List ℕ) → IfOk text (λ t. string_bytes t ≡ said) → Complains (λ t. t ≡ said) result }
+    ensures { (said : List ℕ) → IfOk text (λ t. string_bytes t ≡ said)
+        → Complains (λ t. t ≡ said) result }
 {
     match text {
         Ok(text) => Failure::CommandFile(text),
@@ -97,7 +101,8 @@ fn failure_saying(text: Result<String, AllocError>) -> Failure
 
 /// The commands that a table of TOML says.
 fn commands_in_table(alloc: Global, table: &Table) -> Result<Vec<Command>, Failure>
-    ensures said { IfOk result (λ commands. file_commands (table_view table.now) ≡ Ok commands.items) }
+    ensures said { IfOk result
+        (λ commands. file_commands (table_view table.now) ≡ Ok commands.items) }
     ensures fault { (text : List ℕ) → parse_document text ≡ Some (table_view table.now)
         → IfErr result (Complains (HasFault text)) }
 {
@@ -139,12 +144,13 @@ fn commands_said(alloc: Global, octets: &[u8]) -> Result<Vec<Command>, Failure>
     commands_in_text(alloc, text)
 }
 
-/// The commands that an open file says, of which no more is read than can be of use. It fails as `Commands` where a
-/// read fails, and else says the first fault.
+/// The commands that an open file says, of which no more is read than can be of use. It fails as
+/// `Commands` where a read fails, and else says the first fault.
 pub fn commands_read<R: Read>(alloc: Global, file: &mut R) -> Result<Vec<Command>, Failure>
     ensures said { IfOk result (λ commands. IfSome (R.remaining file.old)
         (λ octets. SaysCommands octets commands.items)) }
-    ensures spelled { IfOk result (λ commands. (octets : List ℕ) × SaysCommands octets commands.items) }
+    ensures spelled { IfOk result
+        (λ commands. (octets : List ℕ) × SaysCommands octets commands.items) }
     ensures fault { IfErr result (λ failure. (failure ≡ Failure.Commands)
         ⊎ IfSome (R.remaining file.old) (λ octets. Complains (IsSaidOfFile octets) failure)) }
     ensures ended { IfErr result (λ failure. (failure ≡ Failure.Commands)
@@ -172,10 +178,11 @@ fn count_line(count: usize) -> Line
     line
 }
 
-/// The commands that a file says. It fails as `Commands` where it cannot be opened or read, and else says the first
-/// fault.
+/// The commands that a file says. It fails as `Commands` where it cannot be opened or read, and
+/// else says the first fault.
 fn checked_commands<T: Files>(rt: &T, alloc: Global, path: &str) -> Result<Vec<Command>, Failure>
-    ensures spelled { IfOk result (λ commands. (octets : List ℕ) × SaysCommands octets commands.items) }
+    ensures spelled { IfOk result
+        (λ commands. (octets : List ℕ) × SaysCommands octets commands.items) }
     ensures ended { IfErr result (λ failure. (failure ≡ Failure.Commands)
         ⊎ ((octets : List ℕ) × Complains (IsSaidOfFile octets) failure)) }
 {
@@ -188,7 +195,8 @@ fn checked_commands<T: Files>(rt: &T, alloc: Global, path: &str) -> Result<Vec<C
 /// Prints how many commands there are.
 fn print_count<W: Stream>(count: usize, out: &mut W) -> Result<Status, Failure>
     ensures printed { IfOk result (λ status.
-        Appends (W.contents out.old) (W.contents out.new) (count_line count) × (status ≡ Status.Done)) }
+        Appends (W.contents out.old) (W.contents out.new) (count_line count)
+        × (status ≡ Status.Done)) }
     ensures failed { IfErr result (λ failure. failure ≡ Failure.Output) }
     ensures broken { IfErr result (λ failure. W.failed out.new ≡ true) }
 {
@@ -196,8 +204,8 @@ fn print_count<W: Stream>(count: usize, out: &mut W) -> Result<Status, Failure>
     Ok(Status::Done)
 }
 
-/// Prints what these commands would be answered by the endpoint on the disk in a file. It fails as `try_in` does,
-/// and as `Memory`; nothing is printed then.
+/// Prints what these commands would be answered by the endpoint on the disk in a file. It fails as
+/// `try_in` does, and as `Memory`; nothing is printed then.
 fn print_trial<T: Files, W: Stream>(
     rt: &T,
     alloc: Global,
@@ -207,8 +215,10 @@ fn print_trial<T: Files, W: Stream>(
 ) -> Result<Status, Failure>
 where
     T::File: CaptureFile,
-    ensures printed { IfOk result (λ status. (outcomes : List (Option Refusal)) × TriesIn T.File.file commands.now outcomes
-        × Appends (W.contents out.old) (W.contents out.new) (would_lines 1 outcomes) × (status ≡ outcomes_status outcomes)) }
+    ensures printed { IfOk result
+        (λ status. (outcomes : List (Option Refusal)) × TriesIn T.File.file commands.now outcomes
+        × Appends (W.contents out.old) (W.contents out.new) (would_lines 1 outcomes)
+        × (status ≡ outcomes_status outcomes)) }
     ensures ended { IfErr result (λ failure. (failure ≡ Failure.Output) ⊎ (failure ≡ Failure.Memory)
         ⊎ TrialFails T.File.file commands.now failure) }
     ensures silent { IfErr result (λ failure. failure ≢ Failure.Output → out.new ≡ out.old) }
@@ -220,8 +230,8 @@ where
     Ok(outcomes_status(outcomes.as_slice()))
 }
 
-/// `check`: prints how many commands a file says, or what each of them would be answered by the endpoint on the disk
-/// in a file. Neither file is changed.
+/// `check`: prints how many commands a file says, or what each of them would be answered by the
+/// endpoint on the disk in a file. Neither file is changed.
 pub fn check<T: Files, W: Stream>(
     rt: &T,
     alloc: Global,
@@ -231,7 +241,8 @@ pub fn check<T: Files, W: Stream>(
 ) -> Result<Status, Failure>
 where
     T::File: CaptureFile,
-    ensures printed { IfOk result (Checks T.File.file disk.entry (W.contents out.old) (W.contents out.new)) }
+    ensures printed { IfOk result
+        (Checks T.File.file disk.entry (W.contents out.old) (W.contents out.new)) }
     ensures ended { IfErr result (CheckEnds T.File.file disk.entry) }
     ensures silent { IfErr result (λ failure. failure ≢ Failure.Output → out.new ≡ out.old) }
     ensures broken { IfErr result (λ failure. failure ≡ Failure.Output → W.failed out.new ≡ true) }

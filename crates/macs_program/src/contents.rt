@@ -5,7 +5,8 @@ ghost use Rattle.macs_disk.specs.Files.{Behaves, IsSure};
 ghost use Rattle.macs_journal.specs.Areas.{least_sectors};
 ghost use Rattle.macs_record.specs.Heads.{Head, IsHeadOf};
 ghost use Rattle.macs_record.specs.Sectors.{Begins};
-ghost use Rattle.macs_program.specs.Contents.{ContentsAre, HasFront, HasFrontInEither, HasHeadMark, HasOpenGate, HoldsEndpoint};
+ghost use Rattle.macs_program.specs.Contents.{ContentsAre, HasFront, HasFrontInEither, HasHeadMark};
+ghost use Rattle.macs_program.specs.Contents.{HasOpenGate, HoldsEndpoint};
 ghost use Rattle.macs_program.specs.Contents.{IsBlankFile, IsPartOf, IsUnused, leftover, sector_in};
 
 use macs_disk::{DiskFile, read_exact_at, spaced_mark};
@@ -218,7 +219,8 @@ pub fn holds_endpoint<F: DiskFile>(file: &mut F) -> io::Result<bool>
     ensures steady { (F.file file.new).behaves ≡ (F.file file.old).behaves }
     ensures same { Behaves (F.file file.old) → F.file file.new ≡ F.file file.old }
     ensures holds { Behaves (F.file file.old) → IsSure (F.file file.old)
-        → IfOk result (λ is. IsTrue is ↔ HoldsEndpoint (F.file file.old) ((F.file file.old).size / 512)) }
+        → IfOk result
+        (λ is. IsTrue is ↔ HoldsEndpoint (F.file file.old) ((F.file file.old).size / 512)) }
 {
     let sectors = file.size()? / SECTOR as u64;
     let has_mark = has_head_mark(file, sectors)?;

@@ -1,6 +1,7 @@
 //! A copy in memory of the disk in a file, which is read and not changed.
 
-ghost use Rattle.std.specs.Prelude.{◌≡◌, ◌≢◌, ◌⊎◌, ◌<◌, ◌≤◌, ◌*◌, ◌/◌, ◌%◌, ◌^◌, IfErr, IfOk, IsErrOf, OnOk};
+ghost use Rattle.std.specs.Prelude.{◌≡◌, ◌≢◌, ◌⊎◌, ◌<◌, ◌≤◌, ◌*◌, ◌/◌, ◌%◌, ◌^◌, IfErr, IfOk};
+ghost use Rattle.std.specs.Prelude.{IsErrOf, OnOk};
 ghost use Rattle.macs_disk.specs.Disk.{now};
 ghost use Rattle.macs_disk.specs.Files.{Behaves, IsSure};
 ghost use Rattle.macs_disk.specs.Layouts.{layout_in};
@@ -27,14 +28,17 @@ const SECTORS: u64 = 1_028;
 /// What the mark of a spaced file begins with.
 const MARK: &[u8; 8] = b"MSEC4096";
 
-/// Claims a file beside other readers, and answers how many sectors of 512 octets it has, where these are all of it.
+/// Claims a file beside other readers, and answers how many sectors of 512 octets it has, where
+/// these are all of it.
 pub fn measure<F: CaptureFile>(file: &mut F) -> Result<u64, FileFault>
     ensures steady { (F.file file.new).behaves ≡ (F.file file.old).behaves }
     ensures same { Behaves (F.file file.old) → F.file file.new ≡ F.file file.old }
     ensures fits { IfOk result (λ sectors. 512 * sectors < 2 ^ 64) }
-    ensures count { Behaves (F.file file.old) → IfOk result (λ sectors. sectors ≡ (F.file file.old).size / 512) }
+    ensures count { Behaves (F.file file.old)
+        → IfOk result (λ sectors. sectors ≡ (F.file file.old).size / 512) }
     ensures whole { Behaves (F.file file.old) → OnOk result ((F.file file.old).size % 512 ≡ 0) }
-    ensures length { IsErrOf result FileFault.Length → Behaves (F.file file.old) → (F.file file.old).size % 512 ≢ 0 }
+    ensures length { IsErrOf result FileFault.Length → Behaves (F.file file.old)
+        → (F.file file.old).size % 512 ≢ 0 }
 {
     file.share()?;
     let octets = file.size()?;
@@ -49,7 +53,8 @@ pub fn find_layout<F: DiskFile>(file: &mut F, sectors: u64) -> io::Result<Layout
     requires { 512 * sectors < 2 ^ 64 }
     ensures steady { (F.file file.new).behaves ≡ (F.file file.old).behaves }
     ensures same { Behaves (F.file file.old) → F.file file.new ≡ F.file file.old }
-    ensures found { Behaves (F.file file.old) → IsSure (F.file file.old) → sectors ≡ (F.file file.old).size / 512
+    ensures found { Behaves (F.file file.old) → IsSure (F.file file.old)
+        → sectors ≡ (F.file file.old).size / 512
         → IfOk result (λ layout. layout ≡ layout_in (F.file file.old)) }
 {
     if begins(file, sectors, SPACED_MARK_SECTOR, MARK)? {
@@ -82,8 +87,10 @@ fn copy_sector<F: DiskFile>(
     ensures steady { (F.file file.new).behaves ≡ (F.file file.old).behaves }
     ensures same { Behaves (F.file file.old) → F.file file.new ≡ F.file file.old }
     ensures room { (disk_of copy.new).sectors ≡ least_sectors }
-    ensures copied { Behaves (F.file file.old) → IsSure (F.file file.old) → OnOk result (now (disk_of copy.new)
-        ≡ state_after_write (now (disk_of copy.old)) at (sector_in (F.file file.old) (number_of layout at))) }
+    ensures copied { Behaves (F.file file.old) → IsSure (F.file file.old)
+        → OnOk result (now (disk_of copy.new)
+        ≡ state_after_write (now (disk_of copy.old))
+        at (sector_in (F.file file.old) (number_of layout at))) }
     ensures failed { IfErr result (λ fault. fault ≢ FileFault.Length) }
 {
     let mut sector = CLOSED_GATE;
@@ -105,7 +112,8 @@ fn copy_sectors<F: DiskFile>(
     requires { (disk_of copy.old).sectors ≡ least_sectors }
     ensures steady { (F.file file.new).behaves ≡ (F.file file.old).behaves }
     ensures same { Behaves (F.file file.old) → F.file file.new ≡ F.file file.old }
-    ensures copied { Behaves (F.file file.old) → IsSure (F.file file.old) → layout ≡ layout_in (F.file file.old)
+    ensures copied { Behaves (F.file file.old) → IsSure (F.file file.old)
+        → layout ≡ layout_in (F.file file.old)
         → OnOk result (IsCopy (F.file file.old) (disk_of copy.new)) }
     ensures failed { IfErr result (λ fault. fault ≢ FileFault.Length) }
 {
@@ -130,7 +138,8 @@ fn blank_copy(alloc: Global) -> Result<MemDisk, FileFault>
 fn copy_disk<F: DiskFile>(alloc: Global, file: &mut F, sectors: u64) -> Result<MemDisk, FileFault>
     requires { 512 * sectors < 2 ^ 64 }
     ensures same { Behaves (F.file file.old) → F.file file.new ≡ F.file file.old }
-    ensures copied { Behaves (F.file file.old) → IsSure (F.file file.old) → sectors ≡ (F.file file.old).size / 512
+    ensures copied { Behaves (F.file file.old) → IsSure (F.file file.old)
+        → sectors ≡ (F.file file.old).size / 512
         → IfOk result (λ copy. IsCopy (F.file file.old) (disk_of copy)) }
     ensures failed { IfErr result (λ fault. fault ≢ FileFault.Length) }
 {
@@ -142,16 +151,18 @@ fn copy_disk<F: DiskFile>(alloc: Global, file: &mut F, sectors: u64) -> Result<M
     Ok(copy)
 }
 
-/// A copy in memory of the disk in a file that is open to read, of 1,028 sectors. The file is claimed beside other
-/// readers, and no octet of it is changed. It fails as `Disk` with the first fault: `File` where the file is claimed by
-/// a writer or cannot be measured, `Length` where it is not whole sectors, `Journal` with `TooSmall` where they are
-/// fewer, and with `Disk` where one cannot be read; and as `Memory`.
+/// A copy in memory of the disk in a file that is open to read, of 1,028 sectors. The file is
+/// claimed beside other readers, and no octet of it is changed. It fails as `Disk` with the first
+/// fault: `File` where the file is claimed by a writer or cannot be measured, `Length` where it is
+/// not whole sectors, `Journal` with `TooSmall` where they are fewer, and with `Disk` where one
+/// cannot be read; and as `Memory`.
 pub fn copy_of<F: CaptureFile>(alloc: Global, file: &mut F) -> Result<MemDisk, Failure>
     ensures same { Behaves (F.file file.old) → F.file file.new ≡ F.file file.old }
     ensures copied { Behaves (F.file file.old) → IsSure (F.file file.old)
         → IfOk result (λ copy. IsCopy (F.file file.old) (disk_of copy)) }
     ensures whole { Behaves (F.file file.old) → OnOk result ((F.file file.old).size % 512 ≡ 0) }
-    ensures enough { Behaves (F.file file.old) → OnOk result (least_sectors ≤ (F.file file.old).size / 512) }
+    ensures enough { Behaves (F.file file.old)
+        → OnOk result (least_sectors ≤ (F.file file.old).size / 512) }
     ensures failed { IfErr result (CopyFails (F.file file.old)) }
 {
     let sectors = measure(file)?;

@@ -1,6 +1,7 @@
 //! `examine`: what the journal of the disk in a file has, which is only read.
 
-ghost use Rattle.std.specs.Prelude.{◌≡◌, ◌≢◌, ◌⊎◌, ◌≤◌, ◌%◌, true, Ok, IfErr, IfOk, IsErrOf, string_bytes};
+ghost use Rattle.std.specs.Prelude.{◌≡◌, ◌≢◌, ◌⊎◌, ◌≤◌, ◌%◌, true, Ok, IfErr, IfOk, IsErrOf};
+ghost use Rattle.std.specs.Prelude.{string_bytes};
 ghost use Rattle.std.specs.declared.alloc.Global.{Global};
 ghost use Rattle.macs_config.specs.Config.{this_edition};
 ghost use Rattle.macs_disk.specs.Disk.{now};
@@ -16,8 +17,10 @@ ghost use Rattle.macs_journal.specs.declared.fault.JournalFault.{JournalFault};
 ghost use Rattle.macs_store.specs.Found.{StandingIs};
 ghost use Rattle.macs_store.specs.Opening.{IsStoreOpening};
 ghost use Rattle.macs_store.specs.Standing.{Standing};
-ghost use Rattle.macs_program.specs.Examining.{ExaminationFails, ExamineFails, ExaminesIn, IsNotExamined, IsNotOpened};
-ghost use Rattle.macs_program.specs.Examining.{PrintsExamined, Says, SaysFault, examined_text, fault_line, figures_of};
+ghost use Rattle.macs_program.specs.Examining.{ExaminationFails, ExamineFails, ExaminesIn};
+ghost use Rattle.macs_program.specs.Examining.{IsNotExamined, IsNotOpened};
+ghost use Rattle.macs_program.specs.Examining.{PrintsExamined, Says, SaysFault, examined_text};
+ghost use Rattle.macs_program.specs.Examining.{fault_line, figures_of};
 ghost use Rattle.macs_program.specs.Trying.{failure_in_memory};
 ghost use Rattle.macs_program.specs.declared.failure.DiskFault.TheVariants.{Journal};
 
@@ -53,13 +56,17 @@ struct Said {
 
 /// Finds the journal of a disk in memory, with a room that is lent for its records.
 fn find_with(copy: MemDisk, room: &mut Room) -> Result<Examined, RecoverRefused<MemDisk>>
-    ensures found { IfOk result (λ found. (content : Content) × HasJournal (now (disk_of copy)).seen content
+    ensures found { IfOk result
+        (λ found. (content : Content) × HasJournal (now (disk_of copy)).seen content
         × (found.figures ≡ figures_of content)) }
-    ensures seen { IfOk result (λ found. (now (disk_of found.disk)).seen ≡ (now (disk_of copy)).seen) }
+    ensures seen { IfOk result
+        (λ found. (now (disk_of found.disk)).seen ≡ (now (disk_of copy)).seen) }
     ensures sectors { IfOk result (λ found. (disk_of found.disk).sectors ≡ (disk_of copy).sectors) }
-    ensures refused { IfErr result (λ refused. refused.fault ≢ JournalFault.Disk → IsNoJournal disk_of copy refused.fault) }
+    ensures refused { IfErr result (λ refused. refused.fault ≢ JournalFault.Disk
+        → IsNoJournal disk_of copy refused.fault) }
     ensures left { IfErr result (λ refused. refused.fault ≡ JournalFault.BadJournal
-        → (least_sectors ≤ (disk_of refused.disk).sectors) × ((now (disk_of refused.disk)).durable ≡ (now (disk_of copy)).seen)) }
+        → (least_sectors ≤ (disk_of refused.disk).sectors)
+        × ((now (disk_of refused.disk)).durable ≡ (now (disk_of copy)).seen)) }
 {
     let found = recover_into(copy, room)?;
     let figures = Figures {
@@ -77,13 +84,17 @@ fn find_with(copy: MemDisk, room: &mut Room) -> Result<Examined, RecoverRefused<
 /// Finds the journal of a disk in memory.
 #[inline(never)]
 fn find(copy: MemDisk) -> Result<Examined, RecoverRefused<MemDisk>>
-    ensures found { IfOk result (λ found. (content : Content) × HasJournal (now (disk_of copy)).seen content
+    ensures found { IfOk result
+        (λ found. (content : Content) × HasJournal (now (disk_of copy)).seen content
         × (found.figures ≡ figures_of content)) }
-    ensures seen { IfOk result (λ found. (now (disk_of found.disk)).seen ≡ (now (disk_of copy)).seen) }
+    ensures seen { IfOk result
+        (λ found. (now (disk_of found.disk)).seen ≡ (now (disk_of copy)).seen) }
     ensures sectors { IfOk result (λ found. (disk_of found.disk).sectors ≡ (disk_of copy).sectors) }
-    ensures refused { IfErr result (λ refused. refused.fault ≢ JournalFault.Disk → IsNoJournal disk_of copy refused.fault) }
+    ensures refused { IfErr result (λ refused. refused.fault ≢ JournalFault.Disk
+        → IsNoJournal disk_of copy refused.fault) }
     ensures left { IfErr result (λ refused. refused.fault ≡ JournalFault.BadJournal
-        → (least_sectors ≤ (disk_of refused.disk).sectors) × ((now (disk_of refused.disk)).durable ≡ (now (disk_of copy)).seen)) }
+        → (least_sectors ≤ (disk_of refused.disk).sectors)
+        × ((now (disk_of refused.disk)).durable ≡ (now (disk_of copy)).seen)) }
 {
     find_with(copy, &mut new_room())
 }
@@ -96,9 +107,11 @@ fn tell(
     figures: Figures,
     opened: Result<Store<MemDisk>, OpenRefused<MemDisk>>,
 ) -> Result<Said, Failure>
-    ensures told { (disk : MemDisk Global) → IsStoreOpening disk_of disk opened → IfOk result (λ said. (standing : Standing)
+    ensures told { (disk : MemDisk Global) → IsStoreOpening disk_of disk opened
+        → IfOk result (λ said. (standing : Standing)
         × StandingIs this_edition (disk_of disk).sectors (now (disk_of disk)).seen (Ok standing)
-        × (string_bytes said.text ≡ examined_text layout figures standing) × (said.status ≡ Status.Done)) }
+        × (string_bytes said.text ≡ examined_text layout figures standing)
+        × (said.status ≡ Status.Done)) }
     ensures ended { (disk : MemDisk Global) → IsStoreOpening disk_of disk opened
         → IfErr result (IsNotOpened (disk_of disk)) }
 {
@@ -118,7 +131,8 @@ fn tell(
 fn tell_fault(alloc: Global, disk: &MemDisk) -> Result<Said, Failure>
     requires room { least_sectors ≤ (disk_of disk.now).sectors }
     requires bad { IsBadJournal (now (disk_of disk.now)).durable }
-    ensures told { IfOk result (λ said. SaysFault (now (disk_of disk.now)).durable (string_bytes said.text) said.status) }
+    ensures told { IfOk result
+        (λ said. SaysFault (now (disk_of disk.now)).durable (string_bytes said.text) said.status) }
     ensures ended { IfErr result (λ failure. failure ≡ Failure.Memory) }
 {
     match fault_of(disk) {
@@ -136,12 +150,15 @@ fn tell_fault(alloc: Global, disk: &MemDisk) -> Result<Said, Failure>
 /// What is said of a disk on which no journal was found: the first fault of a bad one.
 #[inline(never)]
 fn tell_refused(alloc: Global, refused: &RecoverRefused<MemDisk>) -> Result<Said, Failure>
-    requires room { refused.now.fault ≡ JournalFault.BadJournal → least_sectors ≤ (disk_of refused.now.disk).sectors }
-    requires bad { refused.now.fault ≡ JournalFault.BadJournal → IsBadJournal (now (disk_of refused.now.disk)).durable }
+    requires room { refused.now.fault ≡ JournalFault.BadJournal
+        → least_sectors ≤ (disk_of refused.now.disk).sectors }
+    requires bad { refused.now.fault ≡ JournalFault.BadJournal
+        → IsBadJournal (now (disk_of refused.now.disk)).durable }
     ensures told { IfOk result (λ said. (refused.now.fault ≡ JournalFault.BadJournal)
         × SaysFault (now (disk_of refused.now.disk)).durable (string_bytes said.text) said.status) }
     ensures ended { IfErr result (λ failure. (failure ≡ Failure.Memory)
-        ⊎ ((refused.now.fault ≢ JournalFault.BadJournal) × (failure ≡ failure_in_memory (Journal refused.now.fault)))) }
+        ⊎ ((refused.now.fault ≢ JournalFault.BadJournal)
+        × (failure ≡ failure_in_memory (Journal refused.now.fault)))) }
 {
     match refused.fault {
         JournalFault::BadJournal => tell_fault(alloc, &refused.disk),
@@ -149,10 +166,12 @@ fn tell_refused(alloc: Global, refused: &RecoverRefused<MemDisk>) -> Result<Said
     }
 }
 
-/// What is said of the disk in memory that is a copy of one in this layout: what is found, or the first fault of a bad
-/// journal. It fails as `Memory`, and as `Disk` with another fault for which no endpoint is opened on it.
+/// What is said of the disk in memory that is a copy of one in this layout: what is found, or the
+/// first fault of a bad journal. It fails as `Memory`, and as `Disk` with another fault for which
+/// no endpoint is opened on it.
 fn examine_copy(alloc: Global, layout: Layout, copy: MemDisk) -> Result<Said, Failure>
-    ensures told { IfOk result (λ said. Says (now (disk_of copy)).seen layout (string_bytes said.text) said.status) }
+    ensures told { IfOk result
+        (λ said. Says (now (disk_of copy)).seen layout (string_bytes said.text) said.status) }
     ensures ended { IfErr result (IsNotExamined (disk_of copy)) }
 {
     match find(copy) {
@@ -165,7 +184,8 @@ fn examine_copy(alloc: Global, layout: Layout, copy: MemDisk) -> Result<Said, Fa
 fn layout_of<F: CaptureFile>(file: &mut F) -> Result<Layout, FileFault>
     ensures found { Behaves (F.file file.old) → IsSure (F.file file.old)
         → IfOk result (λ layout. layout ≡ layout_in (F.file file.old)) }
-    ensures length { IsErrOf result FileFault.Length → Behaves (F.file file.old) → (F.file file.old).size % 512 ≢ 0 }
+    ensures length { IsErrOf result FileFault.Length → Behaves (F.file file.old)
+        → (F.file file.old).size % 512 ≢ 0 }
 {
     let sectors = measure(file)?;
     let Ok(layout) = find_layout(file, sectors) else {
@@ -174,12 +194,14 @@ fn layout_of<F: CaptureFile>(file: &mut F) -> Result<Layout, FileFault>
     Ok(layout)
 }
 
-/// What is said of the disk in a file, which is opened to be read alone. It fails as `Disk` with `File` where there is no
-/// regular file that can be opened; then as `copy_of` and `examine_copy` do.
+/// What is said of the disk in a file, which is opened to be read alone. It fails as `Disk` with
+/// `File` where there is no regular file that can be opened; then as `copy_of` and `examine_copy`
+/// do.
 fn examine_in<T: Files>(rt: &T, alloc: Global, path: &str) -> Result<Said, Failure>
 where
     T::File: CaptureFile,
-    ensures told { IfOk result (λ said. ExaminesIn T.File.file (string_bytes said.text) said.status) }
+    ensures told { IfOk result
+        (λ said. ExaminesIn T.File.file (string_bytes said.text) said.status) }
     ensures ended { IfErr result (ExaminationFails T.File.file) }
 {
     match open_regular(rt, path) {
@@ -192,8 +214,8 @@ where
     }
 }
 
-/// `examine`: prints what the journal of the disk in a file has, or its first fault, which is a refusal. The file is not
-/// changed.
+/// `examine`: prints what the journal of the disk in a file has, or its first fault, which is a
+/// refusal. The file is not changed.
 pub fn examine<T: Files, W: Stream>(
     rt: &T,
     alloc: Global,
@@ -202,7 +224,8 @@ pub fn examine<T: Files, W: Stream>(
 ) -> Result<Status, Failure>
 where
     T::File: CaptureFile,
-    ensures printed { IfOk result (PrintsExamined T.File.file (W.contents out.old) (W.contents out.new)) }
+    ensures printed { IfOk result
+        (PrintsExamined T.File.file (W.contents out.old) (W.contents out.new)) }
     ensures ended { IfErr result (ExamineFails T.File.file) }
     ensures silent { IfErr result (λ failure. failure ≢ Failure.Output → out.new ≡ out.old) }
     ensures broken { IfErr result (λ failure. failure ≡ Failure.Output → W.failed out.new ≡ true) }

@@ -7,8 +7,10 @@ ghost use Rattle.macs_record.specs.Heads.{version_of};
 ghost use Rattle.macs_store.specs.Value.{standing_in};
 ghost use Rattle.macs_texts.specs.Lines.{line};
 ghost use Rattle.macs_texts.specs.Showing.{association_numbers};
-ghost use Rattle.macs_program.specs.Examining.{block_of, channel_ceilings_text, end_text, examined_text, figures_text};
-ghost use Rattle.macs_program.specs.Examining.{fault_line, number_line, part_line, rx_ceiling_line, rx_ceiling_text};
+ghost use Rattle.macs_program.specs.Examining.{block_of, channel_ceilings_text, end_text};
+ghost use Rattle.macs_program.specs.Examining.{examined_text, figures_text};
+ghost use Rattle.macs_program.specs.Examining.{fault_line, number_line, part_line, rx_ceiling_line};
+ghost use Rattle.macs_program.specs.Examining.{rx_ceiling_text};
 ghost use Rattle.macs_program.specs.Examining.{tx_ceiling_line, tx_ceiling_text};
 
 use macs_config::Config;
@@ -25,8 +27,8 @@ const SLOTS: u64 = 256;
 /// How many keys may be spent on either side.
 const SPENT: u64 = 512;
 
-/// What the recovery of a journal finds: the format of its current area, which of the two that is, its generation, and
-/// how many of its slots are used.
+/// What the recovery of a journal finds: the format of its current area, which of the two that is,
+/// its generation, and how many of its slots are used.
 #[derive(Clone, Copy)]
 pub struct Figures {
     pub format: Format,
@@ -123,7 +125,8 @@ fn channel_text<D: SectorDisk>(
     store: &Store<D>,
     sci: Sci,
 ) -> Result<String, AllocError>
-    ensures { IfOk result (λ text. string_bytes text ≡ channel_ceilings_text (standing_in store.now) sci) }
+    ensures { IfOk result
+        (λ text. string_bytes text ≡ channel_ceilings_text (standing_in store.now) sci) }
 {
     let mut text = String::new(alloc);
     for an in An::all() {
@@ -135,7 +138,8 @@ fn channel_text<D: SectorDisk>(
 /// The ceilings of the channels with their associations.
 fn channels_text<D: SectorDisk>(alloc: Global, store: &Store<D>) -> Result<String, AllocError>
     ensures { IfOk result (λ text. string_bytes text
-        ≡ concat (map (channel_ceilings_text (standing_in store.now)) (standing_in store.now).config.channels)) }
+        ≡ concat (map (channel_ceilings_text (standing_in store.now))
+        (standing_in store.now).config.channels)) }
 {
     let mut text = String::new(alloc);
     let channels = store.config().channels();
@@ -182,15 +186,16 @@ fn end_text(alloc: Global, config: &Config) -> Result<String, AllocError>
     )
 }
 
-/// What `examine` says of a journal with these figures, whose records stand for what is in a store. It fails only where
-/// memory is refused.
+/// What `examine` says of a journal with these figures, whose records stand for what is in a store.
+/// It fails only where memory is refused.
 pub fn examined_text<D: SectorDisk>(
     alloc: Global,
     layout: Layout,
     figures: Figures,
     store: &Store<D>,
 ) -> Result<String, AllocError>
-    ensures { IfOk result (λ text. string_bytes text ≡ examined_text layout figures (standing_in store.now)) }
+    ensures { IfOk result
+        (λ text. string_bytes text ≡ examined_text layout figures (standing_in store.now)) }
 {
     let text = joined(channels_text(alloc, store), end_text(alloc, store.config()));
     let text = joined(tx_text(alloc, store), text);

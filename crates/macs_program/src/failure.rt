@@ -21,7 +21,8 @@ pub enum DiskFault {
     File,
     /// It is not a whole number of sectors of 512 octets.
     Length,
-    /// A submitted command waits: never, since none that is under way is in the way of a reservation.
+    /// A submitted command waits: never, since none that is under way is in the way of a
+    /// reservation.
     Busy,
     /// Something on it failed, or what is on it is no journal.
     Journal(JournalFault),
@@ -287,7 +288,8 @@ impl From<RefillFault> for Failure {
     fn from(fault: RefillFault) -> Failure {
         match fault {
             RefillFault::Stopped => JournalFault::Stopped.into(),
-            RefillFault::Busy => Failure::Disk(DiskFault::Busy), // Never: a turn makes a step, and no whole reservation.
+            // Never: a turn makes a step, and no whole reservation.
+            RefillFault::Busy => Failure::Disk(DiskFault::Busy),
             RefillFault::GenerationsSpent => JournalFault::GenerationsSpent.into(),
             RefillFault::Disk => JournalFault::Disk.into(),
         }

@@ -1,7 +1,9 @@
 //! The files that the words name.
 
-ghost use Rattle.std.specs.Prelude.{◌≡◌, ◌≢◌, ◌⊎◌, ◌/◌, false, true, ℕ, List, [], Some, IfErr, IfOk, IfSome, OnErr, OnOk};
-ghost use Rattle.std.specs.Io.Buffered.{reader_buffer, reader_capacity, reader_inner, writer_buffer, writer_inner};
+ghost use Rattle.std.specs.Prelude.{◌≡◌, ◌≢◌, ◌⊎◌, ◌/◌, false, true, ℕ, List, [], Some, IfErr};
+ghost use Rattle.std.specs.Prelude.{IfOk, IfSome, OnErr, OnOk};
+ghost use Rattle.std.specs.Io.Buffered.{reader_buffer, reader_capacity, reader_inner};
+ghost use Rattle.std.specs.Io.Buffered.{writer_buffer, writer_inner};
 ghost use Rattle.macs_disk.specs.Files.{Behaves, IsSure, file_claimed, file_cut};
 ghost use Rattle.std.specs.IoError.{error_kind};
 ghost use Rattle.std.specs.declared.io.ErrorKind.TheVariants.{OutOfMemory};
@@ -30,8 +32,8 @@ use std::{fs, io};
 /// One octet more than the longest command file.
 const MAX_READ: usize = MAX_FILE + 1;
 
-/// How many octets of a capture are kept back: so each read and write of the system but the last is one of so
-/// many, whatever frames there are.
+/// How many octets of a capture are kept back: so each read and write of the system but the last is
+/// one of so many, whatever frames there are.
 const CAPTURE_ROOM: usize = 131_072;
 
 /// A capture that is read.
@@ -55,8 +57,8 @@ pub fn failure_of(error: io::Error, failure: Failure) -> Failure
 /// Where the name of standard output is.
 const STANDARD_OUTPUT: &str = "/dev/stdout";
 
-/// Whether standard output goes to the file at a path, where what is printed would be written over its
-/// sectors.
+/// Whether standard output goes to the file at a path, where what is printed would be written over
+/// its sectors.
 pub fn is_printed_to<T: Files>(rt: &T, path: &str) -> bool {
     match (rt.metadata(path), rt.metadata(STANDARD_OUTPUT)) {
         (Ok(file), Ok(output)) => file.dev() == output.dev() && file.ino() == output.ino(),
@@ -64,8 +66,9 @@ pub fn is_printed_to<T: Files>(rt: &T, path: &str) -> bool {
     }
 }
 
-/// Opens the regular file of a disk to read it. An error where there is something else, since opening a pipe would
-/// wait for a writer, or where standard output goes to it: lines would be written over its sectors.
+/// Opens the regular file of a disk to read it. An error where there is something else, since
+/// opening a pipe would wait for a writer, or where standard output goes to it: lines would be
+/// written over its sectors.
 pub fn open_regular<T: Files>(rt: &T, path: &str) -> io::Result<T::File> {
     if !rt.metadata(path)?.is_file() || is_printed_to(rt, path) {
         return Err(io::Error::from(io::ErrorKind::InvalidInput));
@@ -73,13 +76,14 @@ pub fn open_regular<T: Files>(rt: &T, path: &str) -> io::Result<T::File> {
     fs::open(rt, path)
 }
 
-/// The disk in a file. It fails as `Memory`, or as `Disk` with `File` or `Length`, where the file is no disk,
-/// or standard output goes there.
+/// The disk in a file. It fails as `Memory`, or as `Disk` with `File` or `Length`, where the file
+/// is no disk, or standard output goes there.
 pub fn open_disk<T: Files>(rt: &T, path: &str) -> Result<FileDisk<T::File>, Failure>
 where
     T::File: DiskFile,
     ensures disk { IfOk result (IsDiskIn T.File.file) }
-    ensures file { IfErr result (λ failure. (fault : FileFault) × (failure ≡ failure_of_file fault)) }
+    ensures file { IfErr result
+        (λ failure. (fault : FileFault) × (failure ≡ failure_of_file fault)) }
     ensures failed { IfErr result (λ failure. (failure ≡ Failure.Memory)
         ⊎ ((fault : DiskFault) × (failure ≡ Failure.Disk fault))) }
 {
@@ -94,8 +98,10 @@ where
 fn read_commands<R: Read>(alloc: Global, file: &mut R) -> Result<Vec<Command>, Failure>
     ensures said { IfOk result (λ commands. IfSome (R.remaining file.old)
         (λ octets. SaysCommands octets commands.items)) }
-    ensures spelled { IfOk result (λ commands. (octets : List ℕ) × SaysCommands octets commands.items) }
-    ensures failed { IfErr result (λ failure. (failure ≡ Failure.Memory) ⊎ (failure ≡ Failure.Commands)) }
+    ensures spelled { IfOk result
+        (λ commands. (octets : List ℕ) × SaysCommands octets commands.items) }
+    ensures failed { IfErr result
+        (λ failure. (failure ≡ Failure.Memory) ⊎ (failure ≡ Failure.Commands)) }
 {
     let mut octets = Vec::new(alloc);
     match file.take(MAX_READ as u64).read_to_end(&mut octets) {
@@ -104,8 +110,9 @@ fn read_commands<R: Read>(alloc: Global, file: &mut R) -> Result<Vec<Command>, F
     }
 }
 
-/// The commands of a command file. It fails as `Memory` where there is no memory, the system's or the
-/// program's, and else as `Commands`, where the file cannot be opened or read, or says no commands.
+/// The commands of a command file. It fails as `Memory` where there is no memory, the system's or
+/// the program's, and else as `Commands`, where the file cannot be opened or read, or says no
+/// commands.
 pub fn commands_of_file<T: Files>(
     rt: &T,
     alloc: Global,
@@ -113,8 +120,10 @@ pub fn commands_of_file<T: Files>(
 ) -> Result<Vec<Command>, Failure>
     // A file was opened, and it says them.
     ensures said { IfOk result (λ commands. SaidByFile T.File.remaining commands.items) }
-    ensures spelled { IfOk result (λ commands. (octets : List ℕ) × SaysCommands octets commands.items) }
-    ensures failed { IfErr result (λ failure. (failure ≡ Failure.Memory) ⊎ (failure ≡ Failure.Commands)) }
+    ensures spelled { IfOk result
+        (λ commands. (octets : List ℕ) × SaysCommands octets commands.items) }
+    ensures failed { IfErr result
+        (λ failure. (failure ≡ Failure.Memory) ⊎ (failure ≡ Failure.Commands)) }
 {
     match fs::open(rt, path) {
         Ok(mut file) => read_commands(alloc, &mut file),
@@ -151,7 +160,8 @@ fn buffer_of<F: Write + Drop>(alloc: Global, file: F) -> Result<BufWriter<F>, Fa
 fn source_over<F: Read + Drop>(alloc: Global, file: F) -> Result<CaptureSource<F>, Failure>
     ensures left { IfOk result (λ source. IfSome (F.remaining file)
         (λ octets. (⟦<ReaderSource<BufReader<F>> as Source>⟧.state source).left ≡ Some octets)) }
-    ensures fresh { IfOk result (λ source. (⟦<ReaderSource<BufReader<F>> as Source>⟧.state source).failed ≡ false) }
+    ensures fresh { IfOk result
+        (λ source. (⟦<ReaderSource<BufReader<F>> as Source>⟧.state source).failed ≡ false) }
     ensures failed { IfErr result (λ failure. failure ≡ Failure.Memory) }
 {
     let reader = reader_of(alloc, file)?;
@@ -162,8 +172,10 @@ fn source_over<F: Read + Drop>(alloc: Global, file: F) -> Result<CaptureSource<F
 fn sink_over<F: Write + Drop>(alloc: Global, file: F) -> Result<CaptureSink<F>, Failure>
     ensures held { IfOk result (λ sink. IfSome (F.contents file)
         (λ octets. (⟦<WriterSink<WholeWrites<F>> as Sink>⟧.state sink).held ≡ Some octets)) }
-    ensures fresh { IfOk result (λ sink. (⟦<WriterSink<WholeWrites<F>> as Sink>⟧.state sink).failed ≡ false) }
-    ensures unflushed { IfOk result (λ sink. (⟦<WriterSink<WholeWrites<F>> as Sink>⟧.state sink).flushed ≡ false) }
+    ensures fresh { IfOk result
+        (λ sink. (⟦<WriterSink<WholeWrites<F>> as Sink>⟧.state sink).failed ≡ false) }
+    ensures unflushed { IfOk result
+        (λ sink. (⟦<WriterSink<WholeWrites<F>> as Sink>⟧.state sink).flushed ≡ false) }
     ensures failed { IfErr result (λ failure. failure ≡ Failure.Memory) }
 {
     let buffer = buffer_of(alloc, file)?;
@@ -171,8 +183,8 @@ fn sink_over<F: Write + Drop>(alloc: Global, file: F) -> Result<CaptureSink<F>, 
     Ok(WriterSink::new(whole))
 }
 
-/// Opens a file to read it as a capture. A regular file is claimed along with other readers, so that it
-/// is no output.
+/// Opens a file to read it as a capture. A regular file is claimed along with other readers, so
+/// that it is no output.
 fn open_source<T: Files>(rt: &T, path: &str) -> io::Result<T::File>
 where
     T::File: CaptureFile,
@@ -208,8 +220,8 @@ fn is_special<T: Files>(rt: &T, path: &str) -> bool {
     }
 }
 
-/// Opens a file to write it, or makes it: and to read it too, so that it can be looked at, where that
-/// is allowed. A pipe is not opened to read, since it would then wait for no reader.
+/// Opens a file to write it, or makes it: and to read it too, so that it can be looked at, where
+/// that is allowed. A pipe is not opened to read, since it would then wait for no reader.
 fn open_output<T: Files>(rt: &T, path: &str) -> io::Result<T::File> {
     if is_special(rt, path) {
         return how_to_write(false).open(rt, path);
@@ -222,8 +234,8 @@ fn open_output<T: Files>(rt: &T, path: &str) -> io::Result<T::File> {
     }
 }
 
-/// Claims a file and cuts it to nothing. An error where another open has claimed it, or where it holds an
-/// endpoint or cannot be looked at: then it is as it was, but for the claim.
+/// Claims a file and cuts it to nothing. An error where another open has claimed it, or where it
+/// holds an endpoint or cannot be looked at: then it is as it was, but for the claim.
 fn cut_output<F: CaptureFile>(file: &mut F) -> io::Result<()>
     ensures steady { (F.file file.new).behaves ≡ (F.file file.old).behaves }
     ensures same { Behaves (F.file file.old)
@@ -241,8 +253,8 @@ fn cut_output<F: CaptureFile>(file: &mut F) -> io::Result<()>
 }
 
 /// Opens a file to write it as a capture, or makes it. A regular file is claimed and looked at
-/// before it is cut to nothing. An error where standard output goes to it: the line of the run would be
-/// written over the capture.
+/// before it is cut to nothing. An error where standard output goes to it: the line of the run
+/// would be written over the capture.
 fn open_sink<T: Files>(rt: &T, path: &str) -> io::Result<T::File>
 where
     T::File: CaptureFile,
@@ -277,8 +289,8 @@ where
 
 /// A capture that is written to a file, which is made, or cut to nothing. It fails as `Memory`
 /// where there is no memory, the system's or the program's, and else as `Capture`, where the file
-/// cannot be made, is another file of the run, holds an endpoint, or has a sector and cannot be read:
-/// then it is left as it is.
+/// cannot be made, is another file of the run, holds an endpoint, or has a sector and cannot be
+/// read: then it is left as it is.
 pub fn make_capture<T: Files>(
     rt: &T,
     alloc: Global,

@@ -7,7 +7,8 @@ ghost use Rattle.macs_disk.specs.States.{Image};
 ghost use Rattle.macs_journal.specs.Areas.{IsArea, gate, gates, least_sectors, slot_body, slots};
 ghost use Rattle.macs_journal.specs.Found.{HasHead, IsBadJournal, IsGateOpen};
 ghost use Rattle.macs_record.specs.Decoding.{HasRecord};
-ghost use Rattle.macs_program.specs.FirstFault.{AreSound, ChoiceSays, Counts, HasOpenBehind, HeadSays};
+ghost use Rattle.macs_program.specs.FirstFault.{AreSound, ChoiceSays, Counts, HasOpenBehind};
+ghost use Rattle.macs_program.specs.FirstFault.{HeadSays};
 ghost use Rattle.macs_program.specs.FirstFault.{IsAreaFault, IsFaultless, IsFirstFault, IsSound};
 
 use macs_disk::MemDisk;
@@ -79,7 +80,8 @@ fn head_in(copy: &MemDisk, area: u64) -> AreaHead
 
 /// The area whose head is open, the one of greater generation where both are.
 fn choose(first: AreaHead, second: AreaHead) -> Choice
-    ensures { (image : Image) → HeadSays image 0 first → HeadSays image 1 second → ChoiceSays image result }
+    ensures { (image : Image) → HeadSays image 0 first → HeadSays image 1 second
+        → ChoiceSays image result }
 {
     match first {
         AreaHead::Headless => Choice::At(0),
@@ -96,10 +98,11 @@ fn choose(first: AreaHead, second: AreaHead) -> Choice
     }
 }
 
-/// Of two heads, the one of greater generation; the second is at fault where they are of one generation, or of two
-/// journals.
+/// Of two heads, the one of greater generation; the second is at fault where they are of one
+/// generation, or of two journals.
 fn newer(first: Head, second: Head) -> Choice
-    ensures { (image : Image) → HasHead image 0 first → HasHead image 1 second → ChoiceSays image result }
+    ensures { (image : Image) → HasHead image 0 first → HasHead image 1 second
+        → ChoiceSays image result }
 {
     if first.identity() != second.identity() {
         return Choice::At(AREA_SECTORS);
@@ -196,14 +199,16 @@ fn area_fault(copy: &MemDisk, area: u64, count: u64) -> Option<u64>
 fn current_fault(copy: &MemDisk, area: u64, head: &Head) -> Option<u64>
     requires room { least_sectors ≤ (disk_of copy.now).sectors }
     requires one { IsArea area }
-    ensures first { IfSome result (IsAreaFault (now (disk_of copy.now)).durable area head.now.count) }
-    ensures none { result ≡ None → IsFaultless (now (disk_of copy.now)).durable area head.now.count }
+    ensures first { IfSome result
+        (IsAreaFault (now (disk_of copy.now)).durable area head.now.count) }
+    ensures none { result ≡ None
+        → IsFaultless (now (disk_of copy.now)).durable area head.now.count }
 {
     area_fault(copy, area, u64::from(head.count()))
 }
 
-/// The sector of the first fault of the journal on a disk in memory, as a power loss would leave that. `None` where the
-/// journal is not bad.
+/// The sector of the first fault of the journal on a disk in memory, as a power loss would leave
+/// that. `None` where the journal is not bad.
 pub fn fault_of(copy: &MemDisk) -> Option<u64>
     requires { least_sectors ≤ (disk_of copy.now).sectors }
     ensures first { IfSome result (IsFirstFault (now (disk_of copy.now)).durable) }

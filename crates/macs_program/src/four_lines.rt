@@ -1,6 +1,7 @@
 //! The four lines of a text.
 
-ghost use Rattle.std.specs.Prelude.{◌≡◌, ◌==◌, ◌↔◌, [], ◌∷◌, length, map, position, IsSome, IfSome, MatchOption};
+ghost use Rattle.std.specs.Prelude.{◌≡◌, ◌==◌, ◌↔◌, [], ◌∷◌, length, map, position, IsSome, IfSome};
+ghost use Rattle.std.specs.Prelude.{MatchOption};
 ghost use Rattle.macs_program.specs.Lines.{line_at, lines, trimmed_line};
 
 /// The four lines of a text, each without its end, in octets.

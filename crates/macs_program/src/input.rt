@@ -1,6 +1,7 @@
 //! Where a request is read from: standard input.
 
-ghost use Rattle.std.specs.Prelude.{◌≡◌, ℕ, Bool, List, Option, true, take, IfOk, IfSome, OnErr, OnOk};
+ghost use Rattle.std.specs.Prelude.{◌≡◌, ℕ, Bool, List, Option, true, take, IfOk, IfSome, OnErr};
+ghost use Rattle.std.specs.Prelude.{OnOk};
 
 use arrayvec::ArrayVec;
 use std::io;
@@ -26,7 +27,8 @@ pub trait Input {
 
     /// Reads it to its end, or to 20,001 octets.
     fn read_text(&mut self) -> Result<InputText, ReadFailed>
-        ensures read { IfOk result (λ text. IfSome (remaining self.old) (λ octets. text.items ≡ take 20001 octets)) }
+        ensures read { IfOk result
+            (λ text. IfSome (remaining self.old) (λ octets. text.items ≡ take 20001 octets)) }
         ensures done { OnOk result (failed self.new ≡ failed self.old) }
         ensures broken { OnErr result (failed self.new ≡ true) };
 }

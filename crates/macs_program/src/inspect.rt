@@ -1,11 +1,14 @@
 //! `inspect`: what the SecTAG of each frame of a capture says.
 
-ghost use Rattle.std.specs.Prelude.{◌≡◌, ◌≢◌, ◌<◌, ◌++◌, codes, length, true, IfErr, IfOk, string_bytes};
+ghost use Rattle.std.specs.Prelude.{◌≡◌, ◌≢◌, ◌<◌, ◌++◌, codes, length, true, IfErr, IfOk};
+ghost use Rattle.std.specs.Prelude.{string_bytes};
 ghost use Rattle.std.specs.Fmt.{decimal};
 ghost use Rattle.macs_frame.specs.Tag.{short_length};
 ghost use Rattle.macs_texts.specs.Lines.{line};
-ghost use Rattle.macs_program.specs.Inspecting.{InspectFails, Inspects, InspectsNext, IsLineOf, IsOfInspecting, IsSaidOf};
-ghost use Rattle.macs_program.specs.Inspecting.{PrintsFrames, RunsCapture, RunsRecords, bit_text, bits_text, numbers_text, tag_text};
+ghost use Rattle.macs_program.specs.Inspecting.{InspectFails, Inspects, InspectsNext, IsLineOf};
+ghost use Rattle.macs_program.specs.Inspecting.{IsOfInspecting, IsSaidOf};
+ghost use Rattle.macs_program.specs.Inspecting.{PrintsFrames, RunsCapture, RunsRecords, bit_text};
+ghost use Rattle.macs_program.specs.Inspecting.{bits_text, numbers_text, tag_text};
 
 use crate::capture_file::CaptureFile;
 use crate::failure::Failure;
@@ -99,7 +102,8 @@ fn said_of(alloc: Global, frame: &[u8]) -> Result<String, AllocError>
 
 /// A line of a number and what is said.
 fn numbered(alloc: Global, at: u64, said: &str) -> Result<String, AllocError>
-    ensures { IfOk result (λ text. string_bytes text ≡ line (decimal at ++ (codes " " ++ said.now))) }
+    ensures { IfOk result
+        (λ text. string_bytes text ≡ line (decimal at ++ (codes " " ++ said.now))) }
 {
     let mut line = format!(in alloc; "{at} {said}")?;
     line.push('\n')?;
@@ -154,8 +158,9 @@ fn inspect_frames<R: Source, W: Stream>(
     Ok(Status::Done)
 }
 
-/// Prints a line for each frame of a capture. It fails as `Capture` or `Memory` with the first fault of the capture,
-/// after the lines of the frames before it; and as `Output` at the first line that cannot be printed.
+/// Prints a line for each frame of a capture. It fails as `Capture` or `Memory` with the first
+/// fault of the capture, after the lines of the frames before it; and as `Output` at the first line
+/// that cannot be printed.
 pub fn inspect_capture<R: Source, W: Stream>(
     alloc: Global,
     source: &mut R,

@@ -3,7 +3,8 @@
 ghost use Rattle.std.specs.Prelude.{◌≡◌, ◌≤◌, length, IfErr, List};
 ghost use Rattle.macs_edge.specs.CaptureRuns.{run_of};
 ghost use Rattle.macs_edge.specs.Telling.{TellsAll, telling_of};
-ghost use Rattle.macs_program.specs.Judging.{IsOfRun, JudgesCapture, PrintsEach, TellsLine, ValidatesEach, verdict_line};
+ghost use Rattle.macs_program.specs.Judging.{IsOfRun, JudgesCapture, PrintsEach, TellsLine};
+ghost use Rattle.macs_program.specs.Judging.{ValidatesEach, verdict_line};
 ghost use Rattle.macs_rxsc.specs.declared.verdict.Verdict.{Verdict};
 ghost use Rattle.macs_texts.specs.Counting.{verdict_words};
 
@@ -40,7 +41,8 @@ fn verdict_line(at: u64, verdict: Verdict) -> Line
     line
 }
 
-/// The lines of verdicts: how many were printed, and whether one could not be. After that none is printed.
+/// The lines of verdicts: how many were printed, and whether one could not be. After that none is
+/// printed.
 #[derive(Clone, Copy)]
 pub(crate) struct VerdictLines {
     pub count: u64,
@@ -64,8 +66,8 @@ impl<W: Stream> Verdicts<W> for VerdictLines {
     }
 }
 
-/// Validates a whole capture, prints the line of each verdict, and hands on all that was written, where a fault
-/// ended the run too.
+/// Validates a whole capture, prints the line of each verdict, and hands on all that was written,
+/// where a fault ended the run too.
 fn run_judging<D: SectorDisk, R: Source, S: Sink, W: Stream>(
     alloc: Global,
     endpoint: &mut Endpoint<D>,
@@ -109,11 +111,12 @@ fn print_each<D: SectorDisk, R: Source, S: Sink, W: Stream>(
     answer
 }
 
-/// Validates a whole capture, prints the line of each verdict, as the frames are validated, hands on all that was
-/// written, and prints what became of the frames. A line that cannot be printed does not end the run, which fails
-/// as `Output` then. Else it fails with the first fault of the run: as `Capture` or `Memory` at the header or a record,
-/// as `Disk` at a reservation; without one, as `Capture` where what was written cannot be handed on. The lines of all
-/// verdicts before were printed then.
+/// Validates a whole capture, prints the line of each verdict, as the frames are validated, hands
+/// on all that was written, and prints what became of the frames. A line that cannot be printed
+/// does not end the run, which fails as `Output` then. Else it fails with the first fault of the
+/// run: as `Capture` or `Memory` at the header or a record, as `Disk` at a reservation; without
+/// one, as `Capture` where what was written cannot be handed on. The lines of all verdicts before
+/// were printed then.
 pub fn judge_frames<D: SectorDisk, R: Source, S: Sink, W: Stream>(
     alloc: Global,
     endpoint: &mut Endpoint<D>,

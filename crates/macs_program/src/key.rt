@@ -1,6 +1,7 @@
 //! `key`: a fresh key from the system's random source.
 
-ghost use Rattle.std.specs.Prelude.{◌≡◌, ◌≢◌, ◌⊎◌, ◌≤◌, ◌*◌, ℕ, List, Option, length, true, IfErr, IfOk, OnOk};
+ghost use Rattle.std.specs.Prelude.{◌≡◌, ◌≢◌, ◌⊎◌, ◌≤◌, ◌*◌, ℕ, List, Option, length, true, IfErr};
+ghost use Rattle.std.specs.Prelude.{IfOk, OnOk};
 ghost use Rattle.std.specs.Io.KnownBytes.{Appends};
 ghost use Rattle.hex.specs.Hex.{encode_lower};
 ghost use Rattle.macs_program.specs.Keys.{GivesKey, IsOfKey, PrintsKey, key_octets};
@@ -19,7 +20,8 @@ const LONGEST: usize = 32;
 #[derive(Clone, Copy)]
 pub struct SourceFailed;
 
-/// Where the octets of a key come from. It may be known which it gave; that they are random is not claimed.
+/// Where the octets of a key come from. It may be known which it gave; that they are random is not
+/// claimed.
 pub trait OctetSource {
     /// All octets that it gave so far, where they are known.
     ghost given: { Self → Option (List ℕ) };
@@ -69,15 +71,17 @@ fn key_line(octets: &[u8]) -> Line
     line
 }
 
-/// Prints a key of the octets that a source gives. It fails as `Random` where it gives none, and as `Output` where
-/// the line cannot be printed.
+/// Prints a key of the octets that a source gives. It fails as `Random` where it gives none, and as
+/// `Output` where the line cannot be printed.
 pub fn print_key<S: OctetSource, W: Stream>(
     source: &mut S,
     is_long: bool,
     out: &mut W,
 ) -> Result<Status, Failure>
-    ensures printed { IfOk result (λ status. (octets : List ℕ) × Appends (S.given source.old) (S.given source.new) octets
-        × PrintsKey is_long octets (W.contents out.old) (W.contents out.new) × (status ≡ Status.Done)) }
+    ensures printed { IfOk result
+        (λ status. (octets : List ℕ) × Appends (S.given source.old) (S.given source.new) octets
+        × PrintsKey is_long octets (W.contents out.old) (W.contents out.new)
+        × (status ≡ Status.Done)) }
     ensures failed { IfErr result IsOfKey }
     ensures silent { IfErr result (λ failure. failure ≢ Failure.Output → out.new ≡ out.old) }
     ensures broken { IfErr result (λ failure. failure ≡ Failure.Output → W.failed out.new ≡ true) }

@@ -8,7 +8,8 @@ ghost use Rattle.macs_disk.specs.FileDisks.{file_given};
 ghost use Rattle.macs_program.specs.CaptureOctets.{CaptureOctets};
 ghost use Rattle.macs_program.specs.ContentWords.{BlankWords, InUseWords};
 ghost use Rattle.macs_program.specs.Contents.{ContentsAre, HasOpenGate, IsBlankFile};
-ghost use Rattle.macs_program.specs.Drawn.{AnswerWords, ApplyWords, CaptureWords, FileWords, LineWords, TextLineWords};
+ghost use Rattle.macs_program.specs.Drawn.{AnswerWords, ApplyWords, CaptureWords, FileWords};
+ghost use Rattle.macs_program.specs.Drawn.{LineWords, TextLineWords};
 ghost use Rattle.macs_program.specs.Drawn.{ValueWords};
 ghost use Rattle.macs_program.specs.ExamineTexts.{AboutTexts, ExamineTexts};
 ghost use Rattle.macs_program.specs.Inputs.{read_of};
@@ -16,14 +17,15 @@ ghost use Rattle.macs_program.specs.NewDisks.{Formats, Permits};
 ghost use Rattle.macs_program.specs.RelayDrawn.{RelayWords};
 ghost use Rattle.macs_program.specs.RunWords.{BeforeWords, FailWords, ReplyWords};
 ghost use Rattle.macs_program.specs.ShowTexts.{ShowTexts};
-ghost use Rattle.macs_program.specs.TextWords.{CheckTexts, FailureTexts, FaultOrders, FrameTexts, LineTexts};
+ghost use Rattle.macs_program.specs.TextWords.{CheckTexts, FailureTexts, FaultOrders, FrameTexts};
+ghost use Rattle.macs_program.specs.TextWords.{LineTexts};
 ghost use Rattle.macs_program.specs.declared.contents.Contents.{Contents};
 
 use crate::input::Input;
 use macs_disk::{DiskFile, SectorDisk};
 
-/// A file is made the disk of a new endpoint only where it held nothing when it was settled, or where
-/// it may be written over and held no endpoint in use.
+/// A file is made the disk of a new endpoint only where it held nothing when it was settled, or
+/// where it may be written over and held no endpoint in use.
 pub fn written_over<F: DiskFile>()
     // One thing is in a file.
     ensures one { (file : FileState) (sectors : ℕ) (a b : Contents) → ContentsAre file sectors a
@@ -46,8 +48,8 @@ pub fn written_over<F: DiskFile>()
         × Permits is_over settled ((F.file (file_given made.blank)).size / 512) None }
 {}
 
-/// What is in a file before it is written over: an endpoint in use is one that the journal finds, and a
-/// file that is blank has zeros.
+/// What is in a file before it is written over: an endpoint in use is one that the journal finds,
+/// and a file that is blank has zeros.
 pub fn contents()
     // Where the journal reads an open head gate, and nowhere else, an endpoint is in use.
     ensures in_use { InUseWords }
@@ -74,14 +76,14 @@ pub fn words<D: SectorDisk, F: DiskFile>()
     ensures values { ValueWords }
 {}
 
-/// What is to be drawn of words on relays: how many turns one takes, whether a desk attends it, what it
-/// comes to, and how it ends.
+/// What is to be drawn of words on relays: how many turns one takes, whether a desk attends it,
+/// what it comes to, and how it ends.
 pub fn relays<F: DiskFile>()
     ensures { RelayWords F.file }
 {}
 
-/// What is to be drawn of words on whole runs: what a run replies and each action does, how each fails,
-/// and what was printed before.
+/// What is to be drawn of words on whole runs: what a run replies and each action does, how each
+/// fails, and what was printed before.
 pub fn runs<F: DiskFile, R: Input>()
     // What a run replies, and what each action does.
     ensures replies { ReplyWords F.file }
@@ -90,12 +92,13 @@ pub fn runs<F: DiskFile, R: Input>()
     // What was printed before a failure, and which values are wrong.
     ensures before { BeforeWords }
     // What is said of an input: what was left of it before, and whether a read of it failed.
-    ensures read { (input left : R) → ((read_of R.remaining R.failed input left).octets ≡ R.remaining input)
+    ensures read { (input left : R)
+        → ((read_of R.remaining R.failed input left).octets ≡ R.remaining input)
         × ((read_of R.remaining R.failed input left).has_failed ≡ R.failed left) }
 {}
 
-/// What is to be drawn of words on texts, to the letter: which line says what, which failure has which
-/// name and status, and in which order faults are looked for.
+/// What is to be drawn of words on texts, to the letter: which line says what, which failure has
+/// which name and status, and in which order faults are looked for.
 pub fn texts()
     // The lines of answers, commands, captures and relays.
     ensures lines { LineTexts }

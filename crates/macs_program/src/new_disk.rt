@@ -1,12 +1,14 @@
 //! How the file of a new endpoint is made.
 
 ghost use Rattle.std.specs.IoError.{error_kind};
-ghost use Rattle.std.specs.Prelude.{◌≡◌, ◌≢◌, ◌⊎◌, ◌<◌, ◌*◌, ◌^◌, None, Some, Ok, Err, IfErr, IfOk, IsErrOf, OnOk};
+ghost use Rattle.std.specs.Prelude.{◌≡◌, ◌≢◌, ◌⊎◌, ◌<◌, ◌*◌, ◌^◌, None, Some, Ok, Err, IfErr, IfOk};
+ghost use Rattle.std.specs.Prelude.{IsErrOf, OnOk};
 ghost use Rattle.std.specs.declared.io.ErrorKind.TheVariants.{OutOfMemory};
 ghost use Rattle.macs_disk.specs.FileDisks.{IsBlank, disk_in_file, file_given, file_left};
 ghost use Rattle.macs_disk.specs.Files.{Behaves, IsSure};
 ghost use Rattle.macs_journal.specs.declared.fault.JournalFault.TheVariants as journal;
-ghost use Rattle.macs_program.specs.NewDisks.{BlankFails, FormatFails, Formats, IsFree, Permits, refusal_of};
+ghost use Rattle.macs_program.specs.NewDisks.{BlankFails, FormatFails, Formats, IsFree, Permits};
+ghost use Rattle.macs_program.specs.NewDisks.{refusal_of};
 ghost use Rattle.macs_program.specs.declared.failure.DiskFault.{DiskFault};
 ghost use Rattle.macs_program.specs.declared.failure.DiskFault.TheVariants as disk;
 
@@ -30,8 +32,8 @@ pub struct NewFile {
     pub is_over: bool,
 }
 
-/// Opens the file at a path to read and write it, or makes it. An error where it is no regular file,
-/// since nothing says what else is on a device, or where standard output goes there.
+/// Opens the file at a path to read and write it, or makes it. An error where it is no regular
+/// file, since nothing says what else is on a device, or where standard output goes there.
 fn open_file<T: Files>(rt: &T, path: &str) -> io::Result<T::File> {
     if is_printed_to(rt, path) {
         return Err(io::Error::from(io::ErrorKind::AlreadyExists));
@@ -55,8 +57,9 @@ fn refusal_of(contents: Contents, is_over: bool) -> Option<DiskFault>
     }
 }
 
-/// Looks at a settled file of so many sectors, and refuses it where it has an endpoint (`Journal` with
-/// `AlreadyFormatted`), or something else that may not be lost (`File`). Nothing of it is changed.
+/// Looks at a settled file of so many sectors, and refuses it where it has an endpoint (`Journal`
+/// with `AlreadyFormatted`), or something else that may not be lost (`File`). Nothing of it is
+/// changed.
 fn admit<F: DiskFile>(file: &mut F, sectors: u64, is_over: bool) -> Result<(), Failure>
     requires { 512 * sectors < 2 ^ 64 }
     ensures steady { (F.file file.new).behaves ≡ (F.file file.old).behaves }
@@ -66,7 +69,8 @@ fn admit<F: DiskFile>(file: &mut F, sectors: u64, is_over: bool) -> Result<(), F
     ensures refused { Behaves (F.file file.old) → IsSure (F.file file.old) → (fault : DiskFault)
         → IsErrOf result (Failure.Disk fault) → (fault ≡ disk.Journal journal.Disk)
         ⊎ Permits is_over (F.file file.old) sectors (Some fault) }
-    ensures failed { IfErr result (λ failure. (fault : DiskFault) × (failure ≡ Failure.Disk fault)) }
+    ensures failed { IfErr result
+        (λ failure. (fault : DiskFault) × (failure ≡ Failure.Disk fault)) }
 {
     let Ok(contents) = contents_of(file, sectors) else {
         return Err(Failure::from(FileFault::Device));
@@ -105,9 +109,12 @@ fn sync_name<T: Files>(rt: &T, alloc: Global, path: &str) -> io::Result<()> {
 /// What the system answers of the file, or why that does not serve: `Memory`, or else `File`.
 fn of_file<V>(answer: io::Result<V>) -> Result<V, Failure>
     ensures value { IfOk result (λ value. answer ≡ Ok value) }
-    ensures memory { IfErr answer (λ error. error_kind error ≡ OutOfMemory → result ≡ Err Failure.Memory) }
-    ensures other { IfErr answer (λ error. error_kind error ≢ OutOfMemory → result ≡ Err (Failure.Disk disk.File)) }
-    ensures refused { IfErr result (λ failure. (failure ≡ Failure.Memory) ⊎ (failure ≡ Failure.Disk disk.File)) }
+    ensures memory { IfErr answer (λ error. error_kind error ≡ OutOfMemory
+        → result ≡ Err Failure.Memory) }
+    ensures other { IfErr answer (λ error. error_kind error ≢ OutOfMemory
+        → result ≡ Err (Failure.Disk disk.File)) }
+    ensures refused { IfErr result
+        (λ failure. (failure ≡ Failure.Memory) ⊎ (failure ≡ Failure.Disk disk.File)) }
 {
     match answer {
         Ok(value) => Ok(value),

@@ -1,11 +1,13 @@
 //! What each subcommand does that has a disk file.
 //!
-//! An endpoint is large. A subcommand is a `Task` that three functions do one after the other. The first opens the disk file
-//! and hands the disk on; the second does no more than to open the endpoint and hand it on in turn, by value; the third lends
-//! it to the task. So the stack holds it once while the disk is read. None of these is inlined, nor what a task does: else
-//! the compiler has a second place for it there.
+//! An endpoint is large. A subcommand is a `Task` that three functions do one after the other. The
+//! first opens the disk file and hands the disk on; the second does no more than to open the
+//! endpoint and hand it on in turn, by value; the third lends it to the task. So the stack holds it
+//! once while the disk is read. None of these is inlined, nor what a task does: else the compiler
+//! has a second place for it there.
 
-ghost use Rattle.std.specs.Prelude.{◌≡◌, ◌≢◌, ◌⊎◌, ◌↔◌, ◌++◌, List, Option, [], ◌∷◌, codes, option_map, Err, false, true, IfErr, IfOk, OnErr, OnOk};
+ghost use Rattle.std.specs.Prelude.{◌≡◌, ◌≢◌, ◌⊎◌, ◌↔◌, ◌++◌, List, Option, [], ◌∷◌, codes};
+ghost use Rattle.std.specs.Prelude.{option_map, Err, false, true, IfErr, IfOk, OnErr, OnOk};
 ghost use Rattle.std.specs.Io.KnownBytes.{Appends};
 ghost use Rattle.macs_config.specs.Identity.{Identity};
 ghost use Rattle.macs_disk.specs.declared.layout.Layout.{Layout};
@@ -17,15 +19,20 @@ ghost use Rattle.macs_fields.specs.First.{IsFirst};
 ghost use Rattle.macs_program.specs.Addresses.{AddressFaultHolds, SpellsBoth, address_faults};
 ghost use Rattle.macs_program.specs.Applying.{outcome_lines};
 ghost use Rattle.macs_program.specs.CaptureFiles.{Asks, AsksInOrder, Makes, Opens};
-ghost use Rattle.macs_program.specs.Endpoints.{AppliesIn, BreaksOffIn, IsDiskIn, IsOpeningIn, OpeningFails};
+ghost use Rattle.macs_program.specs.Endpoints.{AppliesIn, BreaksOffIn, IsDiskIn, IsOpeningIn};
+ghost use Rattle.macs_program.specs.Endpoints.{OpeningFails};
 ghost use Rattle.macs_program.specs.Endpoints.{PassEndsIn, PassesIn, ShowsIn};
 ghost use Rattle.macs_program.specs.Failing.{failure_status};
-ghost use Rattle.macs_program.specs.Judging.{DoesJudge, JudgesIn, JudgingEndsIn, PrintsVerdicts, verdict_lines};
+ghost use Rattle.macs_program.specs.Judging.{DoesJudge, JudgesIn, JudgingEndsIn, PrintsVerdicts};
+ghost use Rattle.macs_program.specs.Judging.{verdict_lines};
 ghost use Rattle.macs_program.specs.NewDisks.{FormatFails, Formats, MakesDisk};
-ghost use Rattle.macs_program.specs.Relaying.{ComesTo, IsOfRelay, RelayEndsIn, course_of, is_attended, left_out, new_wire, turns_of};
+ghost use Rattle.macs_program.specs.Relaying.{ComesTo, IsOfRelay, RelayEndsIn, course_of};
+ghost use Rattle.macs_program.specs.Relaying.{is_attended, left_out, new_wire, turns_of};
 ghost use Rattle.macs_program.specs.Summing.{pass_status, relay_line, summary_line};
-ghost use Rattle.macs_program.specs.Tasks.{DoesApply, DoesPass, DoesRelay, DoesShow, Doing, IsRunIn};
-ghost use Rattle.macs_program.specs.Values.{SpellsIdentity, SpellsLayout, ValueFaultHolds, value_faults};
+ghost use Rattle.macs_program.specs.Tasks.{DoesApply, DoesPass, DoesRelay, DoesShow, Doing};
+ghost use Rattle.macs_program.specs.Tasks.{IsRunIn};
+ghost use Rattle.macs_program.specs.Values.{SpellsIdentity, SpellsLayout, ValueFaultHolds};
+ghost use Rattle.macs_program.specs.Values.{value_faults};
 ghost use Rattle.macs_program.specs.declared.addresses.AddressFault.{AddressFault};
 ghost use Rattle.macs_edge.specs.declared.settling.Side.TheVariants as sides;
 ghost use Rattle.macs_program.specs.declared.values.ValueFault.{ValueFault};
@@ -70,7 +77,8 @@ fn format_given<T: Files, W: Stream>(
 ) -> Result<Status, Failure>
 where
     T::File: DiskFile,
-    ensures { MakesDisk T.File.file W.contents W.failed is_over given.layout given.identity out.old result out.new }
+    ensures { MakesDisk T.File.file W.contents W.failed is_over given.layout given.identity out.old
+        result out.new }
 {
     let how = NewFile {
         layout: given.layout,
@@ -95,16 +103,22 @@ pub fn format<T: Files, W: Stream>(
 ) -> Result<Status, Failure>
 where
     T::File: DiskFile,
-    ensures printed { IfOk result (λ status. (identity : Identity) × SpellsIdentity sci.now tx_block rx_block identity
+    ensures printed { IfOk result
+        (λ status. (identity : Identity) × SpellsIdentity sci.now tx_block rx_block identity
         × (layout : Layout) × SpellsLayout (option_map (λ text. text.now) block.entry) layout
         × Formats T.File.file is_over layout identity
-        × Appends (W.contents out.old) (W.contents out.new) (line (codes "formatted")) × (status ≡ Status.Done)) }
-    ensures usage { IfErr result (λ failure. failure_status failure ≡ Status.Usage → ((fault : ValueFault)
-        × ValueFaultHolds sci.now tx_block rx_block (option_map (λ text. text.now) block.entry) fault) × (out.new ≡ out.old)) }
+        × Appends (W.contents out.old) (W.contents out.new) (line (codes "formatted"))
+        × (status ≡ Status.Done)) }
+    ensures usage { IfErr result (λ failure. failure_status failure ≡ Status.Usage
+        → ((fault : ValueFault)
+        × ValueFaultHolds sci.now tx_block rx_block (option_map (λ text. text.now) block.entry)
+        fault) × (out.new ≡ out.old)) }
     ensures value { (fault : ValueFault) → (result ≡ Err (Failure.Value fault))
-        ↔ IsFirst (ValueFaultHolds sci.now tx_block rx_block (option_map (λ text. text.now) block.entry)) value_faults fault }
+        ↔ IsFirst (ValueFaultHolds sci.now tx_block rx_block
+        (option_map (λ text. text.now) block.entry)) value_faults fault }
     ensures ended { IfErr result (λ failure. ((fault : ValueFault) × (failure ≡ Failure.Value fault)
-        × IsFirst (ValueFaultHolds sci.now tx_block rx_block (option_map (λ text. text.now) block.entry)) value_faults fault)
+        × IsFirst (ValueFaultHolds sci.now tx_block rx_block
+        (option_map (λ text. text.now) block.entry)) value_faults fault)
         ⊎ ((identity : Identity) × SpellsIdentity sci.now tx_block rx_block identity
         × FormatFails T.File.file is_over identity failure) ⊎ (failure ≡ Failure.Output)) }
     ensures silent { IfErr result (λ failure. failure ≢ Failure.Output → out.new ≡ out.old) }
@@ -204,7 +218,8 @@ where
         ⊎ BreaksOffIn T.File.file (W.contents out.old) (W.contents out.new) failure) }
     ensures failed { IfErr result (λ failure. failure_status failure ≢ Status.Usage) }
     ensures lines { IfErr result (λ failure. failure ≢ Failure.Output
-        → (outcomes : List (Option Refusal)) × Appends (W.contents out.old) (W.contents out.new) (outcome_lines 1 outcomes)) }
+        → (outcomes : List (Option Refusal))
+        × Appends (W.contents out.old) (W.contents out.new) (outcome_lines 1 outcomes)) }
     ensures broken { IfErr result (λ failure. failure ≡ Failure.Output → W.failed out.new ≡ true) }
 {
     let task = ApplyFile {
@@ -262,9 +277,12 @@ fn open_both<C: Captures>(
 ) -> Result<(C::Input, C::Output), Failure>
     ensures order { OnOk result (Asks (C.asked captures.old) (C.asked captures.new)
         (Opens from.now true ∷ Makes to.now true ∷ [])) }
-    ensures front { OnErr result (Asks (C.asked captures.old) (C.asked captures.new) (Opens from.now false ∷ [])
-        ⊎ Asks (C.asked captures.old) (C.asked captures.new) (Opens from.now true ∷ Makes to.now false ∷ [])) }
-    ensures failed { IfErr result (λ failure. (failure ≡ Failure.Memory) ⊎ (failure ≡ Failure.Capture)) }
+    ensures front { OnErr result
+        (Asks (C.asked captures.old) (C.asked captures.new) (Opens from.now false ∷ [])
+        ⊎ Asks (C.asked captures.old) (C.asked captures.new)
+        (Opens from.now true ∷ Makes to.now false ∷ [])) }
+    ensures failed { IfErr result
+        (λ failure. (failure ≡ Failure.Memory) ⊎ (failure ≡ Failure.Capture)) }
 {
     let source = captures.open(from)?;
     let sink = captures.make(to)?;
@@ -282,8 +300,10 @@ fn pass_between<C: Captures, D: SectorDisk, W: Stream>(
     to: &str,
     out: &mut W,
 ) -> Result<Status, Failure>
-    ensures asks { AsksInOrder from.now to.now (C.asked captures.old) (C.asked captures.new) result }
-    ensures passes { DoesPass D.disk W.contents W.failed side is_all endpoint.old out.old result endpoint.new out.new }
+    ensures asks { AsksInOrder from.now to.now (C.asked captures.old)
+        (C.asked captures.new) result }
+    ensures passes { DoesPass D.disk W.contents W.failed side is_all endpoint.old out.old result
+        endpoint.new out.new }
 {
     let (mut source, mut sink) = open_both(captures, from, to)?;
     pass_frames(alloc, endpoint, side, is_all, &mut source, &mut sink, out)
@@ -368,8 +388,10 @@ fn judge_between<C: Captures, D: SectorDisk, W: Stream>(
     to: &str,
     out: &mut W,
 ) -> Result<Status, Failure>
-    ensures asks { AsksInOrder from.now to.now (C.asked captures.old) (C.asked captures.new) result }
-    ensures judges { DoesJudge D.disk W.contents W.failed is_all endpoint.old out.old result endpoint.new out.new }
+    ensures asks { AsksInOrder from.now to.now (C.asked captures.old)
+        (C.asked captures.new) result }
+    ensures judges { DoesJudge D.disk W.contents W.failed is_all endpoint.old out.old result
+        endpoint.new out.new }
 {
     let (mut input, mut output) = open_both(captures, from, to)?;
     judge_frames(alloc, endpoint, is_all, &mut input, &mut output, out)
@@ -422,7 +444,8 @@ where
         × Appends (W.contents out.old) (W.contents out.new)
         (verdict_lines 1 verdicts ++ summary_line sides.Common summary)
         × (status ≡ pass_status is_all summary)) }
-    ensures ended { IfErr result (λ failure. OpeningFails T.File.file failure ⊎ JudgingEndsIn T.File.file failure) }
+    ensures ended { IfErr result
+        (λ failure. OpeningFails T.File.file failure ⊎ JudgingEndsIn T.File.file failure) }
     ensures failed { IfErr result (λ failure. failure_status failure ≢ Status.Usage) }
     ensures front { IfErr result (λ failure. failure ≢ Failure.Output
         → PrintsVerdicts (W.contents out.old) (W.contents out.new)) }
@@ -445,8 +468,8 @@ struct Wires {
     common: UdpWire<Global>,
 }
 
-/// The same wire, once the system was asked to keep so many octets of the datagrams that wait at it: how many it keeps is
-/// noted.
+/// The same wire, once the system was asked to keep so many octets of the datagrams that wait at
+/// it: how many it keeps is noted.
 fn with_buffer<N: Net>(net: &N, mut wire: UdpWire<Global>, octets: u32) -> UdpWire<Global>
     ensures state { ⟦<UdpWire<Global, UdpSocket> as Wire>⟧.state result
         ≡ ⟦<UdpWire<Global, UdpSocket> as Wire>⟧.state wire }
@@ -466,9 +489,11 @@ fn bind_wire<N: Net>(
     addresses: WireAddresses,
     buffer: Option<u32>,
 ) -> Result<UdpWire<Global>, Failure>
-    ensures fresh { IfOk result (λ bound. ⟦<UdpWire<Global, UdpSocket> as Wire>⟧.state bound ≡ new_wire) }
+    ensures fresh { IfOk result
+        (λ bound. ⟦<UdpWire<Global, UdpSocket> as Wire>⟧.state bound ≡ new_wire) }
     ensures peer { IfOk result (λ bound. peer_of bound ≡ addresses.peer) }
-    ensures failed { IfErr result (λ failure. (failure ≡ Failure.Memory) ⊎ (failure ≡ Failure.Wire)) }
+    ensures failed { IfErr result
+        (λ failure. (failure ≡ Failure.Memory) ⊎ (failure ≡ Failure.Wire)) }
 {
     let wire = bind(net, alloc, addresses)?;
     match buffer {
@@ -484,19 +509,21 @@ fn bind_wires<N: Net>(
     addresses: Addresses,
     buffer: Option<u32>,
 ) -> Result<Wires, Failure>
-    ensures fresh { IfOk result (λ wires. (⟦<UdpWire<Global, UdpSocket> as Wire>⟧.state wires.controlled ≡ new_wire)
+    ensures fresh { IfOk result
+        (λ wires. (⟦<UdpWire<Global, UdpSocket> as Wire>⟧.state wires.controlled ≡ new_wire)
         × (⟦<UdpWire<Global, UdpSocket> as Wire>⟧.state wires.common ≡ new_wire)) }
     ensures peers { IfOk result (λ wires. (peer_of wires.controlled ≡ addresses.controlled.peer)
         × (peer_of wires.common ≡ addresses.common.peer)) }
-    ensures failed { IfErr result (λ failure. (failure ≡ Failure.Memory) ⊎ (failure ≡ Failure.Wire)) }
+    ensures failed { IfErr result
+        (λ failure. (failure ≡ Failure.Memory) ⊎ (failure ≡ Failure.Wire)) }
 {
     let controlled = bind_wire(net, alloc, addresses.controlled, buffer)?;
     let common = bind_wire(net, alloc, addresses.common, buffer)?;
     Ok(Wires { controlled, common })
 }
 
-/// How many receives in a row a wire of a relay that sleeps leaves out at most, where it gives nothing and the other wire
-/// gives frames.
+/// How many receives in a row a wire of a relay that sleeps leaves out at most, where it gives
+/// nothing and the other wire gives frames.
 const LEFT_OUT: u8 = 7;
 
 /// How many a wire of a relay with this pace leaves out: none where the relay does not sleep.
@@ -516,7 +543,8 @@ impl Wires {
 
     /// What is watched of them, where a sleep is so long at most.
     fn watch(&self, limit: Milliseconds) -> Watch
-        ensures controlled { IfSome (⟦<UdpWire<Global, UdpSocket> as AsRawFd>⟧.raw_fd self.now.controlled)
+        ensures controlled { IfSome
+            (⟦<UdpWire<Global, UdpSocket> as AsRawFd>⟧.raw_fd self.now.controlled)
             (λ socket. result.controlled ≡ socket) }
         ensures common { IfSome (⟦<UdpWire<Global, UdpSocket> as AsRawFd>⟧.raw_fd self.now.common)
             (λ socket. result.common ≡ socket) }
@@ -531,7 +559,8 @@ impl Wires {
 
     /// Their sockets.
     fn sockets(&self) -> Sockets
-        ensures controlled { IfSome (⟦<UdpWire<Global, UdpSocket> as AsRawFd>⟧.raw_fd self.now.controlled)
+        ensures controlled { IfSome
+            (⟦<UdpWire<Global, UdpSocket> as AsRawFd>⟧.raw_fd self.now.controlled)
             (λ socket. result.controlled ≡ socket) }
         ensures common { IfSome (⟦<UdpWire<Global, UdpSocket> as AsRawFd>⟧.raw_fd self.now.common)
             (λ socket. result.common ≡ socket) }
@@ -548,14 +577,17 @@ impl Wires {
         turns: u64,
         out: &mut W,
     ) -> Result<Status, Failure>
-        requires controlled { ⟦<UdpWire<Global, UdpSocket> as Wire>⟧.state self.old.controlled ≡ new_wire }
+        requires controlled { ⟦<UdpWire<Global, UdpSocket> as Wire>⟧.state self.old.controlled
+            ≡ new_wire }
         requires common { ⟦<UdpWire<Global, UdpSocket> as Wire>⟧.state self.old.common ≡ new_wire }
-        ensures { DoesRelay D.disk W.contents W.failed (unattended turns) endpoint.old out.old result endpoint.new out.new }
+        ensures { DoesRelay D.disk W.contents W.failed (unattended turns) endpoint.old out.old
+            result endpoint.new out.new }
     {
         relay_frames(endpoint, &mut self.controlled, &mut self.common, turns, out)
     }
 
-    /// Relays frames between them in turns of which each that brought nothing is followed by a sleep.
+    /// Relays frames between them in turns of which each that brought nothing is followed by a
+    /// sleep.
     fn relay_resting<D: SectorDisk, W: Stream>(
         self,
         endpoint: &mut Endpoint<D>,
@@ -563,9 +595,11 @@ impl Wires {
         turns: u64,
         out: &mut W,
     ) -> Result<Status, Failure>
-        requires controlled { ⟦<UdpWire<Global, UdpSocket> as Wire>⟧.state self.controlled ≡ new_wire }
+        requires controlled { ⟦<UdpWire<Global, UdpSocket> as Wire>⟧.state self.controlled
+            ≡ new_wire }
         requires common { ⟦<UdpWire<Global, UdpSocket> as Wire>⟧.state self.common ≡ new_wire }
-        ensures { DoesRelay D.disk W.contents W.failed (unattended turns) endpoint.old out.old result endpoint.new out.new }
+        ensures { DoesRelay D.disk W.contents W.failed (unattended turns) endpoint.old out.old
+            result endpoint.new out.new }
     {
         let mut watch = self.watch(limit);
         let Wires { controlled, common } = self;
@@ -581,7 +615,8 @@ impl Wires {
         )
     }
 
-    /// Relays frames between them, attended by this desk. A wire leaves out so many receives in a row at most.
+    /// Relays frames between them, attended by this desk. A wire leaves out so many receives in a
+    /// row at most.
     fn relay_attended<T: Files + Net + Clock, D: SectorDisk, W: Stream>(
         self,
         endpoint: &mut Endpoint<D>,
@@ -590,9 +625,11 @@ impl Wires {
         turns: u64,
         out: &mut W,
     ) -> Result<Status, Failure>
-        requires controlled { ⟦<UdpWire<Global, UdpSocket> as Wire>⟧.state self.controlled ≡ new_wire }
+        requires controlled { ⟦<UdpWire<Global, UdpSocket> as Wire>⟧.state self.controlled
+            ≡ new_wire }
         requires common { ⟦<UdpWire<Global, UdpSocket> as Wire>⟧.state self.common ≡ new_wire }
-        ensures { DoesRelay D.disk W.contents W.failed (attended turns) endpoint.old out.old result endpoint.new out.new }
+        ensures { DoesRelay D.disk W.contents W.failed (attended turns) endpoint.old out.old result
+            endpoint.new out.new }
     {
         let Wires { controlled, common } = self;
         let mut controlled = controlled.sparing(most);
@@ -600,8 +637,8 @@ impl Wires {
         relay_frames_attended(endpoint, &mut controlled, &mut common, desk, turns, out)
     }
 
-    /// Relays frames between them, attended. Whoever started the program is notified once all is bound, and when the
-    /// relay ends.
+    /// Relays frames between them, attended. Whoever started the program is notified once all is
+    /// bound, and when the relay ends.
     fn attend<T: Files + Net + Clock + Env, D: SectorDisk, W: Stream>(
         self,
         rt: &T,
@@ -611,9 +648,11 @@ impl Wires {
         turns: u64,
         out: &mut W,
     ) -> Result<Status, Failure>
-        requires controlled { ⟦<UdpWire<Global, UdpSocket> as Wire>⟧.state self.controlled ≡ new_wire }
+        requires controlled { ⟦<UdpWire<Global, UdpSocket> as Wire>⟧.state self.controlled
+            ≡ new_wire }
         requires common { ⟦<UdpWire<Global, UdpSocket> as Wire>⟧.state self.common ≡ new_wire }
-        ensures { DoesRelay D.disk W.contents W.failed (attended turns) endpoint.old out.old result endpoint.new out.new }
+        ensures { DoesRelay D.disk W.contents W.failed (attended turns) endpoint.old out.old result
+            endpoint.new out.new }
     {
         let mut desk = desk_for(rt, alloc, &running, self.sockets())?;
         let notifier = Notifier::of_environment(rt, alloc);
@@ -684,16 +723,21 @@ pub fn relay<'a, T: Files + Net + Clock + Env, W: Stream>(
 ) -> Result<Status, Failure>
 where
     T::File: DiskFile,
-    ensures printed { IfOk result (λ status. (summary : RelaySummary) × ComesTo T.File.file (course_of running.entry) summary
+    ensures printed { IfOk result
+        (λ status. (summary : RelaySummary) × ComesTo T.File.file (course_of running.entry) summary
         × SpellsBoth controlled.entry common.entry
-        × Appends (W.contents out.old) (W.contents out.new) (relay_line summary) × (status ≡ Status.Done)) }
+        × Appends (W.contents out.old) (W.contents out.new) (relay_line summary)
+        × (status ≡ Status.Done)) }
     ensures address { (fault : AddressFault) → (result ≡ Err (Failure.Address fault))
         ↔ IsFirst (AddressFaultHolds controlled.entry common.entry) address_faults fault }
     ensures usage { IfErr result (λ failure. failure_status failure ≡ Status.Usage
-        → ((fault : AddressFault) × AddressFaultHolds controlled.entry common.entry fault) × (out.new ≡ out.old)) }
-    ensures ended { IfErr result (λ failure. ((fault : AddressFault) × (failure ≡ Failure.Address fault)
+        → ((fault : AddressFault) × AddressFaultHolds controlled.entry common.entry fault)
+        × (out.new ≡ out.old)) }
+    ensures ended { IfErr result
+        (λ failure. ((fault : AddressFault) × (failure ≡ Failure.Address fault)
         × IsFirst (AddressFaultHolds controlled.entry common.entry) address_faults fault)
-        ⊎ OpeningFails T.File.file failure ⊎ RelayEndsIn T.File.file (course_of running.entry) failure) }
+        ⊎ OpeningFails T.File.file failure
+        ⊎ RelayEndsIn T.File.file (course_of running.entry) failure) }
     ensures names { IfErr result IsOfRelay }
     ensures silent { IfErr result (λ failure. failure ≢ Failure.Output → out.new ≡ out.old) }
     ensures broken { IfErr result (λ failure. failure ≡ Failure.Output → W.failed out.new ≡ true) }

@@ -36,8 +36,8 @@ pub fn append_text(line: &mut Line, text: &str)
     line.try_extend_from_slice(text.as_bytes()).unwrap();
 }
 
-/// Prints octets on standard output, whole, and hands them on. It fails as `Output`, and exactly where the
-/// stream does.
+/// Prints octets on standard output, whole, and hands them on. It fails as `Output`, and exactly
+/// where the stream does.
 pub fn print_octets<W: Stream>(out: &mut W, octets: &[u8]) -> Result<(), Failure>
     ensures printed { OnOk result (Appends (W.contents out.old) (W.contents out.new) octets.now) }
     ensures failed { IfErr result (λ failure. failure ≡ Failure.Output) }

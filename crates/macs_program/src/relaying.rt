@@ -37,12 +37,14 @@ fn relay_line(summary: RelaySummary) -> Line
     line
 }
 
-/// A wire that is bound. It fails first as `Memory`, where there is none for a frame of the wire; then as
-/// `Wire`, where the own address cannot be bound.
+/// A wire that is bound. It fails first as `Memory`, where there is none for a frame of the wire;
+/// then as `Wire`, where the own address cannot be bound.
 pub fn bind<N: Net>(net: &N, alloc: Global, wire: WireAddresses) -> Result<UdpWire<Global>, Failure>
-    ensures fresh { IfOk result (λ bound. ⟦<UdpWire<Global, UdpSocket> as Wire>⟧.state bound ≡ new_wire) }
+    ensures fresh { IfOk result
+        (λ bound. ⟦<UdpWire<Global, UdpSocket> as Wire>⟧.state bound ≡ new_wire) }
     ensures peer { IfOk result (λ bound. peer_of bound ≡ wire.peer) }
-    ensures failed { IfErr result (λ failure. (failure ≡ Failure.Memory) ⊎ (failure ≡ Failure.Wire)) }
+    ensures failed { IfErr result
+        (λ failure. (failure ≡ Failure.Memory) ⊎ (failure ≡ Failure.Wire)) }
 {
     let bound = UdpWire::bind(net, alloc, wire.own, wire.peer)?;
     Ok(bound)
@@ -51,7 +53,8 @@ pub fn bind<N: Net>(net: &N, alloc: Global, wire: WireAddresses) -> Result<UdpWi
 /// Prints what became of the frames of a relay that took all its turns. It fails as `Output` alone.
 fn print_summary<W: Stream>(summary: RelaySummary, out: &mut W) -> Result<Status, Failure>
     ensures printed { IfOk result (λ status.
-        Appends (W.contents out.old) (W.contents out.new) (relay_line summary) × (status ≡ Status.Done)) }
+        Appends (W.contents out.old) (W.contents out.new) (relay_line summary)
+        × (status ≡ Status.Done)) }
     ensures failed { IfErr result (λ failure. failure ≡ Failure.Output) }
     ensures broken { IfErr result (λ failure. W.failed out.new ≡ true) }
 {
@@ -60,8 +63,8 @@ fn print_summary<W: Stream>(summary: RelaySummary, out: &mut W) -> Result<Status
 }
 
 /// Relays frames between two wires, and prints what became of them. It fails as `Disk` at the first
-/// reservation of packet numbers that cannot be made, with nothing printed; and as `Output` after the last
-/// turn, where the line cannot be written.
+/// reservation of packet numbers that cannot be made, with nothing printed; and as `Output` after
+/// the last turn, where the line cannot be written.
 pub fn relay_frames<D: SectorDisk, P: Wire, C: Wire, W: Stream>(
     endpoint: &mut Endpoint<D>,
     controlled: &mut P,
@@ -70,12 +73,15 @@ pub fn relay_frames<D: SectorDisk, P: Wire, C: Wire, W: Stream>(
     out: &mut W,
 ) -> Result<Status, Failure>
     ensures printed { IfOk result (λ status. (summary : RelaySummary) × IsRelayed D.disk turns
-        (relay_of endpoint.old (P.state controlled.old) (C.state common.old) empty_lane empty_lane) (Ok summary)
+        (relay_of endpoint.old (P.state controlled.old) (C.state common.old) empty_lane empty_lane)
+        (Ok summary)
         endpoint.new (P.state controlled.new) (C.state common.new)
-        × Appends (W.contents out.old) (W.contents out.new) (relay_line summary) × (status ≡ Status.Done)) }
+        × Appends (W.contents out.old) (W.contents out.new) (relay_line summary)
+        × (status ≡ Status.Done)) }
     ensures failed { IfErr result (λ failure. failure_status failure ≢ Status.Usage) }
     ensures ended { IfErr result (λ failure. EndsRelay D.disk (unattended turns)
-        (relay_of endpoint.old (P.state controlled.old) (C.state common.old) empty_lane empty_lane) failure
+        (relay_of endpoint.old (P.state controlled.old) (C.state common.old) empty_lane empty_lane)
+        failure
         endpoint.new (P.state controlled.new) (C.state common.new)) }
     ensures silent { IfErr result (λ failure. failure ≢ Failure.Output → out.new ≡ out.old) }
     ensures broken { IfErr result (λ failure. failure ≡ Failure.Output → W.failed out.new ≡ true) }
@@ -84,7 +90,8 @@ pub fn relay_frames<D: SectorDisk, P: Wire, C: Wire, W: Stream>(
     print_summary(summary, out)
 }
 
-/// Relays frames as `relay_frames` does, and sleeps after each turn in which there was nothing to do.
+/// Relays frames as `relay_frames` does, and sleeps after each turn in which there was nothing to
+/// do.
 pub fn relay_frames_resting<D: SectorDisk, P: Wire, C: Wire, I: Idle, W: Stream>(
     endpoint: &mut Endpoint<D>,
     controlled: &mut P,
@@ -94,15 +101,20 @@ pub fn relay_frames_resting<D: SectorDisk, P: Wire, C: Wire, I: Idle, W: Stream>
     out: &mut W,
 ) -> Result<Status, Failure>
     ensures printed { IfOk result (λ status. (summary : RelaySummary) × IsRelayed D.disk turns
-        (relay_of endpoint.old (P.state controlled.old) (C.state common.old) empty_lane empty_lane) (Ok summary)
+        (relay_of endpoint.old (P.state controlled.old) (C.state common.old) empty_lane empty_lane)
+        (Ok summary)
         endpoint.new (P.state controlled.new) (C.state common.new)
-        × Appends (W.contents out.old) (W.contents out.new) (relay_line summary) × (status ≡ Status.Done)) }
-    ensures rested { (slept : ℕ) × (answer : Result RelaySummary RefillFault) × IsRelayedResting D.disk turns
-        (relay_of endpoint.old (P.state controlled.old) (C.state common.old) empty_lane empty_lane) slept answer
+        × Appends (W.contents out.old) (W.contents out.new) (relay_line summary)
+        × (status ≡ Status.Done)) }
+    ensures rested { (slept : ℕ) × (answer : Result RelaySummary RefillFault)
+        × IsRelayedResting D.disk turns
+        (relay_of endpoint.old (P.state controlled.old) (C.state common.old) empty_lane empty_lane)
+        slept answer
         endpoint.new (P.state controlled.new) (C.state common.new)
         × (I.sleeps idle.new ≡ with_sleeps (I.sleeps idle.old) slept) }
     ensures ended { IfErr result (λ failure. EndsRelay D.disk (unattended turns)
-        (relay_of endpoint.old (P.state controlled.old) (C.state common.old) empty_lane empty_lane) failure
+        (relay_of endpoint.old (P.state controlled.old) (C.state common.old) empty_lane empty_lane)
+        failure
         endpoint.new (P.state controlled.new) (C.state common.new)) }
     ensures silent { IfErr result (λ failure. failure ≢ Failure.Output → out.new ≡ out.old) }
     ensures broken { IfErr result (λ failure. failure ≡ Failure.Output → W.failed out.new ≡ true) }
@@ -111,8 +123,8 @@ pub fn relay_frames_resting<D: SectorDisk, P: Wire, C: Wire, I: Idle, W: Stream>
     print_summary(summary, out)
 }
 
-/// Relays frames as `relay_frames` does, attended by a desk, which may hand in commands and end the relay before a
-/// turn.
+/// Relays frames as `relay_frames` does, attended by a desk, which may hand in commands and end the
+/// relay before a turn.
 pub fn relay_frames_attended<D: SectorDisk, P: Wire, C: Wire, K: Desk<D, P, C>, W: Stream>(
     endpoint: &mut Endpoint<D>,
     controlled: &mut P,
@@ -121,16 +133,22 @@ pub fn relay_frames_attended<D: SectorDisk, P: Wire, C: Wire, K: Desk<D, P, C>, 
     turns: u64,
     out: &mut W,
 ) -> Result<Status, Failure>
-    ensures printed { IfOk result (λ status. (summary : RelaySummary) × (events : List DeskEvent) × IsAttended D.disk turns
-        (relay_of endpoint.old (P.state controlled.old) (C.state common.old) empty_lane empty_lane) events (Ok summary)
+    ensures printed { IfOk result
+        (λ status. (summary : RelaySummary) × (events : List DeskEvent) × IsAttended D.disk turns
+        (relay_of endpoint.old (P.state controlled.old) (C.state common.old) empty_lane empty_lane)
+        events (Ok summary)
         endpoint.new (P.state controlled.new) (C.state common.new)
-        × Appends (W.contents out.old) (W.contents out.new) (relay_line summary) × (status ≡ Status.Done)) }
-    ensures attended { (events : List DeskEvent) × (answer : Result RelaySummary RefillFault) × IsAttended D.disk turns
-        (relay_of endpoint.old (P.state controlled.old) (C.state common.old) empty_lane empty_lane) events answer
+        × Appends (W.contents out.old) (W.contents out.new) (relay_line summary)
+        × (status ≡ Status.Done)) }
+    ensures attended { (events : List DeskEvent) × (answer : Result RelaySummary RefillFault)
+        × IsAttended D.disk turns
+        (relay_of endpoint.old (P.state controlled.old) (C.state common.old) empty_lane empty_lane)
+        events answer
         endpoint.new (P.state controlled.new) (C.state common.new)
         × (K.events desk.new ≡ with_events (K.events desk.old) events) }
     ensures ended { IfErr result (λ failure. EndsRelay D.disk (attended turns)
-        (relay_of endpoint.old (P.state controlled.old) (C.state common.old) empty_lane empty_lane) failure
+        (relay_of endpoint.old (P.state controlled.old) (C.state common.old) empty_lane empty_lane)
+        failure
         endpoint.new (P.state controlled.new) (C.state common.new)) }
     ensures silent { IfErr result (λ failure. failure ≢ Failure.Output → out.new ≡ out.old) }
     ensures broken { IfErr result (λ failure. failure ≡ Failure.Output → W.failed out.new ≡ true) }

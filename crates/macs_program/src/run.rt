@@ -1,13 +1,16 @@
 //! The program over its words, a reader and two streams.
 
-ghost use Rattle.std.specs.Prelude.{◌≡◌, ◌≢◌, ◌⊎◌, ◌++◌, ◌∷◌, ℕ, List, [], Option, true, take, IfErr, IfOk, IfSome, OnErr, OnOk, string_bytes};
+ghost use Rattle.std.specs.Prelude.{◌≡◌, ◌≢◌, ◌⊎◌, ◌++◌, ◌∷◌, ℕ, List, [], Option, true, take};
+ghost use Rattle.std.specs.Prelude.{IfErr, IfOk, IfSome, OnErr, OnOk, string_bytes};
 ghost use Rattle.std.specs.Io.KnownBytes.{Appends};
 ghost use Rattle.clap.specs.Words.{subcommand_of, takes};
 ghost use Rattle.macs_program.specs.Opened.{answer_text};
 ghost use Rattle.macs_program.specs.Failing.{failure_status};
 ghost use Rattle.macs_program.specs.Inputs.{InputRead, read_of};
-ghost use Rattle.macs_program.specs.Run.{Acts, FailsFor, HasPrinted, HasWrongValues, OpenFails, Performs, PrintedBefore, Prints};
-ghost use Rattle.macs_program.specs.Run.{PrintsUnlessFailed, Replies, code_of, complaint, is_on_frames};
+ghost use Rattle.macs_program.specs.Run.{Acts, FailsFor, HasPrinted, HasWrongValues, OpenFails};
+ghost use Rattle.macs_program.specs.Run.{Performs, PrintedBefore, Prints};
+ghost use Rattle.macs_program.specs.Run.{PrintsUnlessFailed, Replies, code_of, complaint};
+ghost use Rattle.macs_program.specs.Run.{is_on_frames};
 ghost use Rattle.macs_words.specs.Words.{AreRefused, AsksForNothing, Names, macsecd, texts};
 ghost use Rattle.macs_words.specs.declared.action.Action.{Action};
 ghost use Rattle.macs_program.specs.declared.failure.Failure.{Failure};
@@ -37,7 +40,8 @@ use std::rt::{Clock, Env, Files};
 
 /// Reads an input, as far as it can be of use.
 fn read_input<R: Input>(input: &mut R) -> Result<InputText, Failure>
-    ensures read { IfOk result (λ text. IfSome (R.remaining input.old) (λ octets. text.items ≡ take 20001 octets)) }
+    ensures read { IfOk result
+        (λ text. IfSome (R.remaining input.old) (λ octets. text.items ≡ take 20001 octets)) }
     ensures failed { IfErr result (λ failure. failure ≡ Failure.Input InputFault.Input) }
     ensures broken { OnErr result (R.failed input.new ≡ true) }
 {
@@ -168,7 +172,8 @@ fn act<T: Files + Net + Clock + Env + RandomSource, R: Input, W: Stream>(
 ) -> Result<Status, Failure>
 where
     T::File: CaptureFile,
-    ensures { Acts T.File.file R.remaining R.failed W.contents W.failed (texts words.now) input.old out.old result input.new out.new }
+    ensures { Acts T.File.file R.remaining R.failed W.contents W.failed (texts words.now) input.old
+        out.old result input.new out.new }
 {
     if let Some(topic) = topic_of(words) {
         print(out, topic.text())?;
@@ -180,7 +185,8 @@ where
 
 /// Prints the line of a failure.
 fn complain<E: Stream>(failure: &Failure, err: &mut E) -> Result<(), PrintFailed>
-    ensures printed { OnOk result (Appends (E.contents err.old) (E.contents err.new) (complaint failure.now)) }
+    ensures printed { OnOk result
+        (Appends (E.contents err.old) (E.contents err.new) (complaint failure.now)) }
     ensures broken { OnErr result (E.failed err.new ≡ true) }
 {
     err.print(b"macsecd: ")?;
@@ -188,11 +194,12 @@ fn complain<E: Stream>(failure: &Failure, err: &mut E) -> Result<(), PrintFailed
     err.print(b"\n")
 }
 
-/// Prints what ends a run on standard error as one line, and answers the status of the process, also
-/// where the line cannot be printed.
+/// Prints what ends a run on standard error as one line, and answers the status of the process,
+/// also where the line cannot be printed.
 pub fn report<E: Stream>(failure: &Failure, err: &mut E) -> u8
     ensures status { result ≡ code_of (failure_status failure.now) }
-    ensures printed { PrintsUnlessFailed (E.contents err.old) (E.contents err.new) (E.failed err.new)
+    ensures printed { PrintsUnlessFailed (E.contents err.old) (E.contents err.new)
+        (E.failed err.new)
         (complaint failure.now) }
 {
     let _ = complain(failure, err);
@@ -201,8 +208,9 @@ pub fn report<E: Stream>(failure: &Failure, err: &mut E) -> u8
 
 /// Runs the program: the words without the program's own name, standard input, standard output and
 /// standard error. It answers the status of the process. Faults are found in this order: the words;
-/// the SCI, the blocks and the addresses; the disk file and its opening; the other files or the binds from
-/// left to right; of `check` the command file before the disk file. That the order among files is this one is tested.
+/// the SCI, the blocks and the addresses; the disk file and its opening; the other files or the
+/// binds from left to right; of `check` the command file before the disk file. That the order among
+/// files is this one is tested.
 pub fn run<T: Files + Net + Clock + Env + RandomSource, R: Input, W: Stream, E: Stream>(
     rt: &T,
     alloc: Global,
@@ -215,8 +223,8 @@ where
     T::File: CaptureFile,
     // The status is one of 0, 2, 3, 4 and 5.
     ensures status { (status : Status) × (result ≡ code_of status) }
-    // At 0 and 3 the words ask for help or are taken, and the help or what the action prints is written to
-    // standard output.
+    // At 0 and 3 the words ask for help or are taken, and the help or what the action prints is
+    // written to standard output.
     ensures replied { (result ≡ 0) ⊎ (result ≡ 3) → (status : Status) × (result ≡ code_of status)
         × Replies T.File.file (texts words.now) (read_of R.remaining R.failed input.old input.new)
         (W.contents out.old) (W.contents out.new) status }
@@ -227,23 +235,27 @@ where
     // And they are none that are taken, or a value among them is none, and nothing is printed.
     ensures usage { result ≡ 2 → (AreRefused (texts words.now) ⊎ HasWrongValues (texts words.now))
         × (out.new ≡ out.old) }
-    // At 4 the words are taken and name another action than `open`, and nothing was printed but, of `apply`,
-    // the lines of the commands before the fault.
+    // At 4 the words are taken and name another action than `open`, and nothing was printed but, of
+    // `apply`, the lines of the commands before the fault.
     ensures disk { result ≡ 4 → (takes macsecd (texts words.now) ≡ true)
-        × (action : Action) × Names (subcommand_of macsecd (texts words.now)) action × (action ≢ Action.Open)
+        × (action : Action) × Names (subcommand_of macsecd (texts words.now)) action
+        × (action ≢ Action.Open)
         × HasPrinted action (W.contents out.old) (W.contents out.new) }
-    // At 2, 4 and 5 there is a failure of this status, of the words or of the action that they name, whose line is
-    // printed on standard error, whole, unless that fails. Nothing was printed on standard output before it but, of
-    // `apply`, `ask` and `inspect`, the lines before the failure; where the failure is that of standard output, a print
-    // there failed.
-    ensures reported { (result ≢ 0) → (result ≢ 3) → (failure : Failure) × (result ≡ code_of (failure_status failure))
-        × PrintsUnlessFailed (E.contents err.old) (E.contents err.new) (E.failed err.new) (complaint failure)
+    // At 2, 4 and 5 there is a failure of this status, of the words or of the action that they
+    // name, whose line is printed on standard error, whole, unless that fails. Nothing was printed
+    // on standard output before it but, of `apply`, `ask` and `inspect`, the lines before the
+    // failure; where the failure is that of standard output, a print there failed.
+    ensures reported { (result ≢ 0) → (result ≢ 3)
+        → (failure : Failure) × (result ≡ code_of (failure_status failure))
+        × PrintsUnlessFailed (E.contents err.old) (E.contents err.new) (E.failed err.new)
+        (complaint failure)
         × FailsFor T.File.file (texts words.now) (read_of R.remaining R.failed input.old input.new)
         (W.contents out.old) (W.contents out.new) failure
-        × (failure ≢ Failure.Output → PrintedBefore (texts words.now) (W.contents out.old) (W.contents out.new))
+        × (failure ≢ Failure.Output
+        → PrintedBefore (texts words.now) (W.contents out.old) (W.contents out.new))
         × (failure ≡ Failure.Output → W.failed out.new ≡ true) }
-    // Where the words are none that are taken, as those that ask for help, or name another action than
-    // `open`, the input is left unread.
+    // Where the words are none that are taken, as those that ask for help, or name another action
+    // than `open`, the input is left unread.
     ensures unread { ((takes macsecd (texts words.now) ≡ true)
         × Names (subcommand_of macsecd (texts words.now)) Action.Open → ⊥) → input.new ≡ input.old }
 {

@@ -9,7 +9,8 @@ use std::io::Write;
 #[derive(Clone, Copy)]
 pub struct PrintFailed;
 
-/// Where texts are printed. It is known whether a print of it ever failed, and may be known what was printed.
+/// Where texts are printed. It is known whether a print of it ever failed, and may be known what
+/// was printed.
 pub trait Stream {
     /// What was printed, where it is known.
     ghost contents: { Self → Option (List ℕ) };
@@ -24,8 +25,8 @@ pub trait Stream {
         ensures broken { OnErr result (failed self.new ≡ true) };
 }
 
-/// A stream over a writer of the standard library, which is flushed after each text: so no line is kept back
-/// while the program goes on. An interrupted write is made again.
+/// A stream over a writer of the standard library, which is flushed after each text: so no line is
+/// kept back while the program goes on. An interrupted write is made again.
 #[derive(Drop)]
 pub struct WriterStream<W: Write> {
     writer: W,

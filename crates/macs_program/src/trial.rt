@@ -8,7 +8,8 @@ ghost use Rattle.macs_endpoint.specs.Calls.{IsCall};
 ghost use Rattle.macs_endpoint.specs.Opening.{IsOpening};
 ghost use Rattle.macs_endpoint.specs.State.{Commands, Ran};
 ghost use Rattle.macs_program.specs.Applying.{Applies, answer_of, outcomes_status};
-ghost use Rattle.macs_program.specs.Trying.{EndsOn, EndsTrial, TrialEnds, TrialFails, TriesIn, TriesOn};
+ghost use Rattle.macs_program.specs.Trying.{EndsOn, EndsTrial, TrialEnds, TrialFails, TriesIn};
+ghost use Rattle.macs_program.specs.Trying.{TriesOn};
 ghost use Rattle.macs_program.specs.Trying.{failure_in_memory, would_line, would_lines, would_text};
 
 use crate::applying::{give, status_after};
@@ -50,13 +51,15 @@ fn try_command<D: SectorDisk>(
     }
 }
 
-/// Gives these commands to the endpoint, one after another, and answers which were refused, and why.
+/// Gives these commands to the endpoint, one after another, and answers which were refused, and
+/// why.
 fn try_commands<D: SectorDisk>(
     alloc: Global,
     endpoint: &mut Endpoint<D>,
     commands: &[Command],
 ) -> Result<Vec<Option<Refusal>>, Failure>
-    ensures tried { IfOk result (λ outcomes. Applies D.disk endpoint.old commands.now outcomes.items endpoint.new) }
+    ensures tried { IfOk result
+        (λ outcomes. Applies D.disk endpoint.old commands.now outcomes.items endpoint.new) }
     ensures ended { IfErr result (TrialEnds D.disk endpoint.old commands.now) }
 {
     let mut outcomes = Vec::new(alloc);
@@ -100,9 +103,10 @@ fn try_on(
     try_opened(alloc, Endpoint::open(copy), commands)
 }
 
-/// What these commands would be answered by the endpoint on the disk in a file, which is opened to be read alone. It
-/// fails as `Disk` with `File` where there is no regular file that can be opened; then as `copy_of` does, as the opening
-/// of an endpoint does, and with `GenerationsSpent` where a command would be answered so; and as `Memory`.
+/// What these commands would be answered by the endpoint on the disk in a file, which is opened to
+/// be read alone. It fails as `Disk` with `File` where there is no regular file that can be opened;
+/// then as `copy_of` does, as the opening of an endpoint does, and with `GenerationsSpent` where a
+/// command would be answered so; and as `Memory`.
 pub fn try_in<T: Files>(
     rt: &T,
     alloc: Global,

@@ -3,7 +3,8 @@
 ghost use Rattle.std.specs.Prelude.{◌≡◌, ◌↔◌, IfOk, IsTrue, Err, Some, option_map};
 ghost use Rattle.macs_config.specs.Identity.{IsBlock};
 ghost use Rattle.macs_fields.specs.First.{IsFirst};
-ghost use Rattle.macs_program.specs.Values.{SpellsIdentity, SpellsLayout, ValueFaultHolds, value_faults};
+ghost use Rattle.macs_program.specs.Values.{SpellsIdentity, SpellsLayout, ValueFaultHolds};
+ghost use Rattle.macs_program.specs.Values.{value_faults};
 
 use crate::open_input::sci_of;
 use macs_config::Identity;
@@ -49,7 +50,8 @@ fn is_block(block: u32) -> bool
 /// The layout of a file for the block of the device that is named, in octets: that for 512 where
 /// none is. `None` for any other block.
 fn layout_of(block: Option<&str>) -> Option<Layout>
-    ensures { (layout : Layout) → (result ≡ Some layout) ↔ SpellsLayout (option_map (λ text. text.now) block.entry) layout }
+    ensures { (layout : Layout)
+        → (result ≡ Some layout) ↔ SpellsLayout (option_map (λ text. text.now) block.entry) layout }
 {
     match block {
         None | Some("512") => Some(Layout::Packed),
@@ -74,10 +76,13 @@ pub fn given_by(
     rx_block: u32,
     block: Option<&str>,
 ) -> Result<Given, ValueFault>
-    ensures identity { IfOk result (λ given. SpellsIdentity sci.now tx_block rx_block given.identity) }
-    ensures layout { IfOk result (λ given. SpellsLayout (option_map (λ text. text.now) block.entry) given.layout) }
+    ensures identity { IfOk result
+        (λ given. SpellsIdentity sci.now tx_block rx_block given.identity) }
+    ensures layout { IfOk result
+        (λ given. SpellsLayout (option_map (λ text. text.now) block.entry) given.layout) }
     ensures fault { (fault : ValueFault) → (result ≡ Err fault)
-        ↔ IsFirst (ValueFaultHolds sci.now tx_block rx_block (option_map (λ text. text.now) block.entry)) value_faults fault }
+        ↔ IsFirst (ValueFaultHolds sci.now tx_block rx_block
+        (option_map (λ text. text.now) block.entry)) value_faults fault }
 {
     let Some(sci) = sci_of(sci.as_bytes()) else {
         return Err(ValueFault::Sci);

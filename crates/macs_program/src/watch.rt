@@ -48,8 +48,8 @@ impl Watch {
 }
 
 impl Idle for Watch {
-    /// A datagram that is there already ends the sleep at once, as does one that comes (POSIX.1-2017, `poll`). Where
-    /// the call fails, there is no sleep.
+    /// A datagram that is there already ends the sleep at once, as does one that comes
+    /// (POSIX.1-2017, `poll`). Where the call fails, there is no sleep.
     fn idle(&mut self) {
         let _ = poll(&mut self.asked(), self.timeout());
     }

@@ -3,9 +3,9 @@
 use std::io;
 use std::io::{BufWriter, Write};
 
-/// A buffer in front of a writer. Each write to that writer but the last is one of all its room: what does not fit
-/// is cut there, where a `BufWriter` by itself would hand on what it has first. So writes of a file begin and end at
-/// multiples of the room, which costs the system less.
+/// A buffer in front of a writer. Each write to that writer but the last is one of all its room:
+/// what does not fit is cut there, where a `BufWriter` by itself would hand on what it has first.
+/// So writes of a file begin and end at multiples of the room, which costs the system less.
 #[derive(Drop)]
 pub struct WholeWrites<W: Write + Drop> {
     buffer: BufWriter<W>,
@@ -16,7 +16,8 @@ impl<W: Write + Drop> WholeWrites<W> {
 
     /// What is written goes through this buffer.
     pub fn new(buffer: BufWriter<W>) -> WholeWrites<W>
-        ensures { ⟦<WholeWrites<W> as Write>⟧.contents result ≡ ⟦<BufWriter<W> as Write>⟧.contents buffer }
+        ensures { ⟦<WholeWrites<W> as Write>⟧.contents result
+            ≡ ⟦<BufWriter<W> as Write>⟧.contents buffer }
     {
         WholeWrites { buffer }
     }

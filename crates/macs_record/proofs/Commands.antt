@@ -1,5 +1,6 @@
 -- Commands that install, as records.
-use Rattle.std.proofs.Common.{◌≡◌, ◌↔◌, ◌==◌, ◌∙◌, ◌||◌, ◌&&◌, ◌<◌, ℕ, Bool, true, false, not, if◌then◌else◌, List, Option, Some, None, is_none, refl, sym, ap, arith}
+use Rattle.std.proofs.Common.{◌≡◌, ◌↔◌, ◌==◌, ◌∙◌, ◌||◌, ◌&&◌, ◌<◌, ℕ, Bool, true, false, not, if◌then◌else◌, List}
+use Rattle.std.proofs.Common.{Option, Some, None, is_none, refl, sym, ap, arith}
 use Rattle.std.proofs.lemmas.Bool.{eq-eqb, ne_eqb}
 use Rattle.macs_fields.specs.Fields.{octets_of}
 use Rattle.macs_fields.specs.declared.fields.Offset.{Offset}
@@ -36,24 +37,31 @@ is_wrong confidential octets = not confidential && not (octets == 0)
 
 abbrev Says : Option Protection → Bool → Offset → Type 0
 Says result confidential offset =
-    (protection : Protection) → (result ≡ Some protection) ↔ ((confidential ≡ is_confidential protection) × (offset ≡ offset_of protection))
+    (protection : Protection)
+    → (result ≡ Some protection) ↔ ((confidential ≡ is_confidential protection) × (offset ≡ offset_of protection))
 
-protection_is : (confidential : Bool) (offset : Offset) (result made : Option Protection) → made ≡ result → Says result confidential offset
+protection_is : (confidential : Bool) (offset : Offset) (result made : Option Protection) → made ≡ result
+    → Says result confidential offset
     → result ≡ (if is_wrong confidential (octets_of offset) then None else Some (protection_of confidential offset))
 protection_is true offset result made is says = (says (Confidentiality offset)).1 (refl, refl)
 protection_is false Zero result made is says = (says Integrity).1 (refl, refl)
 protection_is false Thirty result None is says = sym is
-protection_is false Thirty result (Some Integrity) is says = let said = (says Integrity).0 (sym is) in let e = said.1 in cc
-protection_is false Thirty result (Some (Confidentiality offset)) is says = let said = (says (Confidentiality offset)).0 (sym is) in let e = said.0 in cc
+protection_is false Thirty result (Some Integrity) is says = let said = (says Integrity).0 (sym is) in
+    let e = said.1 in cc
+protection_is false Thirty result (Some (Confidentiality offset)) is says = let said =
+    (says (Confidentiality offset)).0 (sym is) in let e = said.0 in cc
 protection_is false Fifty result None is says = sym is
-protection_is false Fifty result (Some Integrity) is says = let said = (says Integrity).0 (sym is) in let e = said.1 in cc
-protection_is false Fifty result (Some (Confidentiality offset)) is says = let said = (says (Confidentiality offset)).0 (sym is) in let e = said.0 in cc
+protection_is false Fifty result (Some Integrity) is says = let said = (says Integrity).0 (sym is) in
+    let e = said.1 in cc
+protection_is false Fifty result (Some (Confidentiality offset)) is says = let said =
+    (says (Confidentiality offset)).0 (sym is) in let e = said.0 in cc
 
 wrong_if_none : {X : Type 0} (wrong : Bool) (x : X) → None ≡ (if wrong then None else Some x) → wrong ≡ true
 wrong_if_none false x e = cc
 wrong_if_none true x e = refl
 
-right_if_some : {X : Type 0} (wrong : Bool) (p x : X) → Some p ≡ (if wrong then None else Some x) → (wrong ≡ false) × (p ≡ x)
+right_if_some : {X : Type 0} (wrong : Bool) (p x : X) → Some p ≡ (if wrong then None else Some x)
+    → (wrong ≡ false) × (p ≡ x)
 right_if_some false p x e = (refl, cc)
 right_if_some true p x e = cc
 
@@ -63,14 +71,18 @@ module _ (an : ℕ) (key : Key) (start : ℕ) (confidential : Bool) (octets : �
   abbrev tx_asked : Option Record
   tx_asked = record_of (command.TxInstall an key start confidential octets)
 
-  tx_value : (o : Option Offset) (zero wrong : Bool) → offset_at octets ≡ o → (start == 0) ≡ zero → is_wrong confidential octets ≡ wrong
+  tx_value : (o : Option Offset) (zero wrong : Bool) → offset_at octets ≡ o → (start == 0) ≡ zero
+      → is_wrong confidential octets ≡ wrong
       → tx_asked ≡ (if zero || (is_none o || wrong) then None
-      else Some (TxInstall an (record { key = octets_of_key key; protection = protection_of confidential (offset_or_zero o) }) start))
+      else Some (TxInstall an
+      (record { key = octets_of_key key; protection = protection_of confidential (offset_or_zero o) }) start))
   tx_value o zero wrong e z w =
-      λ i. if z i || (is_none (e i) || w i) then None else Some (TxInstall an (record { key = octets_of_key key; protection = protection_of confidential (offset_or_zero (e i)) }) start)
+      λ i. if z i || (is_none (e i) || w i) then None else Some (TxInstall an
+      (record { key = octets_of_key key; protection = protection_of confidential (offset_or_zero (e i)) }) start)
 
   pub tx_no_offset : None ≡ offset_at octets → None ≡ tx_asked
-  tx_no_offset e = refused (start == 0) _ ∙ sym (tx_value None (start == 0) (is_wrong confidential octets) (sym e) refl refl)
+  tx_no_offset e = refused (start == 0) _
+      ∙ sym (tx_value None (start == 0) (is_wrong confidential octets) (sym e) refl refl)
 
   pub tx_no_start : (start == 0) ≡ true → None ≡ tx_asked
   tx_no_start z = sym (tx_value (offset_at octets) true (is_wrong confidential octets) refl z refl)
@@ -78,18 +90,21 @@ module _ (an : ℕ) (key : Key) (start : ℕ) (confidential : Bool) (octets : �
   module _ (offset : Offset) (e : Some offset ≡ offset_at octets) (same : octets ≡ octets_of offset) where
     pub tx_no_protection : Says None confidential offset → None ≡ tx_asked
     tx_no_protection says =
-        let wrong = ap (is_wrong confidential) same ∙ wrong_if_none _ _ (protection_is confidential offset None None refl says) in
+        let wrong = ap (is_wrong confidential) same
+        ∙ wrong_if_none _ _ (protection_is confidential offset None None refl says) in
         refused (start == 0) _ ∙ sym (tx_value (Some offset) (start == 0) true (sym e) refl wrong)
 
     module _ (p : Protection) (says : Says (Some p) confidential offset) (z : (start == 0) ≡ false) where
       right : (is_wrong confidential octets ≡ false) × (p ≡ protection_of confidential offset)
       right =
-          let here = right_if_some _ _ _ (protection_is confidential offset (Some p) (Some p) refl says) in (ap (is_wrong confidential) same ∙ here.0, here.1)
+          let here = right_if_some _ _ _ (protection_is confidential offset (Some p) (Some p) refl says) in
+          (ap (is_wrong confidential) same ∙ here.0, here.1)
 
       pub tx_record : (octets_of : List ℕ) → octets_of ≡ octets_of_key key
           → Some (TxInstall an (record { key = octets_of; protection = p }) start) ≡ tx_asked
       tx_record octets_of k =
-          (λ i. Some (TxInstall an (record { key = k i; protection = right.1 i }) start)) ∙ sym (tx_value (Some offset) false false (sym e) z right.0)
+          (λ i. Some (TxInstall an (record { key = k i; protection = right.1 i }) start))
+          ∙ sym (tx_value (Some offset) false false (sym e) z right.0)
 
 -- ---- receive associations
 
@@ -98,9 +113,11 @@ module _ (sci : List ℕ) (an : ℕ) (key : Key) (start octets : ℕ) where
   rx_asked = record_of (command.RxInstall sci an key start octets)
 
   rx_value : (o : Option Offset) (zero : Bool) → offset_at octets ≡ o → (start == 0) ≡ zero
-      → rx_asked ≡ (if zero || is_none o then None else Some (RxInstall sci an (record { key = octets_of_key key; offset = offset_or_zero o }) start))
+      → rx_asked ≡ (if zero || is_none o then None
+      else Some (RxInstall sci an (record { key = octets_of_key key; offset = offset_or_zero o }) start))
   rx_value o zero e z =
-      λ i. if z i || is_none (e i) then None else Some (RxInstall sci an (record { key = octets_of_key key; offset = offset_or_zero (e i) }) start)
+      λ i. if z i || is_none (e i) then None
+      else Some (RxInstall sci an (record { key = octets_of_key key; offset = offset_or_zero (e i) }) start)
 
   pub rx_no_offset : None ≡ offset_at octets → None ≡ rx_asked
   rx_no_offset e = refused (start == 0) _ ∙ sym (rx_value None (start == 0) (sym e) refl)
@@ -111,7 +128,8 @@ module _ (sci : List ℕ) (an : ℕ) (key : Key) (start octets : ℕ) where
   module _ (offset : Offset) (e : Some offset ≡ offset_at octets) (z : (start == 0) ≡ false) where
     pub rx_record : (octets_of : List ℕ) → octets_of ≡ octets_of_key key
         → Some (RxInstall sci an (record { key = octets_of; offset = offset }) start) ≡ rx_asked
-    rx_record octets_of k = (λ i. Some (RxInstall sci an (record { key = k i; offset = offset }) start)) ∙ sym (rx_value (Some offset) false (sym e) z)
+    rx_record octets_of k = (λ i. Some (RxInstall sci an (record { key = k i; offset = offset }) start))
+        ∙ sym (rx_value (Some offset) false (sym e) z)
 
 -- ---- commands that were judged
 
@@ -127,7 +145,8 @@ recorded-as (command.RxDrop sci) = refl
 recorded-as (command.RxInstall sci an key start offset) = refl
 recorded-as (command.RxRemove sci an) = refl
 
-right-recorded : (start offset : Bool) (r : Record) → start ≡ false → offset ≡ false → Some r ≡ (if start || offset then None else Some r)
+right-recorded : (start offset : Bool) (r : Record) → start ≡ false → offset ≡ false
+    → Some r ≡ (if start || offset then None else Some r)
 right-recorded start offset r s o = sym (λ i. if s i || o i then None else Some r)
 
 -- what was judged has the record of its command
@@ -135,4 +154,5 @@ pub judged-recorded : (j : Judged) → IsJudged j → Some (record_judged j) ≡
 judged-recorded j is =
     ap (λ (j : Judged). Some (record_judged j)) (sym (judged_of-asked_by j is))
     ∙ ap (λ (r : Record). Some r) (sym (recorded-as (asked_by j)))
-    ∙ right-recorded (has_wrong_start (asked_by j)) (has_wrong_offset (asked_by j)) (record_of_accepted (asked_by j)) is.1 is.2
+    ∙ right-recorded (has_wrong_start (asked_by j)) (has_wrong_offset (asked_by j))
+    (record_of_accepted (asked_by j)) is.1 is.2

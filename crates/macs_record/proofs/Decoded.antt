@@ -1,5 +1,6 @@
 -- What is known of a sector, from what was read of it.
-use Rattle.std.proofs.Common.{◌≡◌, ◌-◌, ◌++◌, ◌∙◌, ℕ, List, length, replicate, Some, None, Option, inl, inr, refl, sym, subst, ap, arith, length-append}
+use Rattle.std.proofs.Common.{◌≡◌, ◌-◌, ◌++◌, ◌∙◌, ℕ, List, length, replicate, Some, None, Option, inl, inr, refl, sym}
+use Rattle.std.proofs.Common.{subst, ap, arith, length-append}
 use Rattle.std.proofs.lemmas.List.{length-replicate}
 use Rattle.macs_fields.specs.First.{IsFirst, NoneHolds}
 use Rattle.macs_record.specs.Decoding.{HasFields, HasKind, RecordFaultHolds, IsSectorOf, record_faults}
@@ -18,12 +19,14 @@ KindFound octets result left =
 -- the fields are read wherever they are
 abbrev pub FieldsFound : Kind → List ℕ → Option Record → List ℕ → Type 0
 FieldsFound kind octets result left =
-    (r : Record) (rest : List ℕ) → IsRecord r → kind_of r ≡ kind → octets ≡ fields_of r ++ rest → (result ≡ Some r) × (left ≡ rest)
+    (r : Record) (rest : List ℕ) → IsRecord r → kind_of r ≡ kind → octets ≡ fields_of r ++ rest
+    → (result ≡ Some r) × (left ≡ rest)
 
 pub no_kind : (sector left : List ℕ) → KindFound sector None left → ¬ HasKind sector
 no_kind sector left found has = never _ (found has.0 has.1.0 has.1.1)
 
-pub no_fields : (kind : Kind) (sector behind left : List ℕ) → KindFound sector (Some kind) behind → FieldsFound kind behind None left → ¬ HasFields sector
+pub no_fields : (kind : Kind) (sector behind left : List ℕ) → KindFound sector (Some kind) behind
+    → FieldsFound kind behind None left → ¬ HasFields sector
 no_fields kind sector behind left kinds fields has =
     let k = kinds (kind_of has.0) (fields_of has.0 ++ has.2.0) has.2.1 in
     let same = k.0 in
@@ -38,7 +41,8 @@ pub fields_have_kind : (sector : List ℕ) → HasFields sector → HasKind sect
 fields_have_kind sector has = (kind_of has.0, (fields_of has.0 ++ has.2.0, has.2.1))
 
 -- the record of a sector is the one that was read
-pub read_once : (kind : Kind) (sector behind left : List ℕ) (result : Option Record) → KindFound sector (Some kind) behind → FieldsFound kind behind result left
+pub read_once : (kind : Kind) (sector behind left : List ℕ) (result : Option Record)
+    → KindFound sector (Some kind) behind → FieldsFound kind behind result left
     → (r : Record) → IsSectorOf r sector → (result ≡ Some r) × (left ≡ replicate (512 - length (front_of r)) 0)
 read_once kind sector behind left result kinds fields r is =
     let zeros : List ℕ = replicate (512 - length (front_of r)) 0 in
@@ -47,34 +51,42 @@ read_once kind sector behind left result kinds fields r is =
     let of_kind : kind_of r ≡ kind = cc in
     fields r zeros is.range of_kind k.1
 
-pub filled : (sector front left : List ℕ) → length sector ≡ 512 → sector ≡ front ++ left → left ≡ replicate (length left) 0 → padded_sector front ≡ sector
+pub filled : (sector front left : List ℕ) → length sector ≡ 512 → sector ≡ front ++ left
+    → left ≡ replicate (length left) 0 → padded_sector front ≡ sector
 filled sector front left size whole zeros =
     let room : 512 - length front ≡ length left = omega (arith, ap length whole, length-append {A = ℕ}) in
     ap (λ (n : ℕ). front ++ replicate n 0) room ∙ ap (λ (rest : List ℕ). front ++ rest) (sym zeros) ∙ sym whole
 
 -- what was read begins the sector
-pub begins : (kind : Kind) (r : Record) (sector behind left : List ℕ) → sector ≡ octets_of_kind kind ++ behind → kind_of r ≡ kind → behind ≡ fields_of r ++ left
+pub begins : (kind : Kind) (r : Record) (sector behind left : List ℕ) → sector ≡ octets_of_kind kind ++ behind
+    → kind_of r ≡ kind → behind ≡ fields_of r ++ left
     → sector ≡ front_of r ++ left
 begins kind r sector behind left here of_kind fields =
-    here ∙ ap (λ (xs : List ℕ). octets_of_kind kind ++ xs) fields ∙ ap (λ (k : Kind). octets_of_kind k ++ (fields_of r ++ left)) (sym of_kind)
+    here ∙ ap (λ (xs : List ℕ). octets_of_kind kind ++ xs) fields
+    ∙ ap (λ (k : Kind). octets_of_kind k ++ (fields_of r ++ left)) (sym of_kind)
 
-pub is_sector : (r : Record) (sector left : List ℕ) → length sector ≡ 512 → IsRecord r → sector ≡ front_of r ++ left → left ≡ replicate (length left) 0
+pub is_sector : (r : Record) (sector left : List ℕ) → length sector ≡ 512 → IsRecord r → sector ≡ front_of r ++ left
+    → left ≡ replicate (length left) 0
     → IsSectorOf r sector
-is_sector r sector left size range whole zeros = record { range = range; octets = filled sector (front_of r) left size whole zeros }
+is_sector r sector left size range whole zeros =
+    record { range = range; octets = filled sector (front_of r) left size whole zeros }
 
 -- ---- the faults
 
 pub first_field : (kind : Kind) (sector behind left : List ℕ) → sector ≡ octets_of_kind kind ++ behind
-    → KindFound sector (Some kind) behind → FieldsFound kind behind None left → IsFirst (RecordFaultHolds sector) record_faults Field
+    → KindFound sector (Some kind) behind → FieldsFound kind behind None left
+    → IsFirst (RecordFaultHolds sector) record_faults Field
 first_field kind sector behind left here kinds fields =
     inr ((λ no. no (kind, (behind, here))), inl (no_fields kind sector behind left kinds fields, refl))
 
 pub all_zeros : (left : List ℕ) (n : ℕ) → left ≡ replicate n 0 → left ≡ replicate (length left) 0
 all_zeros left n zeros =
-    let size : n ≡ length left = sym (ap length zeros ∙ length-replicate {A = ℕ} n 0) in zeros ∙ ap (λ (k : ℕ). replicate k 0) size
+    let size : n ≡ length left = sym (ap length zeros ∙ length-replicate {A = ℕ} n 0) in
+    zeros ∙ ap (λ (k : ℕ). replicate k 0) size
 
 pub first_rest : (kind : Kind) (r : Record) (sector behind left : List ℕ) → sector ≡ octets_of_kind kind ++ behind
-    → IsRecord r × (kind_of r ≡ kind) × (behind ≡ fields_of r ++ left) → KindFound sector (Some kind) behind → FieldsFound kind behind (Some r) left
+    → IsRecord r × (kind_of r ≡ kind) × (behind ≡ fields_of r ++ left) → KindFound sector (Some kind) behind
+    → FieldsFound kind behind (Some r) left
     → (left ≡ replicate (length left) 0 → ⊥) → IsFirst (RecordFaultHolds sector) record_faults Rest
 first_rest kind r sector behind left here read kinds fields more =
     let stands : HasFields sector = (r, read.0, (left, begins kind r sector behind left here read.1 read.2)) in
@@ -84,7 +96,8 @@ first_rest kind r sector behind left here read kinds fields more =
         (λ no. no stands),
         inl (
           (λ has.
-              let once = read_once kind sector behind left (Some r) kinds fields has.0 has.1 in more (all_zeros left (512 - length (front_of has.0)) once.1)),
+              let once = read_once kind sector behind left (Some r) kinds fields has.0 has.1 in
+              more (all_zeros left (512 - length (front_of has.0)) once.1)),
           refl,
         ),
       ),
@@ -96,8 +109,10 @@ no_fault r sector is =
     ((λ no. no (fields_have_kind sector stands)), ((λ no. no stands), ((λ no. no (r, is)), tt)))
 
 -- the record that was read is the sector's, and no other is
-pub exactly : (kind : Kind) (value : Record) (sector behind left : List ℕ) → IsSectorOf value sector → KindFound sector (Some kind) behind
-    → FieldsFound kind behind (Some value) left → (r : Record) → (value ≡ r → IsSectorOf r sector) × (IsSectorOf r sector → value ≡ r)
+pub exactly : (kind : Kind) (value : Record) (sector behind left : List ℕ) → IsSectorOf value sector
+    → KindFound sector (Some kind) behind
+    → FieldsFound kind behind (Some value) left → (r : Record)
+    → (value ≡ r → IsSectorOf r sector) × (IsSectorOf r sector → value ≡ r)
 exactly kind value sector behind left is kinds fields r = (
   (λ same. subst (λ (r : Record). IsSectorOf r sector) same is),
   (λ there. let once = (read_once kind sector behind left (Some value) kinds fields r there).0 in cc),

@@ -12,18 +12,23 @@ pub is_key : (keys : KeyLength) (key : List ℕ) → IsKeyOf keys key → IsKey 
 is_key Short key is = inl is
 is_key Long key is = inr is
 
-by_size : (key : List ℕ) (short long : Kind) (n : ℕ) → length key ≡ n → by_length key short long ≡ (if n == 16 then short else long)
+by_size : (key : List ℕ) (short long : Kind) (n : ℕ) → length key ≡ n
+    → by_length key short long ≡ (if n == 16 then short else long)
 by_size key short long n size = ap (λ (k : ℕ). if k == 16 then short else long) size
 
 -- the kind of a record with such a key
-pub by_its_length : (keys : KeyLength) (key : List ℕ) (short long : Kind) → IsKeyOf keys key → by_length key short long ≡ of_length keys short long
+pub by_its_length : (keys : KeyLength) (key : List ℕ) (short long : Kind) → IsKeyOf keys key
+    → by_length key short long ≡ of_length keys short long
 by_its_length Short key short long is = by_size key short long 16 is.size
 by_its_length Long key short long is = by_size key short long 32 is.size
 
 -- and the length of a key by its record's kind
-pub of_its_kind : (keys : KeyLength) (key : List ℕ) (short long : Kind) → (short ≡ long → ⊥) → IsKey key → by_length key short long ≡ of_length keys short long
+pub of_its_kind : (keys : KeyLength) (key : List ℕ) (short long : Kind) → (short ≡ long → ⊥) → IsKey key
+    → by_length key short long ≡ of_length keys short long
     → IsKeyOf keys key
 of_its_kind Short key short long differ (inl is) kind = is
-of_its_kind Short key short long differ (inr is) kind = absurd (differ (sym kind ∙ by_its_length Long key short long is))
-of_its_kind Long key short long differ (inl is) kind = absurd (differ (sym (by_its_length Short key short long is) ∙ kind))
+of_its_kind Short key short long differ (inr is) kind =
+    absurd (differ (sym kind ∙ by_its_length Long key short long is))
+of_its_kind Long key short long differ (inl is) kind =
+    absurd (differ (sym (by_its_length Short key short long is) ∙ kind))
 of_its_kind Long key short long differ (inr is) kind = is

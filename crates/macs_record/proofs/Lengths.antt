@@ -9,12 +9,20 @@ use Rattle.macs_record.specs.Layout.{IsRecord, fields_of, front_of, sector_of}
 use Rattle.macs_fields.specs.Fields.{IsOctets}
 use Rattle.macs_record.specs.Sectors.{padded_sector}
 use Rattle.macs_record.specs.declared.record.Record.{Record}
-use Rattle.macs_record.specs.declared.record.Record.TheVariants.{Settings, TxSa, Channel, RxSa, Spent, SetValidate, SetReplay, SetSciMode, TxInstall, TxUse, TxRemove, RxAdd, RxDrop, RxInstall, RxRemove, TxCeiling, RxCeiling}
+use Rattle.macs_record.specs.declared.record.Record.TheVariants.{Settings, TxSa, Channel, RxSa, Spent, SetValidate}
+use Rattle.macs_record.specs.declared.record.Record.TheVariants.{SetReplay, SetSciMode, TxInstall, TxUse, TxRemove}
+use Rattle.macs_record.specs.declared.record.Record.TheVariants.{RxAdd, RxDrop, RxInstall, RxRemove, TxCeiling}
+use Rattle.macs_record.specs.declared.record.Record.TheVariants.{RxCeiling}
 
 pub length-concat : (items : List (List ℕ)) → All (IsOctets 32) items → length (concat items) ≡ 32 * length items
 length-concat [] are = omega arith
 length-concat (item ∷ items) are =
-    omega (arith, length-append item (concat items), (All-head (IsOctets 32) item items are).size, length-concat items (All-tail (IsOctets 32) item items are))
+    omega (
+      arith,
+      length-append item (concat items),
+      (All-head (IsOctets 32) item items are).size,
+      length-concat items (All-tail (IsOctets 32) item items are),
+    )
 
 few_octets : (key : List ℕ) → IsKey key → length key ≤ 32
 few_octets key (inl is) = omega (arith, is.size)
@@ -40,7 +48,8 @@ fields_length (TxCeiling an ceiling) is = omega arith
 fields_length (RxCeiling sci an ceiling) is = omega (arith, length-append {A = ℕ}, is.0.size)
 
 length-padded : (front : List ℕ) → length front ≤ 512 → length (padded_sector front) ≡ 512
-length-padded front within = omega (arith, length-append front (replicate (512 - length front) 0), length-replicate {A = ℕ} (512 - length front) 0)
+length-padded front within = omega
+    (arith, length-append front (replicate (512 - length front) 0), length-replicate {A = ℕ} (512 - length front) 0)
 
 pub sector_length : (r : Record) → IsRecord r → length (sector_of r) ≡ 512
 sector_length r is = let fields = fields_length r is in length-padded (front_of r) (omega (arith, fields))

@@ -1,5 +1,6 @@
 -- Numbers, and what is in front of octets.
-use Rattle.std.proofs.Common.{◌≡◌, ◌<◌, ◌^◌, ◌+◌, ◌++◌, ◌∙◌, ℕ, List, length, get_or, Some, None, sym, ap, arith, inl, inr, length-append}
+use Rattle.std.proofs.Common.{◌≡◌, ◌<◌, ◌^◌, ◌+◌, ◌++◌, ◌∙◌, ℕ, List, length, get_or, Some, None, sym, ap, arith, inl}
+use Rattle.std.proofs.Common.{inr, length-append}
 use Rattle.std.specs.Int.{to_be_bytes, from_be_bytes, w32, w64}
 use Rattle.std.specs.List.{All}
 use Rattle.std.proofs.lemmas.Bool.{cases_lt}
@@ -13,7 +14,8 @@ pub never : {X B : Type 0} (x : X) → (None ≡ Some x) × B → ⊥
 never x p = let e = p.0 in cc
 
 -- what is taken from the front of octets
-pub taken : (count : ℕ) (old octets new : List ℕ) → All (λ octet. octet < 2 ^ 8) old → length new + count ≡ length old → old ≡ octets ++ new
+pub taken : (count : ℕ) (old octets new : List ℕ) → All (λ octet. octet < 2 ^ 8) old → length new + count ≡ length old
+    → old ≡ octets ++ new
     → IsOctets count octets × (old ≡ octets ++ new)
 taken count old octets new range size here = (
   record {
@@ -33,16 +35,24 @@ small count octets are i = elim (cases_lt i (length octets)) [
   | inr behind ↦ rw (get_or_past octets i 0 behind) (omega arith)
 ]
 
-pub front_4 : (old new octets : List ℕ) (n : ℕ) → IsOctets 4 octets → n ≡ from_be_bytes w32 octets → old ≡ octets ++ new → old ≡ to_be_bytes w32 n ++ new
-front_4 old new octets n are is here = here ∙ ap (λ (front : List ℕ). front ++ new) (sym (be_bytes_4 octets n are.size (small 4 octets are) is))
+pub front_4 : (old new octets : List ℕ) (n : ℕ) → IsOctets 4 octets → n ≡ from_be_bytes w32 octets → old ≡ octets ++ new
+    → old ≡ to_be_bytes w32 n ++ new
+front_4 old new octets n are is here = here
+    ∙ ap (λ (front : List ℕ). front ++ new) (sym (be_bytes_4 octets n are.size (small 4 octets are) is))
 
-pub front_8 : (old new octets : List ℕ) (n : ℕ) → IsOctets 8 octets → n ≡ from_be_bytes w64 octets → old ≡ octets ++ new → old ≡ to_be_bytes w64 n ++ new
-front_8 old new octets n are is here = here ∙ ap (λ (front : List ℕ). front ++ new) (sym (be_bytes_8 octets n are.size (small 8 octets are) is))
+pub front_8 : (old new octets : List ℕ) (n : ℕ) → IsOctets 8 octets → n ≡ from_be_bytes w64 octets → old ≡ octets ++ new
+    → old ≡ to_be_bytes w64 n ++ new
+front_8 old new octets n are is here = here
+    ∙ ap (λ (front : List ℕ). front ++ new) (sym (be_bytes_8 octets n are.size (small 8 octets are) is))
 
-pub back_4 : (octets : List ℕ) (result n : ℕ) → n < 2 ^ 32 → result ≡ from_be_bytes w32 octets → Some octets ≡ Some (to_be_bytes w32 n) → Some result ≡ Some n
+pub back_4 : (octets : List ℕ) (result n : ℕ) → n < 2 ^ 32 → result ≡ from_be_bytes w32 octets
+    → Some octets ≡ Some (to_be_bytes w32 n) → Some result ≡ Some n
 back_4 octets result n range is found =
-    let same : octets ≡ to_be_bytes w32 n = cc in ap Some (is ∙ ap (from_be_bytes w32) same ∙ from_be_bytes-to_be_bytes_4 n range)
+    let same : octets ≡ to_be_bytes w32 n = cc in
+    ap Some (is ∙ ap (from_be_bytes w32) same ∙ from_be_bytes-to_be_bytes_4 n range)
 
-pub back_8 : (octets : List ℕ) (result n : ℕ) → n < 2 ^ 64 → result ≡ from_be_bytes w64 octets → Some octets ≡ Some (to_be_bytes w64 n) → Some result ≡ Some n
+pub back_8 : (octets : List ℕ) (result n : ℕ) → n < 2 ^ 64 → result ≡ from_be_bytes w64 octets
+    → Some octets ≡ Some (to_be_bytes w64 n) → Some result ≡ Some n
 back_8 octets result n range is found =
-    let same : octets ≡ to_be_bytes w64 n = cc in ap Some (is ∙ ap (from_be_bytes w64) same ∙ from_be_bytes-to_be_bytes_8 n range)
+    let same : octets ≡ to_be_bytes w64 n = cc in
+    ap Some (is ∙ ap (from_be_bytes w64) same ∙ from_be_bytes-to_be_bytes_8 n range)

@@ -1,5 +1,6 @@
 -- A sector is that of one head: its fields are read back from their places.
-use Rattle.std.proofs.Common.{◌≡◌, ◌++◌, ◌∙◌, ◌==◌, ◌-◌, ℕ, if◌then◌else◌, List, length, take, drop, replicate, refl, sym, ap, arith, append_assoc}
+use Rattle.std.proofs.Common.{◌≡◌, ◌++◌, ◌∙◌, ◌==◌, ◌-◌, ℕ, if◌then◌else◌, List, length, take, drop, replicate, refl}
+use Rattle.std.proofs.Common.{sym, ap, arith, append_assoc}
 use Rattle.std.specs.Int.{from_be_bytes, to_be_bytes, w32, w64}
 use Rattle.std.proofs.lemmas.Nat.{from_be_bytes-to_be_bytes_4, from_be_bytes-to_be_bytes_8}
 use Rattle.macs_config.specs.Identity.{Identity, IsBlock}
@@ -29,7 +30,8 @@ format_read One = refl
 format_read Two = refl
 
 format_back : (format : Format) → format_from (from_be_bytes w32 (to_be_bytes w32 (version_of format))) ≡ format
-format_back format = ap format_from (from_be_bytes-to_be_bytes_4 (version_of format) (small_version format)) ∙ format_read format
+format_back format = ap format_from (from_be_bytes-to_be_bytes_4 (version_of format) (small_version format))
+    ∙ format_read format
 
 -- what is in the places of a head's fields
 unfoldable head_at : List ℕ → Head
@@ -40,10 +42,12 @@ head_at sector = record {
   identity = identity_at (drop 24 sector);
 }
 
-identity_back : (identity : Identity) (rest : List ℕ) → IsSci identity.sci → IsBlock identity.tx_block → IsBlock identity.rx_block
+identity_back : (identity : Identity) (rest : List ℕ) → IsSci identity.sci → IsBlock identity.tx_block
+    → IsBlock identity.rx_block
     → identity_at (identity_octets identity ++ rest) ≡ identity
 identity_back identity rest sci tx rx =
-    cut identity_from 8 identity.sci ((to_be_bytes w32 identity.tx_block ++ to_be_bytes w32 identity.rx_block) ++ rest) _ sci.size (append_assoc identity.sci _ rest)
+    cut identity_from 8 identity.sci ((to_be_bytes w32 identity.tx_block ++ to_be_bytes w32 identity.rx_block) ++ rest)
+    _ sci.size (append_assoc identity.sci _ rest)
     ∙ (λ i. record {
       sci = identity.sci;
       tx_block = from_be_bytes-to_be_bytes_4 identity.tx_block (omega (arith, tx.1)) i;
@@ -61,5 +65,6 @@ head_back head rest is = λ i. record {
 
 pub one_head : (a b : Head) (sector : List ℕ) → IsHeadOf a sector → IsHeadOf b sector → a ≡ b
 one_head a b sector is_a is_b =
-    sym (head_back a (replicate (512 - length (head_octets a)) 0) is_a.range) ∙ ap head_at (is_a.octets ∙ sym is_b.octets)
+    sym (head_back a (replicate (512 - length (head_octets a)) 0) is_a.range)
+    ∙ ap head_at (is_a.octets ∙ sym is_b.octets)
     ∙ head_back b (replicate (512 - length (head_octets b)) 0) is_b.range

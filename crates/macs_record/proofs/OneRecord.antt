@@ -1,5 +1,7 @@
 -- A sector is that of one record: its fields are read back from their places.
-use Rattle.std.proofs.Common.{◌≡◌, ◌<◌, ◌^◌, ◌++◌, ◌==◌, ◌∙◌, zero, suc, ℕ, Bool, true, false, List, [], ◌∷◌, if◌then◌else◌, length, get_or, take, drop, replicate, ◌-◌, Option, Some, None, refl, sym, ap, arith, append_assoc, inl, inr}
+use Rattle.std.proofs.Common.{◌≡◌, ◌<◌, ◌^◌, ◌++◌, ◌==◌, ◌∙◌, zero, suc, ℕ, Bool, true, false, List, [], ◌∷◌}
+use Rattle.std.proofs.Common.{if◌then◌else◌, length, get_or, take, drop, replicate, ◌-◌, Option, Some, None, refl, sym}
+use Rattle.std.proofs.Common.{ap, arith, append_assoc, inl, inr}
 use Rattle.std.specs.Int.{from_be_bytes, to_be_bytes, w32, w64}
 use Rattle.std.specs.List.{All, concat}
 use Rattle.std.proofs.lemmas.Bool.{ne_eqb}
@@ -22,14 +24,19 @@ use Rattle.macs_config.specs.declared.command.SciMode.{SciMode}
 use Rattle.macs_config.specs.declared.command.SciMode.TheVariants.{EndStation, Explicit, Implicit}
 use Rattle.macs_config.specs.declared.command.Validate.{Validate}
 use Rattle.macs_config.specs.declared.command.Validate.TheVariants.{Check, Strict}
-use Rattle.macs_record.specs.Layout.{IsRecord, by_length, encoding_octet, fields_of, flag_octet, front_of, kind_of, mode_octet, protection_octets, replay_octets, role_octet, sector_of, validate_octet}
+use Rattle.macs_record.specs.Layout.{IsRecord, by_length, encoding_octet, fields_of, flag_octet, front_of, kind_of}
+use Rattle.macs_record.specs.Layout.{mode_octet, protection_octets, replay_octets, role_octet, sector_of}
+use Rattle.macs_record.specs.Layout.{validate_octet}
 use Rattle.macs_fields.specs.Fields.{IsOctets}
 use Rattle.macs_record.specs.Ranges.{IsCeiling, IsEncoding}
 use Rattle.macs_record.specs.declared.key_length.KeyLength.TheVariants.{Short, Long}
 use Rattle.macs_record.specs.declared.kind.Kind.{Kind}
 use Rattle.macs_record.specs.declared.kind.Kind.TheVariants as kinds
 use Rattle.macs_record.specs.declared.record.Record.{Record}
-use Rattle.macs_record.specs.declared.record.Record.TheVariants.{Settings, TxSa, Channel, RxSa, Spent, SetValidate, SetReplay, SetSciMode, TxInstall, TxUse, TxRemove, RxAdd, RxDrop, RxInstall, RxRemove, TxCeiling, RxCeiling}
+use Rattle.macs_record.specs.declared.record.Record.TheVariants.{Settings, TxSa, Channel, RxSa, Spent, SetValidate}
+use Rattle.macs_record.specs.declared.record.Record.TheVariants.{SetReplay, SetSciMode, TxInstall, TxUse, TxRemove}
+use Rattle.macs_record.specs.declared.record.Record.TheVariants.{RxAdd, RxDrop, RxInstall, RxRemove, TxCeiling}
+use Rattle.macs_record.specs.declared.record.Record.TheVariants.{RxCeiling}
 use Rattle.macs_record.proofs.KeyKinds.{by_its_length}
 use Rattle.macs_record.proofs.RecordKinds.{one_kind}
 
@@ -82,7 +89,8 @@ offset_back Fifty = refl
 abbrev protection_from : ℕ → ℕ → Protection
 protection_from confidential octet = if confidential == 1 then Confidentiality (offset_from octet) else Integrity
 
-protection_back : (protection : Protection) → protection_from (flag_octet (is_confidential protection)) (octets_of (offset_of protection)) ≡ protection
+protection_back : (protection : Protection)
+    → protection_from (flag_octet (is_confidential protection)) (octets_of (offset_of protection)) ≡ protection
 protection_back Integrity = refl
 protection_back (Confidentiality offset) = ap Confidentiality (offset_back offset)
 
@@ -100,14 +108,16 @@ chunks zero octets = []
 chunks (suc n) octets = take 32 octets ∷ chunks n (drop 32 octets)
 
 -- a list that is cut after its front
-pub cut : {X : Type 0} (f : List ℕ → List ℕ → X) (n : ℕ) (front rest octets : List ℕ) → length front ≡ n → octets ≡ front ++ rest
+pub cut : {X : Type 0} (f : List ℕ → List ℕ → X) (n : ℕ) (front rest octets : List ℕ) → length front ≡ n
+    → octets ≡ front ++ rest
     → f (take n octets) (drop n octets) ≡ f front rest
 cut f n front rest octets size is =
     let at_front : take n octets ≡ front = ap (take n) is ∙ take_at front rest n size in
     let behind : drop n octets ≡ rest = ap (drop n) is ∙ drop_at front rest n size in
     λ i. f (at_front i) (behind i)
 
-chunks_back : (items : List (List ℕ)) (rest : List ℕ) → All (IsOctets 32) items → chunks (length items) (concat items ++ rest) ≡ items
+chunks_back : (items : List (List ℕ)) (rest : List ℕ) → All (IsOctets 32) items
+    → chunks (length items) (concat items ++ rest) ≡ items
 unfolding chunks
 chunks_back [] rest are = refl
 chunks_back (item ∷ items) rest are =
@@ -122,14 +132,17 @@ tx_sa_from an key behind =
     TxSa an (record { key = key; protection = protection_from (octet 8 behind) (octet 9 behind) }) (number_8 behind)
 
 abbrev rx_sa_from : List ℕ → ℕ → List ℕ → List ℕ → Record
-rx_sa_from sci an key behind = RxSa sci an (record { key = key; offset = offset_from (octet 8 behind) }) (number_8 behind)
+rx_sa_from sci an key behind =
+    RxSa sci an (record { key = key; offset = offset_from (octet 8 behind) }) (number_8 behind)
 
 abbrev tx_install_from : ℕ → List ℕ → List ℕ → Record
 tx_install_from an key behind =
-    TxInstall an (record { key = key; protection = protection_from (octet 4 behind) (octet 5 behind) }) (number_4 behind)
+    TxInstall an (record { key = key; protection = protection_from (octet 4 behind) (octet 5 behind) })
+    (number_4 behind)
 
 abbrev rx_install_from : List ℕ → ℕ → List ℕ → List ℕ → Record
-rx_install_from sci an key behind = RxInstall sci an (record { key = key; offset = offset_from (octet 4 behind) }) (number_4 behind)
+rx_install_from sci an key behind =
+    RxInstall sci an (record { key = key; offset = offset_from (octet 4 behind) }) (number_4 behind)
 
 abbrev keyed : ℕ → (List ℕ → List ℕ → Record) → List ℕ → Record
 keyed size f octets = f (take size octets) (drop size octets)
@@ -139,12 +152,15 @@ named f octets = f (take 8 octets) (drop 8 octets)
 
 -- the record of this kind whose fields these octets begin with
 unfoldable unread : Kind → List ℕ → Record
-unread kinds.Settings octets = Settings (validate_from (octet 0 octets)) (replay_from (drop 1 octets)) (mode_from (octet 6 octets)) (encoding_from (octet 7 octets))
+unread kinds.Settings octets = Settings (validate_from (octet 0 octets)) (replay_from (drop 1 octets))
+    (mode_from (octet 6 octets)) (encoding_from (octet 7 octets))
 unread kinds.TxSa octets = keyed 16 (tx_sa_from (octet 0 octets)) (drop 1 octets)
 unread kinds.TxSaLong octets = keyed 32 (tx_sa_from (octet 0 octets)) (drop 1 octets)
 unread kinds.Channel octets = named (λ (sci behind : List ℕ). Channel sci) octets
-unread kinds.RxSa octets = named (λ (sci behind : List ℕ). keyed 16 (rx_sa_from sci (octet 0 behind)) (drop 1 behind)) octets
-unread kinds.RxSaLong octets = named (λ (sci behind : List ℕ). keyed 32 (rx_sa_from sci (octet 0 behind)) (drop 1 behind)) octets
+unread kinds.RxSa octets =
+    named (λ (sci behind : List ℕ). keyed 16 (rx_sa_from sci (octet 0 behind)) (drop 1 behind)) octets
+unread kinds.RxSaLong octets =
+    named (λ (sci behind : List ℕ). keyed 32 (rx_sa_from sci (octet 0 behind)) (drop 1 behind)) octets
 unread kinds.Spent octets = Spent (role_from (octet 0 octets)) (chunks (octet 1 octets) (drop 2 octets))
 unread kinds.SetValidate octets = SetValidate (validate_from (octet 0 octets))
 unread kinds.SetReplay octets = SetReplay (replay_from octets)
@@ -155,60 +171,86 @@ unread kinds.TxUse octets = TxUse (octet 0 octets)
 unread kinds.TxRemove octets = TxRemove (octet 0 octets)
 unread kinds.RxAdd octets = named (λ (sci behind : List ℕ). RxAdd sci) octets
 unread kinds.RxDrop octets = named (λ (sci behind : List ℕ). RxDrop sci) octets
-unread kinds.RxInstall octets = named (λ (sci behind : List ℕ). keyed 16 (rx_install_from sci (octet 0 behind)) (drop 1 behind)) octets
-unread kinds.RxInstallLong octets = named (λ (sci behind : List ℕ). keyed 32 (rx_install_from sci (octet 0 behind)) (drop 1 behind)) octets
+unread kinds.RxInstall octets =
+    named (λ (sci behind : List ℕ). keyed 16 (rx_install_from sci (octet 0 behind)) (drop 1 behind)) octets
+unread kinds.RxInstallLong octets =
+    named (λ (sci behind : List ℕ). keyed 32 (rx_install_from sci (octet 0 behind)) (drop 1 behind)) octets
 unread kinds.RxRemove octets = named (λ (sci behind : List ℕ). RxRemove sci (octet 0 behind)) octets
 unread kinds.TxCeiling octets = TxCeiling (octet 0 octets) (number_8 (drop 1 octets))
-unread kinds.RxCeiling octets = named (λ (sci behind : List ℕ). RxCeiling sci (octet 0 behind) (number_8 (drop 1 behind))) octets
+unread kinds.RxCeiling octets =
+    named (λ (sci behind : List ℕ). RxCeiling sci (octet 0 behind) (number_8 (drop 1 behind))) octets
 
-replay_back : (replay : Replay) (rest : List ℕ) → replay.window < 2 ^ 32 → replay_from (replay_octets replay ++ rest) ≡ replay
-replay_back replay rest range = λ i. record { on = flag_back replay.on i; window = from_be_bytes-to_be_bytes_4 replay.window range i }
+replay_back : (replay : Replay) (rest : List ℕ) → replay.window < 2 ^ 32
+    → replay_from (replay_octets replay ++ rest) ≡ replay
+replay_back replay rest range =
+    λ i. record { on = flag_back replay.on i; window = from_be_bytes-to_be_bytes_4 replay.window range i }
 
 -- a record with a key of so many octets, from its fields
 module _ (size : ℕ) (rest : List ℕ) where
   tx_sa_back : (an : ℕ) (sa : TxSaFields) (ceiling : ℕ) → length sa.key ≡ size → IsCeiling ceiling
-      → keyed size (tx_sa_from an) (sa.key ++ (to_be_bytes w64 ceiling ++ protection_octets sa.protection) ++ rest) ≡ TxSa an sa ceiling
+      → keyed size (tx_sa_from an) (sa.key ++ (to_be_bytes w64 ceiling ++ protection_octets sa.protection) ++ rest)
+      ≡ TxSa an sa ceiling
   tx_sa_back an sa ceiling key bound =
-      cut (tx_sa_from an) size sa.key (to_be_bytes w64 ceiling ++ protection_octets sa.protection ++ rest) _ key (append_assoc sa.key _ rest)
-      ∙ (λ i. TxSa an (record { key = sa.key; protection = protection_back sa.protection i }) (from_be_bytes-to_be_bytes_8 ceiling (omega (arith, bound.1)) i))
+      cut (tx_sa_from an) size sa.key (to_be_bytes w64 ceiling ++ protection_octets sa.protection ++ rest) _ key
+      (append_assoc sa.key _ rest)
+      ∙ (λ i. TxSa an (record { key = sa.key; protection = protection_back sa.protection i })
+      (from_be_bytes-to_be_bytes_8 ceiling (omega (arith, bound.1)) i))
 
-  rx_sa_back : (sci : List ℕ) (an : ℕ) (sa : RxSaFields) (ceiling : ℕ) → length sci ≡ 8 → length sa.key ≡ size → IsCeiling ceiling
-      → named (λ (sci behind : List ℕ). keyed size (rx_sa_from sci (octet 0 behind)) (drop 1 behind)) (fields_of (RxSa sci an sa ceiling) ++ rest) ≡ RxSa sci an sa ceiling
+  rx_sa_back : (sci : List ℕ) (an : ℕ) (sa : RxSaFields) (ceiling : ℕ) → length sci ≡ 8 → length sa.key ≡ size
+      → IsCeiling ceiling
+      → named (λ (sci behind : List ℕ). keyed size (rx_sa_from sci (octet 0 behind)) (drop 1 behind))
+      (fields_of (RxSa sci an sa ceiling) ++ rest) ≡ RxSa sci an sa ceiling
   rx_sa_back sci an sa ceiling eight key bound =
-      cut (λ (front behind : List ℕ). keyed size (rx_sa_from front (octet 0 behind)) (drop 1 behind)) 8 sci _ _ eight (append_assoc sci _ rest)
-      ∙ cut (rx_sa_from sci an) size sa.key (to_be_bytes w64 ceiling ++ octets_of sa.offset ∷ rest) _ key (append_assoc sa.key _ rest)
-      ∙ (λ i. RxSa sci an (record { key = sa.key; offset = offset_back sa.offset i }) (from_be_bytes-to_be_bytes_8 ceiling (omega (arith, bound.1)) i))
+      cut (λ (front behind : List ℕ). keyed size (rx_sa_from front (octet 0 behind)) (drop 1 behind)) 8 sci _ _ eight
+      (append_assoc sci _ rest)
+      ∙ cut (rx_sa_from sci an) size sa.key (to_be_bytes w64 ceiling ++ octets_of sa.offset ∷ rest) _ key
+      (append_assoc sa.key _ rest)
+      ∙ (λ i. RxSa sci an (record { key = sa.key; offset = offset_back sa.offset i })
+      (from_be_bytes-to_be_bytes_8 ceiling (omega (arith, bound.1)) i))
 
   tx_install_back : (an : ℕ) (sa : TxSaFields) (start : ℕ) → length sa.key ≡ size → start < 2 ^ 32
-      → keyed size (tx_install_from an) (sa.key ++ (to_be_bytes w32 start ++ protection_octets sa.protection) ++ rest) ≡ TxInstall an sa start
+      → keyed size (tx_install_from an) (sa.key ++ (to_be_bytes w32 start ++ protection_octets sa.protection) ++ rest)
+      ≡ TxInstall an sa start
   tx_install_back an sa start key bound =
-      cut (tx_install_from an) size sa.key (to_be_bytes w32 start ++ protection_octets sa.protection ++ rest) _ key (append_assoc sa.key _ rest)
-      ∙ (λ i. TxInstall an (record { key = sa.key; protection = protection_back sa.protection i }) (from_be_bytes-to_be_bytes_4 start bound i))
+      cut (tx_install_from an) size sa.key (to_be_bytes w32 start ++ protection_octets sa.protection ++ rest) _ key
+      (append_assoc sa.key _ rest)
+      ∙ (λ i. TxInstall an (record { key = sa.key; protection = protection_back sa.protection i })
+      (from_be_bytes-to_be_bytes_4 start bound i))
 
-  rx_install_back : (sci : List ℕ) (an : ℕ) (sa : RxSaFields) (start : ℕ) → length sci ≡ 8 → length sa.key ≡ size → start < 2 ^ 32
-      → named (λ (sci behind : List ℕ). keyed size (rx_install_from sci (octet 0 behind)) (drop 1 behind)) (fields_of (RxInstall sci an sa start) ++ rest) ≡ RxInstall sci an sa start
+  rx_install_back : (sci : List ℕ) (an : ℕ) (sa : RxSaFields) (start : ℕ) → length sci ≡ 8 → length sa.key ≡ size
+      → start < 2 ^ 32
+      → named (λ (sci behind : List ℕ). keyed size (rx_install_from sci (octet 0 behind)) (drop 1 behind))
+      (fields_of (RxInstall sci an sa start) ++ rest) ≡ RxInstall sci an sa start
   rx_install_back sci an sa start eight key bound =
-      cut (λ (front behind : List ℕ). keyed size (rx_install_from front (octet 0 behind)) (drop 1 behind)) 8 sci _ _ eight (append_assoc sci _ rest)
-      ∙ cut (rx_install_from sci an) size sa.key (to_be_bytes w32 start ++ octets_of sa.offset ∷ rest) _ key (append_assoc sa.key _ rest)
-      ∙ (λ i. RxInstall sci an (record { key = sa.key; offset = offset_back sa.offset i }) (from_be_bytes-to_be_bytes_4 start bound i))
+      cut (λ (front behind : List ℕ). keyed size (rx_install_from front (octet 0 behind)) (drop 1 behind)) 8 sci _ _
+      eight (append_assoc sci _ rest)
+      ∙ cut (rx_install_from sci an) size sa.key (to_be_bytes w32 start ++ octets_of sa.offset ∷ rest) _ key
+      (append_assoc sa.key _ rest)
+      ∙ (λ i. RxInstall sci an (record { key = sa.key; offset = offset_back sa.offset i })
+      (from_be_bytes-to_be_bytes_4 start bound i))
 
 -- the record of the kind that its key's length says
-by_key : (key octets : List ℕ) (short long : Kind) (r : Record) → IsKey key → (length key ≡ 16 → unread short octets ≡ r) → (length key ≡ 32 → unread long octets ≡ r)
+by_key : (key octets : List ℕ) (short long : Kind) (r : Record) → IsKey key
+    → (length key ≡ 16 → unread short octets ≡ r) → (length key ≡ 32 → unread long octets ≡ r)
     → unread (by_length key short long) octets ≡ r
-by_key key octets short long r (inl is) shorts longs = ap (λ (kind : Kind). unread kind octets) (by_its_length Short key short long is) ∙ shorts is.size
-by_key key octets short long r (inr is) shorts longs = ap (λ (kind : Kind). unread kind octets) (by_its_length Long key short long is) ∙ longs is.size
+by_key key octets short long r (inl is) shorts longs =
+    ap (λ (kind : Kind). unread kind octets) (by_its_length Short key short long is) ∙ shorts is.size
+by_key key octets short long r (inr is) shorts longs =
+    ap (λ (kind : Kind). unread kind octets) (by_its_length Long key short long is) ∙ longs is.size
 
 back : (r : Record) (rest : List ℕ) → IsRecord r → unread (kind_of r) (fields_of r ++ rest) ≡ r
 unfolding unread
 back (Settings validate replay mode encoding) rest is =
-    λ i. Settings (validate_back validate i) (replay_back replay [] is.0 i) (mode_back mode i) (encoding_back encoding is.1 i)
+    λ i. Settings (validate_back validate i) (replay_back replay [] is.0 i) (mode_back mode i)
+    (encoding_back encoding is.1 i)
 back (TxSa an sa ceiling) rest is =
     by_key sa.key (fields_of (TxSa an sa ceiling) ++ rest) kinds.TxSa kinds.TxSaLong _ is.1
     (λ size. tx_sa_back 16 rest an sa ceiling size is.2) (λ size. tx_sa_back 32 rest an sa ceiling size is.2)
 back (Channel sci) rest is = cut (λ (front behind : List ℕ). Channel front) 8 sci rest _ is.size refl
 back (RxSa sci an sa ceiling) rest is =
     by_key sa.key (fields_of (RxSa sci an sa ceiling) ++ rest) kinds.RxSa kinds.RxSaLong _ is.2
-    (λ size. rx_sa_back 16 rest sci an sa ceiling is.0.size size is.3) (λ size. rx_sa_back 32 rest sci an sa ceiling is.0.size size is.3)
+    (λ size. rx_sa_back 16 rest sci an sa ceiling is.0.size size is.3)
+    (λ size. rx_sa_back 32 rest sci an sa ceiling is.0.size size is.3)
 back (Spent role fingerprints) rest is = λ i. Spent (role_back role i) (chunks_back fingerprints rest is.2 i)
 back (SetValidate validate) rest is = ap SetValidate (validate_back validate)
 back (SetReplay replay) rest is = ap SetReplay (replay_back replay rest is)
@@ -222,11 +264,14 @@ back (RxAdd sci) rest is = cut (λ (front behind : List ℕ). RxAdd front) 8 sci
 back (RxDrop sci) rest is = cut (λ (front behind : List ℕ). RxDrop front) 8 sci rest _ is.size refl
 back (RxInstall sci an sa start) rest is =
     by_key sa.key (fields_of (RxInstall sci an sa start) ++ rest) kinds.RxInstall kinds.RxInstallLong _ is.2
-    (λ size. rx_install_back 16 rest sci an sa start is.0.size size is.3.1) (λ size. rx_install_back 32 rest sci an sa start is.0.size size is.3.1)
-back (RxRemove sci an) rest is = cut (λ (front behind : List ℕ). RxRemove front (octet 0 behind)) 8 sci _ _ is.0.size (append_assoc sci _ rest)
+    (λ size. rx_install_back 16 rest sci an sa start is.0.size size is.3.1)
+    (λ size. rx_install_back 32 rest sci an sa start is.0.size size is.3.1)
+back (RxRemove sci an) rest is =
+    cut (λ (front behind : List ℕ). RxRemove front (octet 0 behind)) 8 sci _ _ is.0.size (append_assoc sci _ rest)
 back (TxCeiling an ceiling) rest is = ap (TxCeiling an) (from_be_bytes-to_be_bytes_8 ceiling (omega (arith, is.1.1)))
 back (RxCeiling sci an ceiling) rest is =
-    cut (λ (front behind : List ℕ). RxCeiling front (octet 0 behind) (number_8 (drop 1 behind))) 8 sci _ _ is.0.size (append_assoc sci _ rest)
+    cut (λ (front behind : List ℕ). RxCeiling front (octet 0 behind) (number_8 (drop 1 behind))) 8 sci _ _ is.0.size
+    (append_assoc sci _ rest)
     ∙ ap (RxCeiling sci an) (from_be_bytes-to_be_bytes_8 ceiling (omega (arith, is.2.1)))
 
 pub one_record : (a b : Record) → IsRecord a → IsRecord b → sector_of a ≡ sector_of b → a ≡ b

@@ -8,7 +8,8 @@ use Rattle.macs_config.specs.declared.checked.Judged.TheVariants as judged
 use Rattle.macs_config.specs.declared.command.Command.{Command}
 use Rattle.macs_config.specs.declared.command.Command.TheVariants as command
 use Rattle.macs_record.specs.declared.record.Record.{Record}
-use Rattle.macs_record.specs.declared.record.Record.TheVariants.{SetValidate, SetReplay, SetSciMode, TxInstall, TxUse, TxRemove, RxAdd, RxDrop, RxInstall, RxRemove}
+use Rattle.macs_record.specs.declared.record.Record.TheVariants.{SetValidate, SetReplay, SetSciMode, TxInstall, TxUse}
+use Rattle.macs_record.specs.declared.record.Record.TheVariants.{TxRemove, RxAdd, RxDrop, RxInstall, RxRemove}
 
 -- the record of a command whose start and offset may be
 abbrev pub record_of_accepted : Command → Record
@@ -16,7 +17,11 @@ record_of_accepted (command.SetValidate validate) = SetValidate validate
 record_of_accepted (command.SetReplay on window) = SetReplay (record { on = on; window = window })
 record_of_accepted (command.SetSciMode mode) = SetSciMode mode
 record_of_accepted (command.TxInstall an key start confidential offset) =
-    TxInstall an (record { key = octets_of_key key; protection = protection_of confidential (offset_or_zero (offset_at offset)) }) start
+    TxInstall an (record {
+      key = octets_of_key key;
+      protection =
+          protection_of confidential (offset_or_zero (offset_at offset));
+    }) start
 record_of_accepted (command.TxUse an) = TxUse an
 record_of_accepted (command.TxRemove an) = TxRemove an
 record_of_accepted (command.RxAdd sci) = RxAdd sci

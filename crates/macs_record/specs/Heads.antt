@@ -7,8 +7,8 @@ use Rattle.macs_record.specs.Sectors.{padded_sector}
 use Rattle.macs_record.specs.declared.format.Format.{Format}
 use Rattle.macs_record.specs.declared.format.Format.TheVariants.{One, Two}
 
--- format: that of the area; generation: 1 when the disk is formatted, one more with each new snapshot; count: how many records the snapshot
--- has; identity: what the disk was formatted with
+-- format: that of the area; generation: 1 when the disk is formatted, one more with each new snapshot; count: how many
+-- records the snapshot has; identity: what the disk was formatted with
 pub record Head : Type 0 where
   pub format : Format
   pub generation : ℕ
@@ -41,7 +41,8 @@ identity_octets identity = identity.sci ++ (to_be_bytes w32 identity.tx_block ++
 -- the mark and the version, then the fields
 abbrev pub head_octets : Head → List ℕ
 head_octets head =
-    head_mark ++ (to_be_bytes w32 (version_of head.format) ++ (to_be_bytes w64 head.generation ++ (to_be_bytes w32 head.count
+    head_mark
+    ++ (to_be_bytes w32 (version_of head.format) ++ (to_be_bytes w64 head.generation ++ (to_be_bytes w32 head.count
     ++ identity_octets head.identity)))
 
 -- the sector of a head

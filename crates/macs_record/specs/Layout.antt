@@ -1,6 +1,7 @@
--- How a record is in its sector: a mark, its kind, its fields in order without gaps, and zeros. Numbers of several octets
--- are big-endian.
-use Rattle.std.specs.Prelude.{◌<◌, ◌^◌, ◌++◌, ◌==◌, ℕ, Bool, true, false, if◌then◌else◌, List, [], ◌∷◌, length, Option, Some, None}
+-- How a record is in its sector: a mark, its kind, its fields in order without gaps, and zeros. Numbers of several
+-- octets are big-endian.
+use Rattle.std.specs.Prelude.{◌<◌, ◌^◌, ◌++◌, ◌==◌, ℕ, Bool, true, false, if◌then◌else◌, List, [], ◌∷◌, length, Option}
+use Rattle.std.specs.Prelude.{Some, None}
 use Rattle.std.specs.Int.{to_be_bytes, w32, w64}
 use Rattle.std.specs.List.{concat}
 use Rattle.macs_fields.specs.Fields.{octets_of}
@@ -22,7 +23,10 @@ use Rattle.macs_record.specs.declared.key_length.KeyLength.TheVariants.{Short, L
 use Rattle.macs_record.specs.declared.kind.Kind.{Kind}
 use Rattle.macs_record.specs.declared.kind.Kind.TheVariants as kinds
 use Rattle.macs_record.specs.declared.record.Record.{Record}
-use Rattle.macs_record.specs.declared.record.Record.TheVariants.{Settings, TxSa, Channel, RxSa, Spent, SetValidate, SetReplay, SetSciMode, TxInstall, TxUse, TxRemove, RxAdd, RxDrop, RxInstall, RxRemove, TxCeiling, RxCeiling}
+use Rattle.macs_record.specs.declared.record.Record.TheVariants.{Settings, TxSa, Channel, RxSa, Spent, SetValidate}
+use Rattle.macs_record.specs.declared.record.Record.TheVariants.{SetReplay, SetSciMode, TxInstall, TxUse, TxRemove}
+use Rattle.macs_record.specs.declared.record.Record.TheVariants.{RxAdd, RxDrop, RxInstall, RxRemove, TxCeiling}
+use Rattle.macs_record.specs.declared.record.Record.TheVariants.{RxCeiling}
 
 -- ---- fields
 

@@ -1,9 +1,11 @@
 //! Sectors as records.
 
-ghost use Rattle.std.specs.Prelude.{◌≡◌, ◌≤◌, ◌↔◌, ◌++◌, ℕ, List, IfSome, IsTrue, Ok, Err, Some, true};
+ghost use Rattle.std.specs.Prelude.{◌≡◌, ◌≤◌, ◌↔◌, ◌++◌, ℕ, List, IfSome, IsTrue, Ok, Err, Some};
+ghost use Rattle.std.specs.Prelude.{true};
 ghost use Rattle.macs_fields.specs.First.{IsFirst};
 ghost use Rattle.macs_record.specs.Decoding.{RecordFaultHolds, IsSectorOf, record_faults};
-ghost use Rattle.macs_record.specs.Layout.{IsRecord, fields_of, has_one_field, kind_of, octets_of_kind, of_length};
+ghost use Rattle.macs_record.specs.Layout.{IsRecord, fields_of, has_one_field, kind_of};
+ghost use Rattle.macs_record.specs.Layout.{octets_of_kind, of_length};
 ghost use Rattle.macs_record.specs.declared.kind.Kind.{Kind};
 ghost use Rattle.macs_record.specs.declared.kind.Kind.TheVariants as kinds;
 ghost use Rattle.macs_record.specs.declared.record.Record.{Record};
@@ -20,7 +22,8 @@ use macs_config::{RxSa, TxSa};
 /// The record of a sector. Refused as `Kind`, `Field` and `Rest`, the first that holds.
 pub fn decode(sector: &[u8; SECTOR]) -> Result<Record, RecordFault>
     ensures exactly { (r : Record) → (result ≡ Ok r) ↔ IsSectorOf r sector.now }
-    ensures fault { (fault : RecordFault) → (result ≡ Err fault) ↔ IsFirst (RecordFaultHolds sector.now) record_faults fault }
+    ensures fault { (fault : RecordFault)
+        → (result ≡ Err fault) ↔ IsFirst (RecordFaultHolds sector.now) record_faults fault }
 {
     let mut reader = Reader::new(sector);
     let Some(kind) = read_kind(&mut reader) else {
@@ -49,8 +52,10 @@ fn read_kind(from: &mut Reader<'_>) -> Option<Kind>
 
 /// Reads the fields of a record of this kind.
 fn read_fields(kind: Kind, from: &mut Reader<'_>) -> Option<Record>
-    ensures some { IfSome result (λ r. IsRecord r × (kind_of r ≡ kind) × (from.old ≡ fields_of r ++ from.new)) }
-    ensures found { (r : Record) (rest : List ℕ) → IsRecord r → kind_of r ≡ kind → from.old ≡ fields_of r ++ rest
+    ensures some { IfSome result
+        (λ r. IsRecord r × (kind_of r ≡ kind) × (from.old ≡ fields_of r ++ from.new)) }
+    ensures found { (r : Record) (rest : List ℕ) → IsRecord r → kind_of r ≡ kind
+        → from.old ≡ fields_of r ++ rest
         → (result ≡ Some r) × (from.new ≡ rest) }
 {
     match kind {
@@ -74,8 +79,10 @@ fn read_fields(kind: Kind, from: &mut Reader<'_>) -> Option<Record>
 /// Reads the field of a record of this kind, which has one.
 fn read_one_field(kind: Kind, from: &mut Reader<'_>) -> Option<Record>
     requires { has_one_field kind ≡ true }
-    ensures some { IfSome result (λ r. IsRecord r × (kind_of r ≡ kind) × (from.old ≡ fields_of r ++ from.new)) }
-    ensures found { (r : Record) (rest : List ℕ) → IsRecord r → kind_of r ≡ kind → from.old ≡ fields_of r ++ rest
+    ensures some { IfSome result
+        (λ r. IsRecord r × (kind_of r ≡ kind) × (from.old ≡ fields_of r ++ from.new)) }
+    ensures found { (r : Record) (rest : List ℕ) → IsRecord r → kind_of r ≡ kind
+        → from.old ≡ fields_of r ++ rest
         → (result ≡ Some r) × (from.new ≡ rest) }
 {
     match kind {
@@ -93,8 +100,10 @@ fn read_one_field(kind: Kind, from: &mut Reader<'_>) -> Option<Record>
 
 /// Reads a receive channel of a snapshot.
 fn read_channel(from: &mut Reader<'_>) -> Option<Record>
-    ensures some { IfSome result (λ r. IsRecord r × (kind_of r ≡ kinds.Channel) × (from.old ≡ fields_of r ++ from.new)) }
-    ensures found { (r : Record) (rest : List ℕ) → IsRecord r → kind_of r ≡ kinds.Channel → from.old ≡ fields_of r ++ rest
+    ensures some { IfSome result
+        (λ r. IsRecord r × (kind_of r ≡ kinds.Channel) × (from.old ≡ fields_of r ++ from.new)) }
+    ensures found { (r : Record) (rest : List ℕ) → IsRecord r → kind_of r ≡ kinds.Channel
+        → from.old ≡ fields_of r ++ rest
         → (result ≡ Some r) × (from.new ≡ rest) }
 {
     let sci = from.sci()?;
@@ -103,8 +112,10 @@ fn read_channel(from: &mut Reader<'_>) -> Option<Record>
 
 /// Reads how frames are validated from now on.
 fn read_set_validate(from: &mut Reader<'_>) -> Option<Record>
-    ensures some { IfSome result (λ r. IsRecord r × (kind_of r ≡ kinds.SetValidate) × (from.old ≡ fields_of r ++ from.new)) }
-    ensures found { (r : Record) (rest : List ℕ) → IsRecord r → kind_of r ≡ kinds.SetValidate → from.old ≡ fields_of r ++ rest
+    ensures some { IfSome result
+        (λ r. IsRecord r × (kind_of r ≡ kinds.SetValidate) × (from.old ≡ fields_of r ++ from.new)) }
+    ensures found { (r : Record) (rest : List ℕ) → IsRecord r → kind_of r ≡ kinds.SetValidate
+        → from.old ≡ fields_of r ++ rest
         → (result ≡ Some r) × (from.new ≡ rest) }
 {
     let validate = from.validate()?;
@@ -113,8 +124,10 @@ fn read_set_validate(from: &mut Reader<'_>) -> Option<Record>
 
 /// Reads the replay protection from now on.
 fn read_set_replay(from: &mut Reader<'_>) -> Option<Record>
-    ensures some { IfSome result (λ r. IsRecord r × (kind_of r ≡ kinds.SetReplay) × (from.old ≡ fields_of r ++ from.new)) }
-    ensures found { (r : Record) (rest : List ℕ) → IsRecord r → kind_of r ≡ kinds.SetReplay → from.old ≡ fields_of r ++ rest
+    ensures some { IfSome result
+        (λ r. IsRecord r × (kind_of r ≡ kinds.SetReplay) × (from.old ≡ fields_of r ++ from.new)) }
+    ensures found { (r : Record) (rest : List ℕ) → IsRecord r → kind_of r ≡ kinds.SetReplay
+        → from.old ≡ fields_of r ++ rest
         → (result ≡ Some r) × (from.new ≡ rest) }
 {
     let replay = from.replay()?;
@@ -123,8 +136,10 @@ fn read_set_replay(from: &mut Reader<'_>) -> Option<Record>
 
 /// Reads how frames name their channel from now on.
 fn read_set_sci_mode(from: &mut Reader<'_>) -> Option<Record>
-    ensures some { IfSome result (λ r. IsRecord r × (kind_of r ≡ kinds.SetSciMode) × (from.old ≡ fields_of r ++ from.new)) }
-    ensures found { (r : Record) (rest : List ℕ) → IsRecord r → kind_of r ≡ kinds.SetSciMode → from.old ≡ fields_of r ++ rest
+    ensures some { IfSome result
+        (λ r. IsRecord r × (kind_of r ≡ kinds.SetSciMode) × (from.old ≡ fields_of r ++ from.new)) }
+    ensures found { (r : Record) (rest : List ℕ) → IsRecord r → kind_of r ≡ kinds.SetSciMode
+        → from.old ≡ fields_of r ++ rest
         → (result ≡ Some r) × (from.new ≡ rest) }
 {
     let sci_mode = from.sci_mode()?;
@@ -133,8 +148,10 @@ fn read_set_sci_mode(from: &mut Reader<'_>) -> Option<Record>
 
 /// Reads the transmit association that encodes from now on.
 fn read_tx_use(from: &mut Reader<'_>) -> Option<Record>
-    ensures some { IfSome result (λ r. IsRecord r × (kind_of r ≡ kinds.TxUse) × (from.old ≡ fields_of r ++ from.new)) }
-    ensures found { (r : Record) (rest : List ℕ) → IsRecord r → kind_of r ≡ kinds.TxUse → from.old ≡ fields_of r ++ rest
+    ensures some { IfSome result
+        (λ r. IsRecord r × (kind_of r ≡ kinds.TxUse) × (from.old ≡ fields_of r ++ from.new)) }
+    ensures found { (r : Record) (rest : List ℕ) → IsRecord r → kind_of r ≡ kinds.TxUse
+        → from.old ≡ fields_of r ++ rest
         → (result ≡ Some r) × (from.new ≡ rest) }
 {
     let an = from.an()?;
@@ -143,8 +160,10 @@ fn read_tx_use(from: &mut Reader<'_>) -> Option<Record>
 
 /// Reads a transmit association that goes.
 fn read_tx_remove(from: &mut Reader<'_>) -> Option<Record>
-    ensures some { IfSome result (λ r. IsRecord r × (kind_of r ≡ kinds.TxRemove) × (from.old ≡ fields_of r ++ from.new)) }
-    ensures found { (r : Record) (rest : List ℕ) → IsRecord r → kind_of r ≡ kinds.TxRemove → from.old ≡ fields_of r ++ rest
+    ensures some { IfSome result
+        (λ r. IsRecord r × (kind_of r ≡ kinds.TxRemove) × (from.old ≡ fields_of r ++ from.new)) }
+    ensures found { (r : Record) (rest : List ℕ) → IsRecord r → kind_of r ≡ kinds.TxRemove
+        → from.old ≡ fields_of r ++ rest
         → (result ≡ Some r) × (from.new ≡ rest) }
 {
     let an = from.an()?;
@@ -153,8 +172,10 @@ fn read_tx_remove(from: &mut Reader<'_>) -> Option<Record>
 
 /// Reads a new receive channel.
 fn read_rx_add(from: &mut Reader<'_>) -> Option<Record>
-    ensures some { IfSome result (λ r. IsRecord r × (kind_of r ≡ kinds.RxAdd) × (from.old ≡ fields_of r ++ from.new)) }
-    ensures found { (r : Record) (rest : List ℕ) → IsRecord r → kind_of r ≡ kinds.RxAdd → from.old ≡ fields_of r ++ rest
+    ensures some { IfSome result
+        (λ r. IsRecord r × (kind_of r ≡ kinds.RxAdd) × (from.old ≡ fields_of r ++ from.new)) }
+    ensures found { (r : Record) (rest : List ℕ) → IsRecord r → kind_of r ≡ kinds.RxAdd
+        → from.old ≡ fields_of r ++ rest
         → (result ≡ Some r) × (from.new ≡ rest) }
 {
     let sci = from.sci()?;
@@ -163,8 +184,10 @@ fn read_rx_add(from: &mut Reader<'_>) -> Option<Record>
 
 /// Reads a receive channel that goes.
 fn read_rx_drop(from: &mut Reader<'_>) -> Option<Record>
-    ensures some { IfSome result (λ r. IsRecord r × (kind_of r ≡ kinds.RxDrop) × (from.old ≡ fields_of r ++ from.new)) }
-    ensures found { (r : Record) (rest : List ℕ) → IsRecord r → kind_of r ≡ kinds.RxDrop → from.old ≡ fields_of r ++ rest
+    ensures some { IfSome result
+        (λ r. IsRecord r × (kind_of r ≡ kinds.RxDrop) × (from.old ≡ fields_of r ++ from.new)) }
+    ensures found { (r : Record) (rest : List ℕ) → IsRecord r → kind_of r ≡ kinds.RxDrop
+        → from.old ≡ fields_of r ++ rest
         → (result ≡ Some r) × (from.new ≡ rest) }
 {
     let sci = from.sci()?;
@@ -173,8 +196,10 @@ fn read_rx_drop(from: &mut Reader<'_>) -> Option<Record>
 
 /// Reads the settings of a snapshot.
 fn read_settings(from: &mut Reader<'_>) -> Option<Record>
-    ensures some { IfSome result (λ r. IsRecord r × (kind_of r ≡ kinds.Settings) × (from.old ≡ fields_of r ++ from.new)) }
-    ensures found { (r : Record) (rest : List ℕ) → IsRecord r → kind_of r ≡ kinds.Settings → from.old ≡ fields_of r ++ rest
+    ensures some { IfSome result
+        (λ r. IsRecord r × (kind_of r ≡ kinds.Settings) × (from.old ≡ fields_of r ++ from.new)) }
+    ensures found { (r : Record) (rest : List ℕ) → IsRecord r → kind_of r ≡ kinds.Settings
+        → from.old ≡ fields_of r ++ rest
         → (result ≡ Some r) × (from.new ≡ rest) }
 {
     let validate = from.validate()?;
@@ -191,8 +216,10 @@ fn read_settings(from: &mut Reader<'_>) -> Option<Record>
 
 /// Reads a transmit association of a snapshot, with a key of this length.
 fn read_tx_sa(length: KeyLength, from: &mut Reader<'_>) -> Option<Record>
-    ensures some { IfSome result (λ r. IsRecord r × (kind_of r ≡ of_length length kinds.TxSa kinds.TxSaLong) × (from.old ≡ fields_of r ++ from.new)) }
-    ensures found { (r : Record) (rest : List ℕ) → IsRecord r → kind_of r ≡ of_length length kinds.TxSa kinds.TxSaLong → from.old ≡ fields_of r ++ rest
+    ensures some { IfSome result (λ r. IsRecord r × (kind_of r
+        ≡ of_length length kinds.TxSa kinds.TxSaLong) × (from.old ≡ fields_of r ++ from.new)) }
+    ensures found { (r : Record) (rest : List ℕ) → IsRecord r
+        → kind_of r ≡ of_length length kinds.TxSa kinds.TxSaLong → from.old ≡ fields_of r ++ rest
         → (result ≡ Some r) × (from.new ≡ rest) }
 {
     let an = from.an()?;
@@ -205,8 +232,10 @@ fn read_tx_sa(length: KeyLength, from: &mut Reader<'_>) -> Option<Record>
 
 /// Reads a receive association of a snapshot, with a key of this length.
 fn read_rx_sa(length: KeyLength, from: &mut Reader<'_>) -> Option<Record>
-    ensures some { IfSome result (λ r. IsRecord r × (kind_of r ≡ of_length length kinds.RxSa kinds.RxSaLong) × (from.old ≡ fields_of r ++ from.new)) }
-    ensures found { (r : Record) (rest : List ℕ) → IsRecord r → kind_of r ≡ of_length length kinds.RxSa kinds.RxSaLong → from.old ≡ fields_of r ++ rest
+    ensures some { IfSome result (λ r. IsRecord r × (kind_of r
+        ≡ of_length length kinds.RxSa kinds.RxSaLong) × (from.old ≡ fields_of r ++ from.new)) }
+    ensures found { (r : Record) (rest : List ℕ) → IsRecord r
+        → kind_of r ≡ of_length length kinds.RxSa kinds.RxSaLong → from.old ≡ fields_of r ++ rest
         → (result ≡ Some r) × (from.new ≡ rest) }
 {
     let sci = from.sci()?;
@@ -225,8 +254,10 @@ fn read_rx_sa(length: KeyLength, from: &mut Reader<'_>) -> Option<Record>
 
 /// Reads spent keys of a snapshot.
 fn read_spent(from: &mut Reader<'_>) -> Option<Record>
-    ensures some { IfSome result (λ r. IsRecord r × (kind_of r ≡ kinds.Spent) × (from.old ≡ fields_of r ++ from.new)) }
-    ensures found { (r : Record) (rest : List ℕ) → IsRecord r → kind_of r ≡ kinds.Spent → from.old ≡ fields_of r ++ rest
+    ensures some { IfSome result
+        (λ r. IsRecord r × (kind_of r ≡ kinds.Spent) × (from.old ≡ fields_of r ++ from.new)) }
+    ensures found { (r : Record) (rest : List ℕ) → IsRecord r → kind_of r ≡ kinds.Spent
+        → from.old ≡ fields_of r ++ rest
         → (result ≡ Some r) × (from.new ≡ rest) }
 {
     let role = from.role()?;
@@ -236,8 +267,10 @@ fn read_spent(from: &mut Reader<'_>) -> Option<Record>
 
 /// Reads a new transmit association, with a key of this length.
 fn read_tx_install(length: KeyLength, from: &mut Reader<'_>) -> Option<Record>
-    ensures some { IfSome result (λ r. IsRecord r × (kind_of r ≡ of_length length kinds.TxInstall kinds.TxInstallLong) × (from.old ≡ fields_of r ++ from.new)) }
-    ensures found { (r : Record) (rest : List ℕ) → IsRecord r → kind_of r ≡ of_length length kinds.TxInstall kinds.TxInstallLong → from.old ≡ fields_of r ++ rest
+    ensures some { IfSome result (λ r. IsRecord r × (kind_of r ≡ of_length length kinds.TxInstall
+        kinds.TxInstallLong) × (from.old ≡ fields_of r ++ from.new)) }
+    ensures found { (r : Record) (rest : List ℕ) → IsRecord r → kind_of r
+        ≡ of_length length kinds.TxInstall kinds.TxInstallLong → from.old ≡ fields_of r ++ rest
         → (result ≡ Some r) × (from.new ≡ rest) }
 {
     let an = from.an()?;
@@ -250,8 +283,10 @@ fn read_tx_install(length: KeyLength, from: &mut Reader<'_>) -> Option<Record>
 
 /// Reads a new receive association, with a key of this length.
 fn read_rx_install(length: KeyLength, from: &mut Reader<'_>) -> Option<Record>
-    ensures some { IfSome result (λ r. IsRecord r × (kind_of r ≡ of_length length kinds.RxInstall kinds.RxInstallLong) × (from.old ≡ fields_of r ++ from.new)) }
-    ensures found { (r : Record) (rest : List ℕ) → IsRecord r → kind_of r ≡ of_length length kinds.RxInstall kinds.RxInstallLong → from.old ≡ fields_of r ++ rest
+    ensures some { IfSome result (λ r. IsRecord r × (kind_of r ≡ of_length length kinds.RxInstall
+        kinds.RxInstallLong) × (from.old ≡ fields_of r ++ from.new)) }
+    ensures found { (r : Record) (rest : List ℕ) → IsRecord r → kind_of r
+        ≡ of_length length kinds.RxInstall kinds.RxInstallLong → from.old ≡ fields_of r ++ rest
         → (result ≡ Some r) × (from.new ≡ rest) }
 {
     let sci = from.sci()?;
@@ -265,8 +300,10 @@ fn read_rx_install(length: KeyLength, from: &mut Reader<'_>) -> Option<Record>
 
 /// Reads a receive association that goes.
 fn read_rx_remove(from: &mut Reader<'_>) -> Option<Record>
-    ensures some { IfSome result (λ r. IsRecord r × (kind_of r ≡ kinds.RxRemove) × (from.old ≡ fields_of r ++ from.new)) }
-    ensures found { (r : Record) (rest : List ℕ) → IsRecord r → kind_of r ≡ kinds.RxRemove → from.old ≡ fields_of r ++ rest
+    ensures some { IfSome result
+        (λ r. IsRecord r × (kind_of r ≡ kinds.RxRemove) × (from.old ≡ fields_of r ++ from.new)) }
+    ensures found { (r : Record) (rest : List ℕ) → IsRecord r → kind_of r ≡ kinds.RxRemove
+        → from.old ≡ fields_of r ++ rest
         → (result ≡ Some r) × (from.new ≡ rest) }
 {
     let sci = from.sci()?;
@@ -276,8 +313,10 @@ fn read_rx_remove(from: &mut Reader<'_>) -> Option<Record>
 
 /// Reads the raised ceiling of a transmit association.
 fn read_tx_ceiling(from: &mut Reader<'_>) -> Option<Record>
-    ensures some { IfSome result (λ r. IsRecord r × (kind_of r ≡ kinds.TxCeiling) × (from.old ≡ fields_of r ++ from.new)) }
-    ensures found { (r : Record) (rest : List ℕ) → IsRecord r → kind_of r ≡ kinds.TxCeiling → from.old ≡ fields_of r ++ rest
+    ensures some { IfSome result
+        (λ r. IsRecord r × (kind_of r ≡ kinds.TxCeiling) × (from.old ≡ fields_of r ++ from.new)) }
+    ensures found { (r : Record) (rest : List ℕ) → IsRecord r → kind_of r ≡ kinds.TxCeiling
+        → from.old ≡ fields_of r ++ rest
         → (result ≡ Some r) × (from.new ≡ rest) }
 {
     let an = from.an()?;
@@ -287,8 +326,10 @@ fn read_tx_ceiling(from: &mut Reader<'_>) -> Option<Record>
 
 /// Reads the raised ceiling of a receive association.
 fn read_rx_ceiling(from: &mut Reader<'_>) -> Option<Record>
-    ensures some { IfSome result (λ r. IsRecord r × (kind_of r ≡ kinds.RxCeiling) × (from.old ≡ fields_of r ++ from.new)) }
-    ensures found { (r : Record) (rest : List ℕ) → IsRecord r → kind_of r ≡ kinds.RxCeiling → from.old ≡ fields_of r ++ rest
+    ensures some { IfSome result
+        (λ r. IsRecord r × (kind_of r ≡ kinds.RxCeiling) × (from.old ≡ fields_of r ++ from.new)) }
+    ensures found { (r : Record) (rest : List ℕ) → IsRecord r → kind_of r ≡ kinds.RxCeiling
+        → from.old ≡ fields_of r ++ rest
         → (result ≡ Some r) × (from.new ≡ rest) }
 {
     let sci = from.sci()?;

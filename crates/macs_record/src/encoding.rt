@@ -14,8 +14,8 @@ use macs_fields::{An, Pn, Sci};
 /// What the sector of a record begins with.
 pub(crate) const MARK: [u8; 4] = *b"MREC";
 
-/// The sector of a record: the mark `MREC`, its kind (1 octet), its fields in order without gaps, and
-/// zeros.
+/// The sector of a record: the mark `MREC`, its kind (1 octet), its fields in order without gaps,
+/// and zeros.
 pub fn encode(value: &Record) -> [u8; SECTOR]
     ensures { result ≡ sector_of value.now }
 {

@@ -23,11 +23,21 @@ pub struct Head {
 impl Model for Head {
     ghost Value = { Head };
 
-    ghost view = { λ h. record { format = h.format; generation = h.generation; count = h.count; identity = h.identity } };
+    ghost view = { λ h. record {
+      format = h.format;
+      generation = h.generation;
+      count = h.count;
+      identity = h.identity;
+    } };
 
     ghost invariant = { λ h. (0 < h.generation) × (1 ≤ h.count) × (h.count ≤ 256) };
 
-    ghost inverse = { λ h. record { format = h.format; generation = h.generation; count = h.count; identity = h.identity } };
+    ghost inverse = { λ h. record {
+      format = h.format;
+      generation = h.generation;
+      count = h.count;
+      identity = h.identity;
+    } };
 }
 
 impl Head {
@@ -35,7 +45,12 @@ impl Head {
     pub fn new(format: Format, generation: u64, count: u32, identity: Identity) -> Option<Head>
         ensures within { IsSome result ↔ ((0 < generation) × (1 ≤ count) × (count ≤ 256)) }
         ensures value { IfSome result
-            (λ head. head ≡ record { format = format; generation = generation; count = count; identity = identity }) }
+            (λ head. head ≡ record {
+              format = format;
+              generation = generation;
+              count = count;
+              identity = identity;
+            }) }
     {
         if generation != 0 && (1..=MAX_COUNT).contains(&count) {
             Some(Head {

@@ -3,7 +3,8 @@
 ghost use Rattle.std.specs.Prelude.{◌≡◌, ◌↔◌, ◌++◌, List, ℕ, IfSome, Some};
 ghost use Rattle.std.specs.Int.{to_be_bytes, w32};
 ghost use Rattle.macs_config.specs.Identity.{Identity, IsBlock};
-ghost use Rattle.macs_record.specs.Heads.{Head, IsHead, IsHeadOf, head_mark, head_octets, head_sector_of, identity_octets, version_of};
+ghost use Rattle.macs_record.specs.Heads.{Head, IsHead, IsHeadOf, head_mark, head_octets};
+ghost use Rattle.macs_record.specs.Heads.{head_sector_of, identity_octets, version_of};
 ghost use Rattle.macs_fields.specs.Fields.{IsSci};
 ghost use Rattle.macs_record.specs.declared.format.Format.{Format};
 
@@ -35,8 +36,8 @@ pub fn encode_head(head: &Head) -> [u8; SECTOR]
         .finish()
 }
 
-/// The head whose sector this is. `None` for another mark, a version that is neither 1 nor 2, a field
-/// out of its range, or an octet after the fields that is not 0.
+/// The head whose sector this is. `None` for another mark, a version that is neither 1 nor 2, a
+/// field out of its range, or an octet after the fields that is not 0.
 pub fn decode_head(sector: &[u8; SECTOR]) -> Option<Head>
     ensures { (head : Head) → (result ≡ Some head) ↔ IsHeadOf head sector.now }
 {
@@ -48,7 +49,8 @@ pub fn decode_head(sector: &[u8; SECTOR]) -> Option<Head>
 /// Reads the mark, the version and the fields of a head.
 fn read_head(from: &mut Reader<'_>) -> Option<Head>
     ensures some { IfSome result (λ head. IsHead head × (from.old ≡ head_octets head ++ from.new)) }
-    ensures found { (head : Head) (rest : List ℕ) → IsHead head → from.old ≡ head_octets head ++ rest
+    ensures found { (head : Head) (rest : List ℕ) → IsHead head
+        → from.old ≡ head_octets head ++ rest
         → (result ≡ Some head) × (from.new ≡ rest) }
 {
     let format = read_format(from)?;
@@ -60,8 +62,10 @@ fn read_head(from: &mut Reader<'_>) -> Option<Head>
 
 /// Reads the mark and the version of a head.
 fn read_format(from: &mut Reader<'_>) -> Option<Format>
-    ensures some { IfSome result (λ format. from.old ≡ head_mark ++ to_be_bytes w32 (version_of format) ++ from.new) }
-    ensures found { (format : Format) (rest : List ℕ) → from.old ≡ head_mark ++ to_be_bytes w32 (version_of format) ++ rest
+    ensures some { IfSome result
+        (λ format. from.old ≡ head_mark ++ to_be_bytes w32 (version_of format) ++ from.new) }
+    ensures found { (format : Format) (rest : List ℕ)
+        → from.old ≡ head_mark ++ to_be_bytes w32 (version_of format) ++ rest
         → (result ≡ Some format) × (from.new ≡ rest) }
 {
     let mark: [u8; 8] = from.octets()?;
@@ -75,10 +79,13 @@ fn read_format(from: &mut Reader<'_>) -> Option<Format>
 
 /// Reads an SCI and two blocks.
 fn read_identity(from: &mut Reader<'_>) -> Option<Identity>
-    ensures some { IfSome result (λ identity. IsSci identity.sci × IsBlock identity.tx_block × IsBlock identity.rx_block
+    ensures some { IfSome result
+        (λ identity. IsSci identity.sci × IsBlock identity.tx_block × IsBlock identity.rx_block
         × (from.old ≡ identity_octets identity ++ from.new)) }
-    ensures found { (identity : Identity) (rest : List ℕ) → IsSci identity.sci → IsBlock identity.tx_block → IsBlock identity.rx_block
-        → from.old ≡ identity_octets identity ++ rest → (result ≡ Some identity) × (from.new ≡ rest) }
+    ensures found { (identity : Identity) (rest : List ℕ) → IsSci identity.sci
+        → IsBlock identity.tx_block → IsBlock identity.rx_block
+        → from.old ≡ identity_octets identity ++ rest
+        → (result ≡ Some identity) × (from.new ≡ rest) }
 {
     let sci = from.sci()?;
     let tx_block = from.u32()?;

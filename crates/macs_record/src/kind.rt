@@ -4,8 +4,8 @@ ghost use Rattle.std.specs.Prelude.{◌≡◌, ◌↔◌, Some};
 ghost use Rattle.macs_record.specs.Layout.{kind_number};
 ghost use Rattle.macs_record.specs.declared.kind.Kind.{Kind};
 
-/// What a record is of, in the order of its number: first what a snapshot has, then the commands, then
-/// raised ceilings, and last the associations and the commands that have a long key.
+/// What a record is of, in the order of its number: first what a snapshot has, then the commands,
+/// then raised ceilings, and last the associations and the commands that have a long key.
 #[derive(Clone, Copy)]
 pub enum Kind {
     Settings,

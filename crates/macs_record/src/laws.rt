@@ -1,9 +1,10 @@
-//! Laws of the definitions, for the layers above. Where a law speaks of a value behind a reference, its
-//! body reads the fields: that is how a proof learns their ranges.
+//! Laws of the definitions, for the layers above. Where a law speaks of a value behind a reference,
+//! its body reads the fields: that is how a proof learns their ranges.
 
 ghost use Rattle.std.specs.Prelude.{◌≡◌, ◌<◌, ◌^◌, List, ℕ, length};
 ghost use Rattle.macs_fields.specs.First.{IsFirst};
-ghost use Rattle.macs_record.specs.Decoding.{HasFields, HasKind, HasRecord, RecordFaultHolds, record_faults};
+ghost use Rattle.macs_record.specs.Decoding.{HasFields, HasKind, HasRecord, RecordFaultHolds};
+ghost use Rattle.macs_record.specs.Decoding.{record_faults};
 ghost use Rattle.macs_record.specs.Heads.{Head, IsHead, IsHeadOf, head_sector_of};
 ghost use Rattle.macs_record.specs.Layout.{IsRecord, sector_of};
 ghost use Rattle.macs_config.specs.Apply.{IsKey};
@@ -166,13 +167,16 @@ pub fn one_head()
     ensures { (a b : Head) (sector : List ℕ) → IsHeadOf a sector → IsHeadOf b sector → a ≡ b }
 {}
 
-/// Why a sector is refused as a record: it begins with no kind, whatever else it holds; else its fields are not in their
-/// ranges, whatever comes after them; else it goes on after them.
+/// Why a sector is refused as a record: it begins with no kind, whatever else it holds; else its
+/// fields are not in their ranges, whatever comes after them; else it goes on after them.
 pub fn record_refusals()
-    ensures kind { (sector : List ℕ) (fault : RecordFault) → IsFirst (RecordFaultHolds sector) record_faults fault
+    ensures kind { (sector : List ℕ) (fault : RecordFault)
+        → IsFirst (RecordFaultHolds sector) record_faults fault
         → ¬ HasKind sector → fault ≡ Kind }
-    ensures field { (sector : List ℕ) (fault : RecordFault) → IsFirst (RecordFaultHolds sector) record_faults fault
+    ensures field { (sector : List ℕ) (fault : RecordFault)
+        → IsFirst (RecordFaultHolds sector) record_faults fault
         → HasKind sector → ¬ HasFields sector → fault ≡ Field }
-    ensures rest { (sector : List ℕ) (fault : RecordFault) → IsFirst (RecordFaultHolds sector) record_faults fault
+    ensures rest { (sector : List ℕ) (fault : RecordFault)
+        → IsFirst (RecordFaultHolds sector) record_faults fault
         → HasKind sector → HasFields sector → (fault ≡ Rest) × (¬ HasRecord sector) }
 {}

@@ -1,6 +1,7 @@
 //! A sector that is read from its start.
 
-ghost use Rattle.std.specs.Prelude.{◌≡◌, ◌<◌, ◌^◌, ◌↔◌, ◌++◌, ◌∷◌, ℕ, Bool, List, [], IfSome, IsTrue, Some, Option, length, replicate};
+ghost use Rattle.std.specs.Prelude.{◌≡◌, ◌<◌, ◌^◌, ◌↔◌, ◌++◌, ◌∷◌, ℕ, Bool, List, [], IfSome};
+ghost use Rattle.std.specs.Prelude.{IsTrue, Some, Option, length, replicate};
 ghost use Rattle.std.specs.Int.{to_be_bytes, w32, w64};
 ghost use Rattle.macs_fields.specs.Fields.{octets_of};
 ghost use Rattle.macs_fields.specs.declared.fields.Offset.{Offset};
@@ -11,7 +12,9 @@ ghost use Rattle.macs_config.specs.declared.command.SciMode.{SciMode};
 ghost use Rattle.macs_config.specs.declared.command.Validate.{Validate};
 ghost use Rattle.macs_fields.specs.Fields.{IsAn, IsOctets, IsSci};
 ghost use Rattle.macs_record.specs.Ranges.{IsCeiling, IsEncoding, IsFingerprints, IsKeyOf, IsStart};
-ghost use Rattle.macs_record.specs.Layout.{encoding_octet, fingerprint_octets, flag_octet, mode_octet, protection_octets, replay_octets, role_octet, validate_octet};
+ghost use Rattle.macs_record.specs.Layout.{encoding_octet, fingerprint_octets, flag_octet};
+ghost use Rattle.macs_record.specs.Layout.{mode_octet, protection_octets, replay_octets};
+ghost use Rattle.macs_record.specs.Layout.{role_octet, validate_octet};
 
 use crate::ceiling::Ceiling;
 use crate::key_length::KeyLength;
@@ -43,7 +46,8 @@ impl<'a> Reader<'a> {
     }
 
     pub(crate) fn octets<const N: usize>(&mut self) -> Option<[u8; N]>
-        ensures some { IfSome result (λ octets. IsOctets N octets × (self.old ≡ octets ++ self.new)) }
+        ensures some { IfSome result
+            (λ octets. IsOctets N octets × (self.old ≡ octets ++ self.new)) }
         ensures found { (octets rest : List ℕ) → length octets ≡ N → self.old ≡ octets ++ rest
             → (result ≡ Some octets) × (self.new ≡ rest) }
     {
@@ -65,8 +69,10 @@ impl<'a> Reader<'a> {
 
     /// A big-endian number of 4 octets.
     pub(crate) fn u32(&mut self) -> Option<u32>
-        ensures some { IfSome result (λ number. (number < 2 ^ 32) × (self.old ≡ to_be_bytes w32 number ++ self.new)) }
-        ensures found { (number : ℕ) (rest : List ℕ) → number < 2 ^ 32 → self.old ≡ to_be_bytes w32 number ++ rest
+        ensures some { IfSome result
+            (λ number. (number < 2 ^ 32) × (self.old ≡ to_be_bytes w32 number ++ self.new)) }
+        ensures found { (number : ℕ) (rest : List ℕ) → number < 2 ^ 32
+            → self.old ≡ to_be_bytes w32 number ++ rest
             → (result ≡ Some number) × (self.new ≡ rest) }
     {
         let octets = self.octets()?;
@@ -75,8 +81,10 @@ impl<'a> Reader<'a> {
 
     /// A big-endian number of 8 octets.
     pub(crate) fn u64(&mut self) -> Option<u64>
-        ensures some { IfSome result (λ number. (number < 2 ^ 64) × (self.old ≡ to_be_bytes w64 number ++ self.new)) }
-        ensures found { (number : ℕ) (rest : List ℕ) → number < 2 ^ 64 → self.old ≡ to_be_bytes w64 number ++ rest
+        ensures some { IfSome result
+            (λ number. (number < 2 ^ 64) × (self.old ≡ to_be_bytes w64 number ++ self.new)) }
+        ensures found { (number : ℕ) (rest : List ℕ) → number < 2 ^ 64
+            → self.old ≡ to_be_bytes w64 number ++ rest
             → (result ≡ Some number) × (self.new ≡ rest) }
     {
         let octets = self.octets()?;
@@ -97,7 +105,8 @@ impl<'a> Reader<'a> {
 
     pub(crate) fn validate(&mut self) -> Option<Validate>
         ensures some { IfSome result (λ validate. self.old ≡ validate_octet validate ∷ self.new) }
-        ensures found { (validate : Validate) (rest : List ℕ) → self.old ≡ validate_octet validate ∷ rest
+        ensures found { (validate : Validate) (rest : List ℕ)
+            → self.old ≡ validate_octet validate ∷ rest
             → (result ≡ Some validate) × (self.new ≡ rest) }
     {
         match self.octet()? {
@@ -108,8 +117,10 @@ impl<'a> Reader<'a> {
     }
 
     pub(crate) fn replay(&mut self) -> Option<Replay>
-        ensures some { IfSome result (λ replay. (replay.window < 2 ^ 32) × (self.old ≡ replay_octets replay ++ self.new)) }
-        ensures found { (replay : Replay) (rest : List ℕ) → replay.window < 2 ^ 32 → self.old ≡ replay_octets replay ++ rest
+        ensures some { IfSome result
+            (λ replay. (replay.window < 2 ^ 32) × (self.old ≡ replay_octets replay ++ self.new)) }
+        ensures found { (replay : Replay) (rest : List ℕ) → replay.window < 2 ^ 32
+            → self.old ≡ replay_octets replay ++ rest
             → (result ≡ Some replay) × (self.new ≡ rest) }
     {
         let on = self.flag()?;
@@ -132,9 +143,11 @@ impl<'a> Reader<'a> {
 
     /// An association number, or `None` for the octet ff.
     pub(crate) fn encoding(&mut self) -> Option<Option<An>>
-        ensures some { IfSome result (λ encoding. IsEncoding encoding × (self.old ≡ encoding_octet encoding ∷ self.new)) }
+        ensures some { IfSome result
+            (λ encoding. IsEncoding encoding × (self.old ≡ encoding_octet encoding ∷ self.new)) }
         ensures found { (encoding : Option ℕ) (rest : List ℕ) → IsEncoding encoding
-            → self.old ≡ encoding_octet encoding ∷ rest → (result ≡ Some encoding) × (self.new ≡ rest) }
+            → self.old ≡ encoding_octet encoding ∷ rest
+            → (result ≡ Some encoding) × (self.new ≡ rest) }
     {
         match self.octet()? {
             NO_AN => Some(None),
@@ -189,16 +202,20 @@ impl<'a> Reader<'a> {
     }
 
     pub(crate) fn start(&mut self) -> Option<Pn>
-        ensures some { IfSome result (λ start. IsStart start × (self.old ≡ to_be_bytes w32 start ++ self.new)) }
-        ensures found { (start : ℕ) (rest : List ℕ) → IsStart start → self.old ≡ to_be_bytes w32 start ++ rest
+        ensures some { IfSome result
+            (λ start. IsStart start × (self.old ≡ to_be_bytes w32 start ++ self.new)) }
+        ensures found { (start : ℕ) (rest : List ℕ) → IsStart start
+            → self.old ≡ to_be_bytes w32 start ++ rest
             → (result ≡ Some start) × (self.new ≡ rest) }
     {
         Pn::new(self.u32()?)
     }
 
     pub(crate) fn ceiling(&mut self) -> Option<Ceiling>
-        ensures some { IfSome result (λ ceiling. IsCeiling ceiling × (self.old ≡ to_be_bytes w64 ceiling ++ self.new)) }
-        ensures found { (ceiling : ℕ) (rest : List ℕ) → IsCeiling ceiling → self.old ≡ to_be_bytes w64 ceiling ++ rest
+        ensures some { IfSome result
+            (λ ceiling. IsCeiling ceiling × (self.old ≡ to_be_bytes w64 ceiling ++ self.new)) }
+        ensures found { (ceiling : ℕ) (rest : List ℕ) → IsCeiling ceiling
+            → self.old ≡ to_be_bytes w64 ceiling ++ rest
             → (result ≡ Some ceiling) × (self.new ≡ rest) }
     {
         Ceiling::new(self.u64()?)
@@ -214,8 +231,10 @@ impl<'a> Reader<'a> {
 
     /// `None` also for an offset that is not 0 without confidentiality.
     pub(crate) fn protection(&mut self) -> Option<Protection>
-        ensures some { IfSome result (λ protection. self.old ≡ protection_octets protection ++ self.new) }
-        ensures found { (protection : Protection) (rest : List ℕ) → self.old ≡ protection_octets protection ++ rest
+        ensures some { IfSome result
+            (λ protection. self.old ≡ protection_octets protection ++ self.new) }
+        ensures found { (protection : Protection) (rest : List ℕ)
+            → self.old ≡ protection_octets protection ++ rest
             → (result ≡ Some protection) × (self.new ≡ rest) }
     {
         let confidential = self.flag()?;
@@ -236,9 +255,11 @@ impl<'a> Reader<'a> {
     }
 
     pub(crate) fn fingerprints(&mut self) -> Option<Fingerprints>
-        ensures some { IfSome result (λ items. IsFingerprints items × (self.old ≡ fingerprint_octets items ++ self.new)) }
+        ensures some { IfSome result
+            (λ items. IsFingerprints items × (self.old ≡ fingerprint_octets items ++ self.new)) }
         ensures found { (items : List (List ℕ)) (rest : List ℕ) → IsFingerprints items
-            → self.old ≡ fingerprint_octets items ++ rest → (result ≡ Some items) × (self.new ≡ rest) }
+            → self.old ≡ fingerprint_octets items ++ rest
+            → (result ≡ Some items) × (self.new ≡ rest) }
     {
         let count = self.octet()?;
         if count == 0 {

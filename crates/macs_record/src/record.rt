@@ -13,8 +13,8 @@ use macs_config::{
 };
 use macs_fields::{An, Offset, Pn, Sci};
 
-/// A record of a journal. Its kinds are of three groups: what a snapshot of a configuration has, the
-/// commands that are not refused for their start or offset, and raised ceilings.
+/// A record of a journal. Its kinds are of three groups: what a snapshot of a configuration has,
+/// the commands that are not refused for their start or offset, and raised ceilings.
 #[derive(Drop)]
 pub enum Record {
     /// The settings of a snapshot.

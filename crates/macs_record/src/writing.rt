@@ -4,7 +4,9 @@ ghost use Rattle.std.specs.Prelude.{◌≡◌, ◌≤◌, ◌+◌, ◌++◌, ◌
 ghost use Rattle.std.specs.Int.{to_be_bytes, w32, w64};
 ghost use Rattle.macs_fields.specs.Fields.{octets_of};
 ghost use Rattle.macs_record.specs.Sectors.{padded_sector};
-ghost use Rattle.macs_record.specs.Layout.{encoding_octet, fingerprint_octets, flag_octet, mode_octet, protection_octets, replay_octets, role_octet, validate_octet};
+ghost use Rattle.macs_record.specs.Layout.{encoding_octet, fingerprint_octets, flag_octet};
+ghost use Rattle.macs_record.specs.Layout.{mode_octet, protection_octets, replay_octets};
+ghost use Rattle.macs_record.specs.Layout.{role_octet, validate_octet};
 
 use crate::SECTOR;
 use crate::ceiling::Ceiling;

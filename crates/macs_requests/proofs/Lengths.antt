@@ -1,5 +1,6 @@
 -- How long lines are.
-use Rattle.std.proofs.Common.{◌≡◌, ◌≤◌, ◌<◌, ◌+◌, ◌*◌, ◌^◌, ℕ, Bool, true, false, List, ◌++◌, length, codes, decimal, refl, arith}
+use Rattle.std.proofs.Common.{◌≡◌, ◌≤◌, ◌<◌, ◌+◌, ◌*◌, ◌^◌, ℕ, Bool, true, false, List, ◌++◌, length, codes, decimal}
+use Rattle.std.proofs.Common.{refl, arith}
 use Rattle.std.proofs.Common.{length-append}
 use Rattle.std.proofs.lemmas.Fmt.{length-decimal-le}
 use Rattle.hex.specs.Hex.{encode_lower}
@@ -87,10 +88,13 @@ fields_short (SetSciMode mode) told = omega (arith, sci_mode_short mode)
 fields_short (TxInstall an key start confidential offset) told =
     let last = both (protection_word confidential) (decimal offset) 12 10 (protection_short confidential)
     (number offset (omega (arith, told.0.3))) in
-    let third = both (decimal start) (spaced (protection_word confidential) (decimal offset)) 10 23 (number start told.0.2) last in
-    let second = both (key_digits key) (spaced (decimal start) (spaced (protection_word confidential) (decimal offset))) 64 34
+    let third = both (decimal start) (spaced (protection_word confidential) (decimal offset)) 10 23
+    (number start told.0.2) last in
+    let second =
+    both (key_digits key) (spaced (decimal start) (spaced (protection_word confidential) (decimal offset))) 64 34
     (key_short key told.0.1 told.1) third in
-    let first = both (decimal an) (spaced (key_digits key) (spaced (decimal start) (spaced (protection_word confidential) (decimal offset))))
+    let first = both (decimal an)
+    (spaced (key_digits key) (spaced (decimal start) (spaced (protection_word confidential) (decimal offset))))
     10 99 (number an (omega (arith, told.0.0))) second in
     omega (arith, first)
 fields_short (TxUse an) told = omega (arith, number an (omega (arith, told.0)))
@@ -98,15 +102,21 @@ fields_short (TxRemove an) told = omega (arith, number an (omega (arith, told.0)
 fields_short (RxAdd sci) told = omega (arith, sci_short sci told.0)
 fields_short (RxDrop sci) told = omega (arith, sci_short sci told.0)
 fields_short (RxInstall sci an key start offset) told =
-    let last = both (decimal start) (decimal offset) 10 10 (number start told.0.3) (number offset (omega (arith, told.0.4))) in
-    let third = both (key_digits key) (spaced (decimal start) (decimal offset)) 64 21 (key_short key told.0.2 told.1) last in
+    let last =
+    both (decimal start) (decimal offset) 10 10 (number start told.0.3) (number offset (omega (arith, told.0.4))) in
+    let third =
+    both (key_digits key) (spaced (decimal start) (decimal offset)) 64 21 (key_short key told.0.2 told.1) last in
     let second = both (decimal an) (spaced (key_digits key) (spaced (decimal start) (decimal offset))) 10 86
     (number an (omega (arith, told.0.1))) third in
-    let first = both (encode_lower sci) (spaced (decimal an) (spaced (key_digits key) (spaced (decimal start) (decimal offset)))) 16 97
+    let first = both (encode_lower sci)
+    (spaced (decimal an) (spaced (key_digits key) (spaced (decimal start) (decimal offset)))) 16 97
     (sci_short sci told.0.0) second in
     omega (arith, first)
 fields_short (RxRemove sci an) told =
-    omega (arith, both (encode_lower sci) (decimal an) 16 10 (sci_short sci told.0.0) (number an (omega (arith, told.0.1))))
+    omega (
+      arith,
+      both (encode_lower sci) (decimal an) 16 10 (sci_short sci told.0.0) (number an (omega (arith, told.0.1))),
+    )
 
 command_short : (command : Command) → IsTold command → length (command_line command) ≤ 255
 command_short command told =

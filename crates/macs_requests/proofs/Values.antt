@@ -1,5 +1,6 @@
 -- What the texts of fields say.
-use Rattle.std.proofs.Common.{◌≡◌, ℕ, ◌<◌, ◌^◌, ◌%◌, ◌/◌, Bool, true, false, List, length, get_or, Option, Some, None, Result, Ok, Err}
+use Rattle.std.proofs.Common.{◌≡◌, ℕ, ◌<◌, ◌^◌, ◌%◌, ◌/◌, Bool, true, false, List, length, get_or, Option, Some, None}
+use Rattle.std.proofs.Common.{Result, Ok, Err}
 use Rattle.std.proofs.Common.{bytes_eq, codes, decimal, refl, sym, ap, ◌∙◌, arith, inl, inr}
 use Rattle.std.specs.List.{All}
 use Rattle.std.specs.Option.{option_map}
@@ -46,14 +47,17 @@ bytes_of octets each i = elim (cases_lt i (length octets)) [
 abbrev found_in : Result (List ℕ) FromHexError → Option (List ℕ)
 found_in r = elim r [ Ok octets ↦ Some octets | Err cause ↦ None ]
 
-pub decoded : (n : ℕ) (octets text : List ℕ) → IsOctets n octets → text ≡ encode_lower octets → decode_sized text n ≡ Ok octets
+pub decoded : (n : ℕ) (octets text : List ℕ) → IsOctets n octets → text ≡ encode_lower octets
+    → decode_sized text n ≡ Ok octets
 decoded n octets text are is =
     ap (λ (t : List ℕ). decode_sized t n) is ∙ decode_sized-encode_lower octets n are.size (bytes_of octets are.each)
 
-octets_read : (n : ℕ) (octets text : List ℕ) → IsOctets n octets → text ≡ encode_lower octets → octets_of n text ≡ Some octets
+octets_read : (n : ℕ) (octets text : List ℕ) → IsOctets n octets → text ≡ encode_lower octets
+    → octets_of n text ≡ Some octets
 octets_read n octets text are is = ap (λ (r : Result (List ℕ) FromHexError). found_in r) (decoded n octets text are is)
 
-pub sci_said : (found sci text : List ℕ) → Some found ≡ octets_of 8 text → IsSci sci → text ≡ encode_lower sci → found ≡ sci
+pub sci_said : (found sci text : List ℕ) → Some found ≡ octets_of 8 text → IsSci sci → text ≡ encode_lower sci
+    → found ≡ sci
 sci_said found sci text read is said = some_same found sci (read ∙ octets_read 8 sci text is said)
 
 pub sci_none : (sci text : List ℕ) → None ≡ octets_of 8 text → IsSci sci → text ≡ encode_lower sci → ⊥
@@ -84,13 +88,15 @@ key_among short long = elim short [ Some octets ↦ Some (Short octets) | None �
 key_read : (key : Key) (text : List ℕ) → IsKey (octets_of_key key) → HasItsLength key → text ≡ key_digits key
     → key_of text ≡ Some key
 key_read (Short octets) text is size said =
-    ap (λ (o : Option (List ℕ)). key_among o (octets_of 32 text)) (octets_read 16 octets text (octets_are 16 octets size is) said)
+    ap (λ (o : Option (List ℕ)). key_among o (octets_of 32 text))
+    (octets_read 16 octets text (octets_are 16 octets size is) said)
 key_read (Long octets) text is size said =
     let are = octets_are 32 octets size is in
     ap (λ (o : Option (List ℕ)). key_among o (octets_of 32 text)) (not_short octets text are said)
     ∙ ap (λ (o : Option (List ℕ)). key_among None o) (octets_read 32 octets text are said)
 
-pub key_said : (found key : Key) (text : List ℕ) → Some found ≡ key_of text → IsKey (octets_of_key key) → HasItsLength key
+pub key_said : (found key : Key) (text : List ℕ) → Some found ≡ key_of text → IsKey (octets_of_key key)
+    → HasItsLength key
     → text ≡ key_digits key → found ≡ key
 key_said found key text read is size said = some_same found key (read ∙ key_read key text is size said)
 

@@ -57,7 +57,8 @@ pub record LineWords : Type 0 where
   pub no_feed : (text : List ℕ) (i : ℕ) → HasNoFeed text → i < length text → get_or text i 0 ≢ 10
 
 -- Each mode has its own word, and so has each side of a choice; a key is spelled in hex digits of lower case. A command
--- is well formed where its fields are in range and its key, if it has one, has its length; and each such command is asked.
+-- is well formed where its fields are in range and its key, if it has one, has its length; and each such command is
+-- asked.
 pub record FieldWords : Type 0 where
   pub validates : map validate_word (Strict ∷ Check ∷ []) ≡ codes "strict" ∷ codes "check" ∷ []
   pub modes : map sci_mode_word (Explicit ∷ EndStation ∷ Implicit ∷ [])

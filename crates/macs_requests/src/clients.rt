@@ -29,13 +29,13 @@ pub trait Clients {
     fn hear(&mut self) -> Option<Heard>
         ensures { talk self.new ≡ with_talk (talk self.old) (WasHeard result ∷ []) };
 
-    /// Sends a text to a client. Nothing is sent to one that went away; one that does not take all of
-    /// it at once is let go, and nothing more is sent to it.
+    /// Sends a text to a client. Nothing is sent to one that went away; one that does not take all
+    /// of it at once is let go, and nothing more is sent to it.
     fn say(&mut self, client: Client, text: &[u8])
         ensures { talk self.new ≡ with_talk (talk self.old) (Said client text.now ∷ []) };
 
-    /// Sleeps until a datagram or a client is there, and for a bounded time. It is called only after
-    /// a quiet turn.
+    /// Sleeps until a datagram or a client is there, and for a bounded time. It is called only
+    /// after a quiet turn.
     fn sleep(&mut self)
         ensures { talk self.new ≡ with_talk (talk self.old) (Slept ∷ []) };
 

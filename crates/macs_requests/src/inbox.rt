@@ -11,8 +11,8 @@ pub const MAX_LINE: usize = 256;
 /// A line without its end.
 pub type Line = ArrayVec<u8, MAX_LINE>;
 
-/// Octets from which no line was taken yet, 256 at most. They may come in any pieces: a line is taken
-/// once its end is there. Where there is neither room nor a whole line, the line is too long.
+/// Octets from which no line was taken yet, 256 at most. They may come in any pieces: a line is
+/// taken once its end is there. Where there is neither room nor a whole line, the line is too long.
 #[derive(Drop)]
 pub struct Inbox {
     octets: Line,

@@ -11,8 +11,8 @@ pub fn requests_are_short()
     ensures { (request : Request) → IsAsked request → length (request_line request) < 256 }
 {}
 
-/// The words on lines say this: which line each request has, to the letter, which commands have one, and
-/// which text is a line.
+/// The words on lines say this: which line each request has, to the letter, which commands have
+/// one, and which text is a line.
 pub fn words()
     // The line of each request, and of the end of an answer.
     ensures lines { LineWords }

@@ -177,8 +177,9 @@ pub fn line_of_command(alloc: Global, command: &Command) -> Result<String, Alloc
     spaced(alloc, word_of(command), fields.as_str())
 }
 
-/// The command of a line without its end, `None` where it is the line of none. A command has one line:
-/// any other spelling is none. So what was written is read. It fails only where memory is refused.
+/// The command of a line without its end, `None` where it is the line of none. A command has one
+/// line: any other spelling is none. So what was written is read. It fails only where memory is
+/// refused.
 pub fn command_of_line(alloc: Global, line: &str) -> Result<Option<Command>, AllocError>
     ensures read { (command : Command) → IsTold command → line.now ≡ command_line command
         → IfOk result (λ found. found ≡ Some command) }

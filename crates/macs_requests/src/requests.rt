@@ -61,8 +61,9 @@ fn request_taken(line: &str) -> Request
     }
 }
 
-/// The request of a line without its end, `None` where it is the line of none. A request has one line:
-/// any other spelling is none. So what was written is read. It fails only where memory is refused.
+/// The request of a line without its end, `None` where it is the line of none. A request has one
+/// line: any other spelling is none. So what was written is read. It fails only where memory is
+/// refused.
 pub fn request_of_line(alloc: Global, line: &str) -> Result<Option<Request>, AllocError>
     ensures read { (request : Request) → IsAsked request → line.now ≡ request_line request
         → IfOk result (λ found. found ≡ Some request) }

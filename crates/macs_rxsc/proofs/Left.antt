@@ -1,5 +1,6 @@
 -- How many needs are left: one less where a ceiling is raised as far as it is to be, none where no association has one.
-use Rattle.std.proofs.Common.{◌≡◌, ◌≤◌, ◌<◌, ◌+◌, ◌||◌, ◌⊎◌, inl, inr, ℕ, zero, suc, Bool, true, false, List, [], ◌∷◌, bytes_eq, Option, Some, None, IsSome, refl, sym, ◌∙◌, ap, subst, arith}
+use Rattle.std.proofs.Common.{◌≡◌, ◌≤◌, ◌<◌, ◌+◌, ◌||◌, ◌⊎◌, inl, inr, ℕ, zero, suc, Bool, true, false, List, [], ◌∷◌}
+use Rattle.std.proofs.Common.{bytes_eq, Option, Some, None, IsSome, refl, sym, ◌∙◌, ap, subst, arith}
 use Rattle.std.specs.List.{list_any}
 use Rattle.std.proofs.lemmas.Bool.{cases_lt}
 use Rattle.macs_config.specs.Tables.{put, put_at}
@@ -42,7 +43,8 @@ count_le need (None ∷ xs) (Some m ∷ ys) all = absurd (no_new need m all.0)
 count_le need (Some n ∷ xs) (None ∷ ys) all = let rest = count_le need xs ys all.1 in omega (arith, rest)
 count_le need (Some n ∷ xs) (Some m ∷ ys) all = let rest = count_le need xs ys all.1 in omega (arith, rest)
 
-count_lt : (need : Need) (xs ys : List (Option Need)) → AllFollow need xs ys → first_need xs ≡ Some need → count ys < count xs
+count_lt : (need : Need) (xs ys : List (Option Need)) → AllFollow need xs ys → first_need xs ≡ Some need
+    → count ys < count xs
 count_lt need [] [] all is = absurd cc
 count_lt need [] (y ∷ ys) all is = absurd all
 count_lt need (x ∷ xs) [] all is = absurd all
@@ -62,34 +64,43 @@ module _ (numbers : List ℕ → ℕ → Option Numbers) (c : List ℕ → ℕ �
       need-ends block need.sci need.an (numbers need.sci need.an) need (c need.sci need.an)
       (is-need block need.sci need.an (numbers need.sci need.an) (c need.sci need.an) need is)
 
-  follows : (sci : List ℕ) (an : ℕ) → Follows need (need_at numbers c block sci an) (need_at numbers served block sci an)
+  follows : (sci : List ℕ) (an : ℕ)
+      → Follows need (need_at numbers c block sci an) (need_at numbers served block sci an)
   follows sci an = record {
     ends = λ has.
         let place = own-place numbers c block sci an need has in
         (λ i. need_at numbers served block (place.0 i) (place.1 i))
-        ∙ ap (need_of block need.sci need.an (numbers need.sci need.an)) (put_rx-here c need.sci need.an (Some (raised_ceiling block need.pn))) ∙ ended;
+        ∙ ap (need_of block need.sci need.an (numbers need.sci need.an))
+        (put_rx-here c need.sci need.an (Some (raised_ceiling block need.pn))) ∙ ended;
     either =
-        put_at_all (λ (row : ℕ → Option ℕ). (need_of block sci an (numbers sci an) (row an) ≡ need_at numbers c block sci an)
-        ⊎ (need_of block sci an (numbers sci an) (row an) ≡ None)) c need.sci (put (c need.sci) need.an (Some (raised_ceiling block need.pn))) sci
+        put_at_all
+        (λ (row : ℕ → Option ℕ). (need_of block sci an (numbers sci an) (row an) ≡ need_at numbers c block sci an)
+        ⊎ (need_of block sci an (numbers sci an) (row an) ≡ None)) c need.sci
+        (put (c need.sci) need.an (Some (raised_ceiling block need.pn))) sci
         (λ same. put_all (λ (o : Option ℕ). (need_of block sci an (numbers sci an) o ≡ need_at numbers c block sci an)
-        ⊎ (need_of block sci an (numbers sci an) o ≡ None)) (c need.sci) need.an (Some (raised_ceiling block need.pn)) an
-        (λ same_an. inr ((λ i. need_of block (same i) (same_an i) (numbers (same i) (same_an i)) (Some (raised_ceiling block need.pn))) ∙ ended))
+        ⊎ (need_of block sci an (numbers sci an) o ≡ None)) (c need.sci) need.an
+        (Some (raised_ceiling block need.pn)) an
+        (λ same_an. inr ((λ i. need_of block (same i) (same_an i) (numbers (same i) (same_an i))
+        (Some (raised_ceiling block need.pn))) ∙ ended))
         (λ other. inl (λ i. need_of block sci an (numbers sci an) (c (sym same i) an))))
         (λ other. inl refl);
   }
 
-  all_follow : (scis : List (List ℕ)) → AllFollow need (needs_among numbers c block scis) (needs_among numbers served block scis)
+  all_follow : (scis : List (List ℕ))
+      → AllFollow need (needs_among numbers c block scis) (needs_among numbers served block scis)
   all_follow [] = tt
   all_follow (sci ∷ scis) = (follows sci 0, (follows sci 1, (follows sci 2, (follows sci 3, all_follow scis))))
 
   -- one need less
   pub fewer : (scis : List (List ℕ)) → first_need (needs_among numbers c block scis) ≡ Some need
       → count (needs_among numbers served block scis) < count (needs_among numbers c block scis)
-  fewer scis first = count_lt need (needs_among numbers c block scis) (needs_among numbers served block scis) (all_follow scis) first
+  fewer scis first =
+      count_lt need (needs_among numbers c block scis) (needs_among numbers served block scis) (all_follow scis) first
 
 -- ---- no need
 
-none_first : (o : Option Need) (needs : List (Option Need)) → first_need (o ∷ needs) ≡ None → (o ≡ None) × (first_need needs ≡ None)
+none_first : (o : Option Need) (needs : List (Option Need)) → first_need (o ∷ needs) ≡ None
+    → (o ≡ None) × (first_need needs ≡ None)
 none_first None needs is = (refl, is)
 none_first (Some need) needs is = absurd (some_none need is)
 
@@ -121,10 +132,12 @@ module _ (side : RxSide) (c : List ℕ → ℕ → Option ℕ) (block : ℕ) whe
       → (Without scis → list_any (λ one. bytes_eq one sci) scis ≡ true → need_at side.numbers c block sci an ≡ None)
       → need_at side.numbers c block sci an ≡ None
   by_same scis sci other an below is true same has later =
-      subst (λ (t : List ℕ). need_at side.numbers c block t an ≡ None) (same_octets other sci same) ((none_in scis other is).0 an below)
+      subst (λ (t : List ℕ). need_at side.numbers c block t an ≡ None) (same_octets other sci same)
+      ((none_in scis other is).0 an below)
   by_same scis sci other an below is false same has later = later (none_in scis other is).1 has
 
-  none_among : (scis : List (List ℕ)) (sci : List ℕ) (an : ℕ) → an < 4 → Without scis → list_any (λ one. bytes_eq one sci) scis ≡ true
+  none_among : (scis : List (List ℕ)) (sci : List ℕ) (an : ℕ) → an < 4 → Without scis
+      → list_any (λ one. bytes_eq one sci) scis ≡ true
       → need_at side.numbers c block sci an ≡ None
   none_among [] sci an below is has = absurd cc
   none_among (other ∷ scis) sci an below is has =
@@ -146,7 +159,8 @@ module _ (side : RxSide) (c : List ℕ → ℕ → Option ℕ) (block : ℕ) whe
         outside sci an (no_numbers (side.numbers sci an) (λ stands. let both = channels sci an stands in cc))
 
     -- where no association has the first need, none has one
-    pub no-needs : first_need_of side c block ≡ None → (sci : List ℕ) (an : ℕ) → need_at side.numbers c block sci an ≡ None
+    pub no-needs : first_need_of side c block ≡ None → (sci : List ℕ) (an : ℕ)
+        → need_at side.numbers c block sci an ≡ None
     no-needs is sci an = elim (cases_lt an 4) [
       | inl below ↦ by_channel sci an below is (has_channel side sci) refl
       | inr over ↦ outside sci an (few sci an over)

@@ -6,7 +6,8 @@ use Rattle.macs_config.specs.Tables.{put_at}
 use Rattle.macs_rxsc.specs.declared.counters.RxCounters.{RxCounters}
 use Rattle.macs_rxsc.specs.declared.counters.ChannelCounters.{ChannelCounters}
 use Rattle.macs_rxsc.specs.declared.verdict.Kind.TheVariants.{Ok, Delayed, Invalid, Untagged, UnknownSci, UnusedSa}
-use Rattle.macs_rxsc.specs.declared.verdict.Reason.TheVariants.{Runt, Oversize, NoTag, BadTag, ForKay, NoSci, NotUsingSa, Late, NotValid}
+use Rattle.macs_rxsc.specs.declared.verdict.Reason.TheVariants.{Runt, Oversize, NoTag, BadTag, ForKay, NoSci}
+use Rattle.macs_rxsc.specs.declared.verdict.Reason.TheVariants.{NotUsingSa, Late, NotValid}
 use Rattle.macs_rxsc.specs.declared.verdict.Verdict.{Verdict}
 use Rattle.macs_rxsc.specs.declared.verdict.Verdict.TheVariants.{Delivered, Discarded, HeldBack}
 
@@ -71,9 +72,11 @@ channel_counters_after_verdict (Discarded NotValid) c = record c { not_valid = o
 channel_counters_after_verdict verdict c = c
 
 -- a verdict is counted for the channel that its frame names, if there is one
-abbrev pub counters_after_verdict_at : Option (List ℕ) → Verdict → (List ℕ → Option ChannelCounters) → List ℕ → Option ChannelCounters
+abbrev pub counters_after_verdict_at : Option (List ℕ) → Verdict → (List ℕ → Option ChannelCounters) → List ℕ
+    → Option ChannelCounters
 counters_after_verdict_at None verdict table = table
-counters_after_verdict_at (Some sci) verdict table = put_at table sci (option_map (channel_counters_after_verdict verdict) (table sci))
+counters_after_verdict_at (Some sci) verdict table =
+    put_at table sci (option_map (channel_counters_after_verdict verdict) (table sci))
 
 -- each count over all channels at 0
 abbrev pub no_counts : RxCounters

@@ -1,5 +1,6 @@
 -- Which ceiling is to be raised, and how far.
-use Rattle.std.specs.Prelude.{ℕ, ◌-◌, ◌/◌, nat_le, nat_lt, Bool, ◌&&◌, ◌||◌, if◌then◌else◌, List, [], ◌∷◌, map, flat_map, Option, Some, None}
+use Rattle.std.specs.Prelude.{ℕ, ◌-◌, ◌/◌, nat_le, nat_lt, Bool, ◌&&◌, ◌||◌, if◌then◌else◌, List, [], ◌∷◌, map}
+use Rattle.std.specs.Prelude.{flat_map, Option, Some, None}
 use Rattle.macs_config.specs.Numbers.{block_beyond}
 use Rattle.macs_config.specs.Snapshot.{every_an}
 use Rattle.macs_rxsc.specs.Receive.{Numbers, RxSide}
@@ -14,8 +15,8 @@ pub record Need : Type 0 where
 abbrev pub raised_ceiling : ℕ → ℕ → ℕ
 raised_ceiling block seen = block_beyond seen block
 
--- A frame was seen, and it is at or above the ceiling, or at most half a block is left below that, and a higher ceiling is
--- to be had.
+-- A frame was seen, and it is at or above the ceiling, or at most half a block is left below that, and a higher ceiling
+-- is to be had.
 abbrev pub is_needed : ℕ → ℕ → ℕ → ℕ → Bool
 is_needed block next ceiling seen =
     (nat_le ceiling seen || nat_le (ceiling - next) (block / 2)) && nat_lt ceiling (raised_ceiling block seen)

@@ -1,6 +1,7 @@
 -- Reception (IEEE Std 802.1AE-2018, 10.6 and 10.7): the verdict on a frame from the common side, and what a frame that
 -- verifies does to the packet numbers of its association.
-use Rattle.std.specs.Prelude.{◌≡◌, ◌≤◌, ◌<◌, ◌⊎◌, ◌^◌, ℕ, ◌+◌, ◌-◌, max, nat_lt, Bool, true, false, ◌||◌, if◌then◌else◌, List, [], ◌∷◌, ◌++◌, map, Option, Some, None, IsSome, IsSomeAnd}
+use Rattle.std.specs.Prelude.{◌≡◌, ◌≤◌, ◌<◌, ◌⊎◌, ◌^◌, ℕ, ◌+◌, ◌-◌, max, nat_lt, Bool, true, false, ◌||◌, if◌then◌else◌}
+use Rattle.std.specs.Prelude.{List, [], ◌∷◌, ◌++◌, map, Option, Some, None, IsSome, IsSomeAnd}
 use Rattle.std.specs.Option.{option_and_then}
 use Rattle.macs_config.specs.Config.{is_among}
 use Rattle.macs_config.specs.Tables.{put, put_at}
@@ -15,16 +16,19 @@ use Rattle.macs_frame.specs.Tag.{TagFaultHolds, changed, control, name_of, tag_f
 use Rattle.macs_frame.specs.declared.tag.ScName.{ScName}
 use Rattle.macs_frame.specs.declared.tag.ScName.TheVariants.{Explicit, EndStation, Implicit}
 use Rattle.macs_frame.specs.declared.tag.TagFault.{TagFault}
-use Rattle.macs_frame.specs.declared.tag.TagFault.TheVariants.{Runt as IsRunt, Oversize as IsOversize, NoTag as HasNoTag, BadTag as HasBadTag, ForKay as IsForKay}
+use Rattle.macs_frame.specs.declared.tag.TagFault.TheVariants.{Runt as IsRunt, Oversize as IsOversize}
+use Rattle.macs_frame.specs.declared.tag.TagFault.TheVariants.{NoTag as HasNoTag, BadTag as HasBadTag}
+use Rattle.macs_frame.specs.declared.tag.TagFault.TheVariants.{ForKay as IsForKay}
 use Rattle.macs_rxsc.specs.declared.verdict.Kind.{Kind}
 use Rattle.macs_rxsc.specs.declared.verdict.Kind.TheVariants.{Ok, Delayed, Invalid, Untagged, UnknownSci, UnusedSa}
 use Rattle.macs_rxsc.specs.declared.verdict.Reason.{Reason}
-use Rattle.macs_rxsc.specs.declared.verdict.Reason.TheVariants.{Runt, Oversize, NoTag, BadTag, ForKay, NoSci, NotUsingSa, Late, NotValid}
+use Rattle.macs_rxsc.specs.declared.verdict.Reason.TheVariants.{Runt, Oversize, NoTag, BadTag, ForKay, NoSci}
+use Rattle.macs_rxsc.specs.declared.verdict.Reason.TheVariants.{NotUsingSa, Late, NotValid}
 use Rattle.macs_rxsc.specs.declared.verdict.Verdict.{Verdict}
 use Rattle.macs_rxsc.specs.declared.verdict.Verdict.TheVariants.{Delivered, Discarded, HeldBack}
 
--- next: one more than the greatest number delivered as verified, and at first the number that the association began with; lowest: the
--- lowest acceptable number; seen: the greatest number of this life that verified, if any did
+-- next: one more than the greatest number delivered as verified, and at first the number that the association began
+-- with; lowest: the lowest acceptable number; seen: the greatest number of this life that verified, if any did
 pub record Numbers : Type 0 where
   pub next : ℕ
   pub lowest : ℕ
@@ -60,8 +64,8 @@ only_one [] = None
 only_one (sci ∷ []) = Some sci
 only_one (sci ∷ other ∷ others) = None
 
--- The SCI that a tag names: the one that is spelled out, the source address with port 00-01, or that of the only channel
--- where it names none (that there be one alone is this profile's own)
+-- The SCI that a tag names: the one that is spelled out, the source address with port 00-01, or that of the only
+-- channel where it names none (that there be one alone is this profile's own)
 abbrev pub sci_named : List (List ℕ) → List ℕ → ScName → Option (List ℕ)
 sci_named channels frame (Explicit sci) = named_sci frame (Explicit sci)
 sci_named channels frame EndStation = named_sci frame EndStation

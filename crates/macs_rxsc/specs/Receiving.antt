@@ -20,7 +20,8 @@ ChannelReceives validate replay old new frame verdict given =
 
 -- A frame from the common side has this outcome. Of the channels the packet numbers alone change, and the verdict is
 -- counted for the one that the frame names.
-pub record TableReceives (validate : Validate) (replay : Replay) (old new : List Channel) (frame : List ℕ) (verdict : Verdict)
+pub record TableReceives (validate : Validate) (replay : Replay) (old new : List Channel) (frame : List ℕ)
+    (verdict : Verdict)
     (given : List ℕ) : Type 0 where
   pub outcome : IsOutcome (rx_side_in validate replay old) (ceilings_among old) frame
       (record { verdict = verdict; given = given; numbers = (rx_side_in validate replay new).numbers })

@@ -97,4 +97,5 @@ association_under window a = record a { lowest = max a.lowest (a.next - window) 
 
 -- the same of all associations of a channel
 abbrev pub channel_under : ℕ → Channel → Channel
-channel_under window channel = record channel { associations = map (option_map (association_under window)) channel.associations }
+channel_under window channel =
+    record channel { associations = map (option_map (association_under window)) channel.associations }

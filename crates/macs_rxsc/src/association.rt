@@ -1,9 +1,12 @@
 //! A receive association (IEEE Std 802.1AE-2018, 10.7).
 
-ghost use Rattle.std.specs.Prelude.{◌≡◌, Option, ◌≤◌, ◌<◌, ℕ, List, [], Some, None, nat_lt, if◌then◌else◌, ◌&&◌};
+ghost use Rattle.std.specs.Prelude.{◌≡◌, Option, ◌≤◌, ◌<◌, ℕ, List, [], Some, None, nat_lt};
+ghost use Rattle.std.specs.Prelude.{if◌then◌else◌, ◌&&◌};
 ghost use Rattle.std.specs.Option.{option_map};
 ghost use Rattle.macs_frame.specs.Tag.{IsForKay, Tag, tag_of};
-ghost use Rattle.macs_rxsc.specs.Receive.{IsOutcome, RxSide, numbers_after_delivery, channel_of, numbers_after_hold, delivery_kind, put_numbers, seen_after};
+ghost use Rattle.macs_rxsc.specs.Receive.{IsOutcome, RxSide, numbers_after_delivery, channel_of};
+ghost use Rattle.macs_rxsc.specs.Receive.{numbers_after_hold, delivery_kind, put_numbers};
+ghost use Rattle.macs_rxsc.specs.Receive.{seen_after};
 ghost use Rattle.macs_rxsc.specs.Needs.{Need, need_of};
 ghost use Rattle.macs_rxsc.specs.Value.{packet_numbers, sa_of, association_under};
 
@@ -17,8 +20,8 @@ use macs_gcm::GcmKey;
 
 /// The packet numbers of a receive association.
 ///
-/// `next` is one more than the greatest number delivered as verified, and at first the number that the
-/// association began with; `lowest` is the lowest acceptable one. Both are 1 to 2^32.
+/// `next` is one more than the greatest number delivered as verified, and at first the number that
+/// the association began with; `lowest` is the lowest acceptable one. Both are 1 to 2^32.
 #[derive(Clone, Copy, Debug, PartialEq, Eq)]
 pub struct RxNumbers {
     pub next: u64,
@@ -76,9 +79,11 @@ impl Association {
     /// As what a frame that verified is delivered, by its packet number: `None` where that is not
     /// below the ceiling, and the frame is held back.
     fn arrive(&mut self, pn: Pn, window: u32) -> Option<Kind>
-        ensures kind { result ≡ (if nat_lt pn self.old.ceiling then Some (delivery_kind (packet_numbers self.old) pn) else None) }
+        ensures kind { result ≡ (if nat_lt pn self.old.ceiling
+            then Some (delivery_kind (packet_numbers self.old) pn) else None) }
         ensures numbers { packet_numbers self.new ≡ (if nat_lt pn self.old.ceiling
-            then numbers_after_delivery window (packet_numbers self.old) pn else numbers_after_hold (packet_numbers self.old) pn) }
+            then numbers_after_delivery window (packet_numbers self.old) pn
+            else numbers_after_hold (packet_numbers self.old) pn) }
         ensures sa { sa_of self.new ≡ sa_of self.old }
         ensures ceiling { self.new.ceiling ≡ self.old.ceiling }
     {
@@ -109,7 +114,8 @@ impl Association {
     ) -> Verdict
         requires read { Tag frame.now parts.now × (¬ IsForKay frame.now) }
         requires empty { out.old.items ≡ [] }
-        ensures verdict { (side : RxSide) (ceilings : List ℕ → ℕ → Option ℕ) → side.validate ≡ policy.validate
+        ensures verdict { (side : RxSide) (ceilings : List ℕ → ℕ → Option ℕ)
+            → side.validate ≡ policy.validate
             → side.replay ≡ policy.replay → channel_of side frame.now ≡ Some sci
             → side.rx sci (tag_of frame.now).an ≡ Some (sa_of self.old)
             → side.numbers sci (tag_of frame.now).an ≡ Some (packet_numbers self.old)
@@ -117,7 +123,8 @@ impl Association {
             → IsOutcome side ceilings frame.now (record {
               verdict = result;
               given = out.new.items;
-              numbers = put_numbers side.numbers sci (tag_of frame.now).an (Some (packet_numbers self.new));
+              numbers = put_numbers side.numbers sci (tag_of frame.now).an
+                  (Some (packet_numbers self.new));
             }) }
         ensures sa { sa_of self.new ≡ sa_of self.old }
         ensures ceiling { self.new.ceiling ≡ self.old.ceiling }
@@ -148,7 +155,8 @@ impl Association {
     /// The need of this association of a channel, if it has one. `block` is 1 to 65,536 packet
     /// numbers.
     pub(crate) fn need(&self, sci: Sci, an: An, block: u32) -> Option<RxNeed>
-        ensures { option_map (λ (need : RxNeed). record { sci = need.sci; an = need.an; pn = need.pn }) result
+        ensures { option_map
+            (λ (need : RxNeed). record { sci = need.sci; an = need.an; pn = need.pn }) result
             ≡ need_of block sci an (Some (packet_numbers self.now)) (Some self.now.ceiling) }
     {
         let pn = self.seen?;

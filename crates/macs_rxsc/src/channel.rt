@@ -7,7 +7,8 @@ ghost use Rattle.macs_rxsc.specs.Receive.{Numbers};
 ghost use Rattle.macs_rxsc.specs.Receiving.{ChannelReceives};
 ghost use Rattle.macs_rxsc.specs.Needs.{Need, first_need, need_of};
 ghost use Rattle.macs_rxsc.specs.Counting.{channel_counters_after_verdict, no_channel_counts};
-ghost use Rattle.macs_rxsc.specs.Value.{ceilings_in, numbers_in, packet_numbers, sa_of, sas_in, association_under, channel_under};
+ghost use Rattle.macs_rxsc.specs.Value.{ceilings_in, numbers_in, packet_numbers, sa_of, sas_in};
+ghost use Rattle.macs_rxsc.specs.Value.{association_under, channel_under};
 ghost use Rattle.macs_config.specs.Tables.{put};
 ghost use Rattle.macs_rxsc.specs.declared.association.Association.{Association};
 
@@ -47,10 +48,13 @@ impl Channel {
     pub(crate) fn put(&mut self, an: An, association: Option<Association>)
         ensures sci { self.new.sci ≡ self.old.sci }
         ensures counters { self.new.counters ≡ self.old.counters }
-        ensures sas { sas_in (Some self.new) ≡ put (sas_in (Some self.old)) an (option_map sa_of association) }
-        ensures numbers { numbers_in (Some self.new) ≡ put (numbers_in (Some self.old)) an (option_map packet_numbers association) }
+        ensures sas { sas_in (Some self.new)
+            ≡ put (sas_in (Some self.old)) an (option_map sa_of association) }
+        ensures numbers { numbers_in (Some self.new)
+            ≡ put (numbers_in (Some self.old)) an (option_map packet_numbers association) }
         ensures ceilings { ceilings_in (Some self.new)
-            ≡ put (ceilings_in (Some self.old)) an (option_map (λ (a : Association). a.ceiling) association) }
+            ≡ put (ceilings_in (Some self.old)) an
+            (option_map (λ (a : Association). a.ceiling) association) }
     {
         self.associations[an.get() as usize] = association;
     }
@@ -61,7 +65,8 @@ impl Channel {
         ensures counters { self.new.counters ≡ self.old.counters }
         ensures sas { sas_in (Some self.new) ≡ sas_in (Some self.old) }
         ensures numbers { numbers_in (Some self.new) ≡ numbers_in (Some self.old) }
-        ensures ceilings { IsSome (ceilings_in (Some self.old) an) → ceilings_in (Some self.new) ≡ put (ceilings_in (Some self.old)) an (Some ceiling) }
+        ensures ceilings { IsSome (ceilings_in (Some self.old) an)
+            → ceilings_in (Some self.new) ≡ put (ceilings_in (Some self.old)) an (Some ceiling) }
     {
         if let Some(association) = &mut self.associations[an.get() as usize] {
             association.ceiling = ceiling;
@@ -88,11 +93,13 @@ impl Channel {
     ) -> Verdict
         requires read { Tag frame.now parts.now × (¬ IsForKay frame.now) }
         requires empty { out.old.items ≡ [] }
-        ensures verdict { ChannelReceives policy.validate policy.replay self.old self.new frame.now result out.new.items }
+        ensures verdict { ChannelReceives policy.validate policy.replay self.old self.new frame.now
+            result out.new.items }
         ensures sci { self.new.sci ≡ self.old.sci }
         ensures sas { sas_in (Some self.new) ≡ sas_in (Some self.old) }
         ensures ceilings { ceilings_in (Some self.new) ≡ ceilings_in (Some self.old) }
-        ensures counters { self.new.counters ≡ channel_counters_after_verdict result self.old.counters }
+        ensures counters { self.new.counters
+            ≡ channel_counters_after_verdict result self.old.counters }
     {
         let verdict = self.decide(policy, frame, parts, out);
         self.counters.add(verdict);
@@ -103,7 +110,8 @@ impl Channel {
     fn decide(&mut self, policy: Policy, frame: &[u8], parts: &Parts, out: &mut FrameBuf) -> Verdict
         requires read { Tag frame.now parts.now × (¬ IsForKay frame.now) }
         requires empty { out.old.items ≡ [] }
-        ensures verdict { ChannelReceives policy.validate policy.replay self.old self.new frame.now result out.new.items }
+        ensures verdict { ChannelReceives policy.validate policy.replay self.old self.new frame.now
+            result out.new.items }
         ensures sci { self.new.sci ≡ self.old.sci }
         ensures sas { sas_in (Some self.new) ≡ sas_in (Some self.old) }
         ensures ceilings { ceilings_in (Some self.new) ≡ ceilings_in (Some self.old) }
@@ -138,8 +146,10 @@ impl Channel {
 
     /// The need of the association at a number.
     fn need_at(&self, an: An, block: u32) -> Option<RxNeed>
-        ensures { option_map (λ (need : RxNeed). record { sci = need.sci; an = need.an; pn = need.pn }) result
-            ≡ need_of block self.now.sci an (numbers_in (Some self.now) an) (ceilings_in (Some self.now) an) }
+        ensures { option_map
+            (λ (need : RxNeed). record { sci = need.sci; an = need.an; pn = need.pn }) result
+            ≡ need_of block self.now.sci an (numbers_in (Some self.now) an)
+            (ceilings_in (Some self.now) an) }
     {
         let association = self.associations[an.get() as usize].as_ref()?;
         association.need(self.sci, an, block)
@@ -147,8 +157,10 @@ impl Channel {
 
     /// The need of the first association, by its number, that has one.
     pub(crate) fn need(&self, block: u32) -> Option<RxNeed>
-        ensures { option_map (λ (need : RxNeed). record { sci = need.sci; an = need.an; pn = need.pn }) result
-            ≡ first_need (map (λ an. need_of block self.now.sci an (numbers_in (Some self.now) an) (ceilings_in (Some self.now) an))
+        ensures { option_map
+            (λ (need : RxNeed). record { sci = need.sci; an = need.an; pn = need.pn }) result
+            ≡ first_need (map (λ an. need_of block self.now.sci an (numbers_in (Some self.now) an)
+            (ceilings_in (Some self.now) an))
             (0 ∷ 1 ∷ 2 ∷ 3 ∷ [])) }
     {
         let [first, second, third, fourth] = An::all();

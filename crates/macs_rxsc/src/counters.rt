@@ -122,7 +122,8 @@ impl RxCounters {
 
 impl ChannelCounters {
     ghost use Rattle.std.specs.Prelude.{◌≡◌};
-    ghost use Rattle.macs_rxsc.specs.Counting.{channel_count_of, channel_counters_after_verdict, no_channel_counts};
+    ghost use Rattle.macs_rxsc.specs.Counting.{channel_count_of, channel_counters_after_verdict};
+    ghost use Rattle.macs_rxsc.specs.Counting.{no_channel_counts};
 
     /// Nothing is counted yet.
     pub fn new() -> ChannelCounters

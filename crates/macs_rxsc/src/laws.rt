@@ -2,12 +2,15 @@
 
 ghost use Rattle.std.specs.Prelude.{◌≡◌, ◌⊎◌, ◌≤◌, ◌+◌, ◌^◌, ℕ, List, Option, Some, IsSome};
 ghost use Rattle.macs_fields.specs.First.{IsFirst, NoneHolds};
-ghost use Rattle.macs_rxsc.specs.Receive.{AreNumbered, AreOrdered, Arrival, Arrives, Numbers, RxStepHolds, Outcome, IsOutcome, RxSide, RxStep, rx_steps};
+ghost use Rattle.macs_rxsc.specs.Receive.{AreNumbered, AreOrdered, Arrival, Arrives, Numbers};
+ghost use Rattle.macs_rxsc.specs.Receive.{RxStepHolds, Outcome, IsOutcome, RxSide, RxStep};
+ghost use Rattle.macs_rxsc.specs.Receive.{rx_steps};
 
 /// A frame is settled by one of the first nine steps, or it is one arrival, and no other.
 pub fn settled_or_arrives()
     ensures either { (side : RxSide) (frame : List ℕ) → AreNumbered side
-        → ((step : RxStep) × IsFirst (RxStepHolds side frame) rx_steps step) ⊎ ((a : Arrival) × Arrives side frame a) }
+        → ((step : RxStep) × IsFirst (RxStepHolds side frame) rx_steps step)
+        ⊎ ((a : Arrival) × Arrives side frame a) }
     ensures once { (side : RxSide) (frame : List ℕ) (a b : Arrival)
         → Arrives side frame a → Arrives side frame b → a ≡ b }
 {}
@@ -18,11 +21,14 @@ pub fn receives_once()
         → IsOutcome side ceilings frame a → IsOutcome side ceilings frame b → a ≡ b }
 {}
 
-/// Which numbers are in order: the lowest is 1 or more, at most a window below the next, and not above it; and the next is
-/// not above the ceiling, which is 2^32 at most.
+/// Which numbers are in order: the lowest is 1 or more, at most a window below the next, and not
+/// above it; and the next is not above the ceiling, which is 2^32 at most.
 pub fn numbers_in_order()
-    ensures { (side : RxSide) (ceilings : List ℕ → ℕ → Option ℕ) (sci : List ℕ) (an ceiling : ℕ) (numbers : Numbers)
-        → AreOrdered side ceilings sci an → side.numbers sci an ≡ Some numbers → ceilings sci an ≡ Some ceiling
-        → (1 ≤ numbers.lowest) × (numbers.next ≤ numbers.lowest + side.replay.window) × (numbers.lowest ≤ numbers.next)
+    ensures { (side : RxSide) (ceilings : List ℕ → ℕ → Option ℕ) (sci : List ℕ) (an ceiling : ℕ)
+        (numbers : Numbers)
+        → AreOrdered side ceilings sci an → side.numbers sci an ≡ Some numbers
+        → ceilings sci an ≡ Some ceiling
+        → (1 ≤ numbers.lowest) × (numbers.next ≤ numbers.lowest + side.replay.window)
+        × (numbers.lowest ≤ numbers.next)
         × (numbers.next ≤ ceiling) × (ceiling ≤ 2 ^ 32) }
 {}

@@ -1,15 +1,19 @@
 //! Receive channels, and what becomes of received frames (IEEE Std 802.1AE-2018, 10.6 and 10.7).
 
-ghost use Rattle.std.specs.Prelude.{◌≡◌, ◌≤◌, ◌<◌, ◌^◌, ℕ, List, [], length, nat_lt, not, true, false, Some, None, IsSome, IfSome};
+ghost use Rattle.std.specs.Prelude.{◌≡◌, ◌≤◌, ◌<◌, ◌^◌, ℕ, List, [], length, nat_lt, not, true};
+ghost use Rattle.std.specs.Prelude.{false, Some, None, IsSome, IfSome};
 ghost use Rattle.std.specs.List.{filter};
 ghost use Rattle.std.specs.Option.{is_some, option_map};
 ghost use Rattle.std.specs.Str.{bytes_eq};
 ghost use Rattle.macs_aes.specs.Keys.{octets_of_key};
 ghost use Rattle.macs_config.specs.Config.{this_edition, is_ascending, put_among};
 ghost use Rattle.macs_config.specs.Tables.{put, put_at};
-ghost use Rattle.macs_rxsc.specs.Receive.{AreOrdered, Numbers, IsOutcome, channel_of, has_channel, new_rx_side, put_numbers, first_numbers, numbers_under_window};
+ghost use Rattle.macs_rxsc.specs.Receive.{AreOrdered, Numbers, IsOutcome, channel_of, has_channel};
+ghost use Rattle.macs_rxsc.specs.Receive.{new_rx_side, put_numbers, first_numbers};
+ghost use Rattle.macs_rxsc.specs.Receive.{numbers_under_window};
 ghost use Rattle.macs_rxsc.specs.Needs.{Need, first_need_of, raised_ceiling};
-ghost use Rattle.macs_rxsc.specs.Counting.{channel_count_of, count_of, counters_after_verdict, counters_after_verdict_at, no_counts, no_channel_counts};
+ghost use Rattle.macs_rxsc.specs.Counting.{channel_count_of, count_of, counters_after_verdict};
+ghost use Rattle.macs_rxsc.specs.Counting.{counters_after_verdict_at, no_counts, no_channel_counts};
 ghost use Rattle.macs_rxsc.specs.Value.{ceilings_of, channel_counters_of, counters_of, rx_side_of};
 
 use crate::association::{Association, RxNumbers};
@@ -39,10 +43,21 @@ impl Model for Rx {
 
     ghost Value = { RxValue };
 
-    ghost view = { λ r. record { validate = r.policy.validate; replay = r.policy.replay; channels = r.table.channels.items; counters = r.counters } };
+    ghost view = { λ r. record {
+      validate = r.policy.validate;
+      replay = r.policy.replay;
+      channels =
+          r.table.channels.items;
+      counters = r.counters;
+    } };
 
-    ghost invariant = { λ r. IsSoundRx (record
-        { validate = r.policy.validate; replay = r.policy.replay; channels = r.table.channels.items; counters = r.counters }) };
+    ghost invariant = { λ r. IsSoundRx (record {
+      validate = r.policy.validate;
+      replay = r.policy.replay;
+      channels =
+          r.table.channels.items;
+      counters = r.counters;
+    }) };
 }
 
 impl Rx {
@@ -76,7 +91,8 @@ impl Rx {
         ensures side { rx_side_of self.new ≡ record (rx_side_of self.old) {
           validate = validate;
           replay = record { on = on; window = window };
-          numbers = λ sci an. option_map (numbers_under_window window) ((rx_side_of self.old).numbers sci an);
+          numbers = λ sci an.
+              option_map (numbers_under_window window) ((rx_side_of self.old).numbers sci an);
         } }
         ensures ceilings { ceilings_of self.new ≡ ceilings_of self.old }
         ensures counters { counters_of self.new ≡ counters_of self.old }
@@ -111,7 +127,8 @@ impl Rx {
         } }
         ensures ceilings { ceilings_of self.new ≡ put_at (ceilings_of self.old) sci (λ an. None) }
         ensures counters { counters_of self.new ≡ counters_of self.old }
-        ensures channel_counters { channel_counters_of self.new ≡ put_at (channel_counters_of self.old) sci None }
+        ensures channel_counters { channel_counters_of self.new
+            ≡ put_at (channel_counters_of self.old) sci None }
     {
         self.table.drop_channel(sci);
     }
@@ -128,7 +145,8 @@ impl Rx {
         requires bounded { ceiling ≤ 2 ^ 32 }
         ensures side { rx_side_of self.new ≡ record (rx_side_of self.old) {
           rx = put_at (rx_side_of self.old).rx sci
-              (put ((rx_side_of self.old).rx sci) an (Some (record { key = octets_of_key key.now; offset = offset })));
+              (put ((rx_side_of self.old).rx sci) an
+              (Some (record { key = octets_of_key key.now; offset = offset })));
           numbers = put_numbers (rx_side_of self.old).numbers sci an (Some (first_numbers next));
         } }
         ensures ceilings { ceilings_of self.new
@@ -193,9 +211,11 @@ impl Rx {
     /// and the ceiling; and the number seen and a block, at most 2^32, is above the ceiling.
     /// `rx_block` is 1 to 65,536 packet numbers. What is named exists, and may be raised that far.
     pub fn needs(&self, rx_block: u32) -> Option<RxNeed>
-        ensures need { option_map (λ (need : RxNeed). record { sci = need.sci; an = need.an; pn = need.pn }) result
+        ensures need { option_map
+            (λ (need : RxNeed). record { sci = need.sci; an = need.an; pn = need.pn }) result
             ≡ first_need_of (rx_side_of self.now) (ceilings_of self.now) rx_block }
-        ensures stands { IfSome result (λ need. IsSome ((rx_side_of self.now).rx need.sci need.an)) }
+        ensures stands { IfSome result
+            (λ need. IsSome ((rx_side_of self.now).rx need.sci need.an)) }
         ensures higher { IfSome result (λ need. IfSome (ceilings_of self.now need.sci need.an)
             (λ old. old < raised_ceiling rx_block need.pn)) }
     {
@@ -214,12 +234,20 @@ impl Rx {
     /// `needs` has been served by `raise`: nothing of it is kept but that its number was seen.
     pub fn receive(&mut self, frame: &[u8], out: &mut FrameBuf) -> Verdict
         ensures verdict { IsOutcome (rx_side_of self.old) (ceilings_of self.old) frame.now
-            (record { verdict = result; given = out.new.items; numbers = (rx_side_of self.new).numbers }) }
-        ensures side { rx_side_of self.new ≡ record (rx_side_of self.old) { numbers = (rx_side_of self.new).numbers } }
+            (record {
+              verdict = result;
+              given = out.new.items;
+              numbers =
+                  (rx_side_of self.new).numbers;
+            }) }
+        ensures side { rx_side_of self.new
+            ≡ record (rx_side_of self.old) { numbers = (rx_side_of self.new).numbers } }
         ensures ceilings { ceilings_of self.new ≡ ceilings_of self.old }
-        ensures counters { counters_of self.new ≡ counters_after_verdict result (counters_of self.old) }
+        ensures counters { counters_of self.new
+            ≡ counters_after_verdict result (counters_of self.old) }
         ensures channel_counters { channel_counters_of self.new
-            ≡ counters_after_verdict_at (channel_of (rx_side_of self.old) frame.now) result (channel_counters_of self.old) }
+            ≡ counters_after_verdict_at (channel_of (rx_side_of self.old) frame.now) result
+            (channel_counters_of self.old) }
     {
         let verdict = self.table.receive(self.policy, frame, out);
         self.counters.add(verdict);
@@ -236,7 +264,8 @@ impl Rx {
     /// How often a verdict was given on frames of a channel, at most 2^64 - 1. It is 0 for a
     /// verdict that is not counted for channels, and `None` where the channel does not exist.
     pub fn channel_count(&self, sci: Sci, verdict: Verdict) -> Option<u64>
-        ensures { result ≡ option_map (channel_count_of verdict) (channel_counters_of self.now sci) }
+        ensures { result
+            ≡ option_map (channel_count_of verdict) (channel_counters_of self.now sci) }
     {
         let channel = self.table.channel(sci)?;
         Some(channel.counters.of(verdict))
@@ -252,15 +281,17 @@ impl Rx {
     /// What holds of all receive channels.
     ///
     /// Each association that exists has numbers in their order: the next one less the window is not
-    /// above the lowest acceptable, that not above the next, that not above the ceiling, and that at
-    /// most 2^32. It is on an existing channel. The channels ascend by SCI, and those that
-    /// exist have counters, and no others.
+    /// above the lowest acceptable, that not above the next, that not above the ceiling, and that
+    /// at most 2^32. It is on an existing channel. The channels ascend by SCI, and those that exist
+    /// have counters, and no others.
     pub fn facts(&self)
-        ensures ordered { (sci : List ℕ) (an : ℕ) → AreOrdered (rx_side_of self.now) (ceilings_of self.now) sci an }
+        ensures ordered { (sci : List ℕ) (an : ℕ)
+            → AreOrdered (rx_side_of self.now) (ceilings_of self.now) sci an }
         ensures stands { (sci : List ℕ) (an : ℕ) → IsSome ((rx_side_of self.now).rx sci an)
             → has_channel (rx_side_of self.now) sci ≡ true }
         ensures ascending { is_ascending (rx_side_of self.now).channels ≡ true }
-        ensures counted { (sci : List ℕ) → is_some (channel_counters_of self.now sci) ≡ has_channel (rx_side_of self.now) sci }
+        ensures counted { (sci : List ℕ)
+            → is_some (channel_counters_of self.now sci) ≡ has_channel (rx_side_of self.now) sci }
     {
         let _table = &self.table;
     }

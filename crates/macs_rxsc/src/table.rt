@@ -1,6 +1,8 @@
 //! The receive channels that exist.
 
-ghost use Rattle.std.specs.Prelude.{◌≡◌, ◌≤◌, ◌<◌, ◌++◌, ◌∷◌, ℕ, List, Option, [], Some, None, IsSome, IfSome, true, false, not, length, map, position, take, drop};
+ghost use Rattle.std.specs.Prelude.{◌≡◌, ◌≤◌, ◌<◌, ◌++◌, ◌∷◌, ℕ, List, Option, [], Some, None};
+ghost use Rattle.std.specs.Prelude.{IsSome, IfSome, true, false, not, length, map, position, take};
+ghost use Rattle.std.specs.Prelude.{drop};
 ghost use Rattle.std.specs.List.{filter, list_any};
 ghost use Rattle.std.specs.Option.{option_and_then, option_map};
 ghost use Rattle.std.specs.Str.{bytes_eq};
@@ -11,7 +13,8 @@ ghost use Rattle.macs_rxsc.specs.Receive.{put_numbers, sci_named};
 ghost use Rattle.macs_rxsc.specs.Receiving.{TableReceives};
 ghost use Rattle.macs_rxsc.specs.Needs.{Need, first_need_of};
 ghost use Rattle.macs_rxsc.specs.Counting.{no_channel_counts};
-ghost use Rattle.macs_rxsc.specs.Value.{ceilings_among, channel_at, counters_among, packet_numbers, sa_of, scis_of, rx_side_in, channel_under};
+ghost use Rattle.macs_rxsc.specs.Value.{ceilings_among, channel_at, counters_among, packet_numbers};
+ghost use Rattle.macs_rxsc.specs.Value.{sa_of, scis_of, rx_side_in, channel_under};
 ghost use Rattle.macs_config.specs.declared.command.Replay.{Replay};
 ghost use Rattle.macs_config.specs.declared.command.Validate.{Validate};
 ghost use Rattle.macs_rxsc.specs.declared.association.Association.{Association};
@@ -80,7 +83,8 @@ fn sci_named(channels: &[Channel], frame: &[u8], name: ScName) -> Option<Sci>
 /// The place of the channel that a SecTAG names, `None` where there is none.
 fn place_named(channels: &[Channel], frame: &[u8], name: ScName) -> Option<usize>
     requires { 12 ≤ length frame.now }
-    ensures { result ≡ option_and_then (λ sci. position (λ (channel : Channel). bytes_eq channel.sci sci) channels.now)
+    ensures { result ≡ option_and_then
+        (λ sci. position (λ (channel : Channel). bytes_eq channel.sci sci) channels.now)
         (sci_named (scis_of channels.now) frame.now name) }
 {
     let sci = sci_named(channels, frame, name)?;
@@ -90,7 +94,8 @@ fn place_named(channels: &[Channel], frame: &[u8], name: ScName) -> Option<usize
 impl Table {
     /// The channel of an SCI, `None` where there is none.
     pub(crate) fn channel(&self, sci: Sci) -> Option<&Channel>
-        ensures { option_map (λ channel. channel.now) result ≡ channel_at self.now.channels.items sci }
+        ensures { option_map (λ channel. channel.now) result
+            ≡ channel_at self.now.channels.items sci }
     {
         let place = place(self.channels.as_slice(), sci)?;
         Some(&self.channels[place])
@@ -105,12 +110,15 @@ impl Table {
 
     /// A new channel, of an SCI that has none, where there are fewer than 32.
     pub(crate) fn add(&mut self, sci: Sci)
-        requires free { list_any (λ other. bytes_eq other sci) (scis_of self.old.channels.items) ≡ false }
+        requires free { list_any (λ other. bytes_eq other sci)
+            (scis_of self.old.channels.items) ≡ false }
         requires room { length (scis_of self.old.channels.items) < this_edition.channels }
-        ensures side { (validate : Validate) (replay : Replay) → rx_side_in validate replay self.new.channels.items
+        ensures side { (validate : Validate) (replay : Replay)
+            → rx_side_in validate replay self.new.channels.items
             ≡ record (rx_side_in validate replay self.old.channels.items)
             { channels = put_among sci (scis_of self.old.channels.items) } }
-        ensures ceilings { ceilings_among self.new.channels.items ≡ ceilings_among self.old.channels.items }
+        ensures ceilings { ceilings_among self.new.channels.items
+            ≡ ceilings_among self.old.channels.items }
         ensures counters { counters_among self.new.channels.items
             ≡ put_at (counters_among self.old.channels.items) sci (Some no_channel_counts) }
     {
@@ -120,11 +128,14 @@ impl Table {
 
     /// A channel goes, with its associations and counters.
     pub(crate) fn drop_channel(&mut self, sci: Sci)
-        ensures side { (validate : Validate) (replay : Replay) → rx_side_in validate replay self.new.channels.items
+        ensures side { (validate : Validate) (replay : Replay)
+            → rx_side_in validate replay self.new.channels.items
             ≡ record (rx_side_in validate replay self.old.channels.items) {
-              channels = filter (λ other. not (bytes_eq other sci)) (scis_of self.old.channels.items);
+              channels =
+                  filter (λ other. not (bytes_eq other sci)) (scis_of self.old.channels.items);
               rx = put_at (rx_side_in validate replay self.old.channels.items).rx sci (λ an. None);
-              numbers = put_at (rx_side_in validate replay self.old.channels.items).numbers sci (λ an. None);
+              numbers = put_at (rx_side_in validate replay self.old.channels.items).numbers sci
+                  (λ an. None);
             } }
         ensures ceilings { ceilings_among self.new.channels.items
             ≡ put_at (ceilings_among self.old.channels.items) sci (λ an. None) }
@@ -137,16 +148,22 @@ impl Table {
     /// Puts an association at a number of a channel that exists, or takes it away.
     pub(crate) fn put(&mut self, sci: Sci, an: An, association: Option<Association>)
         requires { list_any (λ other. bytes_eq other sci) (scis_of self.old.channels.items) ≡ true }
-        ensures side { (validate : Validate) (replay : Replay) → rx_side_in validate replay self.new.channels.items
+        ensures side { (validate : Validate) (replay : Replay)
+            → rx_side_in validate replay self.new.channels.items
             ≡ record (rx_side_in validate replay self.old.channels.items) {
               rx = put_at (rx_side_in validate replay self.old.channels.items).rx sci
-                  (put ((rx_side_in validate replay self.old.channels.items).rx sci) an (option_map sa_of association));
-              numbers = put_numbers (rx_side_in validate replay self.old.channels.items).numbers sci an
+                  (put ((rx_side_in validate replay self.old.channels.items).rx sci) an
+                  (option_map sa_of association));
+              numbers =
+                  put_numbers (rx_side_in validate replay self.old.channels.items).numbers sci an
                   (option_map packet_numbers association);
             } }
-        ensures ceilings { ceilings_among self.new.channels.items ≡ put_at (ceilings_among self.old.channels.items) sci
-            (put (ceilings_among self.old.channels.items sci) an (option_map (λ (a : Association). a.ceiling) association)) }
-        ensures counters { counters_among self.new.channels.items ≡ counters_among self.old.channels.items }
+        ensures ceilings { ceilings_among self.new.channels.items
+            ≡ put_at (ceilings_among self.old.channels.items) sci
+            (put (ceilings_among self.old.channels.items sci) an
+            (option_map (λ (a : Association). a.ceiling) association)) }
+        ensures counters { counters_among self.new.channels.items
+            ≡ counters_among self.old.channels.items }
     {
         if let Some(place) = place(self.channels.as_slice(), sci) {
             self.channels[place].put(an, association);
@@ -156,11 +173,14 @@ impl Table {
     /// Raises the ceiling of an association that exists.
     pub(crate) fn raise(&mut self, sci: Sci, an: An, ceiling: u64)
         requires { IsSome (ceilings_among self.old.channels.items sci an) }
-        ensures side { (validate : Validate) (replay : Replay) → rx_side_in validate replay self.new.channels.items
+        ensures side { (validate : Validate) (replay : Replay)
+            → rx_side_in validate replay self.new.channels.items
             ≡ rx_side_in validate replay self.old.channels.items }
-        ensures ceilings { ceilings_among self.new.channels.items ≡ put_at (ceilings_among self.old.channels.items) sci
+        ensures ceilings { ceilings_among self.new.channels.items
+            ≡ put_at (ceilings_among self.old.channels.items) sci
             (put (ceilings_among self.old.channels.items sci) an (Some ceiling)) }
-        ensures counters { counters_among self.new.channels.items ≡ counters_among self.old.channels.items }
+        ensures counters { counters_among self.new.channels.items
+            ≡ counters_among self.old.channels.items }
     {
         if let Some(place) = place(self.channels.as_slice(), sci) {
             self.channels[place].raise(an, ceiling);
@@ -171,8 +191,10 @@ impl Table {
     pub(crate) fn need(&self, block: u32) -> Option<RxNeed>
         requires { is_ascending (scis_of self.now.channels.items) ≡ true }
         ensures { (validate : Validate) (replay : Replay)
-            → option_map (λ (need : RxNeed). record { sci = need.sci; an = need.an; pn = need.pn }) result
-            ≡ first_need_of (rx_side_in validate replay self.now.channels.items) (ceilings_among self.now.channels.items) block }
+            → option_map
+            (λ (need : RxNeed). record { sci = need.sci; an = need.an; pn = need.pn }) result
+            ≡ first_need_of (rx_side_in validate replay self.now.channels.items)
+            (ceilings_among self.now.channels.items) block }
     {
         for channel in self.channels.iter() {
             if let Some(need) = channel.need(block) {
@@ -184,7 +206,8 @@ impl Table {
 
     /// What becomes of a frame from the common side. The verdict is counted for its channel.
     pub(crate) fn receive(&mut self, policy: Policy, frame: &[u8], out: &mut FrameBuf) -> Verdict
-        ensures { TableReceives policy.validate policy.replay self.old.channels.items self.new.channels.items frame.now result out.new.items }
+        ensures { TableReceives policy.validate policy.replay self.old.channels.items
+            self.new.channels.items frame.now result out.new.items }
     {
         out.clear();
         match read_tag(frame) {
@@ -204,7 +227,8 @@ impl Table {
     ) -> Verdict
         requires read { Tag frame.now parts.now × (¬ IsForKay frame.now) }
         requires empty { out.old.items ≡ [] }
-        ensures { TableReceives policy.validate policy.replay self.old.channels.items self.new.channels.items frame.now result out.new.items }
+        ensures { TableReceives policy.validate policy.replay self.old.channels.items
+            self.new.channels.items frame.now result out.new.items }
     {
         match place_named(self.channels.as_slice(), frame, parts.tag.name) {
             Some(place) => self.channels[place].receive(policy, frame, parts, out),

@@ -23,8 +23,10 @@ pub(crate) fn discard_or_deliver(
 ) -> Verdict
     requires read { Tag frame.now parts.now }
     requires empty { out.old.items ≡ [] }
-    ensures verdict { result ≡ (if is_strict validate || changed (control frame.now) then Discarded reason else Delivered kind) }
-    ensures given { out.new.items ≡ (if is_strict validate || changed (control frame.now) then [] else bare_frame frame.now) }
+    ensures verdict { result ≡ (if is_strict validate || changed (control frame.now)
+        then Discarded reason else Delivered kind) }
+    ensures given { out.new.items
+        ≡ (if is_strict validate || changed (control frame.now) then [] else bare_frame frame.now) }
 {
     if validate == Validate::Strict || parts.tag.changed {
         return Verdict::Discarded(reason);
@@ -44,7 +46,8 @@ pub(crate) fn refuse(
 ) -> Verdict
     requires fault { IsFirst (TagFaultHolds frame.now) tag_faults fault }
     requires empty { out.old.items ≡ [] }
-    ensures verdict { (side : RxSide) → side.validate ≡ validate → result ≡ verdict_at side frame.now (TagStep fault) }
+    ensures verdict { (side : RxSide) → side.validate ≡ validate
+        → result ≡ verdict_at side frame.now (TagStep fault) }
     ensures given { out.new.items ≡ given_at frame.now result }
 {
     let reason = match fault {

@@ -1,5 +1,7 @@
 -- SCIs that ascend: each is put after those before it, and is none of them.
-use Rattle.std.proofs.Common.{◌≡◌, ◌∙◌, ◌≤◌, ◌<◌, ◌+◌, ℕ, zero, suc, Bool, true, false, cond, List, [], ◌∷◌, length, take, get_or, bytes_eq, refl, ap, sym, arith, add-one, nat_cmp, is_lt, is_eq, Ordering, Less, Equal, Greater}
+use Rattle.std.proofs.Common.{◌≡◌, ◌∙◌, ◌≤◌, ◌<◌, ◌+◌, ℕ, zero, suc, Bool, true, false, cond, List, [], ◌∷◌, length}
+use Rattle.std.proofs.Common.{take, get_or, bytes_eq, refl, ap, sym, arith, add-one, nat_cmp, is_lt, is_eq, Ordering}
+use Rattle.std.proofs.Common.{Less, Equal, Greater}
 use Rattle.std.specs.Cmp.Lexicographic.{slice_cmp}
 use Rattle.std.proofs.lemmas.Bool.{and_parts, or_from}
 use Rattle.std.proofs.lemmas.List.{length-take-le}
@@ -11,7 +13,8 @@ rest_ascends : (x : List ℕ) (xs : List (List ℕ)) → is_ascending (x ∷ xs)
 rest_ascends x [] ascend = refl
 rest_ascends x (y ∷ ys) ascend = (and_parts (comes_before x y) (is_ascending (y ∷ ys)) ascend).1
 
-leads_all : (x : List ℕ) (xs : List (List ℕ)) (i : ℕ) (d : List ℕ) → is_ascending (x ∷ xs) ≡ true → i < length xs → comes_before x (get_or xs i d) ≡ true
+leads_all : (x : List ℕ) (xs : List (List ℕ)) (i : ℕ) (d : List ℕ) → is_ascending (x ∷ xs) ≡ true → i < length xs
+    → comes_before x (get_or xs i d) ≡ true
 leads_all x [] i d ascend within = absurd (omega arith)
 leads_all x (y ∷ ys) zero d ascend within = (and_parts (comes_before x y) (is_ascending (y ∷ ys)) ascend).0
 leads_all x (y ∷ ys) (suc i) d ascend within =
@@ -40,17 +43,20 @@ put_next [] i d ascend within = absurd (omega arith)
 put_next (x ∷ xs) zero d ascend within = refl
 put_next (x ∷ xs) (suc i) d ascend within =
     let next = get_or xs i d in
-    let behind : comes_before next x ≡ false = not_back_by x next (comes_before next x) refl (leads_all x xs i d ascend (omega arith)) in
+    let behind : comes_before next x ≡ false =
+    not_back_by x next (comes_before next x) refl (leads_all x xs i d ascend (omega arith)) in
     ap (λ (b : Bool). cond b (next ∷ x ∷ take i xs) (x ∷ put_among next (take i xs))) behind
     ∙ ap (λ (others : List (List ℕ)). x ∷ others) (put_next xs i d (rest_ascends x xs ascend) (omega arith))
 
 -- and is none of those
-next_free : (scis : List (List ℕ)) (i : ℕ) (d : List ℕ) → is_ascending scis ≡ true → i < length scis → is_among (take i scis) (get_or scis i d) ≡ false
+next_free : (scis : List (List ℕ)) (i : ℕ) (d : List ℕ) → is_ascending scis ≡ true → i < length scis
+    → is_among (take i scis) (get_or scis i d) ≡ false
 next_free [] i d ascend within = absurd (omega arith)
 next_free (x ∷ xs) zero d ascend within = refl
 next_free (x ∷ xs) (suc i) d ascend within =
     or_from (bytes_eq x (get_or xs i d)) (is_among (take i xs) (get_or xs i d))
-    (before_differs x (get_or xs i d) (leads_all x xs i d ascend (omega arith))) (next_free xs i d (rest_ascends x xs ascend) (omega arith))
+    (before_differs x (get_or xs i d) (leads_all x xs i d ascend (omega arith)))
+    (next_free xs i d (rest_ascends x xs ascend) (omega arith))
 
 -- one of those that ascend, at its place
 pub record IsNext (scis : List (List ℕ)) (i : ℕ) (sci : List ℕ) : Type 0 where
@@ -61,7 +67,8 @@ pub record IsNext (scis : List (List ℕ)) (i : ℕ) (sci : List ℕ) : Type 0 w
 module _ (scis : List (List ℕ)) (i : ℕ) (sci : List ℕ) (is : IsNext scis i sci) where
   pub put-next : put_among sci (take i scis) ≡ take (i + 1) scis
   put-next =
-      ap (λ (x : List ℕ). put_among x (take i scis)) is.there ∙ put_next scis i sci is.ascend is.within ∙ ap (λ (n : ℕ). take n scis) (sym (add-one i))
+      ap (λ (x : List ℕ). put_among x (take i scis)) is.there ∙ put_next scis i sci is.ascend is.within
+      ∙ ap (λ (n : ℕ). take n scis) (sym (add-one i))
 
   pub next-free : is_among (take i scis) sci ≡ false
   next-free = ap (is_among (take i scis)) is.there ∙ next_free scis i sci is.ascend is.within

@@ -12,7 +12,8 @@ use Rattle.macs_store.specs.Standing.{standing_with_rx_ceiling, standing_with_tx
 -- what is put at an SCI and a number stands there
 placed : (f : List ℕ → ℕ → Option ℕ) (sci : List ℕ) (an : ℕ) (ceiling : Option ℕ) (g : ℕ → Option ℕ)
     → put_at f sci (put g an ceiling) sci an ≡ ceiling
-placed f sci an ceiling g = ap (λ (h : ℕ → Option ℕ). h an) (put_at-here f sci (put g an ceiling)) ∙ put-here g an ceiling
+placed f sci an ceiling g = ap (λ (h : ℕ → Option ℕ). h an) (put_at-here f sci (put g an ceiling))
+    ∙ put-here g an ceiling
 
 pub ceiling-words : CeilingWords
 ceiling-words = record {
@@ -23,13 +24,16 @@ ceiling-words = record {
       put-here s.ceilings.tx an (option_map (λ from. block_beyond from s.identity.tx_block) (s.ceilings.tx an))
       ∙ ap (option_map (λ from. block_beyond from s.identity.tx_block)) is;
   raised_alone = λ s an other differ.
-      put-other s.ceilings.tx an other (option_map (λ from. block_beyond from s.identity.tx_block) (s.ceilings.tx an)) differ;
+      put-other s.ceilings.tx an other
+      (option_map (λ from. block_beyond from s.identity.tx_block) (s.ceilings.tx an)) differ;
   rx_stays = λ s an. refl;
   beyond = λ s sci an pn. placed s.ceilings.rx sci an (Some (block_beyond pn s.identity.rx_block)) (s.ceilings.rx sci);
   beyond_alone = λ s sci other an pn differ.
-      put_at-other s.ceilings.rx sci other (put (s.ceilings.rx sci) an (Some (block_beyond pn s.identity.rx_block))) differ;
+      put_at-other s.ceilings.rx sci other
+      (put (s.ceilings.rx sci) an (Some (block_beyond pn s.identity.rx_block))) differ;
   tx_stays = λ s sci an pn. refl;
-  installed = λ identity c an key start offset confidential. put-here c.tx an (Some (block_beyond start identity.tx_block));
+  installed =
+      λ identity c an key start offset confidential. put-here c.tx an (Some (block_beyond start identity.tx_block));
   received = λ identity c sci an key start offset. placed c.rx sci an (Some start) (c.rx sci);
   removed = λ identity c an. put-here c.tx an None;
   rx_removed = λ identity c sci an. placed c.rx sci an None (c.rx sci);
@@ -51,11 +55,15 @@ replay-words = record {
   done = λ s next command is. ap accepted_standing is;
   other = λ s. refl;
   no_raise = λ s an old ceiling is within.
-      ap (λ (b : Bool). cond b (Some (standing_with_tx_ceiling s an ceiling)) None) (not_above (s.ceilings.tx an) old ceiling is within);
+      ap (λ (b : Bool). cond b (Some (standing_with_tx_ceiling s an ceiling)) None)
+      (not_above (s.ceilings.tx an) old ceiling is within);
   no_ceiling = λ s an ceiling is.
-      ap (λ (b : Bool). cond b (Some (standing_with_tx_ceiling s an ceiling)) None) (none_above (s.ceilings.tx an) ceiling is);
+      ap (λ (b : Bool). cond b (Some (standing_with_tx_ceiling s an ceiling)) None)
+      (none_above (s.ceilings.tx an) ceiling is);
   no_rx_raise = λ s sci an old ceiling is within.
-      ap (λ (b : Bool). cond b (Some (standing_with_rx_ceiling s sci an ceiling)) None) (not_above (s.ceilings.rx sci an) old ceiling is within);
+      ap (λ (b : Bool). cond b (Some (standing_with_rx_ceiling s sci an ceiling)) None)
+      (not_above (s.ceilings.rx sci an) old ceiling is within);
   no_rx_ceiling = λ s sci an ceiling is.
-      ap (λ (b : Bool). cond b (Some (standing_with_rx_ceiling s sci an ceiling)) None) (none_above (s.ceilings.rx sci an) ceiling is);
+      ap (λ (b : Bool). cond b (Some (standing_with_rx_ceiling s sci an ceiling)) None)
+      (none_above (s.ceilings.rx sci an) ceiling is);
 }

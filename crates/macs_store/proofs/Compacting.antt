@@ -12,7 +12,8 @@ use Rattle.macs_store.proofs.Formats.{meaning-read, two-read}
 use Rattle.macs_store.proofs.Identities.{meaning-identity}
 
 -- what a journal stands for that started over with a snapshot of what it stood for
-pub meaning-compacted : (edition : Edition) (c : Content) (s : Standing) (records : List Record) → edition.format_two ≡ true → meaning_of edition c ≡ Some s
+pub meaning-compacted : (edition : Edition) (c : Content) (s : Standing) (records : List Record)
+    → edition.format_two ≡ true → meaning_of edition c ≡ Some s
     → snapshot_of edition s.identity records ≡ Some s → meaning_of edition (compacted c records) ≡ Some s
 meaning-compacted edition c s records takes_two is stands =
     let whole : take (length records) records ≡ records = take_all (length records) records (omega arith) in

@@ -1,5 +1,6 @@
 -- The steps of a store, one after another, up to the end of the work under way.
-use Rattle.std.proofs.Common.{◌≡◌, ◌≤◌, ◌+◌, ◌∙◌, true, false, Some, Result, Ok, Err, IsErrOf, inl, inr, refl, ap, sym, subst, arith}
+use Rattle.std.proofs.Common.{◌≡◌, ◌≤◌, ◌+◌, ◌∙◌, true, false, Some, Result, Ok, Err, IsErrOf, inl, inr, refl, ap, sym}
+use Rattle.std.proofs.Common.{subst, arith}
 use Rattle.macs_disk.specs.Disk.{Disk, IsHonest, Works}
 use Rattle.macs_disk.specs.Runs.{Leaves}
 use Rattle.macs_disk.proofs.Moments.{FailsOnce-before, Leaves-join, Leaves-start, Works-on, Works-start}
@@ -19,7 +20,9 @@ use Rattle.macs_store.specs.Found.{StandsForEither}
 use Rattle.macs_store.specs.Standing.{Standing}
 use Rattle.macs_store.specs.Stepping.{Finishes, Steps}
 use Rattle.macs_store.specs.Table.{standing_of}
-use Rattle.macs_store.specs.Value.{FitsChange, IsIdle, IsStored, StoreValue, calls_left, calls_with, disk_in, generation_then, generation_with, is_stopped, slots_then, slots_with, standing_in, standing_then, standing_with}
+use Rattle.macs_store.specs.Value.{FitsChange, IsIdle, IsStored, StoreValue, calls_left, calls_with, disk_in}
+use Rattle.macs_store.specs.Value.{generation_then, generation_with, is_stopped, slots_then, slots_with, standing_in}
+use Rattle.macs_store.specs.Value.{standing_then, standing_with}
 use Rattle.macs_store.specs.declared.change.Change.{Change}
 use Rattle.macs_store.specs.declared.change.Change.TheVariants.{Appending, Empty, Renewing}
 use Rattle.macs_store.proofs.Keeping.{in_hand-image, stored-image}
@@ -37,15 +40,16 @@ append-calls journal_work.Empty is = absurd is
 append-calls (journal_work.Append work) is = some-calls work.stage
 append-calls (journal_work.Compact work) is = absurd is
 
-pub calls-some : {D : Type 0} (s : StoreValue D) (hand : Change) → FitsChange s.journal (standing_in s) hand → (hand ≡ Empty → ⊥) → 1 ≤ calls_with s hand
+pub calls-some : {D : Type 0} (s : StoreValue D) (hand : Change) → FitsChange s.journal (standing_in s) hand
+    → (hand ≡ Empty → ⊥) → 1 ≤ calls_with s hand
 calls-some s Empty fits busy = absurd (busy refl)
 calls-some s (Renewing r) fits busy = omega arith
 calls-some s (Appending r) fits busy = append-calls s.journal.hand fits.2
 
 -- ---- what holds between two steps
 
--- A store ran, and its steps so far came to this: work is under way or done, the standing does not change before it is done, and at each moment
--- a power loss left the standing before or the standing then.
+-- A store ran, and its steps so far came to this: work is under way or done, the standing does not change before it is
+-- done, and at each moment a power loss left the standing before or the standing then.
 pub record IsOnItsWay {D : Type 0} (disk_of : D → Disk) (old now : StoreValue D) : Type 0 where
   pub ran : is_stopped old ≡ false
   pub runs : is_stopped now ≡ false
@@ -56,7 +60,8 @@ pub record IsOnItsWay {D : Type 0} (disk_of : D → Disk) (old now : StoreValue 
   pub works : Works (disk_in disk_of old) (disk_in disk_of now)
   pub steady : (disk_in disk_of now).failures ≡ (disk_in disk_of old).failures
   pub most : (disk_in disk_of now).clock + calls_left now ≤ (disk_in disk_of old).clock + calls_left old
-  pub moments : IsHonest (disk_in disk_of now) → IsStored disk_of old → (after : Standing) → standing_then old ≡ Some after
+  pub moments : IsHonest (disk_in disk_of now) → IsStored disk_of old → (after : Standing)
+      → standing_then old ≡ Some after
       → Leaves (disk_in disk_of old) (disk_in disk_of now) (StandsForEither (standing_in old) after)
   pub stored : IsHonest (disk_in disk_of now) → IsStored disk_of old → IsStored disk_of now
 
@@ -74,9 +79,11 @@ abbrev fails : JournalFault → Result (Unit {0}) JournalFault
 fails at = Err at
 
 module _ {D : Type 0} (disk_of : D → Disk) (s : StoreValue D) where
-  alone : IsStored disk_of s → (after : Standing) → standing_then s ≡ Some after → Leaves (disk_in disk_of s) (disk_in disk_of s) (StandsForEither (standing_in s) after)
+  alone : IsStored disk_of s → (after : Standing) → standing_then s ≡ Some after
+      → Leaves (disk_in disk_of s) (disk_in disk_of s) (StandsForEither (standing_in s) after)
   alone stored after follows =
-      Leaves-start (disk_in disk_of s) (StandsForEither (standing_in s) after) (in_hand-image disk_of s stored after follows)
+      Leaves-start (disk_in disk_of s) (StandsForEither (standing_in s) after)
+      (in_hand-image disk_of s stored after follows)
 
   pub way-start : is_stopped s ≡ false → IsOnItsWay disk_of s s
   way-start runs = record {
@@ -142,26 +149,34 @@ module _ {D : Type 0} (disk_of : D → Disk) (old mid : StoreValue D) (way : IsO
     same-standing : standing_in mid ≡ standing_in old
     same-standing = ap standing_of (way.standing busy)
 
-    moments-more : (result : Result JournalStep JournalFault) (new : StoreValue D) → Steps disk_of mid result new → IsHonest (disk_in disk_of new) → IsStored disk_of old
-        → (after : Standing) → standing_then old ≡ Some after → Leaves (disk_in disk_of old) (disk_in disk_of new) (StandsForEither (standing_in old) after)
+    moments-more : (result : Result JournalStep JournalFault) (new : StoreValue D) → Steps disk_of mid result new
+        → IsHonest (disk_in disk_of new) → IsStored disk_of old
+        → (after : Standing) → standing_then old ≡ Some after
+        → Leaves (disk_in disk_of old) (disk_in disk_of new) (StandsForEither (standing_in old) after)
     moments-more result new steps honest stored after follows =
         let before : IsHonest (disk_in disk_of mid) = sym steps.work.works.honest ∙ honest in
-        Leaves-join (disk_in disk_of old) (disk_in disk_of mid) (disk_in disk_of new) (StandsForEither (standing_in old) after)
-        (StandsForEither (standing_in mid) after) (StandsForEither (standing_in old) after) (way.moments before stored after follows)
+        Leaves-join (disk_in disk_of old) (disk_in disk_of mid) (disk_in disk_of new)
+        (StandsForEither (standing_in old) after)
+        (StandsForEither (standing_in mid) after) (StandsForEither (standing_in old) after)
+        (way.moments before stored after follows)
         (steps.any_moment honest (way.stored before stored) after (way.leads ∙ follows)) (λ image left. left)
         (λ image left. subst (λ (x : Standing). StandsForEither x after image) same-standing left)
 
-    step-leads : (step : JournalStep) (new : StoreValue D) → Steps disk_of mid (answers step) new → standing_then new ≡ standing_then mid
+    step-leads : (step : JournalStep) (new : StoreValue D) → Steps disk_of mid (answers step) new
+        → standing_then new ≡ standing_then mid
     step-leads Idle new steps = absurd (busy (steps.idle.0 refl).1)
     step-leads Going new steps = (steps.going refl).1
-    step-leads Finished new steps = ap (standing_with (standing_in new)) (steps.finished refl).0 ∙ sym (steps.finished refl).1
+    step-leads Finished new steps = ap (standing_with (standing_in new)) (steps.finished refl).0
+        ∙ sym (steps.finished refl).1
 
-    step-standing : (step : JournalStep) (new : StoreValue D) → Steps disk_of mid (answers step) new → (¬ IsIdle new) → new.held ≡ mid.held
+    step-standing : (step : JournalStep) (new : StoreValue D) → Steps disk_of mid (answers step) new → (¬ IsIdle new)
+        → new.held ≡ mid.held
     step-standing Idle new steps busy_still = absurd (busy (steps.idle.0 refl).1)
     step-standing Going new steps busy_still = steps.standing (λ same. let no : Going ≡ Finished = cc in cc)
     step-standing Finished new steps busy_still = absurd (busy_still (steps.finished refl).0)
 
-    pub way-more : (step : JournalStep) (new : StoreValue D) → Steps disk_of mid (answers step) new → IsOnItsWay disk_of old new
+    pub way-more : (step : JournalStep) (new : StoreValue D) → Steps disk_of mid (answers step) new
+        → IsOnItsWay disk_of old new
     way-more step new steps = record {
       ran = way.ran;
       runs = steps.running;
@@ -177,17 +192,24 @@ module _ {D : Type 0} (disk_of : D → Disk) (old mid : StoreValue D) (way : IsO
     }
 
     -- it failed
-    fails-more : (at : JournalFault) (new : StoreValue D) → FailsAs (disk_in disk_of mid) (disk_in disk_of new) (refuses at)
+    fails-more : (at : JournalFault) (new : StoreValue D)
+        → FailsAs (disk_in disk_of mid) (disk_in disk_of new) (refuses at)
         → FailsAs (disk_in disk_of old) (disk_in disk_of new) (fails at)
-    fails-more fault.Disk new failed = FailsOnce-before (disk_in disk_of old) (disk_in disk_of mid) (disk_in disk_of new) way.steady failed
+    fails-more fault.Disk new failed =
+        FailsOnce-before (disk_in disk_of old) (disk_in disk_of mid) (disk_in disk_of new) way.steady failed
     fails-more other new failed = failed ∙ way.steady
 
-    told-stopped : (at : JournalFault) (new : StoreValue D) → Steps disk_of mid (refuses at) new → IsErrOf {T = JournalStep} (Err at) fault.Stopped → ⊥
+    told-stopped : (at : JournalFault) (new : StoreValue D) → Steps disk_of mid (refuses at) new
+        → IsErrOf {T = JournalStep} (Err at) fault.Stopped → ⊥
     told-stopped at new steps same = let no : true ≡ false = sym (steps.stopped.0 same) ∙ way.runs in cc
 
-    pub way-failed : 1 ≤ calls_left mid → (at : JournalFault) (new : StoreValue D) → Steps disk_of mid (refuses at) new → Finishes disk_of old (fails at) new
+    pub way-failed : 1 ≤ calls_left mid → (at : JournalFault) (new : StoreValue D) → Steps disk_of mid (refuses at) new
+        → Finishes disk_of old (fails at) new
     way-failed some at new steps = record {
-      stopped = (λ same. absurd (told-stopped at new steps (let is : at ≡ fault.Stopped = cc in ap Err is)), λ is. absurd (not_stopped is));
+      stopped = (
+        λ same. absurd (told-stopped at new steps (let is : at ≡ fault.Stopped = cc in ap Err is)),
+        λ is. absurd (not_stopped is),
+      );
       names = elim steps.names [
         | inl stopped ↦ absurd (told-stopped at new steps stopped)
         | inr failed ↦ inr (let is : at ≡ fault.Disk = cc in ap Err is)

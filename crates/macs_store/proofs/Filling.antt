@@ -1,5 +1,6 @@
 -- Tables filled number by number, and channel by channel.
-use Rattle.std.proofs.Common.{◌≡◌, ◌∙◌, ◌≤◌, ◌<◌, ◌+◌, ◌==◌, ℕ, Bool, true, false, cond, ◌||◌, List, length, take, get_or, Option, None, bytes_eq, refl, ap, sym, arith}
+use Rattle.std.proofs.Common.{◌≡◌, ◌∙◌, ◌≤◌, ◌<◌, ◌+◌, ◌==◌, ℕ, Bool, true, false, cond, ◌||◌, List, length, take}
+use Rattle.std.proofs.Common.{get_or, Option, None, bytes_eq, refl, ap, sym, arith}
 use Rattle.std.specs.Prelude.{nat_lt}
 use Rattle.std.proofs.lemmas.Bool.{eqb-false, eqb-true, le-ltb, ltb-false, ltb-true}
 use Rattle.std.proofs.lemmas.List.Folds.{list_any_more}
@@ -16,7 +17,8 @@ abbrev pub below : {X : Type 0} → ℕ → (ℕ → Option X) → ℕ → Optio
 below n f k = cond (nat_lt k n) (f k) None
 
 module _ {X : Type 0} (f : ℕ → Option X) where
-  more_by : (n k : ℕ) (x : Option X) (same was becomes : Bool) → f n ≡ x → (k == n) ≡ same → nat_lt k n ≡ was → nat_lt k (n + 1) ≡ becomes
+  more_by : (n k : ℕ) (x : Option X) (same was becomes : Bool) → f n ≡ x → (k == n) ≡ same → nat_lt k n ≡ was
+      → nat_lt k (n + 1) ≡ becomes
       → cond same x (cond was (f k) None) ≡ cond becomes (f k) None
   more_by n k x true was true is equal before after = sym is ∙ ap f (sym (eqb-true k n equal))
   more_by n k x true was false is equal before after =
@@ -63,7 +65,8 @@ module _ {X : Type 0} (f : ℕ → Option X) where
     filled-next n = ap (λ (g : ℕ → Option X). g n) (put_at-here old sci (below n f)) ∙ below-next n
 
     pub filled-more : (n : ℕ) (x : Option X) → f n ≡ x
-        → put_at (put_at old sci (below n f)) sci (put (put_at old sci (below n f) sci) n x) ≡ put_at old sci (below (n + 1) f)
+        → put_at (put_at old sci (below n f)) sci (put (put_at old sci (below n f) sci) n x)
+        ≡ put_at old sci (below (n + 1) f)
     filled-more n x is =
         ap (λ (g : ℕ → Option X). put_at (put_at old sci (below n f)) sci (put g n x)) (put_at-here old sci (below n f))
         ∙ put_at-twice old sci (below n f) (put (below n f) n x) ∙ ap (put_at old sci) (below-more n x is)
@@ -81,7 +84,8 @@ abbrev pub among : {Y : Type 0} → List (List ℕ) → (List ℕ → Y) → Y �
 among scis f none s = cond (is_among scis s) (f s) none
 
 module _ {Y : Type 0} (f : List ℕ → Y) (none : Y) where
-  one_more : (sci s : List ℕ) (same was : Bool) → bytes_eq s sci ≡ same → cond same (f sci) (cond was (f s) none) ≡ cond (was || same) (f s) none
+  one_more : (sci s : List ℕ) (same was : Bool) → bytes_eq s sci ≡ same
+      → cond same (f sci) (cond was (f s) none) ≡ cond (was || same) (f s) none
   one_more sci s true true is = ap f (sym (same_octets s sci is))
   one_more sci s true false is = ap f (sym (same_octets s sci is))
   one_more sci s false true is = refl

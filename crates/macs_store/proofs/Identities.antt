@@ -1,5 +1,6 @@
 -- What a journal stands for has the identity of its head.
-use Rattle.std.proofs.Common.{◌≡◌, ◌∙◌, Bool, true, false, if◌then◌else◌, List, [], ◌∷◌, take, drop, Option, Some, None, Result, Ok, Err, refl, ap}
+use Rattle.std.proofs.Common.{◌≡◌, ◌∙◌, Bool, true, false, if◌then◌else◌, List, [], ◌∷◌, take, drop, Option, Some, None}
+use Rattle.std.proofs.Common.{Result, Ok, Err, refl, ap}
 use Rattle.std.specs.Option.{option_and_then, option_map}
 use Rattle.macs_config.specs.Apply.{Reason, apply}
 use Rattle.macs_config.specs.Config.{Config, Edition}
@@ -10,8 +11,11 @@ use Rattle.macs_journal.specs.Found.{Content}
 use Rattle.macs_record.specs.declared.record.Record.{Record}
 use Rattle.macs_record.specs.declared.record.Record.TheVariants.{RxCeiling, TxCeiling}
 use Rattle.macs_store.specs.Commands.{command_of}
-use Rattle.macs_store.specs.Replay.{accepted_standing, ceilings_with_records, is_raise, meaning_of, snapshot_of, snapshot_parts, standing_after_command, standing_after_record, standing_after_records}
-use Rattle.macs_store.specs.Standing.{Ceilings, Standing, no_ceilings, standing_or_refusal, standing_with_rx_ceiling, standing_with_tx_ceiling}
+use Rattle.macs_store.specs.Replay.{accepted_standing, ceilings_with_records, is_raise, meaning_of, snapshot_of}
+use Rattle.macs_store.specs.Replay.{snapshot_parts, standing_after_command, standing_after_record}
+use Rattle.macs_store.specs.Replay.{standing_after_records}
+use Rattle.macs_store.specs.Standing.{Ceilings, Standing, no_ceilings, standing_or_refusal, standing_with_rx_ceiling}
+use Rattle.macs_store.specs.Standing.{standing_with_tx_ceiling}
 use Rattle.macs_store.proofs.Formats.{read-meaning}
 
 -- the identity of what there is
@@ -23,11 +27,13 @@ accepted-identity : (s t : Standing) (command : Command) (result : Result Config
 accepted-identity s t command (Ok config) is = let same = ap identity_in is in cc
 accepted-identity s t command (Err refusal) is = cc
 
-command-identity : (s t : Standing) (command : Option Command) → standing_after_command s command ≡ Some t → t.identity ≡ s.identity
+command-identity : (s t : Standing) (command : Option Command) → standing_after_command s command ≡ Some t
+    → t.identity ≡ s.identity
 command-identity s t None is = cc
 command-identity s t (Some command) is = accepted-identity s t command (apply s.edition s.identity s.config command) is
 
-raise-identity : (test : Bool) (s raised t : Standing) → raised.identity ≡ s.identity → (if test then Some raised else None) ≡ Some t → t.identity ≡ s.identity
+raise-identity : (test : Bool) (s raised t : Standing) → raised.identity ≡ s.identity
+    → (if test then Some raised else None) ≡ Some t → t.identity ≡ s.identity
 raise-identity true s raised t same is = let there = ap identity_in is in cc
 raise-identity false s raised t same is = cc
 
@@ -38,7 +44,8 @@ record-identity s t (RxCeiling sci an ceiling) is =
     raise-identity (is_raise (s.ceilings.rx sci an) ceiling) s (standing_with_rx_ceiling s sci an ceiling) t refl is
 record-identity s t r is = command-identity s t (command_of r) is
 
-then-identity : (identity : Identity) (o : Option Standing) (t : Standing) (rs : List Record) → ((s : Standing) → o ≡ Some s → s.identity ≡ identity)
+then-identity : (identity : Identity) (o : Option Standing) (t : Standing) (rs : List Record)
+    → ((s : Standing) → o ≡ Some s → s.identity ≡ identity)
     → ((s : Standing) → standing_after_records s rs ≡ Some t → t.identity ≡ s.identity)
     → option_and_then (λ s. standing_after_records s rs) o ≡ Some t → t.identity ≡ identity
 then-identity identity None t rs first later is = cc
@@ -47,14 +54,22 @@ then-identity identity (Some s) t rs first later is = later s is ∙ first s ref
 records-identity : (s t : Standing) (rs : List Record) → standing_after_records s rs ≡ Some t → t.identity ≡ s.identity
 records-identity s t [] is = let same = ap identity_in is in cc
 records-identity s t (r ∷ rs) is =
-    then-identity s.identity (standing_after_record s r) t rs (λ next. record-identity s next r) (λ next. records-identity next t rs) is
+    then-identity s.identity (standing_after_record s r) t rs (λ next. record-identity s next r)
+    (λ next. records-identity next t rs) is
 
 mapped-identity : (edition : Edition) (identity : Identity) (k : Ceilings) (o : Option Config) (s : Standing)
-    → option_map (λ (config : Config). record { edition = edition; identity = identity; config = config; ceilings = k }) o ≡ Some s → s.identity ≡ identity
+    → option_map (λ (config : Config). record {
+      edition = edition;
+      identity = identity;
+      config = config;
+      ceilings =
+          k;
+    }) o ≡ Some s → s.identity ≡ identity
 mapped-identity edition identity k None s is = cc
 mapped-identity edition identity k (Some config) s is = let same = ap identity_in is in cc
 
-pub meaning-identity : (edition : Edition) (c : Content) (s : Standing) → meaning_of edition c ≡ Some s → s.identity ≡ c.head.identity
+pub meaning-identity : (edition : Edition) (c : Content) (s : Standing) → meaning_of edition c ≡ Some s
+    → s.identity ≡ c.head.identity
 meaning-identity edition c s is =
     let identity = c.head.identity in
     let records = take c.head.count c.records in

@@ -1,5 +1,6 @@
 -- Work on a record is started, and what that takes.
-use Rattle.std.proofs.Common.{◌≡◌, ◌<◌, ◌+◌, ◌==◌, ◌∙◌, Bool, true, false, if◌then◌else◌, List, Some, Result, Ok, Err, refl, ap, sym, arith, eq-eqb}
+use Rattle.std.proofs.Common.{◌≡◌, ◌<◌, ◌+◌, ◌==◌, ◌∙◌, Bool, true, false, if◌then◌else◌, List, Some, Result, Ok, Err}
+use Rattle.std.proofs.Common.{refl, ap, sym, arith, eq-eqb}
 use Rattle.std.proofs.lemmas.Bool.{ne_eqb}
 use Rattle.macs_config.specs.Config.{this_edition}
 use Rattle.macs_disk.specs.Disk.{Disk}
@@ -57,12 +58,14 @@ module _ {D : Type 0} (s : StoreValue D) (room : used_slots s < slots) where
 
 -- ---- what the journal has under way
 
-pub task-appends : {D : Type 0} (j : JournalValue D) (r : Record) (hand : journal_hand.Hand) → IsTaskInHand j (Appends r) hand → IsAppendHand hand
+pub task-appends : {D : Type 0} (j : JournalValue D) (r : Record) (hand : journal_hand.Hand)
+    → IsTaskInHand j (Appends r) hand → IsAppendHand hand
 task-appends j r journal_work.Empty is = absurd is
 task-appends j r (journal_work.Append work) is = tt
 task-appends j r (journal_work.Compact work) is = absurd is
 
-pub task-renews : {D : Type 0} (j : JournalValue D) (records : List Record) (hand : journal_hand.Hand) → IsTaskInHand j (Renews records) hand
+pub task-renews : {D : Type 0} (j : JournalValue D) (records : List Record) (hand : journal_hand.Hand)
+    → IsTaskInHand j (Renews records) hand
     → RenewsWith j.place hand records
 task-renews j records journal_work.Empty is = absurd is
 task-renews j records (journal_work.Append work) is = absurd is
@@ -84,16 +87,19 @@ module _ {D : Type 0} (disk_of : D → Disk) (s : StoreValue D) (idle : IsIdle s
   with_renewal j = record { journal = j; held = s.held; hand = Renewing r }
 
   module _ (room : used_slots s < slots) where
-    append-stored : (j : JournalValue D) → journal.Starts disk_of s.journal (Appends r) taken j → IsStored disk_of s → IsStored disk_of (with_append j)
+    append-stored : (j : JournalValue D) → journal.Starts disk_of s.journal (Appends r) taken j → IsStored disk_of s
+        → IsStored disk_of (with_append j)
     append-stored j starts stored =
         let holds = idle-holds disk_of s stored idle in
         record {
           content = stored.content;
           next = content_with_record stored.content r;
-          holding = append-with (disk_of j.disk) j.place j.hand (snapshot (standing_in s)) stored.content (content_with_record stored.content r)
+          holding = append-with (disk_of j.disk) j.place j.hand (snapshot (standing_in s)) stored.content
+              (content_with_record stored.content r)
               (task-appends s.journal r j.hand starts.hand) (starts.holds stored.content holds);
           stands = stored.stands;
-          becomes = standing-with this_edition stored.content r (standing_in s) (held-within disk_of s.journal stored.content holds) stored.form stored.stands;
+          becomes = standing-with this_edition stored.content r (standing_in s)
+              (held-within disk_of s.journal stored.content holds) stored.form stored.stands;
           leads = refl;
           form = stored.form;
           form_next = stored.form;
@@ -117,7 +123,8 @@ module _ {D : Type 0} (disk_of : D → Disk) (s : StoreValue D) (idle : IsIdle s
     not-full spent = let full = spent.1 in omega (arith, room, full)
 
     -- the record is under way, where a slot is free
-    pub append-started : (j : JournalValue D) → journal.Starts disk_of s.journal (Appends r) taken j → StartsRecord disk_of s r taken (with_append j)
+    pub append-started : (j : JournalValue D) → journal.Starts disk_of s.journal (Appends r) taken j
+        → StartsRecord disk_of s r taken (with_append j)
     append-started j starts = record {
       stopped = (λ same. starts.stopped.0 same, λ is. starts.stopped.1 is);
       spent = (λ same. absurd cc, λ spent. absurd (not-full spent));
@@ -127,7 +134,8 @@ module _ {D : Type 0} (disk_of : D → Disk) (s : StoreValue D) (idle : IsIdle s
     }
 
     -- or is not, since the store is stopped
-    pub append-refused : (at : JournalFault) (j : JournalValue D) → journal.Starts disk_of s.journal (Appends r) (refused at) j
+    pub append-refused : (at : JournalFault) (j : JournalValue D)
+        → journal.Starts disk_of s.journal (Appends r) (refused at) j
         → StartsRecord disk_of s r (refused at) (record s { journal = j })
     append-refused at j starts = record {
       stopped = (λ same. starts.stopped.0 same, λ is. starts.stopped.1 is);
@@ -137,17 +145,20 @@ module _ {D : Type 0} (disk_of : D → Disk) (s : StoreValue D) (idle : IsIdle s
       in_hand = tt;
     }
 
-  module _ (full : used_slots s ≡ slots) (stands : snapshot_of this_edition (standing_in s).identity (snapshot (standing_in s)) ≡ Some (standing_in s)) where
+  module _ (full : used_slots s ≡ slots) (stands : snapshot_of this_edition (standing_in s).identity
+      (snapshot (standing_in s)) ≡ Some (standing_in s)) where
     abbrev records : List Record
     records = snapshot (standing_in s)
 
-    renewal-stored : (j : JournalValue D) → journal.Starts disk_of s.journal (Renews records) taken j → IsStored disk_of s → IsStored disk_of (with_renewal j)
+    renewal-stored : (j : JournalValue D) → journal.Starts disk_of s.journal (Renews records) taken j
+        → IsStored disk_of s → IsStored disk_of (with_renewal j)
     renewal-stored j starts stored =
         let holds = idle-holds disk_of s stored idle in
         record {
           content = stored.content;
           next = compacted stored.content records;
-          holding = renewal-with (disk_of j.disk) j.place j.hand records stored.content (starts.holds stored.content holds);
+          holding =
+              renewal-with (disk_of j.disk) j.place j.hand records stored.content (starts.holds stored.content holds);
           stands = stored.stands;
           becomes = meaning-compacted this_edition stored.content (standing_in s) records refl stored.stands stands;
           leads = tt;
@@ -155,7 +166,8 @@ module _ {D : Type 0} (disk_of : D → Disk) (s : StoreValue D) (idle : IsIdle s
           form_next = refl;
         }
 
-    renewal-in_hand : (j : JournalValue D) (after : Standing) → journal.Starts disk_of s.journal (Renews records) taken j
+    renewal-in_hand : (j : JournalValue D) (after : Standing)
+        → journal.Starts disk_of s.journal (Renews records) taken j
         → standing_after_record (standing_in s) r ≡ Some after → HasInHand disk_of s after (with_renewal j)
     renewal-in_hand j after starts follows = record {
       running = starts.running;
@@ -170,7 +182,8 @@ module _ {D : Type 0} (disk_of : D → Disk) (s : StoreValue D) (idle : IsIdle s
     }
 
     -- the compaction is under way, where all slots are used
-    pub renewal-started : (j : JournalValue D) → journal.Starts disk_of s.journal (Renews records) taken j → StartsRecord disk_of s r taken (with_renewal j)
+    pub renewal-started : (j : JournalValue D) → journal.Starts disk_of s.journal (Renews records) taken j
+        → StartsRecord disk_of s r taken (with_renewal j)
     renewal-started j starts = record {
       stopped = (λ same. starts.stopped.0 same, λ is. starts.stopped.1 is);
       spent = (λ same. absurd cc, λ spent. absurd (let is = starts.spent.1 (spent.0, spent.2) in cc));
@@ -180,11 +193,16 @@ module _ {D : Type 0} (disk_of : D → Disk) (s : StoreValue D) (idle : IsIdle s
     }
 
     -- or is not
-    pub renewal-refused : (at : JournalFault) (j : JournalValue D) → journal.Starts disk_of s.journal (Renews records) (refused at) j
+    pub renewal-refused : (at : JournalFault) (j : JournalValue D)
+        → journal.Starts disk_of s.journal (Renews records) (refused at) j
         → StartsRecord disk_of s r (refused at) (record s { journal = j })
     renewal-refused at j starts = record {
       stopped = (λ same. starts.stopped.0 same, λ is. starts.stopped.1 is);
-      spent = (λ same. let both = starts.spent.0 same in (both.0, full, both.1), λ spent. starts.spent.1 (spent.0, spent.2));
+      spent = (
+        λ same. let both = starts.spent.0 same in
+            (both.0, full, both.1),
+        λ spent. starts.spent.1 (spent.0, spent.2),
+      );
       names = starts.names;
       same = ap (λ (j : JournalValue D). record s { journal = j }) starts.same;
       in_hand = tt;

@@ -1,5 +1,6 @@
 -- A disk whose journal was recovered: opened as it is, rewritten in format two, or refused.
-use Rattle.std.proofs.Common.{◌≡◌, ◌⊎◌, ◌∙◌, inl, inr, ℕ, Bool, true, false, if◌then◌else◌, List, length, Some, None, Result, Ok, Err, IsErrOf, refl, sym, ap, subst, arith}
+use Rattle.std.proofs.Common.{◌≡◌, ◌⊎◌, ◌∙◌, inl, inr, ℕ, Bool, true, false, if◌then◌else◌, List, length, Some, None}
+use Rattle.std.proofs.Common.{Result, Ok, Err, IsErrOf, refl, sym, ap, subst, arith}
 use Rattle.macs_config.specs.Config.{Edition, this_edition}
 use Rattle.macs_config.specs.Identity.{Identity}
 use Rattle.macs_disk.specs.Disk.{Disk, IsHonest, Works, now}
@@ -19,19 +20,22 @@ use Rattle.macs_journal.specs.Rewriting.{IsSettled}
 use Rattle.macs_journal.specs.Value as journal
 use Rattle.macs_journal.specs.Value.{HoldsContent, IsMadeOf, JournalValue, content_of}
 use Rattle.macs_journal.specs.declared.fault.JournalFault.{JournalFault}
-use Rattle.macs_journal.specs.declared.fault.JournalFault.TheVariants.{BadJournal, Disk as Failed, GenerationsSpent, Stopped, TooSmall}
+use Rattle.macs_journal.specs.declared.fault.JournalFault.TheVariants.{BadJournal, Disk as Failed, GenerationsSpent}
+use Rattle.macs_journal.specs.declared.fault.JournalFault.TheVariants.{Stopped, TooSmall}
 use Rattle.macs_journal.specs.declared.hand.Hand as journal_hand
 use Rattle.macs_journal.proofs.Current.{one_content}
 use Rattle.macs_journal.proofs.Holding.{held-image, held-ready}
 use Rattle.macs_journal.proofs.Spared.{Spared-on}
 use Rattle.macs_journal.proofs.Untouched.{spared-from-first}
 use Rattle.macs_store.specs.Found.{IsOld, IsToMigrate, IsUnfitTo, StandingIs, StandsFor}
-use Rattle.macs_store.specs.Opening.{BeginsAnew, HasNoneToMigrate, IsMigration, IsUnfit, MigrationLeaves, OpeningLeaves, Opens, RefusesDisk, TakesUp, WritesNothing}
+use Rattle.macs_store.specs.Opening.{BeginsAnew, HasNoneToMigrate, IsMigration, IsUnfit, MigrationLeaves, OpeningLeaves}
+use Rattle.macs_store.specs.Opening.{Opens, RefusesDisk, TakesUp, WritesNothing}
 use Rattle.macs_store.specs.Replay.{meaning_of, migrates, reading_of, snapshot_of}
 use Rattle.macs_store.specs.Snapshot.{snapshot}
 use Rattle.macs_store.specs.Standing.{Standing}
 use Rattle.macs_store.specs.Table.{standing_of}
-use Rattle.macs_store.specs.Value.{IsIdle, IsStored, LeadsTo, StoreValue, device_in, disk_in, standing_in, standing_next}
+use Rattle.macs_store.specs.Value.{IsIdle, IsStored, LeadsTo, StoreValue, device_in, disk_in, standing_in}
+use Rattle.macs_store.specs.Value.{standing_next}
 use Rattle.macs_store.specs.declared.change.Change.{Change}
 use Rattle.macs_store.proofs.Compacting.{meaning-compacted}
 
@@ -76,13 +80,16 @@ ready_settled : (s : DiskState) (c : Content) → IsReady s c → IsSettled s
 ready_settled s c ready = record { clean = ready.clean; fresh = ready.fresh }
 
 -- what was recovered stands for what its records were read to
-pub recovered-meaning : (edition : Edition) (c : Content) (format : Format) (identity : Identity) (count : ℕ) (records : List Record) → format ≡ c.head.format
-    → identity ≡ c.head.identity → count ≡ c.head.count → records ≡ c.records → meaning_of edition c ≡ reading_of edition format identity count records
+pub recovered-meaning : (edition : Edition) (c : Content) (format : Format) (identity : Identity) (count : ℕ)
+    (records : List Record) → format ≡ c.head.format
+    → identity ≡ c.head.identity → count ≡ c.head.count → records ≡ c.records
+    → meaning_of edition c ≡ reading_of edition format identity count records
 recovered-meaning edition c format identity count records same_format same_identity same_count same_records =
     sym (λ i. reading_of edition (same_format i) (same_identity i) (same_count i) (same_records i))
 
 -- a store without work, whose journal has none either and holds what is in memory
-idle_stored : {D : Type 0} (disk_of : D → Disk) (s : StoreValue D) (c : Content) → IsIdle s → journal.IsIdle s.journal → HoldsContent disk_of s.journal c
+idle_stored : {D : Type 0} (disk_of : D → Disk) (s : StoreValue D) (c : Content) → IsIdle s → journal.IsIdle s.journal
+    → HoldsContent disk_of s.journal c
     → meaning_of this_edition c ≡ Some (standing_in s) → c.head.format ≡ Two → IsStored disk_of s
 idle_stored disk_of s c idle rests holds stands form = record {
   content = c;
@@ -104,7 +111,8 @@ module _ (old new : Disk) (nothing : LeavesNothingNew old new) where
   quiet_leaves : Leaves old new (OpeningLeaves old)
   quiet_leaves = Leaves-weaker old new (IsImage (now old)) (OpeningLeaves old) (λ image left. inl left) nothing
 
-  quiet_migration : IsSound (now old) → Works old new → StandsFromFirst old new → (now new ≡ now old) ⊎ (now new ≡ state_after_sync (now old))
+  quiet_migration : IsSound (now old) → Works old new → StandsFromFirst old new
+      → (now new ≡ now old) ⊎ (now new ≡ state_after_sync (now old))
       → (c : Content) (s : Standing) → IsMigration old new c s
   quiet_migration sound works stands left c s = record {
     any_moment = Leaves-weaker old new (IsImage (now old)) (MigrationLeaves old c s) (λ image left. inl left) nothing;
@@ -112,19 +120,23 @@ module _ (old new : Disk) (nothing : LeavesNothingNew old new) where
   }
 
 -- no journal was found
-unfit : (sectors : ℕ) (image : Image) (fault : JournalFault) → JournalIs sectors image (Err fault) → IsUnfitTo this_edition sectors image fault
+unfit : (sectors : ℕ) (image : Image) (fault : JournalFault) → JournalIs sectors image (Err fault)
+    → IsUnfitTo this_edition sectors image fault
 unfit sectors image BadJournal is = (is.0, inl is.1)
 unfit sectors image GenerationsSpent is = absurd is
 unfit sectors image fault is = is
 
-left_by : (fault : JournalFault) (old new : DiskState) → IsLeftBy fault old new → (new ≡ old) ⊎ (new ≡ state_after_sync old)
+left_by : (fault : JournalFault) (old new : DiskState) → IsLeftBy fault old new
+    → (new ≡ old) ⊎ (new ≡ state_after_sync old)
 left_by TooSmall old new is = inl is
 left_by Failed old new is = is
 left_by fault old new is = inr is
 
-module _ {D : Type 0} (disk_of : D → Disk) (disk : D) (sound : IsHonest (disk_of disk) → IsSound (now (disk_of disk))) where
+module _ {D : Type 0} (disk_of : D → Disk) (disk : D) (sound : IsHonest (disk_of disk)
+    → IsSound (now (disk_of disk))) where
   -- that of a disk is refused
-  pub recovery-refused : (left : D) (fault : JournalFault) → IsRefused disk_of (IsNoJournal disk_of disk) disk left fault → RefusesDisk disk_of disk left fault
+  pub recovery-refused : (left : D) (fault : JournalFault)
+      → IsRefused disk_of (IsNoJournal disk_of disk) disk left fault → RefusesDisk disk_of disk left fault
   recovery-refused left fault is = record {
     name = inl is.name;
     small = is.small;
@@ -133,9 +145,11 @@ module _ {D : Type 0} (disk_of : D → Disk) (disk : D) (sound : IsHonest (disk_
     fails = is.fails;
     found = λ other honest. unfit (disk_of disk).sectors (now (disk_of disk)).seen fault (is.found other honest);
     any_moment = λ honest. quiet_leaves (disk_of disk) (disk_of left) (is.any_moment honest);
-    unwritten = λ honest none. (record { from_first = is.from_first honest; any_moment = is.any_moment honest }, is.unwritten honest);
+    unwritten = λ honest none.
+        (record { from_first = is.from_first honest; any_moment = is.any_moment honest }, is.unwritten honest);
     migrated = λ honest c s to.
-        quiet_migration (disk_of disk) (disk_of left) (is.any_moment honest) (sound (sym is.works.honest ∙ honest)) is.works (is.from_first honest)
+        quiet_migration (disk_of disk) (disk_of left) (is.any_moment honest) (sound (sym is.works.honest ∙ honest))
+        is.works (is.from_first honest)
         (left_by fault (now (disk_of disk)) (now (disk_of left)) (is.unwritten honest)) c s;
   }
 
@@ -164,7 +178,8 @@ module _ {D : Type 0} (disk_of : D → Disk) (disk : D) (sound : IsHonest (disk_
 
     by_recovery : IsHonest mid → (c : Content) (t : Standing) → IsMigration old mid c t
     by_recovery honest c t =
-        quiet_migration old mid (is.device.any_moment honest) (was_sound honest) is.device.works (is.device.from_first honest)
+        quiet_migration old mid (is.device.any_moment honest) (was_sound honest) is.device.works
+        (is.device.from_first honest)
         (inr (is.device.settled honest)) c t
 
     -- its records are refused: nothing is written
@@ -175,7 +190,8 @@ module _ {D : Type 0} (disk_of : D → Disk) (disk : D) (sound : IsHonest (disk_
       untouched = λ same. absurd cc;
       works = is.device.works;
       fails = is.device.fails;
-      found = λ other honest. let there = is.found honest in (there.0, inr (record { content = content; found = there.1; refused = none }));
+      found = λ other honest. let there = is.found honest in
+          (there.0, inr (record { content = content; found = there.1; refused = none }));
       any_moment = λ honest. quiet_leaves old mid (is.device.any_moment honest);
       unwritten = λ honest other. (nothing honest, is.device.settled honest);
       migrated = λ honest c t to. by_recovery honest c t;
@@ -196,7 +212,8 @@ module _ {D : Type 0} (disk_of : D → Disk) (disk : D) (sound : IsHonest (disk_
         none_to honest c t to =
             let same = the_content honest c to.is.found in
             let at_format : migrates this_edition c.head.format ≡ migrates this_edition format =
-            ap (λ (c : Content). migrates this_edition c.head.format) same ∙ ap (λ (f : Format). migrates this_edition f) (sym is.form) in
+            ap (λ (c : Content). migrates this_edition c.head.format) same
+            ∙ ap (λ (f : Format). migrates this_edition f) (sym is.form) in
             no_true (sym to.is.old ∙ at_format ∙ two)
 
         opened_as_found : Opens disk_of disk s
@@ -218,12 +235,14 @@ module _ {D : Type 0} (disk_of : D → Disk) (disk : D) (sound : IsHonest (disk_
           running = is.running;
           idle = idle;
           found = is_found;
-          stored = λ honest. idle_stored disk_of s content idle is.idle (is.holds honest) stands (sym is.form ∙ is_two format two);
+          stored = λ honest.
+              idle_stored disk_of s content idle is.idle (is.holds honest) stands (sym is.form ∙ is_two format two);
         }
 
       -- ---- in format one
 
-      module _ (old_format : migrates this_edition format ≡ true) (result : Result (Unit {0}) JournalFault) (t : StoreValue D)
+      module _ (old_format : migrates this_edition format ≡ true) (result : Result (Unit {0}) JournalFault)
+          (t : StoreValue D)
           (begins : BeginsAnew disk_of s result t) where
         abbrev new : Disk
         new = disk_in disk_of t
@@ -255,7 +274,8 @@ module _ {D : Type 0} (disk_of : D → Disk) (disk : D) (sound : IsHonest (disk_
 
         either : IsHonest new → Leaves old new (MigrationLeaves old content (standing_in s))
         either honest =
-            Leaves-join old mid new (IsImage (now old)) (HasEitherJournal content next) (MigrationLeaves old content (standing_in s))
+            Leaves-join old mid new (IsImage (now old)) (HasEitherJournal content next)
+            (MigrationLeaves old content (standing_in s))
             (is.device.any_moment (back honest)) (begins.compacts.any_moment honest content (is.holds (back honest)))
             (λ image left. inl left) (λ image left. inr left)
 
@@ -267,33 +287,50 @@ module _ {D : Type 0} (disk_of : D → Disk) (disk : D) (sound : IsHonest (disk_
           any_moment = either honest;
           others = λ i none.
               Spared-on old mid new i is.device.works anew
-              (spared-from-first old mid i (was_sound (back honest)) is.device.works (is.device.from_first (back honest)) (inr (is.device.settled (back honest))))
+              (spared-from-first old mid i (was_sound (back honest)) is.device.works
+              (is.device.from_first (back honest)) (inr (is.device.settled (back honest))))
               (begins.compacts.others honest i
-              (subst (λ (seen : Image). ¬ CompactWrites seen (other_area content.area) (length kept) i) (sym (same_seen (back honest))) none));
+              (subst (λ (seen : Image). ¬ CompactWrites seen (other_area content.area) (length kept) i)
+              (sym (same_seen (back honest))) none));
         }
 
         -- what is left stands for the same
-        alike : IsHonest mid → (image : Image) → MigrationLeaves old content (standing_in s) image → OpeningLeaves old image
+        alike : IsHonest mid → (image : Image) → MigrationLeaves old content (standing_in s) image
+            → OpeningLeaves old image
         alike honest image (inl before) = inl before
         alike honest image (inr (inl found)) =
-            inr (record { standing = standing_in s; first = found_stands honest; second = record { content = content; found = found; stands = stands } })
+            inr (record {
+              standing = standing_in s;
+              first = found_stands honest;
+              second =
+                  record { content = content; found = found; stands = stands };
+            })
         alike honest image (inr (inr found)) =
-            inr (record { standing = standing_in s; first = found_stands honest; second = record { content = next; found = found; stands = next_stands } })
+            inr (record {
+              standing = standing_in s;
+              first = found_stands honest;
+              second =
+                  record { content = next; found = found; stands = next_stands };
+            })
 
         alike_leaves : IsHonest new → Leaves old new (OpeningLeaves old)
-        alike_leaves honest = Leaves-weaker old new (MigrationLeaves old content (standing_in s)) (OpeningLeaves old) (alike (back honest)) (either honest)
+        alike_leaves honest = Leaves-weaker old new (MigrationLeaves old content (standing_in s)) (OpeningLeaves old)
+            (alike (back honest)) (either honest)
 
         -- whatever journal is to start over, it is this one
-        this_one : (P : Content → Standing → Type 0) → IsHonest mid → (c : Content) (x : Standing) → IsToMigrate this_edition (now old).seen c x
+        this_one : (P : Content → Standing → Type 0) → IsHonest mid → (c : Content) (x : Standing)
+            → IsToMigrate this_edition (now old).seen c x
             → P content (standing_in s) → P c x
         this_one P honest c x to here =
             let same = the_content honest c to.is.found in
-            let meant : Some x ≡ Some (standing_in s) = sym to.is.stands ∙ ap (λ (c : Content). meaning_of this_edition c) same ∙ stands in
+            let meant : Some x ≡ Some (standing_in s) = sym to.is.stands
+            ∙ ap (λ (c : Content). meaning_of this_edition c) same ∙ stands in
             let same_meant = standing_one x (standing_in s) meant in
             subst (λ (c : Content). P c x) (sym same) (subst (λ (y : Standing). P content y) (sym same_meant) here)
 
       -- the journal is rewritten
-      module _ (old_format : migrates this_edition format ≡ true) (t : StoreValue D) (begins : BeginsAnew disk_of s done t) where
+      module _ (old_format : migrates this_edition format ≡ true) (t : StoreValue D)
+          (begins : BeginsAnew disk_of s done t) where
         abbrev after : Disk
         after = disk_in disk_of t
 
@@ -306,7 +343,8 @@ module _ {D : Type 0} (disk_of : D → Disk) (disk : D) (sound : IsHonest (disk_
         to_migrate : IsHonest mid → IsToMigrate this_edition (now old).seen content (standing_in s)
         to_migrate honest = record {
           is = is_old old_format done t begins honest;
-          next = λ last. absurd (let spent : done ≡ refused GenerationsSpent = begins.compacts.spent.1 (is.running, last) in cc);
+          next = λ last.
+              absurd (let spent : done ≡ refused GenerationsSpent = begins.compacts.spent.1 (is.running, last) in cc);
         }
 
         opened_anew : Opens disk_of disk t
@@ -318,7 +356,8 @@ module _ {D : Type 0} (disk_of : D → Disk) (disk : D) (sound : IsHonest (disk_
                 large = is.device.large;
                 works = Works-on old mid after is.device.works begins.compacts.work.works;
                 fails = begins.compacts.work.fails ∙ is.device.fails;
-                settled = λ honest. ready_settled (now after) later (held-ready disk_of t.journal later (holds_anew honest));
+                settled =
+                    λ honest. ready_settled (now after) later (held-ready disk_of t.journal later (holds_anew honest));
                 format = λ honest image left. record {
                   content = later;
                   found = begins.compacts.kept honest content (is.holds (before honest)) image left;
@@ -327,20 +366,24 @@ module _ {D : Type 0} (disk_of : D → Disk) (disk : D) (sound : IsHonest (disk_
                 any_moment = λ honest. alike_leaves old_format done t begins honest;
                 unwritten = λ honest none. absurd (none content (standing_in s) (to_migrate (before honest)));
                 migrated = λ honest c to.
-                    this_one old_format done t begins (λ c x. IsMigration old after c x × IsReady (now after) (compacted c (snapshot x))) (before honest) c
+                    this_one old_format done t begins (λ c x. IsMigration old after c x
+                    × IsReady (now after) (compacted c (snapshot x))) (before honest) c
                     (standing_in t) to
                     (migration old_format done t begins honest, held-ready disk_of t.journal later (holds_anew honest));
               };
               running = begins.compacts.running.0;
               idle = begins.hand ∙ idle;
-              found = λ honest. subst (λ (x : Standing). StandingIs this_edition old.sectors (now old).seen (Ok x)) same (is_found (before honest));
+              found = λ honest. subst (λ (x : Standing). StandingIs this_edition old.sectors (now old).seen (Ok x)) same
+                  (is_found (before honest));
               stored = λ honest.
                   idle_stored disk_of t later (begins.hand ∙ idle) begins.compacts.running.1 (holds_anew honest)
-                  (subst (λ (x : Standing). meaning_of this_edition later ≡ Some x) same (next_stands old_format done t begins)) refl;
+                  (subst (λ (x : Standing). meaning_of this_edition later ≡ Some x) same
+                  (next_stands old_format done t begins)) refl;
             }
 
       -- it cannot start over: its generation is the last
-      module _ (old_format : migrates this_edition format ≡ true) (t : StoreValue D) (begins : BeginsAnew disk_of s (refused GenerationsSpent) t) where
+      module _ (old_format : migrates this_edition format ≡ true) (t : StoreValue D)
+          (begins : BeginsAnew disk_of s (refused GenerationsSpent) t) where
         spent_same : IsErrOf (refused GenerationsSpent) Failed ⊎ (t.journal ≡ s.journal) → device_in t ≡ device_in s
         spent_same (inl failed) = absurd cc
         spent_same (inr same) = ap (λ (j : JournalValue D). j.disk) same
@@ -370,14 +413,17 @@ module _ {D : Type 0} (disk_of : D → Disk) (disk : D) (sound : IsHonest (disk_
         }
 
         refused_at_last : RefusesDisk disk_of disk (device_in t) GenerationsSpent
-        refused_at_last = subst (λ (d : D). RefusesDisk disk_of disk d GenerationsSpent) (sym (spent_same begins.compacts.same)) quiet_at_last
+        refused_at_last = subst (λ (d : D). RefusesDisk disk_of disk d GenerationsSpent)
+            (sym (spent_same begins.compacts.same)) quiet_at_last
 
       -- a device call failed meanwhile
-      module _ (old_format : migrates this_edition format ≡ true) (t : StoreValue D) (begins : BeginsAnew disk_of s (refused Failed) t) where
+      module _ (old_format : migrates this_edition format ≡ true) (t : StoreValue D)
+          (begins : BeginsAnew disk_of s (refused Failed) t) where
         cut_to : IsHonest mid → IsToMigrate this_edition (now old).seen content (standing_in s)
         cut_to honest = record {
           is = is_old old_format (refused Failed) t begins honest;
-          next = λ last. absurd (let spent : refused Failed ≡ refused GenerationsSpent = begins.compacts.spent.1 (is.running, last) in cc);
+          next = λ last. absurd (let spent : refused Failed ≡ refused GenerationsSpent =
+              begins.compacts.spent.1 (is.running, last) in cc);
         }
 
         refused_cut : RefusesDisk disk_of disk (device_in t) Failed
@@ -393,7 +439,8 @@ module _ {D : Type 0} (disk_of : D → Disk) (disk : D) (sound : IsHonest (disk_
               any_moment = λ honest. alike_leaves old_format (refused Failed) t begins honest;
               unwritten = λ honest none. absurd (none refl content (standing_in s) (cut_to (before honest)));
               migrated = λ honest c x to.
-                  this_one old_format (refused Failed) t begins (λ c x. IsMigration old (disk_in disk_of t) c x) (before honest) c x to
+                  this_one old_format (refused Failed) t begins (λ c x. IsMigration old (disk_in disk_of t) c x)
+                  (before honest) c x to
                   (migration old_format (refused Failed) t begins honest);
             }
 
@@ -401,38 +448,47 @@ module _ {D : Type 0} (disk_of : D → Disk) (disk : D) (sound : IsHonest (disk_
 
       module _ (old_format : migrates this_edition format ≡ true) (t : StoreValue D) where
         by_name : (fault : JournalFault) → BeginsAnew disk_of s (refused fault) t
-            → IsErrOf (refused fault) Stopped ⊎ (IsErrOf (refused fault) GenerationsSpent ⊎ IsErrOf (refused fault) Failed)
+            → IsErrOf (refused fault) Stopped
+            ⊎ (IsErrOf (refused fault) GenerationsSpent ⊎ IsErrOf (refused fault) Failed)
             → RefusesDisk disk_of disk (device_in t) fault
         by_name fault begins (inl stopped) = absurd (no_true (sym (begins.compacts.stopped.0 stopped) ∙ is.running))
         by_name fault begins (inr (inl spent)) =
             let named = same_fault fault GenerationsSpent spent in
             subst (λ (f : JournalFault). RefusesDisk disk_of disk (device_in t) f) (sym named)
-            (refused_at_last old_format t (subst (λ (f : JournalFault). BeginsAnew disk_of s (refused f) t) named begins))
+            (refused_at_last old_format t
+            (subst (λ (f : JournalFault). BeginsAnew disk_of s (refused f) t) named begins))
         by_name fault begins (inr (inr failed)) =
             let named = same_fault fault Failed failed in
             subst (λ (f : JournalFault). RefusesDisk disk_of disk (device_in t) f) (sym named)
             (refused_cut old_format t (subst (λ (f : JournalFault). BeginsAnew disk_of s (refused f) t) named begins))
 
-      opens_by : (b : Bool) → migrates this_edition format ≡ b → (t : StoreValue D) → TakesUp disk_of true b s done t → Opens disk_of disk t
+      opens_by : (b : Bool) → migrates this_edition format ≡ b → (t : StoreValue D) → TakesUp disk_of true b s done t
+          → Opens disk_of disk t
       opens_by true old_format t begins = opened_anew old_format t begins
-      opens_by false two t takes = subst (λ (x : StoreValue D). Opens disk_of disk x) (sym takes.1) (opened_as_found two)
+      opens_by false two t takes =
+          subst (λ (x : StoreValue D). Opens disk_of disk x) (sym takes.1) (opened_as_found two)
 
-      refuses_by : (b : Bool) → migrates this_edition format ≡ b → (t : StoreValue D) (fault : JournalFault) → TakesUp disk_of true b s (refused fault) t
+      refuses_by : (b : Bool) → migrates this_edition format ≡ b → (t : StoreValue D) (fault : JournalFault)
+          → TakesUp disk_of true b s (refused fault) t
           → RefusesDisk disk_of disk (device_in t) fault
       refuses_by true old_format t fault begins = by_name old_format t fault begins begins.compacts.names
       refuses_by false two t fault takes = absurd (let never : refused fault ≡ done = takes.0 in cc)
 
     -- ---- the store is taken up, where its records were read or not
 
-    pub taken-up : (is_read : Bool) → meaning_of this_edition content ≡ (if is_read then Some (standing_in s) else None) → (t : StoreValue D)
+    pub taken-up : (is_read : Bool) → meaning_of this_edition content ≡ (if is_read then Some (standing_in s) else None)
+        → (t : StoreValue D)
         → TakesUp disk_of is_read (migrates this_edition format) s done t → Opens disk_of disk t
     taken-up true stands t takes = opens_by stands (migrates this_edition format) refl t takes
     taken-up false none t takes = absurd (let never : done ≡ refused BadJournal = takes.0 in cc)
 
-    pub not-taken-up : (is_read : Bool) → meaning_of this_edition content ≡ (if is_read then Some (standing_in s) else None) → (t : StoreValue D) (fault : JournalFault)
-        → TakesUp disk_of is_read (migrates this_edition format) s (refused fault) t → (left : D) → left ≡ device_in t → RefusesDisk disk_of disk left fault
+    pub not-taken-up : (is_read : Bool) → meaning_of this_edition content
+        ≡ (if is_read then Some (standing_in s) else None) → (t : StoreValue D) (fault : JournalFault)
+        → TakesUp disk_of is_read (migrates this_edition format) s (refused fault) t → (left : D) → left ≡ device_in t
+        → RefusesDisk disk_of disk left fault
     not-taken-up true stands t fault takes left gave =
-        subst (λ (d : D). RefusesDisk disk_of disk d fault) (sym gave) (refuses_by stands (migrates this_edition format) refl t fault takes)
+        subst (λ (d : D). RefusesDisk disk_of disk d fault) (sym gave)
+        (refuses_by stands (migrates this_edition format) refl t fault takes)
     not-taken-up false none t fault takes left gave =
         let named = same_fault fault BadJournal takes.0 in
         let device : left ≡ device_in s = gave ∙ ap (λ (x : StoreValue D). device_in x) takes.1 in
@@ -443,24 +499,29 @@ module _ {D : Type 0} (disk_of : D → Disk) (disk : D) (sound : IsHonest (disk_
 
 -- a journal that started over, or did not, has no work
 module _ {D : Type 0} (disk_of : D → Disk) (j k : JournalValue D) (records : List Record) where
-  pub compacted-idle : (result : Result (Unit {0}) JournalFault) → Compacts disk_of j records result k → journal.IsIdle j → journal.IsIdle k
+  pub compacted-idle : (result : Result (Unit {0}) JournalFault) → Compacts disk_of j records result k
+      → journal.IsIdle j → journal.IsIdle k
   compacted-idle (Ok value) is rests = is.running.1
   compacted-idle (Err fault) is rests = elim is.same [
     | inl failed ↦ (is.halted failed).1
     | inr same ↦ subst (λ (x : JournalValue D). journal.IsIdle x) (sym same) rests
   ]
 
-pub begun-anew : {D : Type 0} (disk_of : D → Disk) (s : StoreValue D) (j : JournalValue D) (result : Result (Unit {0}) JournalFault)
+pub begun-anew : {D : Type 0} (disk_of : D → Disk) (s : StoreValue D) (j : JournalValue D)
+    (result : Result (Unit {0}) JournalFault)
     → snapshot_of this_edition (standing_in s).identity (snapshot (standing_in s)) ≡ Some (standing_in s)
-    → Compacts disk_of s.journal (snapshot (standing_in s)) result j → BeginsAnew disk_of s result (record s { journal = j })
-begun-anew disk_of s j result stands compacts = record { compacts = compacts; held = refl; hand = refl; stands = stands }
+    → Compacts disk_of s.journal (snapshot (standing_in s)) result j
+    → BeginsAnew disk_of s result (record s { journal = j })
+begun-anew disk_of s j result stands compacts =
+    record { compacts = compacts; held = refl; hand = refl; stands = stands }
 
 module _ {D : Type 0} (disk_of : D → Disk) (s t : StoreValue D) (result : Result (Unit {0}) JournalFault) where
   pub taken-unread : (is_read aged : Bool) → is_read ≡ false → TakesUp disk_of is_read aged s (refused BadJournal) s
   taken-unread true aged unread = absurd (no_true unread)
   taken-unread false aged unread = (refl, refl)
 
-  pub taken-anew : (is_read aged : Bool) → is_read ≡ true → aged ≡ true → BeginsAnew disk_of s result t → TakesUp disk_of is_read aged s result t
+  pub taken-anew : (is_read aged : Bool) → is_read ≡ true → aged ≡ true → BeginsAnew disk_of s result t
+      → TakesUp disk_of is_read aged s result t
   taken-anew true true was_read was_old begins = begins
   taken-anew true false was_read was_old begins = absurd (no_false was_old)
   taken-anew false aged was_read was_old begins = absurd (no_false was_read)

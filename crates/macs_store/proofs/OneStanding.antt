@@ -6,7 +6,8 @@ use Rattle.macs_journal.specs.Areas.{least_sectors}
 use Rattle.macs_journal.specs.Found.{Content, IsBadJournal}
 use Rattle.macs_journal.specs.Found as journal
 use Rattle.macs_journal.specs.declared.fault.JournalFault.{JournalFault}
-use Rattle.macs_journal.specs.declared.fault.JournalFault.TheVariants.{Stopped, TooSmall, Disk, AlreadyFormatted, NotFormatted, BadJournal, GenerationsSpent}
+use Rattle.macs_journal.specs.declared.fault.JournalFault.TheVariants.{Stopped, TooSmall, Disk, AlreadyFormatted}
+use Rattle.macs_journal.specs.declared.fault.JournalFault.TheVariants.{NotFormatted, BadJournal, GenerationsSpent}
 use Rattle.macs_journal.proofs.Findings.{one_finding}
 use Rattle.macs_store.specs.Found.{HasRefusedReplay, StandingIs}
 use Rattle.macs_store.specs.Replay.{meaning_of}
@@ -28,15 +29,18 @@ record IsSaid (edition : Edition) (sectors : ℕ) (image : Image) (a : Result St
   is : journal.JournalIs sectors image found
   says : said edition found ≡ a
 
-bad : (edition : Edition) (sectors : ℕ) (image : Image) → least_sectors ≤ sectors → IsBadJournal image ⊎ HasRefusedReplay edition image
+bad : (edition : Edition) (sectors : ℕ) (image : Image) → least_sectors ≤ sectors
+    → IsBadJournal image ⊎ HasRefusedReplay edition image
     → IsSaid edition sectors image (Err BadJournal)
 bad edition sectors image large is = elim is [
   | inl broken ↦ record { found = Err BadJournal; is = (large, broken); says = refl }
   | inr refused ↦ record { found = Ok refused.content; is = (large, refused.found); says = ap said_by refused.refused }
 ]
 
-found-said : (edition : Edition) (sectors : ℕ) (image : Image) (a : Result Standing JournalFault) → StandingIs edition sectors image a → IsSaid edition sectors image a
-found-said edition sectors image (Ok s) is = record { found = Ok is.1.content; is = (is.0, is.1.found); says = ap said_by is.1.stands }
+found-said : (edition : Edition) (sectors : ℕ) (image : Image) (a : Result Standing JournalFault)
+    → StandingIs edition sectors image a → IsSaid edition sectors image a
+found-said edition sectors image (Ok s) is =
+    record { found = Ok is.1.content; is = (is.0, is.1.found); says = ap said_by is.1.stands }
 found-said edition sectors image (Err BadJournal) is = bad edition sectors image is.0 is.1
 found-said edition sectors image (Err TooSmall) is = record { found = Err TooSmall; is = is; says = refl }
 found-said edition sectors image (Err NotFormatted) is = record { found = Err NotFormatted; is = is; says = refl }
@@ -50,4 +54,5 @@ pub one_standing : (edition : Edition) (sectors : ℕ) (image : Image) (a b : Re
 one_standing edition sectors image a b is_a is_b =
     let first = found-said edition sectors image a is_a in
     let second = found-said edition sectors image b is_b in
-    sym first.says ∙ ap (said edition) (one_finding sectors image first.found second.found first.is second.is) ∙ second.says
+    sym first.says ∙ ap (said edition) (one_finding sectors image first.found second.found first.is second.is)
+    ∙ second.says

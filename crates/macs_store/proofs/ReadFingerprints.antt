@@ -1,5 +1,7 @@
 -- The fingerprints of a record, read one after another.
-use Rattle.std.proofs.Common.{◌≡◌, ◌∙◌, ◌↔◌, ◌≤◌, ◌<◌, ◌+◌, ◌*◌, ℕ, Bool, true, false, List, [], ◌∷◌, ◌++◌, length, take, drop, Option, Some, None, is_some, IsTrue, inl, inr, ap, sym, subst, arith, length-append}
+use Rattle.std.proofs.Common.{◌≡◌, ◌∙◌, ◌↔◌, ◌≤◌, ◌<◌, ◌+◌, ◌*◌, ℕ, Bool, true, false, List, [], ◌∷◌, ◌++◌, length}
+use Rattle.std.proofs.Common.{take, drop, Option, Some, None, is_some, IsTrue, inl, inr, ap, sym, subst, arith}
+use Rattle.std.proofs.Common.{length-append}
 use Rattle.std.specs.List.{slice_get}
 use Rattle.std.proofs.Math.ListN.{drop_of_length-le}
 use Rattle.std.proofs.lemmas.List.{get_or-drop, length-drop, length-take, take_all, take_more}
@@ -26,7 +28,8 @@ module _ (spent : List (List ℕ)) where
   pub none-read : (place : ℕ) → slice_get spent (15 * place) ≡ None → fingerprints_at spent place ≡ []
   none-read place is = ap (λ (xs : List (List ℕ)). take 15 xs) (drop_of_length-le spent (ended spent (15 * place) is))
 
-  some-read : (place : ℕ) (x : List ℕ) → slice_get spent (15 * place) ≡ Some x → 1 ≤ length (fingerprints_at spent place)
+  some-read : (place : ℕ) (x : List ℕ) → slice_get spent (15 * place) ≡ Some x
+      → 1 ≤ length (fingerprints_at spent place)
   some-read place x is =
       let within = slice_get_within spent (15 * place) x is in
       let size = length-drop (15 * place) spent in
@@ -35,19 +38,23 @@ module _ (spent : List (List ℕ)) where
 
   -- there is one at the first place, or there is none
   pub any-read : (place : ℕ) (first : Option (List ℕ)) → first ≡ slice_get spent (15 * place)
-      → (is_some first ≡ true → 1 ≤ length (fingerprints_at spent place)) × (is_some first ≡ false → fingerprints_at spent place ≡ [])
+      → (is_some first ≡ true → 1 ≤ length (fingerprints_at spent place))
+      × (is_some first ≡ false → fingerprints_at spent place ≡ [])
   any-read place None is = ((λ there. absurd (not-true there)), (λ gone. none-read place (sym is)))
   any-read place (Some x) is = ((λ there. some-read place x (sym is)), (λ gone. absurd (not-true (sym gone))))
 
-  one_longer : (start n : ℕ) (x : List ℕ) → slice_get spent (start + n) ≡ Some x → take (n + 1) (drop start spent) ≡ take n (drop start spent) ++ x ∷ []
+  one_longer : (start n : ℕ) (x : List ℕ) → slice_get spent (start + n) ≡ Some x
+      → take (n + 1) (drop start spent) ≡ take n (drop start spent) ++ x ∷ []
   one_longer start n x is =
       let within = slice_get_within spent (start + n) x is in
       let size = length-drop start spent in
       take_more (drop start spent) n x (omega (arith, within, size))
-      ∙ ap (λ (y : List ℕ). take n (drop start spent) ++ y ∷ []) (get_or-drop start spent n x ∙ get_or_from_slice_get spent (start + n) x x is)
+      ∙ ap (λ (y : List ℕ). take n (drop start spent) ++ y ∷ [])
+      (get_or-drop start spent n x ∙ get_or_from_slice_get spent (start + n) x x is)
 
   -- the first one
-  pub first-read : (start : ℕ) (x : List ℕ) (fingerprints : List (List ℕ)) → slice_get spent start ≡ Some x → fingerprints ≡ x ∷ []
+  pub first-read : (start : ℕ) (x : List ℕ) (fingerprints : List (List ℕ)) → slice_get spent start ≡ Some x
+      → fingerprints ≡ x ∷ []
       → AreRead spent start 1 fingerprints
   first-read start x fingerprints is new =
       let here : start + 0 ≡ start = omega arith in

@@ -1,5 +1,6 @@
 -- How many records a snapshot has.
-use Rattle.std.proofs.Common.{◌≡◌, ◌≤◌, ◌+◌, ◌*◌, ℕ, suc, List, [], ◌∷◌, ◌++◌, length, Option, Some, None, arith, length-append}
+use Rattle.std.proofs.Common.{◌≡◌, ◌≤◌, ◌+◌, ◌*◌, ℕ, suc, List, [], ◌∷◌, ◌++◌, length, Option, Some, None, arith}
+use Rattle.std.proofs.Common.{length-append}
 use Rattle.std.specs.List.{range_with_len}
 use Rattle.std.specs.Prelude.{flat_map}
 use Rattle.std.proofs.lemmas.List.{length-map}
@@ -9,12 +10,15 @@ use Rattle.macs_config.specs.declared.command.Role.{Role}
 use Rattle.macs_config.specs.declared.command.Role.TheVariants.{Receive, Transmit}
 use Rattle.macs_record.specs.declared.record.Record.{Record}
 use Rattle.macs_record.specs.declared.record.Record.TheVariants as recorded
-use Rattle.macs_store.specs.Snapshot.{channel_records, fingerprints_at, record_if_any, record_if_both, rx_records, rx_records_at, rx_records_of, snapshot, spent_records, spent_records_at, tx_records, tx_records_at}
+use Rattle.macs_store.specs.Snapshot.{channel_records, fingerprints_at, record_if_any, record_if_both, rx_records}
+use Rattle.macs_store.specs.Snapshot.{rx_records_at, rx_records_of, snapshot, spent_records, spent_records_at}
+use Rattle.macs_store.specs.Snapshot.{tx_records, tx_records_at}
 use Rattle.macs_store.specs.Standing.{Standing}
 
 -- ---- at most one
 
-both-one : {A : Type 0} (r : A → ℕ → Record) (sa : Option A) (ceiling : Option ℕ) → length (record_if_both r sa ceiling) ≤ 1
+both-one : {A : Type 0} (r : A → ℕ → Record) (sa : Option A) (ceiling : Option ℕ)
+    → length (record_if_both r sa ceiling) ≤ 1
 both-one r (Some sa) (Some ceiling) = omega arith
 both-one r (Some sa) None = omega arith
 both-one r None (Some ceiling) = omega arith
@@ -27,7 +31,8 @@ any-one role (x ∷ xs) = omega arith
 -- ---- of a list of items
 
 -- so many of each
-of_each : {X : Type 0} (f : X → List Record) (most : ℕ) (xs : List X) → ((x : X) → length (f x) ≤ most) → length (flat_map f xs) ≤ length xs * most
+of_each : {X : Type 0} (f : X → List Record) (most : ℕ) (xs : List X) → ((x : X) → length (f x) ≤ most)
+    → length (flat_map f xs) ≤ length xs * most
 of_each f most [] each = omega arith
 of_each f most (x ∷ xs) each =
     let first = each x in
@@ -46,12 +51,14 @@ rx-few : (s : Standing) → length (rx_records s.config s.ceilings) ≤ length s
 unfolding rx_records rx_records_of
 rx-few s =
     of_each (rx_records_of s.config s.ceilings) 4 s.config.channels
-    (λ sci. of_each (rx_records_at s.config s.ceilings sci) 1 every_an (λ an. both-one _ (s.config.rx sci an) (s.ceilings.rx sci an)))
+    (λ sci. of_each (rx_records_at s.config s.ceilings sci) 1 every_an
+    (λ an. both-one _ (s.config.rx sci an) (s.ceilings.rx sci an)))
 
 spent-few : (role : Role) (spent : List (List ℕ)) → length (spent_records role spent) ≤ 35
 unfolding spent_records
 spent-few role spent =
-    let each = of_each (spent_records_at role spent) 1 (range_with_len 0 35) (λ place. any-one role (fingerprints_at spent place)) in
+    let each = of_each (spent_records_at role spent) 1 (range_with_len 0 35)
+    (λ place. any-one role (fingerprints_at spent place)) in
     let count = length-range_with_len 0 35 in
     omega (arith, each, count)
 

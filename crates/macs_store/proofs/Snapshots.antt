@@ -1,5 +1,6 @@
 -- A snapshot of the standing stands for it.
-use Rattle.std.proofs.Common.{◌≡◌, ◌∙◌, ◌≤◌, ℕ, Bool, true, false, cond, List, [], ◌∷◌, ◌++◌, Option, Some, None, is_some, refl, ap, sym, subst, arith}
+use Rattle.std.proofs.Common.{◌≡◌, ◌∙◌, ◌≤◌, ℕ, Bool, true, false, cond, List, [], ◌∷◌, ◌++◌, Option, Some, None}
+use Rattle.std.proofs.Common.{is_some, refl, ap, sym, subst, arith}
 use Rattle.std.specs.Option.{option_and_then, option_map}
 use Rattle.std.proofs.Math.Path.{fun_ext}
 use Rattle.std.proofs.lemmas.List.{append-nil}
@@ -24,14 +25,17 @@ none_too (Some x) None same is = cc
 none_too (Some x) (Some y) same is = cc
 
 -- an association needs its channel
-without_channel : (o : Option RxAssociation) (among : Bool) → ((sa : RxAssociation) → o ≡ Some sa → among ≡ true) → among ≡ false → o ≡ None
+without_channel : (o : Option RxAssociation) (among : Bool) → ((sa : RxAssociation) → o ≡ Some sa → among ≡ true)
+    → among ≡ false → o ≡ None
 without_channel None among stands is = refl
 without_channel (Some sa) among stands is = let there = stands sa refl in cc
 
 module _ (s : Standing) (is : IsConfig s.edition s.identity s.config) (stands : IsStanding s)
-    (tx_numbers : (an : ℕ) → 4 ≤ an → s.config.tx an ≡ None) (rx_numbers : (sci : List ℕ) (an : ℕ) → 4 ≤ an → s.config.rx sci an ≡ None) where
+    (tx_numbers : (an : ℕ) → 4 ≤ an → s.config.tx an ≡ None) (rx_numbers : (sci : List ℕ) (an : ℕ) → 4 ≤ an
+    → s.config.rx sci an ≡ None) where
   no_rx : (sci : List ℕ) (an : ℕ) → is_among s.config.channels sci ≡ false → s.config.rx sci an ≡ None
-  no_rx sci an absent = without_channel (s.config.rx sci an) (is_among s.config.channels sci) (is.rx_channels sci an) absent
+  no_rx sci an absent =
+      without_channel (s.config.rx sci an) (is_among s.config.channels sci) (is.rx_channels sci an) absent
 
   no_tx_ceiling : (an : ℕ) → s.config.tx an ≡ None → s.ceilings.tx an ≡ None
   no_tx_ceiling an = none_too (s.ceilings.tx an) (s.config.tx an) (stands.tx an)
@@ -41,7 +45,13 @@ module _ (s : Standing) (is : IsConfig s.edition s.identity s.config) (stands : 
 
   -- the configuration, section by section
   abbrev settled : Config
-  settled = record default { validate = s.config.validate; replay = s.config.replay; mode = s.config.mode; encoding = s.config.encoding }
+  settled = record default {
+    validate = s.config.validate;
+    replay = s.config.replay;
+    mode = s.config.mode;
+    encoding =
+        s.config.encoding;
+  }
 
   abbrev with_tx_side : Config
   with_tx_side = record settled { tx = s.config.tx }
@@ -60,24 +70,30 @@ module _ (s : Standing) (is : IsConfig s.edition s.identity s.config) (stands : 
 
   sections : Makes s.edition s.identity settled no_ceilings
       (tx_records s.config s.ceilings ++ (channel_records s.config.channels ++ (rx_records s.config s.ceilings
-      ++ (spent_records Transmit s.config.spent_tx ++ spent_records Receive s.config.spent_rx)))) s.config s.ceilings 2 6
+      ++ (spent_records Transmit s.config.spent_tx ++ spent_records Receive s.config.spent_rx)))) s.config
+      s.ceilings 2 6
   unfolding tx_records rx_records rx_records_of
   sections =
       both s.edition s.identity settled with_tx_side s.config no_ceilings tx_ceilings s.ceilings _ _ 2 2 6
-      (tx-all s.edition s.identity settled no_ceilings s.config.tx s.ceilings.tx stands.tx is.tx_taken tx_numbers (λ an past. no_tx_ceiling an (tx_numbers an past)))
+      (tx-all s.edition s.identity settled no_ceilings s.config.tx s.ceilings.tx stands.tx is.tx_taken tx_numbers
+      (λ an past. no_tx_ceiling an (tx_numbers an past)))
       (both s.edition s.identity with_tx_side with_channels s.config tx_ceilings tx_ceilings s.ceilings _ _ 2 3 6
       (lowered s.edition s.identity with_tx_side with_channels tx_ceilings tx_ceilings _ 2 3 3 (omega arith)
-      (channels-all s.edition s.identity with_tx_side tx_ceilings s.config.channels is.channels_ascend is.channels_fit is.own_sci_free refl))
+      (channels-all s.edition s.identity with_tx_side tx_ceilings s.config.channels is.channels_ascend is.channels_fit
+      is.own_sci_free refl))
       (both s.edition s.identity with_channels with_rx_side s.config tx_ceilings s.ceilings s.ceilings _ _ 3 4 6
       (lowered s.edition s.identity with_channels with_rx_side tx_ceilings s.ceilings _ 3 4 4 (omega arith)
-      (rx-all s.edition s.identity with_channels tx_ceilings s.config.rx s.ceilings.rx stands.rx is.rx_taken is.channels_ascend rx_numbers
+      (rx-all s.edition s.identity with_channels tx_ceilings s.config.rx s.ceilings.rx stands.rx is.rx_taken
+      is.channels_ascend rx_numbers
       (λ sci an past. no_rx_ceiling sci an (rx_numbers sci an past)) (λ sci absent. fun_ext (λ an. no_rx sci an absent))
       (λ sci absent. fun_ext (λ an. no_rx_ceiling sci an (no_rx sci an absent))) refl refl))
       (both s.edition s.identity with_rx_side with_spent_tx s.config s.ceilings s.ceilings s.ceilings _ _ 4 5 6
       (lowered s.edition s.identity with_rx_side with_spent_tx s.ceilings s.ceilings _ 4 5 5 (omega arith)
-      (tx-spent-all s.edition s.identity with_rx_side s.ceilings s.config.spent_tx (is.spent_once Transmit) (is.spent_fit Transmit) refl))
+      (tx-spent-all s.edition s.identity with_rx_side s.ceilings s.config.spent_tx (is.spent_once Transmit)
+      (is.spent_fit Transmit) refl))
       (lowered s.edition s.identity with_spent_tx s.config s.ceilings s.ceilings _ 5 6 6 (omega arith)
-      (rx-spent-all s.edition s.identity with_spent_tx s.ceilings s.config.spent_rx (is.spent_once Receive) (is.spent_fit Receive) refl)))))
+      (rx-spent-all s.edition s.identity with_spent_tx s.ceilings s.config.spent_rx (is.spent_once Receive)
+      (is.spent_fit Receive) refl)))))
 
   -- a snapshot of the standing stands for it
   pub snapshot-stands : snapshot_of s.edition s.identity (snapshot s) ≡ Some s
@@ -85,14 +101,19 @@ module _ (s : Standing) (is : IsConfig s.edition s.identity s.config) (stands : 
   snapshot-stands =
       let m = sections in
       let part = part.Settings s.config.validate s.config.replay s.config.mode s.config.encoding in
-      let parts : snapshot_parts (snapshot s) ≡ Some (part ∷ m.parts) = parts-first (Some part) _ part m.parts refl m.are in
-      let ordered : are_ordered 2 m.parts ≡ true = subst (λ (ps : List Part). are_ordered 2 ps ≡ true) (append-nil m.parts) (m.ordered [] refl) in
+      let parts : snapshot_parts (snapshot s) ≡ Some (part ∷ m.parts) =
+      parts-first (Some part) _ part m.parts refl m.are in
+      let ordered : are_ordered 2 m.parts ≡ true =
+      subst (λ (ps : List Part). are_ordered 2 ps ≡ true) (append-nil m.parts) (m.ordered [] refl) in
       let made : config_with_parts s.edition s.identity settled m.parts ≡ Some s.config =
       ap (config_with_parts s.edition s.identity settled) (sym (append-nil m.parts)) ∙ m.made [] in
       let whole : config_of_parts s.edition s.identity (part ∷ m.parts) ≡ Some s.config =
-      ap (λ (b : Bool). cond b (whole_config s.identity (config_with_parts s.edition s.identity settled m.parts)) None) ordered
-      ∙ ap (whole_config s.identity) made ∙ ap (λ (b : Bool). cond b (Some s.config) None) (whole-is s.edition s.identity s.config is) in
-      let standing_with = λ (config : Config) (ceilings : Ceilings). record s { config = config; ceilings = ceilings } in
+      ap (λ (b : Bool).
+      cond b (whole_config s.identity (config_with_parts s.edition s.identity settled m.parts)) None) ordered
+      ∙ ap (whole_config s.identity) made
+      ∙ ap (λ (b : Bool). cond b (Some s.config) None) (whole-is s.edition s.identity s.config is) in
+      let standing_with =
+      λ (config : Config) (ceilings : Ceilings). record s { config = config; ceilings = ceilings } in
       let held = ceilings_with_records no_ceilings (snapshot s) in
       ap (λ (o : Option (List Part)). option_map (λ (config : Config). standing_with config held)
       (option_and_then (λ ps. config_of_parts s.edition s.identity ps) o)) parts

@@ -1,5 +1,6 @@
 -- A command or a raised ceiling is started, as its record is.
-use Rattle.std.proofs.Common.{◌≡◌, ◌∙◌, true, false, Option, Some, inl, inr, Result, Ok, Err, is_ok, IsOk, refl, sym, ap, subst}
+use Rattle.std.proofs.Common.{◌≡◌, ◌∙◌, true, false, Option, Some, inl, inr, Result, Ok, Err, is_ok, IsOk, refl, sym}
+use Rattle.std.proofs.Common.{ap, subst}
 use Rattle.std.specs.Option.{IsSome}
 use Rattle.macs_config.specs.Apply.{Named, Reason}
 use Rattle.macs_config.specs.declared.command.Command.{Command}
@@ -25,8 +26,10 @@ refused at = Err at
 
 -- ---- a raised ceiling
 
-pub raise-started : {D : Type 0} (disk_of : D → Disk) (old : StoreValue D) (r : Record) (after : Standing) (result : Result (Unit {0}) JournalFault) (new : StoreValue D)
-    → standing_after_record (standing_in old) r ≡ Some after → StartsRecord disk_of old r result new → Starts disk_of old after result new
+pub raise-started : {D : Type 0} (disk_of : D → Disk) (old : StoreValue D) (r : Record) (after : Standing)
+    (result : Result (Unit {0}) JournalFault) (new : StoreValue D)
+    → standing_after_record (standing_in old) r ≡ Some after → StartsRecord disk_of old r result new
+    → Starts disk_of old after result new
 raise-started disk_of old r after (Ok done) new follows starts = record {
   stopped = starts.stopped;
   spent = starts.spent;
@@ -53,7 +56,8 @@ ok-is (Ok value) is = (value, refl)
 ok-is (Err e) is = absurd cc
 
 -- its record follows from the standing
-pub accepted-record_follows : (s : Standing) (command : Command) (r : Record) → record_of command ≡ Some r → IsOk (accept s command)
+pub accepted-record_follows : (s : Standing) (command : Command) (r : Record) → record_of command ≡ Some r
+    → IsOk (accept s command)
     → IsSome (standing_after_record s r)
 accepted-record_follows s command r has fits =
     let accepts = ok-is (accept s command) fits in
@@ -85,7 +89,8 @@ module _ {D : Type 0} (disk_of : D → Disk) (s : StoreValue D) (command : Comma
     );
     refused = λ other. (
       λ same. (runs, let alike : refusal ≡ other = cc in is ∙ ap (λ (r : Refusal). Err (Named r)) alike),
-      λ both. let alike : ◌≡◌ {A = Result Standing Reason} (Err (Named refusal)) (Err (Named other)) = sym is ∙ both.1 in
+      λ both. let alike : ◌≡◌ {A = Result Standing Reason} (Err (Named refusal)) (Err (Named other)) =
+          sym is ∙ both.1 in
           let one : refusal ≡ other = cc in ap (λ (r : Refusal). Err (commit_fault.Refused r)) one,
     );
     spent = (
@@ -97,17 +102,23 @@ module _ {D : Type 0} (disk_of : D → Disk) (s : StoreValue D) (command : Comma
     in_hand = tt;
   }
 
-  module _ (r : Record) (new : StoreValue D) (has : record_of command ≡ Some r) (fits : IsOk (accept (standing_in s) command)) (runs : is_stopped s ≡ false) where
+  module _ (r : Record) (new : StoreValue D) (has : record_of command ≡ Some r)
+      (fits : IsOk (accept (standing_in s) command)) (runs : is_stopped s ≡ false) where
     pub commit-started : StartsRecord disk_of s r taken new → StartsCommit disk_of s command (Ok tt) new
     commit-started starts =
         let accepts = ok-is (accept (standing_in s) command) fits in
         record {
           stopped = (λ same. absurd cc, λ stopped. absurd (let no : true ≡ false = sym stopped ∙ runs in cc));
-          refused = λ refusal. (λ same. absurd cc, λ both. absurd (let no : false ≡ true = sym (ap is_ok both.1) ∙ fits in cc));
+          refused = λ refusal.
+              (λ same. absurd cc, λ both. absurd (let no : false ≡ true = sym (ap is_ok both.1) ∙ fits in cc));
           spent = (λ same. absurd cc, λ all. absurd (let is = starts.spent.1 all.1 in cc));
           names = λ same. cc;
           same = tt;
-          in_hand = (accepts.0, accepts.1, starts.in_hand accepts.0 (accepted-follows (standing_in s) accepts.0 command r has accepts.1));
+          in_hand = (
+            accepts.0,
+            accepts.1,
+            starts.in_hand accepts.0 (accepted-follows (standing_in s) accepts.0 command r has accepts.1),
+          );
         }
 
     -- the journal cannot start over
@@ -117,7 +128,8 @@ module _ {D : Type 0} (disk_of : D → Disk) (s : StoreValue D) (command : Comma
       | inr spent ↦ cc
     ]
 
-    pub commit-spent : (at : JournalFault) → StartsRecord disk_of s r (refused at) new → StartsCommit disk_of s command (Err commit_fault.GenerationsSpent) new
+    pub commit-spent : (at : JournalFault) → StartsRecord disk_of s r (refused at) new
+        → StartsCommit disk_of s command (Err commit_fault.GenerationsSpent) new
     commit-spent at starts = record {
       stopped = (
         λ same. absurd (let no : commit_fault.GenerationsSpent ≡ commit_fault.Stopped = cc in cc),

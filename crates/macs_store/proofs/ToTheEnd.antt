@@ -1,5 +1,6 @@
 -- Work that is started and done to its end: what a call promises that does both.
-use Rattle.std.proofs.Common.{◌≡◌, ◌≤◌, ◌+◌, ◌∙◌, ℕ, true, false, Result, Ok, Err, is_ok, IsOk, inl, inr, refl, ap, sym, subst, arith}
+use Rattle.std.proofs.Common.{◌≡◌, ◌≤◌, ◌+◌, ◌∙◌, ℕ, true, false, Result, Ok, Err, is_ok, IsOk, inl, inr, refl, ap, sym}
+use Rattle.std.proofs.Common.{subst, arith}
 use Rattle.std.specs.Prelude.{IsErrOf}
 use Rattle.macs_config.specs.Apply.{Named}
 use Rattle.macs_config.specs.Config.{this_edition}
@@ -24,14 +25,16 @@ use Rattle.macs_store.proofs.Keeping.{stored-form, stored-image}
 
 -- ---- work under way, done to its end
 
-module _ {D : Type 0} (disk_of : D → Disk) (old : StoreValue D) (after : Standing) (mid : StoreValue D) (has : HasInHand disk_of old after mid) where
+module _ {D : Type 0} (disk_of : D → Disk) (old : StoreValue D) (after : Standing) (mid : StoreValue D)
+    (has : HasInHand disk_of old after mid) where
   same-standing : standing_in mid ≡ standing_in old
   same-standing = ap standing_of has.standing
 
   same-disk : disk_in disk_of mid ≡ disk_in disk_of old
   same-disk = ap disk_of has.device
 
-  module _ (result : Result (Unit {0}) JournalFault) (new : StoreValue D) (finishes : Finishes disk_of mid result new) where
+  module _ (result : Result (Unit {0}) JournalFault) (new : StoreValue D)
+      (finishes : Finishes disk_of mid result new) where
     end-work : IsWorkOf (disk_in disk_of old) (disk_in disk_of new) result
     end-work = subst (λ (d : Disk). IsWorkOf d (disk_in disk_of new) result) same-disk finishes.work
 
@@ -40,10 +43,12 @@ module _ {D : Type 0} (disk_of : D → Disk) (old : StoreValue D) (after : Stand
         subst (λ (d : Disk). (disk_in disk_of new).clock ≤ d.clock + most_calls old) same-disk
         (subst (λ (n : ℕ). (disk_in disk_of new).clock ≤ (disk_in disk_of mid).clock + n) has.left finishes.most)
 
-    end-moments : IsHonest (disk_in disk_of new) → IsStored disk_of old → Leaves (disk_in disk_of old) (disk_in disk_of new) (StandsForEither (standing_in old) after)
+    end-moments : IsHonest (disk_in disk_of new) → IsStored disk_of old
+        → Leaves (disk_in disk_of old) (disk_in disk_of new) (StandsForEither (standing_in old) after)
     end-moments honest stored =
         subst (λ (d : Disk). Leaves d (disk_in disk_of new) (StandsForEither (standing_in old) after)) same-disk
-        (subst (λ (s : Standing). Leaves (disk_in disk_of mid) (disk_in disk_of new) (StandsForEither s after)) same-standing
+        (subst (λ (s : Standing). Leaves (disk_in disk_of mid) (disk_in disk_of new) (StandsForEither s after))
+        same-standing
         (finishes.any_moment honest (has.stored stored) after has.leads))
 
     -- it did not stop before
@@ -58,16 +63,19 @@ module _ {D : Type 0} (disk_of : D → Disk) (old : StoreValue D) (after : Stand
     end-stored : IsHonest (disk_in disk_of new) → IsStored disk_of old → IsStored disk_of new
     end-stored honest stored = finishes.stored honest (has.stored stored)
 
-    end-kept : IsHonest (disk_in disk_of new) → IsStored disk_of old → (image : Image) → MayLeave (disk_in disk_of new) image → StandsFor this_edition image (standing_in new)
+    end-kept : IsHonest (disk_in disk_of new) → IsStored disk_of old → (image : Image)
+        → MayLeave (disk_in disk_of new) image → StandsFor this_edition image (standing_in new)
     end-kept honest stored image left = finishes.kept honest (has.stored stored) image left
 
 -- ---- a reservation
 
 module _ {D : Type 0} (disk_of : D → Disk) (old : StoreValue D) (idle : IsIdle old) (after : Standing) where
-  left-alone : IsStored disk_of old → Leaves (disk_in disk_of old) (disk_in disk_of old) (StandsForEither (standing_in old) after)
+  left-alone : IsStored disk_of old
+      → Leaves (disk_in disk_of old) (disk_in disk_of old) (StandsForEither (standing_in old) after)
   left-alone stored =
       Leaves-start (disk_in disk_of old) (StandsForEither (standing_in old) after)
-      (λ image left. (inl (stored-image disk_of old idle stored image left), stored-form disk_of old idle stored image left))
+      (λ image left.
+      (inl (stored-image disk_of old idle stored image left), stored-form disk_of old idle stored image left))
 
   -- nothing was started
   refused-alone : (at : JournalFault) → Starts disk_of old after (Err at) old → Keeps disk_of old after (Err at) old
@@ -101,7 +109,8 @@ module _ {D : Type 0} (disk_of : D → Disk) (old : StoreValue D) (idle : IsIdle
     kept = tt;
   }
 
-  pub refused-keeps : (at : JournalFault) (new : StoreValue D) → Starts disk_of old after (Err at) new → Keeps disk_of old after (Err at) new
+  pub refused-keeps : (at : JournalFault) (new : StoreValue D) → Starts disk_of old after (Err at) new
+      → Keeps disk_of old after (Err at) new
   refused-keeps at new starts =
       subst (λ (s : StoreValue D). Keeps disk_of old after (Err at) s) (sym starts.same)
       (refused-alone at (subst (λ (s : StoreValue D). Starts disk_of old after (Err at) s) starts.same starts))
@@ -133,7 +142,8 @@ module _ {D : Type 0} (disk_of : D → Disk) (old : StoreValue D) (idle : IsIdle
       kept = end-kept disk_of old after mid starts.in_hand new finishes;
     }
 
-    kept_failed : (new : StoreValue D) → Finishes disk_of mid (Err fault.Disk) new → Keeps disk_of old after (Err fault.Disk) new
+    kept_failed : (new : StoreValue D) → Finishes disk_of mid (Err fault.Disk) new
+        → Keeps disk_of old after (Err fault.Disk) new
     kept_failed new finishes = record {
       stopped = (λ same. absurd (let no : fault.Disk ≡ fault.Stopped = cc in cc), λ is. absurd (not_stopped is));
       spent = (λ same. absurd (let no : fault.Disk ≡ fault.GenerationsSpent = cc in cc), λ is. absurd (not_spent is));
@@ -152,7 +162,8 @@ module _ {D : Type 0} (disk_of : D → Disk) (old : StoreValue D) (idle : IsIdle
       kept = tt;
     }
 
-    pub finished-keeps : (result : Result (Unit {0}) JournalFault) (new : StoreValue D) → Finishes disk_of mid result new → Keeps disk_of old after result new
+    pub finished-keeps : (result : Result (Unit {0}) JournalFault) (new : StoreValue D)
+        → Finishes disk_of mid result new → Keeps disk_of old after result new
     finished-keeps (Ok done) new finishes = kept_done new finishes
     finished-keeps (Err at) new finishes = elim finishes.names [
       | inl stopped ↦ absurd (end-runs disk_of old after mid starts.in_hand (Err at) new finishes stopped)
@@ -163,7 +174,8 @@ module _ {D : Type 0} (disk_of : D → Disk) (old : StoreValue D) (idle : IsIdle
 -- ---- a command
 
 -- what a power loss leaves while a command is kept
-accepted-leaves : (old new : Disk) (s after : Standing) (command : Command) → accept s command ≡ Ok after → Leaves old new (StandsForEither s after)
+accepted-leaves : (old new : Disk) (s after : Standing) (command : Command) → accept s command ≡ Ok after
+    → Leaves old new (StandsForEither s after)
     → Leaves old new (CommitLeaves s command)
 accepted-leaves old new s after command accepts leaves =
     Leaves-weaker old new (StandsForEither s after) (CommitLeaves s command) (λ image left. elim left.0 [
@@ -172,19 +184,23 @@ accepted-leaves old new s after command accepts leaves =
     ]) leaves
 
 module _ {D : Type 0} (disk_of : D → Disk) (old : StoreValue D) (idle : IsIdle old) (command : Command) where
-  nothing-left : IsStored disk_of old → Leaves (disk_in disk_of old) (disk_in disk_of old) (CommitLeaves (standing_in old) command)
+  nothing-left : IsStored disk_of old
+      → Leaves (disk_in disk_of old) (disk_in disk_of old) (CommitLeaves (standing_in old) command)
   nothing-left stored =
       Leaves-start (disk_in disk_of old) (CommitLeaves (standing_in old) command)
-      (λ image left. (inl (stored-image disk_of old idle stored image left), stored-form disk_of old idle stored image left))
+      (λ image left.
+      (inl (stored-image disk_of old idle stored image left), stored-form disk_of old idle stored image left))
 
   -- no device call was made
-  alone-fails : (at : CommitFault) (d : Disk) → (IsErrOf {T = Unit {0}} (Err at) commit_fault.Disk → ⊥) → IsCommitOf d d (Err at)
+  alone-fails : (at : CommitFault) (d : Disk) → (IsErrOf {T = Unit {0}} (Err at) commit_fault.Disk → ⊥)
+      → IsCommitOf d d (Err at)
   alone-fails commit_fault.Stopped d other = record { works = Works-start d; fails = refl }
   alone-fails (commit_fault.Refused refusal) d other = record { works = Works-start d; fails = refl }
   alone-fails commit_fault.GenerationsSpent d other = record { works = Works-start d; fails = refl }
   alone-fails commit_fault.Disk d other = absurd (other refl)
 
-  alone-commits : (at : CommitFault) → StartsCommit disk_of old command (Err at) old → Commits disk_of old command (Err at) old
+  alone-commits : (at : CommitFault) → StartsCommit disk_of old command (Err at) old
+      → Commits disk_of old command (Err at) old
   alone-commits at starts = record {
     stopped = (λ same. starts.stopped.0 same, λ is. starts.stopped.1 is);
     refused = λ refusal. (λ same. (starts.refused refusal).0 same, λ is. (starts.refused refusal).1 is);
@@ -203,7 +219,8 @@ module _ {D : Type 0} (disk_of : D → Disk) (old : StoreValue D) (idle : IsIdle
     kept = tt;
   }
 
-  pub refused-commits : (at : CommitFault) (new : StoreValue D) → StartsCommit disk_of old command (Err at) new → Commits disk_of old command (Err at) new
+  pub refused-commits : (at : CommitFault) (new : StoreValue D) → StartsCommit disk_of old command (Err at) new
+      → Commits disk_of old command (Err at) new
   refused-commits at new starts =
       subst (λ (s : StoreValue D). Commits disk_of old command (Err at) s) (sym starts.same)
       (alone-commits at (subst (λ (s : StoreValue D). StartsCommit disk_of old command (Err at) s) starts.same starts))
@@ -238,23 +255,38 @@ module _ {D : Type 0} (disk_of : D → Disk) (old : StoreValue D) (idle : IsIdle
           generation = finishes.generation ∙ has.generation;
           most = end-most disk_of old after mid has (Ok tt) new finishes;
           done = starts.in_hand.1 ∙ ap Ok (sym (end-done disk_of old after mid has new finishes));
-          work = (let work = end-work disk_of old after mid has (Ok tt) new finishes in record { works = work.works; fails = work.fails });
+          work = (let work = end-work disk_of old after mid has (Ok tt) new finishes in
+              record { works = work.works; fails = work.fails });
           any_moment = λ honest stored.
-              accepted-leaves (disk_in disk_of old) (disk_in disk_of new) (standing_in old) after command starts.in_hand.1
+              accepted-leaves (disk_in disk_of old) (disk_in disk_of new) (standing_in old) after command
+              starts.in_hand.1
               (end-moments disk_of old after mid has (Ok tt) new finishes honest stored);
           stored = end-stored disk_of old after mid has new finishes;
           kept = end-kept disk_of old after mid has new finishes;
         }
 
     -- a device call failed
-    cut-commits : (new : StoreValue D) → Finishes disk_of mid (Err fault.Disk) new → Commits disk_of old command (Err commit_fault.Disk) new
+    cut-commits : (new : StoreValue D) → Finishes disk_of mid (Err fault.Disk) new
+        → Commits disk_of old command (Err commit_fault.Disk) new
     cut-commits new finishes =
         let after = starts.in_hand.0 in
         let has = starts.in_hand.2 in
         record {
-          stopped = (λ same. absurd (let no : commit_fault.Disk ≡ commit_fault.Stopped = cc in cc), λ is. absurd (was_running is));
-          refused = λ refusal. (λ same. absurd (let no : commit_fault.Disk ≡ commit_fault.Refused refusal = cc in cc), λ both. absurd (was_accepted refusal both.1));
-          spent = (λ same. absurd (let no : commit_fault.Disk ≡ commit_fault.GenerationsSpent = cc in cc), λ all. absurd (had_room all.1));
+          stopped = (
+            λ same. absurd (let no : commit_fault.Disk ≡ commit_fault.Stopped = cc in
+                cc),
+            λ is. absurd (was_running is),
+          );
+          refused = λ refusal. (
+            λ same. absurd (let no : commit_fault.Disk ≡ commit_fault.Refused refusal = cc in
+                cc),
+            λ both. absurd (was_accepted refusal both.1),
+          );
+          spent = (
+            λ same. absurd (let no : commit_fault.Disk ≡ commit_fault.GenerationsSpent = cc in
+                cc),
+            λ all. absurd (had_room all.1),
+          );
           same = inl refl;
           halted = λ same. ((finishes.halted refl).0, (finishes.halted refl).1 ∙ has.standing);
           running = tt;
@@ -263,16 +295,20 @@ module _ {D : Type 0} (disk_of : D → Disk) (old : StoreValue D) (idle : IsIdle
           generation = tt;
           most = end-most disk_of old after mid has (Err fault.Disk) new finishes;
           done = tt;
-          work = (let work = end-work disk_of old after mid has (Err fault.Disk) new finishes in record { works = work.works; fails = work.fails });
+          work = (let work = end-work disk_of old after mid has (Err fault.Disk) new finishes in
+              record { works = work.works; fails = work.fails });
           any_moment = λ honest stored.
-              accepted-leaves (disk_in disk_of old) (disk_in disk_of new) (standing_in old) after command starts.in_hand.1
+              accepted-leaves (disk_in disk_of old) (disk_in disk_of new) (standing_in old) after command
+              starts.in_hand.1
               (end-moments disk_of old after mid has (Err fault.Disk) new finishes honest stored);
           stored = tt;
           kept = tt;
         }
 
-    pub failed-commits : (at : JournalFault) (new : StoreValue D) → Finishes disk_of mid (Err at) new → Commits disk_of old command (Err commit_fault.Disk) new
+    pub failed-commits : (at : JournalFault) (new : StoreValue D) → Finishes disk_of mid (Err at) new
+        → Commits disk_of old command (Err commit_fault.Disk) new
     failed-commits at new finishes = elim finishes.names [
       | inl stopped ↦ absurd (end-runs disk_of old starts.in_hand.0 mid starts.in_hand.2 (Err at) new finishes stopped)
-      | inr failed ↦ cut-commits new (subst (λ (x : Result (Unit {0}) JournalFault). Finishes disk_of mid x new) failed finishes)
+      | inr failed ↦ cut-commits new
+          (subst (λ (x : Result (Unit {0}) JournalFault). Finishes disk_of mid x new) failed finishes)
     ]

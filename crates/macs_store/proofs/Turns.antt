@@ -1,5 +1,6 @@
 -- One step of a store, from what its journal answers.
-use Rattle.std.proofs.Common.{◌≡◌, ◌≢◌, ◌≤◌, ◌+◌, ◌∙◌, ℕ, true, false, if◌then◌else◌, Bool, List, [], length, Option, Some, None, Result, Ok, Err, inl, inr, refl, ap, sym, subst, arith}
+use Rattle.std.proofs.Common.{◌≡◌, ◌≢◌, ◌≤◌, ◌+◌, ◌∙◌, ℕ, true, false, if◌then◌else◌, Bool, List, [], length, Option}
+use Rattle.std.proofs.Common.{Some, None, Result, Ok, Err, inl, inr, refl, ap, sym, subst, arith}
 use Rattle.std.specs.Option.{IsSome}
 use Rattle.macs_config.specs.Config.{this_edition}
 use Rattle.macs_disk.specs.Disk.{Disk, IsDeviceCall, IsHonest}
@@ -28,7 +29,9 @@ use Rattle.macs_store.specs.Snapshot.{snapshot}
 use Rattle.macs_store.specs.Standing.{Standing}
 use Rattle.macs_store.specs.Stepping.{IsAppending, IsRenewing, Steps}
 use Rattle.macs_store.specs.Table.{StandingValue, standing_of}
-use Rattle.macs_store.specs.Value.{FitsChange, IsIdle, IsStored, StoreValue, calls_left, calls_with, disk_in, generation_with, is_stopped, slots_with, snapshot_length, standing_in, standing_next, standing_then, standing_with}
+use Rattle.macs_store.specs.Value.{FitsChange, IsIdle, IsStored, StoreValue, calls_left, calls_with, disk_in}
+use Rattle.macs_store.specs.Value.{generation_with, is_stopped, slots_with, snapshot_length, standing_in, standing_next}
+use Rattle.macs_store.specs.Value.{standing_then, standing_with}
 use Rattle.macs_store.specs.declared.change.Change.{Change}
 use Rattle.macs_store.specs.declared.change.Change.TheVariants.{Appending, Empty, Renewing}
 use Rattle.macs_store.proofs.InHand.{task-appends}
@@ -44,9 +47,11 @@ refuses at = Err at
 -- ---- no work is under way
 
 module _ {D : Type 0} (disk_of : D → Disk) (s : StoreValue D) where
-  nothing-new : IsStored disk_of s → (after : Standing) → standing_then s ≡ Some after → Leaves (disk_in disk_of s) (disk_in disk_of s) (StandsForEither (standing_in s) after)
+  nothing-new : IsStored disk_of s → (after : Standing) → standing_then s ≡ Some after
+      → Leaves (disk_in disk_of s) (disk_in disk_of s) (StandsForEither (standing_in s) after)
   nothing-new stored after follows =
-      Leaves-start (disk_in disk_of s) (StandsForEither (standing_in s) after) (in_hand-image disk_of s stored after follows)
+      Leaves-start (disk_in disk_of s) (StandsForEither (standing_in s) after)
+      (in_hand-image disk_of s stored after follows)
 
   rests-stopped : is_stopped s ≡ true → Steps disk_of s (refuses fault.Stopped) s
   rests-stopped is = record {
@@ -98,24 +103,28 @@ module _ {D : Type 0} (disk_of : D → Disk) (s : StoreValue D) where
 
   pub rests : IsIdle s → Steps disk_of s (if is_stopped s then refuses fault.Stopped else answers Idle) s
   rests idle = by_test (is_stopped s) refl where
-    by_test : (stopped : Bool) → is_stopped s ≡ stopped → Steps disk_of s (if stopped then refuses fault.Stopped else answers Idle) s
+    by_test : (stopped : Bool) → is_stopped s ≡ stopped
+        → Steps disk_of s (if stopped then refuses fault.Stopped else answers Idle) s
     by_test true is = rests-stopped is
     by_test false is = rests-idle is idle
 
 -- ---- what is read of a store with work under way
 
 -- the slots, the generation and the calls, by what is read of its journal
-slots-kept : {D : Type 0} (old new : StoreValue D) (hand : Change) → new.journal.place ≡ old.journal.place → new.held ≡ old.held → slots_with new hand ≡ slots_with old hand
+slots-kept : {D : Type 0} (old new : StoreValue D) (hand : Change) → new.journal.place ≡ old.journal.place
+    → new.held ≡ old.held → slots_with new hand ≡ slots_with old hand
 slots-kept old new Empty place held = ap (λ (p : Place). p.free) place
 slots-kept old new (Renewing r) place held = ap (λ (h : StandingValue). length (snapshot (standing_of h)) + 1) held
 slots-kept old new (Appending r) place held = ap (λ (p : Place). p.free + 1) place
 
-generation-kept : {D : Type 0} (old new : StoreValue D) (hand : Change) → new.journal.place ≡ old.journal.place → generation_with new hand ≡ generation_with old hand
+generation-kept : {D : Type 0} (old new : StoreValue D) (hand : Change) → new.journal.place ≡ old.journal.place
+    → generation_with new hand ≡ generation_with old hand
 generation-kept old new Empty place = ap (λ (p : Place). p.head.generation) place
 generation-kept old new (Renewing r) place = ap (λ (p : Place). p.head.generation + 1) place
 generation-kept old new (Appending r) place = ap (λ (p : Place). p.head.generation) place
 
-calls-fewer : {D : Type 0} (old new : StoreValue D) (hand : Change) → hand ≢ Empty → left_of new.journal.hand + 1 ≤ left_of old.journal.hand
+calls-fewer : {D : Type 0} (old new : StoreValue D) (hand : Change) → hand ≢ Empty
+    → left_of new.journal.hand + 1 ≤ left_of old.journal.hand
     → calls_with new hand + 1 ≤ calls_with old hand
 calls-fewer old new Empty busy less = absurd (busy refl)
 calls-fewer old new (Renewing r) busy less = omega (arith, less)
@@ -123,7 +132,8 @@ calls-fewer old new (Appending r) busy less = less
 
 -- ---- a device call of the journal
 
-module _ {D : Type 0} (disk_of : D → Disk) (s : StoreValue D) (runs : is_stopped s ≡ false) (busy : ¬ IsIdle s) (at_work : ¬ (journal_value.IsIdle s.journal))
+module _ {D : Type 0} (disk_of : D → Disk) (s : StoreValue D) (runs : is_stopped s ≡ false) (busy : ¬ IsIdle s)
+    (at_work : ¬ (journal_value.IsIdle s.journal))
     (records : List Record)
     (lent : (content next : Content)
     → HoldsWith (disk_in disk_of s) s.journal.place s.journal.hand (snapshot (standing_in s)) content next
@@ -132,11 +142,13 @@ module _ {D : Type 0} (disk_of : D → Disk) (s : StoreValue D) (runs : is_stopp
   runs_on is = let no : true ≡ false = sym is ∙ runs in cc
 
   -- what a power loss leaves, whatever it answered
-  moments : (result : Result JournalStep JournalFault) (j : JournalValue D) → journal.Steps disk_of s.journal records result j
+  moments : (result : Result JournalStep JournalFault) (j : JournalValue D)
+      → journal.Steps disk_of s.journal records result j
       → IsHonest (disk_of j.disk) → IsStored disk_of s → (after : Standing) → standing_then s ≡ Some after
       → Leaves (disk_in disk_of s) (disk_of j.disk) (StandsForEither (standing_in s) after)
   moments result j steps honest stored after follows =
-      Leaves-weaker (disk_in disk_of s) (disk_of j.disk) (HasEitherJournal stored.content stored.next) (StandsForEither (standing_in s) after)
+      Leaves-weaker (disk_in disk_of s) (disk_of j.disk) (HasEitherJournal stored.content stored.next)
+      (StandsForEither (standing_in s) after)
       (λ image left. either-image disk_of s stored after follows image left)
       (steps.any_moment honest stored.content stored.next (lent stored.content stored.next stored.holding))
 
@@ -213,7 +225,8 @@ module _ {D : Type 0} (disk_of : D → Disk) (s : StoreValue D) (runs : is_stopp
           kept = λ same. absurd (let no : Going ≡ Finished = cc in cc);
         }
 
-    pub turn-on : (step : JournalStep) (j : JournalValue D) → step ≢ Finished → journal.Steps disk_of s.journal records (answers step) j
+    pub turn-on : (step : JournalStep) (j : JournalValue D) → step ≢ Finished
+        → journal.Steps disk_of s.journal records (answers step) j
         → Steps disk_of s (answers Going) (record s { journal = j })
     turn-on Idle j other steps = absurd (at_work (steps.idle.0 refl).1)
     turn-on Going j other steps = turn-going j steps
@@ -222,7 +235,8 @@ module _ {D : Type 0} (disk_of : D → Disk) (s : StoreValue D) (runs : is_stopp
 -- ---- its last one
 
 -- of an append
-module _ {D : Type 0} (disk_of : D → Disk) (s : StoreValue D) (runs : is_stopped s ≡ false) (r : Record) (hand_is : s.hand ≡ Appending r)
+module _ {D : Type 0} (disk_of : D → Disk) (s : StoreValue D) (runs : is_stopped s ≡ false) (r : Record)
+    (hand_is : s.hand ≡ Appending r)
     (appends : IsAppendHand s.journal.hand) where
   -- the journal is at work
   append-busy : ¬ IsIdle s
@@ -231,9 +245,11 @@ module _ {D : Type 0} (disk_of : D → Disk) (s : StoreValue D) (runs : is_stopp
   pub append-works : ¬ (journal_value.IsIdle s.journal)
   append-works idle = subst (λ (h : journal_hand.Hand). IsAppendHand h) idle appends
 
-  append-lent : (records : List Record) (content next : Content) → HoldsWith (disk_in disk_of s) s.journal.place s.journal.hand (snapshot (standing_in s)) content next
+  append-lent : (records : List Record) (content next : Content)
+      → HoldsWith (disk_in disk_of s) s.journal.place s.journal.hand (snapshot (standing_in s)) content next
       → HoldsWith (disk_in disk_of s) s.journal.place s.journal.hand records content next
-  append-lent records content next holding = append-with (disk_in disk_of s) s.journal.place s.journal.hand records content next appends holding.holds
+  append-lent records content next holding =
+      append-with (disk_in disk_of s) s.journal.place s.journal.hand records content next appends holding.holds
 
   append-alone : (hand : journal_hand.Hand) → IsAppendHand hand → IsNoCompact hand
   append-alone journal_work.Empty is = absurd is
@@ -241,22 +257,27 @@ module _ {D : Type 0} (disk_of : D → Disk) (s : StoreValue D) (runs : is_stopp
   append-alone (journal_work.Compact work) is = absurd is
 
   -- one slot more is used
-  append-place : (place : Place) (hand : journal_hand.Hand) → IsAppendHand hand → place_then place hand ≡ record place { free = place.free + 1 }
+  append-place : (place : Place) (hand : journal_hand.Hand) → IsAppendHand hand
+      → place_then place hand ≡ record place { free = place.free + 1 }
   append-place place journal_work.Empty is = absurd is
   append-place place (journal_work.Append work) is = refl
   append-place place (journal_work.Compact work) is = absurd is
 
-  append-stored : (records : List Record) (j : JournalValue D) (held : StandingValue) → standing_after_record (standing_in s) r ≡ Some (standing_of held)
+  append-stored : (records : List Record) (j : JournalValue D) (held : StandingValue)
+      → standing_after_record (standing_in s) r ≡ Some (standing_of held)
       → journal.Steps disk_of s.journal records (answers Finished) j → IsHonest (disk_of j.disk) → IsStored disk_of s
       → IsStored disk_of (record { journal = j; held = held; hand = Empty })
   append-stored records j held follows steps honest stored =
-      let means : meaning_of this_edition stored.next ≡ Some (standing_of held) = stored.becomes ∙ ap (standing_next (standing_in s)) hand_is ∙ follows in
+      let means : meaning_of this_edition stored.next ≡ Some (standing_of held) = stored.becomes
+      ∙ ap (standing_next (standing_in s)) hand_is ∙ follows in
       record {
         content = stored.next;
         next = stored.next;
         holding = record {
-          holds = steps.done refl honest stored.content stored.next (append-lent records stored.content stored.next stored.holding);
-          made = subst (λ (h : journal_hand.Hand). IsMadeOf h (snapshot (standing_of held)) stored.next stored.next) (sym (steps.finished refl)) tt;
+          holds = steps.done refl honest stored.content stored.next
+              (append-lent records stored.content stored.next stored.holding);
+          made = subst (λ (h : journal_hand.Hand). IsMadeOf h (snapshot (standing_of held)) stored.next stored.next)
+              (sym (steps.finished refl)) tt;
         };
         stands = means;
         becomes = means;
@@ -265,7 +286,8 @@ module _ {D : Type 0} (disk_of : D → Disk) (s : StoreValue D) (runs : is_stopp
         form_next = stored.form_next;
       }
 
-  pub append-finished : (records : List Record) (j : JournalValue D) (held : StandingValue) → standing_after_record (standing_in s) r ≡ Some (standing_of held)
+  pub append-finished : (records : List Record) (j : JournalValue D) (held : StandingValue)
+      → standing_after_record (standing_in s) r ≡ Some (standing_of held)
       → journal.Steps disk_of s.journal records (answers Finished) j
       → Steps disk_of s (answers Finished) (record { journal = j; held = held; hand = Empty })
   append-finished records j held follows steps =
@@ -289,45 +311,57 @@ module _ {D : Type 0} (disk_of : D → Disk) (s : StoreValue D) (runs : is_stopp
         device = λ was still. steps.device runs append-works;
         one = steps.one;
         call = λ was. steps.call append-works;
-        left = λ was. (let less = steps.left append-works in let calls : calls_left s ≡ left_of s.journal.hand = ap (calls_with s) hand_is in omega (arith, less, calls));
-        last = λ same. (let exact = steps.exact append-works (append-alone s.journal.hand appends) in let none = ap left_of (steps.finished refl) in
-            let calls : calls_left s ≡ left_of s.journal.hand = ap (calls_with s) hand_is in omega (arith, exact, none, calls));
+        left = λ was. (let less = steps.left append-works in let calls : calls_left s ≡ left_of s.journal.hand =
+            ap (calls_with s) hand_is in omega (arith, less, calls));
+        last = λ same. (let exact = steps.exact append-works (append-alone s.journal.hand appends) in
+            let none = ap left_of (steps.finished refl) in
+            let calls : calls_left s ≡ left_of s.journal.hand = ap (calls_with s) hand_is in
+            omega (arith, exact, none, calls));
         any_moment = λ honest stored after follows.
-            moments disk_of s runs append-busy append-works records (append-lent records) (answers Finished) j steps honest stored after follows;
+            moments disk_of s runs append-busy append-works records (append-lent records) (answers Finished) j steps
+            honest stored after follows;
         stored = λ honest stored. append-stored records j held follows steps honest stored;
         kept = λ same honest stored image left.
-            stored-image disk_of (record { journal = j; held = held; hand = Empty }) refl (append-stored records j held follows steps honest stored) image left;
+            stored-image disk_of (record { journal = j; held = held; hand = Empty }) refl
+            (append-stored records j held follows steps honest stored) image left;
       }
 
 -- of a compaction, after which the record is under way
-module _ {D : Type 0} (disk_of : D → Disk) (s : StoreValue D) (runs : is_stopped s ≡ false) (r : Record) (hand_is : s.hand ≡ Renewing r)
+module _ {D : Type 0} (disk_of : D → Disk) (s : StoreValue D) (runs : is_stopped s ≡ false) (r : Record)
+    (hand_is : s.hand ≡ Renewing r)
     (renews : RenewsWith s.journal.place s.journal.hand (snapshot (standing_in s))) where
   renewal-busy : ¬ IsIdle s
   renewal-busy idle = let no : Renewing r ≡ Empty = sym hand_is ∙ idle in cc
 
   pub renewal-works : ¬ (journal_value.IsIdle s.journal)
-  renewal-works idle = subst (λ (h : journal_hand.Hand). RenewsWith s.journal.place h (snapshot (standing_in s))) idle renews
+  renewal-works idle =
+      subst (λ (h : journal_hand.Hand). RenewsWith s.journal.place h (snapshot (standing_in s))) idle renews
 
-  renewal-lent : (content next : Content) → HoldsWith (disk_in disk_of s) s.journal.place s.journal.hand (snapshot (standing_in s)) content next
+  renewal-lent : (content next : Content)
+      → HoldsWith (disk_in disk_of s) s.journal.place s.journal.hand (snapshot (standing_in s)) content next
       → HoldsWith (disk_in disk_of s) s.journal.place s.journal.hand (snapshot (standing_in s)) content next
   renewal-lent content next holding = holding
 
   -- as many slots as the snapshot has records are used, in the next generation
-  renewal-slots : (place : Place) (hand : journal_hand.Hand) (records : List Record) → RenewsWith place hand records → (place_then place hand).free ≡ length records
+  renewal-slots : (place : Place) (hand : journal_hand.Hand) (records : List Record) → RenewsWith place hand records
+      → (place_then place hand).free ≡ length records
   renewal-slots place journal_work.Empty records is = absurd is
   renewal-slots place (journal_work.Append work) records is = absurd is
   renewal-slots place (journal_work.Compact work) records is = ap (λ h. h.count) (sym is)
 
-  renewal-generation : (place : Place) (hand : journal_hand.Hand) (records : List Record) → RenewsWith place hand records
+  renewal-generation : (place : Place) (hand : journal_hand.Hand) (records : List Record)
+      → RenewsWith place hand records
       → (place_then place hand).head.generation ≡ place.head.generation + 1
   renewal-generation place journal_work.Empty records is = absurd is
   renewal-generation place (journal_work.Append work) records is = absurd is
   renewal-generation place (journal_work.Compact work) records is = ap (λ h. h.generation) (sym is)
 
-  module _ (mid : JournalValue D) (steps : journal.Steps disk_of s.journal (snapshot (standing_in s)) (answers Finished) mid) where
+  module _ (mid : JournalValue D)
+      (steps : journal.Steps disk_of s.journal (snapshot (standing_in s)) (answers Finished) mid) where
     -- the journal goes on with a free slot
     pub renewal-room : mid.place.free ≡ snapshot_length s
-    renewal-room = ap (λ (p : Place). p.free) (steps.moved refl) ∙ renewal-slots s.journal.place s.journal.hand (snapshot (standing_in s)) renews
+    renewal-room = ap (λ (p : Place). p.free) (steps.moved refl)
+        ∙ renewal-slots s.journal.place s.journal.hand (snapshot (standing_in s)) renews
 
     module _ (j : JournalValue D) (starts : journal.Starts disk_of mid (Appends r) (Ok tt) j) where
       same-disk : disk_of mid.disk ≡ disk_of j.disk
@@ -336,18 +370,22 @@ module _ {D : Type 0} (disk_of : D → Disk) (s : StoreValue D) (runs : is_stopp
       at_rest : (d : Disk) → disk_of mid.disk ≡ d → IsHonest d → IsHonest (disk_of mid.disk)
       at_rest d is honest = subst (λ (x : Disk). IsHonest x) (sym is) honest
 
-      renewed-stored : IsHonest (disk_of j.disk) → IsStored disk_of s → IsStored disk_of (record { journal = j; held = s.held; hand = Appending r })
+      renewed-stored : IsHonest (disk_of j.disk) → IsStored disk_of s
+          → IsStored disk_of (record { journal = j; held = s.held; hand = Appending r })
       renewed-stored honest stored =
           let before = at_rest (disk_of j.disk) same-disk honest in
           let holds = steps.done refl before stored.content stored.next stored.holding in
-          let means : meaning_of this_edition stored.next ≡ Some (standing_in s) = stored.becomes ∙ ap (standing_next (standing_in s)) hand_is in
+          let means : meaning_of this_edition stored.next ≡ Some (standing_in s) = stored.becomes
+          ∙ ap (standing_next (standing_in s)) hand_is in
           record {
             content = stored.next;
             next = content_with_record stored.next r;
-            holding = append-with (disk_of j.disk) j.place j.hand (snapshot (standing_in s)) stored.next (content_with_record stored.next r)
+            holding = append-with (disk_of j.disk) j.place j.hand (snapshot (standing_in s)) stored.next
+                (content_with_record stored.next r)
                 (task-appends mid r j.hand starts.hand) (starts.holds stored.next holds);
             stands = means;
-            becomes = standing-with this_edition stored.next r (standing_in s) (held-within disk_of mid stored.next holds) stored.form_next means;
+            becomes = standing-with this_edition stored.next r (standing_in s)
+                (held-within disk_of mid stored.next holds) stored.form_next means;
             leads = refl;
             form = stored.form_next;
             form_next = stored.form_next;
@@ -367,21 +405,28 @@ module _ {D : Type 0} (disk_of : D → Disk) (s : StoreValue D) (runs : is_stopp
         standing = λ not. refl;
         going = λ same. (λ empty. absurd cc, sym (ap (standing_with (standing_in s)) hand_is));
         finished = λ same. absurd (let no : Going ≡ Finished = cc in cc);
-        slots = ap (λ (p : Place). p.free + 1) starts.place ∙ ap (λ (n : ℕ). n + 1) renewal-room ∙ sym (ap (slots_with s) hand_is);
+        slots = ap (λ (p : Place). p.free + 1) starts.place ∙ ap (λ (n : ℕ). n + 1) renewal-room
+            ∙ sym (ap (slots_with s) hand_is);
         generation = ap (λ (p : Place). p.head.generation) (starts.place ∙ steps.moved refl)
-            ∙ renewal-generation s.journal.place s.journal.hand (snapshot (standing_in s)) renews ∙ sym (ap (generation_with s) hand_is);
-        work = subst (λ (d : Disk). IsWorkOf (disk_in disk_of s) d (answers Going)) same-disk (record { works = steps.work.works; fails = steps.work.fails });
+            ∙ renewal-generation s.journal.place s.journal.hand (snapshot (standing_in s)) renews
+            ∙ sym (ap (generation_with s) hand_is);
+        work = subst (λ (d : Disk). IsWorkOf (disk_in disk_of s) d (answers Going)) same-disk
+            (record { works = steps.work.works; fails = steps.work.fails });
         device = λ was still. subst (λ (d : Disk). IsDeviceCall (disk_in disk_of s) d (answers Going)) same-disk
-            (called (disk_in disk_of s) (disk_of mid.disk) (answers Finished) (answers Going) refl (steps.device runs renewal-works));
+            (called (disk_in disk_of s) (disk_of mid.disk) (answers Finished) (answers Going) refl
+            (steps.device runs renewal-works));
         one = subst (λ (d : Disk). d.clock ≤ (disk_in disk_of s).clock + 1) same-disk steps.one;
-        call = λ was. subst (λ (d : Disk). d.clock ≡ (disk_in disk_of s).clock + 1) same-disk (steps.call renewal-works);
+        call =
+            λ was. subst (λ (d : Disk). d.clock ≡ (disk_in disk_of s).clock + 1) same-disk (steps.call renewal-works);
         left = λ was.
             (let less = steps.left renewal-works in let four = starts.left in
-            let calls : calls_left s ≡ left_of s.journal.hand + 4 = ap (calls_with s) hand_is in omega (arith, less, four, calls));
+            let calls : calls_left s ≡ left_of s.journal.hand + 4 = ap (calls_with s) hand_is in
+            omega (arith, less, four, calls));
         last = λ same. absurd (let no : Going ≡ Finished = cc in cc);
         any_moment = λ honest stored after follows.
             subst (λ (d : Disk). Leaves (disk_in disk_of s) d (StandsForEither (standing_in s) after)) same-disk
-            (moments disk_of s runs renewal-busy renewal-works (snapshot (standing_in s)) renewal-lent (answers Finished) mid steps
+            (moments disk_of s runs renewal-busy renewal-works (snapshot (standing_in s)) renewal-lent
+            (answers Finished) mid steps
             (at_rest (disk_of j.disk) same-disk honest) stored after follows);
         stored = λ honest stored. renewed-stored honest stored;
         kept = λ same. absurd (let no : Going ≡ Finished = cc in cc);
@@ -394,7 +439,8 @@ not-none None some none = cc
 not-none (Some next) some none = cc
 
 -- what follows from the standing, once this was looked for
-pub must-follow : (fits : Bool) (found : Option Standing) (next : Standing) → IsSome found → (fits ≡ true → found ≡ Some next) → (fits ≡ false → found ≡ None)
+pub must-follow : (fits : Bool) (found : Option Standing) (next : Standing) → IsSome found
+    → (fits ≡ true → found ≡ Some next) → (fits ≡ false → found ≡ None)
     → found ≡ Some next
 must-follow true found next some follows refused = follows refl
 must-follow false found next some follows refused = absurd (not-none found some (refused refl))
@@ -429,18 +475,22 @@ module _ {D : Type 0} (disk_of : D → Disk) (s : StoreValue D) (fits : FitsChan
     append-failed at j steps =
         let r = the-append.0 in
         let hand_is = the-append.1 in
-        turn-failed disk_of s its-append.0 (append-busy disk_of s its-append.0 r hand_is its-append.2) (append-works disk_of s its-append.0 r hand_is its-append.2) []
+        turn-failed disk_of s its-append.0 (append-busy disk_of s its-append.0 r hand_is its-append.2)
+        (append-works disk_of s its-append.0 r hand_is its-append.2) []
         (append-lent disk_of s its-append.0 r hand_is its-append.2 []) at j steps
 
-    pub append-on : (step : JournalStep) (j : JournalValue D) → step ≢ Finished → journal.Steps disk_of s.journal [] (answers step) j
+    pub append-on : (step : JournalStep) (j : JournalValue D) → step ≢ Finished
+        → journal.Steps disk_of s.journal [] (answers step) j
         → Steps disk_of s (answers Going) (record s { journal = j })
     append-on step j other steps =
         let r = the-append.0 in
         let hand_is = the-append.1 in
-        turn-on disk_of s its-append.0 (append-busy disk_of s its-append.0 r hand_is its-append.2) (append-works disk_of s its-append.0 r hand_is its-append.2) []
+        turn-on disk_of s its-append.0 (append-busy disk_of s its-append.0 r hand_is its-append.2)
+        (append-works disk_of s its-append.0 r hand_is its-append.2) []
         (append-lent disk_of s its-append.0 r hand_is its-append.2 [])
         (λ j same content next holding.
-        append-with (disk_of j.disk) j.place j.hand (snapshot (standing_in s)) content next (still-appends s.journal.hand j.hand same its-append.2) holding.holds)
+        append-with (disk_of j.disk) j.place j.hand (snapshot (standing_in s)) content next
+        (still-appends s.journal.hand j.hand same its-append.2) holding.holds)
         step j other steps
 
   module _ (is : IsRenewing s.hand) where
@@ -454,18 +504,23 @@ module _ {D : Type 0} (disk_of : D → Disk) (s : StoreValue D) (fits : FitsChan
     pub renews-now : RenewsWith s.journal.place s.journal.hand (snapshot (standing_in s))
     renews-now = its-renewal.2
 
-    pub renewal-failed : (at : JournalFault) (j : JournalValue D) → journal.Steps disk_of s.journal (snapshot (standing_in s)) (refuses at) j
+    pub renewal-failed : (at : JournalFault) (j : JournalValue D)
+        → journal.Steps disk_of s.journal (snapshot (standing_in s)) (refuses at) j
         → Steps disk_of s (refuses at) (record { journal = j; held = s.held; hand = Empty })
     renewal-failed at j steps =
         let r = the-renewal.0 in
         let hand_is = the-renewal.1 in
-        turn-failed disk_of s its-renewal.0 (renewal-busy disk_of s its-renewal.0 r hand_is its-renewal.2) (renewal-works disk_of s its-renewal.0 r hand_is its-renewal.2)
+        turn-failed disk_of s its-renewal.0 (renewal-busy disk_of s its-renewal.0 r hand_is its-renewal.2)
+        (renewal-works disk_of s its-renewal.0 r hand_is its-renewal.2)
         (snapshot (standing_in s)) (renewal-lent disk_of s its-renewal.0 r hand_is its-renewal.2) at j steps
 
-    pub renewal-on : (step : JournalStep) (j : JournalValue D) → step ≢ Finished → journal.Steps disk_of s.journal (snapshot (standing_in s)) (answers step) j
+    pub renewal-on : (step : JournalStep) (j : JournalValue D) → step ≢ Finished
+        → journal.Steps disk_of s.journal (snapshot (standing_in s)) (answers step) j
         → Steps disk_of s (answers Going) (record s { journal = j })
     renewal-on step j other steps =
         let r = the-renewal.0 in
         let hand_is = the-renewal.1 in
-        turn-on disk_of s its-renewal.0 (renewal-busy disk_of s its-renewal.0 r hand_is its-renewal.2) (renewal-works disk_of s its-renewal.0 r hand_is its-renewal.2)
-        (snapshot (standing_in s)) (renewal-lent disk_of s its-renewal.0 r hand_is its-renewal.2) (λ j same content next holding. holding) step j other steps
+        turn-on disk_of s its-renewal.0 (renewal-busy disk_of s its-renewal.0 r hand_is its-renewal.2)
+        (renewal-works disk_of s its-renewal.0 r hand_is its-renewal.2)
+        (snapshot (standing_in s)) (renewal-lent disk_of s its-renewal.0 r hand_is its-renewal.2)
+        (λ j same content next holding. holding) step j other steps

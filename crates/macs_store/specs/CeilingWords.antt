@@ -7,16 +7,18 @@ use Rattle.macs_config.specs.declared.command.Command.{Command}
 use Rattle.macs_config.specs.declared.command.Command.TheVariants.{TxInstall, TxRemove, RxDrop, RxInstall, RxRemove}
 use Rattle.macs_record.specs.declared.record.Record.TheVariants.{RxCeiling, TxCeiling}
 use Rattle.macs_store.specs.Replay.{standing_after_command, standing_after_record}
-use Rattle.macs_store.specs.Standing.{Ceilings, Standing, accept, ceilings_after, standing_with_rx_raised, standing_with_tx_raised}
+use Rattle.macs_store.specs.Standing.{Ceilings, Standing, accept, ceilings_after, standing_with_rx_raised}
+use Rattle.macs_store.specs.Standing.{standing_with_tx_raised}
 
 -- A transmit ceiling is raised by a whole block from where it is, a receive ceiling to a whole block beyond the number,
--- both up to 2^32, and no other ceiling of either kind moves. With an install a transmit association has a whole block from
--- its first number, a receive association its first number alone. With a removal a ceiling goes, and with a channel those
--- of all its associations.
+-- both up to 2^32, and no other ceiling of either kind moves. With an install a transmit association has a whole block
+-- from its first number, a receive association its first number alone. With a removal a ceiling goes, and with a
+-- channel those of all its associations.
 pub record CeilingWords : Type 0 where
   pub raised : (s : Standing) (an ceiling : ℕ) → s.ceilings.tx an ≡ Some ceiling
       → (standing_with_tx_raised s an).ceilings.tx an ≡ Some (min (ceiling + s.identity.tx_block) (2 ^ 32))
-  pub not_raised : (s : Standing) (an : ℕ) → s.ceilings.tx an ≡ None → (standing_with_tx_raised s an).ceilings.tx an ≡ None
+  pub not_raised : (s : Standing) (an : ℕ) → s.ceilings.tx an ≡ None
+      → (standing_with_tx_raised s an).ceilings.tx an ≡ None
   pub raised_alone : (s : Standing) (an other : ℕ) → an ≢ other
       → (standing_with_tx_raised s an).ceilings.tx other ≡ s.ceilings.tx other
   pub rx_stays : (s : Standing) (an : ℕ) → (standing_with_tx_raised s an).ceilings.rx ≡ s.ceilings.rx
@@ -38,8 +40,8 @@ pub record CeilingWords : Type 0 where
       → (ceilings_after identity (RxDrop sci) c).rx sci an ≡ None
 
 -- A record of a command that is refused makes nothing of what stands: it is never passed over. One of a command that is
--- not refused makes what the command does. A record of a ceiling that is not above the one that stands is refused too, and
--- so is one of an association without a ceiling.
+-- not refused makes what the command does. A record of a ceiling that is not above the one that stands is refused too,
+-- and so is one of an association without a ceiling.
 pub record ReplayWords : Type 0 where
   pub refused : (s : Standing) (command : Command) (reason : Reason) → accept s command ≡ Err reason
       → standing_after_command s (Some command) ≡ None

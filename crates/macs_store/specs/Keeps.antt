@@ -1,5 +1,6 @@
 -- What the calls of a store promise that keep something.
-use Rattle.std.specs.Prelude.{◌≡◌, ◌≤◌, ◌+◌, ◌==◌, ◌↔◌, ◌⊎◌, ℕ, true, false, if◌then◌else◌, length, Result, Ok, Err, IsOk, OnOk, OnErr, IsErrOf}
+use Rattle.std.specs.Prelude.{◌≡◌, ◌≤◌, ◌+◌, ◌==◌, ◌↔◌, ◌⊎◌, ℕ, true, false, if◌then◌else◌, length, Result, Ok, Err}
+use Rattle.std.specs.Prelude.{IsOk, OnOk, OnErr, IsErrOf}
 use Rattle.macs_config.specs.Apply.{Named}
 use Rattle.macs_config.specs.Config.{this_edition}
 use Rattle.macs_config.specs.declared.command.Command.{Command}
@@ -16,7 +17,8 @@ use Rattle.macs_journal.specs.declared.fault.JournalFault.TheVariants as journal
 use Rattle.macs_store.specs.Found.{CommitLeaves, StandsFor, StandsForEither}
 use Rattle.macs_store.specs.Snapshot.{snapshot}
 use Rattle.macs_store.specs.Standing.{Standing, accept}
-use Rattle.macs_store.specs.Value.{IsIdle, IsStored, StoreValue, disk_in, generation, is_stopped, standing_in, used_slots}
+use Rattle.macs_store.specs.Value.{IsIdle, IsStored, StoreValue, disk_in, generation, is_stopped, standing_in}
+use Rattle.macs_store.specs.Value.{used_slots}
 use Rattle.macs_store.specs.declared.fault.CommitFault.{CommitFault}
 use Rattle.macs_store.specs.declared.fault.CommitFault.TheVariants as commit
 
@@ -26,8 +28,8 @@ use Rattle.macs_store.specs.declared.fault.CommitFault.TheVariants as commit
 abbrev pub IsSpent : {D : Type 0} → StoreValue D → Type 0
 IsSpent s = (is_stopped s ≡ false) × (used_slots s ≡ slots) × (generation s ≡ last_generation)
 
--- how many slots are used after one more change, where so many were used and this was the standing: where all were used the journal started over with
--- a snapshot
+-- how many slots are used after one more change, where so many were used and this was the standing: where all were used
+-- the journal started over with a snapshot
 abbrev pub slots_with_change : ℕ → Standing → ℕ
 slots_with_change used s = if used == slots then length (snapshot s) + 1 else used + 1
 
@@ -35,8 +37,8 @@ slots_with_change used s = if used == slots then length (snapshot s) + 1 else us
 abbrev pub generation_with_change : ℕ → ℕ → ℕ
 generation_with_change used number = if used == slots then number + 1 else number
 
--- how many device calls the change takes at most: 4 for its record, and where all slots are used 519 for a compaction and one for each
--- record of the snapshot
+-- how many device calls the change takes at most: 4 for its record, and where all slots are used 519 for a compaction
+-- and one for each record of the snapshot
 abbrev pub most_with_change : ℕ → Standing → ℕ
 most_with_change used s = if used == slots then 523 + length (snapshot s) else 4
 
@@ -54,13 +56,16 @@ most_calls s = most_with_change (used_slots s) (standing_in s)
 
 -- ---- a reservation
 
--- A call keeps one change, which makes `after` of the standing. Refused as Stopped, then as GenerationsSpent; these are judged before the
--- work starts, and change nothing. Disk where a device call failed: memory is as it was, and a power loss leaves the standing before or
--- what it becomes, in format two. Where all slots are used the journal starts over first, with a snapshot of the standing.
-pub record Keeps {D : Type 0} (disk_of : D → disk.Disk) (old : StoreValue D) (after : Standing) (result : Result (Unit {0}) JournalFault) (new : StoreValue D) : Type 0 where
+-- A call keeps one change, which makes `after` of the standing. Refused as Stopped, then as GenerationsSpent; these are
+-- judged before the work starts, and change nothing. Disk where a device call failed: memory is as it was, and a power
+-- loss leaves the standing before or what it becomes, in format two. Where all slots are used the journal starts over
+-- first, with a snapshot of the standing.
+pub record Keeps {D : Type 0} (disk_of : D → disk.Disk) (old : StoreValue D) (after : Standing)
+    (result : Result (Unit {0}) JournalFault) (new : StoreValue D) : Type 0 where
   pub stopped : IsErrOf result journal.Stopped ↔ (is_stopped old ≡ true)
   pub spent : IsErrOf result journal.GenerationsSpent ↔ IsSpent old
-  pub names : OnErr result (IsErrOf result journal.Stopped ⊎ (IsErrOf result journal.GenerationsSpent ⊎ IsErrOf result journal.Disk))
+  pub names : OnErr result
+      (IsErrOf result journal.Stopped ⊎ (IsErrOf result journal.GenerationsSpent ⊎ IsErrOf result journal.Disk))
   pub same : OnErr result (IsErrOf result journal.Disk ⊎ (new ≡ old))
   pub halted : IsErrOf result journal.Disk → (is_stopped new ≡ true) × (new.held ≡ old.held)
   pub running : OnOk result (is_stopped new ≡ false)
@@ -88,11 +93,12 @@ pub record IsCommitOf (old new : disk.Disk) (result : Result (Unit {0}) CommitFa
   pub works : Works old new
   pub fails : CommitFails old new result
 
--- A call keeps a command and applies it. Refused as Stopped, then as Refused with the first refusal that holds, then as GenerationsSpent;
--- these are judged before the work starts, and change nothing. Disk where a device call failed: memory is as it was, and a power loss
--- leaves the standing before or what the command makes of it, in format two. Where all slots are used the journal starts over first, with a snapshot of the
--- standing.
-pub record Commits {D : Type 0} (disk_of : D → disk.Disk) (old : StoreValue D) (command : Command) (result : Result (Unit {0}) CommitFault) (new : StoreValue D) : Type 0 where
+-- A call keeps a command and applies it. Refused as Stopped, then as Refused with the first refusal that holds, then as
+-- GenerationsSpent; these are judged before the work starts, and change nothing. Disk where a device call failed:
+-- memory is as it was, and a power loss leaves the standing before or what the command makes of it, in format two.
+-- Where all slots are used the journal starts over first, with a snapshot of the standing.
+pub record Commits {D : Type 0} (disk_of : D → disk.Disk) (old : StoreValue D) (command : Command)
+    (result : Result (Unit {0}) CommitFault) (new : StoreValue D) : Type 0 where
   pub stopped : IsErrOf result commit.Stopped ↔ (is_stopped old ≡ true)
   pub refused : (refusal : Refusal) → (result ≡ Err (commit.Refused refusal))
       ↔ ((is_stopped old ≡ false) × (accept (standing_in old) command ≡ Err (Named refusal)))

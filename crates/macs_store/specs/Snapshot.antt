@@ -32,7 +32,8 @@ channel_records scis = map (λ sci. Channel sci) scis
 
 -- the record of the receive association of an SCI at an AN, if there is one
 abbrev pub rx_records_at : Config → Ceilings → List ℕ → ℕ → List Record
-rx_records_at c ceilings sci an = record_if_both (λ sa ceiling. RxSa sci an sa ceiling) (c.rx sci an) (ceilings.rx sci an)
+rx_records_at c ceilings sci an =
+    record_if_both (λ sa ceiling. RxSa sci an sa ceiling) (c.rx sci an) (ceilings.rx sci an)
 
 -- those of all associations of an SCI, by AN
 unfoldable pub rx_records_of : Config → Ceilings → List ℕ → List Record
@@ -50,7 +51,8 @@ fingerprints_each = 15
 abbrev pub most_spent_records : ℕ
 most_spent_records = 35
 
--- the most records of a snapshot: the settings, 4 transmit associations, 32 channels of 4 associations each, and the spent keys of both sides
+-- the most records of a snapshot: the settings, 4 transmit associations, 32 channels of 4 associations each, and the
+-- spent keys of both sides
 abbrev pub most_records : ℕ
 most_records = 235
 
@@ -71,8 +73,8 @@ spent_records_at role spent place = record_if_any role (fingerprints_at spent pl
 unfoldable pub spent_records : Role → List (List ℕ) → List Record
 spent_records role spent = flat_map (spent_records_at role spent) (range_with_len 0 most_spent_records)
 
--- The settings; transmit associations, by AN; receive channels, by ascending SCI; receive associations, by SCI and AN; the spent keys of the
--- transmit side, then those of the receive side.
+-- The settings; transmit associations, by AN; receive channels, by ascending SCI; receive associations, by SCI and AN;
+-- the spent keys of the transmit side, then those of the receive side.
 unfoldable pub snapshot : Standing → List Record
 snapshot s =
     settings_record s.config

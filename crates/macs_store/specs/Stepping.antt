@@ -18,7 +18,8 @@ use Rattle.macs_store.specs.Found.{StandsFor, StandsForEither}
 use Rattle.macs_store.specs.Keeps.{IsSpent, generation_after, most_calls, slots_after}
 use Rattle.macs_store.specs.Replay.{standing_after_record}
 use Rattle.macs_store.specs.Standing.{Standing, accept}
-use Rattle.macs_store.specs.Value.{IsIdle, IsStored, StoreValue, calls_left, device_in, disk_in, generation, generation_then, is_stopped, slots_then, standing_in, standing_then, used_slots}
+use Rattle.macs_store.specs.Value.{IsIdle, IsStored, StoreValue, calls_left, device_in, disk_in, generation}
+use Rattle.macs_store.specs.Value.{generation_then, is_stopped, slots_then, standing_in, standing_then, used_slots}
 use Rattle.macs_store.specs.declared.fault.CommitFault.{CommitFault}
 use Rattle.macs_store.specs.declared.change.Change.{Change}
 use Rattle.macs_store.specs.declared.change.Change.TheVariants.{Appending, Renewing}
@@ -26,9 +27,10 @@ use Rattle.macs_store.specs.declared.fault.CommitFault.TheVariants as commit
 
 -- ---- work is started
 
--- What a store is that has started one change, which makes `after` of the standing: the standing is as it was, no device call was made,
--- and so many are to come at most.
-pub record HasInHand {D : Type 0} (disk_of : D → disk.Disk) (old : StoreValue D) (after : Standing) (new : StoreValue D) : Type 0 where
+-- What a store is that has started one change, which makes `after` of the standing: the standing is as it was, no
+-- device call was made, and so many are to come at most.
+pub record HasInHand {D : Type 0} (disk_of : D → disk.Disk) (old : StoreValue D) (after : Standing)
+    (new : StoreValue D) : Type 0 where
   pub running : is_stopped new ≡ false
   pub device : device_in new ≡ device_in old
   pub standing : new.held ≡ old.held
@@ -39,32 +41,38 @@ pub record HasInHand {D : Type 0} (disk_of : D → disk.Disk) (old : StoreValue 
   pub left : calls_left new ≡ most_calls old
   pub stored : IsStored disk_of old → IsStored disk_of new
 
--- A reservation is started, which makes `after` of the standing. Refused as Stopped, then as GenerationsSpent; nothing changes then.
-pub record Starts {D : Type 0} (disk_of : D → disk.Disk) (old : StoreValue D) (after : Standing) (result : Result (Unit {0}) JournalFault) (new : StoreValue D) : Type 0 where
+-- A reservation is started, which makes `after` of the standing. Refused as Stopped, then as GenerationsSpent; nothing
+-- changes then.
+pub record Starts {D : Type 0} (disk_of : D → disk.Disk) (old : StoreValue D) (after : Standing)
+    (result : Result (Unit {0}) JournalFault) (new : StoreValue D) : Type 0 where
   pub stopped : IsErrOf result journal.Stopped ↔ (is_stopped old ≡ true)
   pub spent : IsErrOf result journal.GenerationsSpent ↔ IsSpent old
   pub names : OnErr result (IsErrOf result journal.Stopped ⊎ IsErrOf result journal.GenerationsSpent)
   pub same : OnErr result (new ≡ old)
   pub in_hand : OnOk result (HasInHand disk_of old after new)
 
--- A command is started. Refused as Stopped, then as Refused with the first refusal that holds, then as GenerationsSpent; nothing
--- changes then.
-pub record StartsCommit {D : Type 0} (disk_of : D → disk.Disk) (old : StoreValue D) (command : Command) (result : Result (Unit {0}) CommitFault) (new : StoreValue D) : Type 0 where
+-- A command is started. Refused as Stopped, then as Refused with the first refusal that holds, then as
+-- GenerationsSpent; nothing changes then.
+pub record StartsCommit {D : Type 0} (disk_of : D → disk.Disk) (old : StoreValue D) (command : Command)
+    (result : Result (Unit {0}) CommitFault) (new : StoreValue D) : Type 0 where
   pub stopped : IsErrOf result commit.Stopped ↔ (is_stopped old ≡ true)
   pub refused : (refusal : Refusal) → (result ≡ Err (commit.Refused refusal))
       ↔ ((is_stopped old ≡ false) × (accept (standing_in old) command ≡ Err (Named refusal)))
   pub spent : IsErrOf result commit.GenerationsSpent ↔ (IsOk (accept (standing_in old) command) × IsSpent old)
   pub names : ¬ IsErrOf result commit.Disk
   pub same : OnErr result (new ≡ old)
-  pub in_hand : OnOk result ((after : Standing) × (accept (standing_in old) command ≡ Ok after) × HasInHand disk_of old after new)
+  pub in_hand : OnOk result
+      ((after : Standing) × (accept (standing_in old) command ≡ Ok after) × HasInHand disk_of old after new)
 
 -- Work on a record is started, as a reservation is.
-pub record StartsRecord {D : Type 0} (disk_of : D → disk.Disk) (old : StoreValue D) (r : Record) (result : Result (Unit {0}) JournalFault) (new : StoreValue D) : Type 0 where
+pub record StartsRecord {D : Type 0} (disk_of : D → disk.Disk) (old : StoreValue D) (r : Record)
+    (result : Result (Unit {0}) JournalFault) (new : StoreValue D) : Type 0 where
   pub stopped : IsErrOf result journal.Stopped ↔ (is_stopped old ≡ true)
   pub spent : IsErrOf result journal.GenerationsSpent ↔ IsSpent old
   pub names : OnErr result (IsErrOf result journal.Stopped ⊎ IsErrOf result journal.GenerationsSpent)
   pub same : OnErr result (new ≡ old)
-  pub in_hand : OnOk result ((after : Standing) → standing_after_record (standing_in old) r ≡ Some after → HasInHand disk_of old after new)
+  pub in_hand : OnOk result ((after : Standing) → standing_after_record (standing_in old) r ≡ Some after
+      → HasInHand disk_of old after new)
 
 -- ---- one device call
 
@@ -78,11 +86,13 @@ abbrev pub IsAppending : Change → Type 0
 IsAppending (Appending r) = Unit {0}
 IsAppending other = ⊥
 
--- A step of a store: one device call of the work under way. Stopped exactly where a device call failed before, else Idle exactly where nothing
--- is under way: then no call is made and nothing changes. Disk exactly where the call failed, which stops the store and leaves nothing under way.
--- Else the work goes on, or is finished: the standing changes then, and at no other time. At each moment a power loss leaves the standing before, or
--- the standing once the work is done; and once it is finished, only the standing then.
-pub record Steps {D : Type 0} (disk_of : D → disk.Disk) (old : StoreValue D) (result : Result JournalStep JournalFault) (new : StoreValue D) : Type 0 where
+-- A step of a store: one device call of the work under way. Stopped exactly where a device call failed before, else
+-- Idle exactly where nothing is under way: then no call is made and nothing changes. Disk exactly where the call
+-- failed, which stops the store and leaves nothing under way. Else the work goes on, or is finished: the standing
+-- changes then, and at no other time. At each moment a power loss leaves the standing before, or the standing once the
+-- work is done; and once it is finished, only the standing then.
+pub record Steps {D : Type 0} (disk_of : D → disk.Disk) (old : StoreValue D) (result : Result JournalStep JournalFault)
+    (new : StoreValue D) : Type 0 where
   -- what is answered, and what becomes of the store in memory
   pub stopped : IsErrOf result journal.Stopped ↔ (is_stopped old ≡ true)
   pub idle : (result ≡ Ok Idle) ↔ ((is_stopped old ≡ false) × IsIdle old)
@@ -103,7 +113,8 @@ pub record Steps {D : Type 0} (disk_of : D → disk.Disk) (old : StoreValue D) (
   pub left : OnOk result ((¬ IsIdle old) → calls_left new + 1 ≤ calls_left old)
   pub last : result ≡ Ok Finished → calls_left old ≡ 1
   -- what a power loss leaves
-  pub any_moment : IsHonest (disk_in disk_of new) → IsStored disk_of old → (after : Standing) → standing_then old ≡ Some after
+  pub any_moment : IsHonest (disk_in disk_of new) → IsStored disk_of old → (after : Standing)
+      → standing_then old ≡ Some after
       → Leaves (disk_in disk_of old) (disk_in disk_of new) (StandsForEither (standing_in old) after)
   pub stored : OnOk result (IsHonest (disk_in disk_of new) → IsStored disk_of old → IsStored disk_of new)
   pub kept : result ≡ Ok Finished → IsHonest (disk_in disk_of new) → IsStored disk_of old
@@ -111,9 +122,10 @@ pub record Steps {D : Type 0} (disk_of : D → disk.Disk) (old : StoreValue D) (
 
 -- ---- to the end
 
--- The device calls of the work under way, up to its end. Refused as a step. After Ok nothing is under way, the work is done, and a power loss
--- leaves the standing.
-pub record Finishes {D : Type 0} (disk_of : D → disk.Disk) (old : StoreValue D) (result : Result (Unit {0}) JournalFault) (new : StoreValue D) : Type 0 where
+-- The device calls of the work under way, up to its end. Refused as a step. After Ok nothing is under way, the work is
+-- done, and a power loss leaves the standing.
+pub record Finishes {D : Type 0} (disk_of : D → disk.Disk) (old : StoreValue D)
+    (result : Result (Unit {0}) JournalFault) (new : StoreValue D) : Type 0 where
   pub stopped : IsErrOf result journal.Stopped ↔ (is_stopped old ≡ true)
   pub names : OnErr result (IsErrOf result journal.Stopped ⊎ IsErrOf result journal.Disk)
   pub same : IsErrOf result journal.Stopped → new ≡ old
@@ -125,7 +137,8 @@ pub record Finishes {D : Type 0} (disk_of : D → disk.Disk) (old : StoreValue D
   pub generation : OnOk result (generation new ≡ generation_then old)
   pub most : (disk_in disk_of new).clock ≤ (disk_in disk_of old).clock + calls_left old
   pub work : IsWorkOf (disk_in disk_of old) (disk_in disk_of new) result
-  pub any_moment : IsHonest (disk_in disk_of new) → IsStored disk_of old → (after : Standing) → standing_then old ≡ Some after
+  pub any_moment : IsHonest (disk_in disk_of new) → IsStored disk_of old → (after : Standing)
+      → standing_then old ≡ Some after
       → Leaves (disk_in disk_of old) (disk_in disk_of new) (StandsForEither (standing_in old) after)
   pub stored : OnOk result (IsHonest (disk_in disk_of new) → IsStored disk_of old → IsStored disk_of new)
   pub kept : OnOk result (IsHonest (disk_in disk_of new) → IsStored disk_of old

@@ -102,8 +102,10 @@ calls_left s = calls_with s s.hand
 abbrev pub FitsChange : {D : Type 0} → JournalValue D → Standing → Change → Type 0
 FitsChange j standing Empty = journal.IsIdle j
 FitsChange j standing (Renewing r) =
-    (journal.is_stopped j ≡ false) × IsSome (standing_after_record standing r) × RenewsWith j.place j.hand (snapshot standing)
-FitsChange j standing (Appending r) = (journal.is_stopped j ≡ false) × IsSome (standing_after_record standing r) × IsAppendHand j.hand
+    (journal.is_stopped j ≡ false) × IsSome (standing_after_record standing r)
+    × RenewsWith j.place j.hand (snapshot standing)
+FitsChange j standing (Appending r) = (journal.is_stopped j ≡ false) × IsSome (standing_after_record standing r)
+    × IsAppendHand j.hand
 
 -- a record is that of a raised ceiling
 abbrev pub is_ceiling : Record → Bool
@@ -111,12 +113,14 @@ is_ceiling (TxCeiling an ceiling) = true
 is_ceiling (RxCeiling sci an ceiling) = true
 is_ceiling r = false
 
--- what was judged beside a record: nothing where it is that of a raised ceiling, and else the command whose record it is
+-- what was judged beside a record: nothing where it is that of a raised ceiling, and else the command whose record it
+-- is
 abbrev pub IsOfRecord : Record → Option Command → Type 0
 IsOfRecord r None = is_ceiling r ≡ true
 IsOfRecord r (Some command) = record_of command ≡ Some r
 
--- what was judged beside the work under way is of the record under way, and nothing is left of it where no work is under way
+-- what was judged beside the work under way is of the record under way, and nothing is left of it where no work is
+-- under way
 abbrev pub IsOfChange : Change → Option Command → Type 0
 IsOfChange Empty checked = checked ≡ None
 IsOfChange (Renewing r) checked = IsOfRecord r checked
@@ -124,7 +128,8 @@ IsOfChange (Appending r) checked = IsOfRecord r checked
 
 -- ---- on its disk
 
--- what the journal's content stands for once its own work is done: an append adds its record, a compaction changes nothing
+-- what the journal's content stands for once its own work is done: an append adds its record, a compaction changes
+-- nothing
 abbrev pub standing_next : Standing → Change → Option Standing
 standing_next standing Empty = Some standing
 standing_next standing (Renewing r) = Some standing

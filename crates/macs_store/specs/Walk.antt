@@ -9,7 +9,8 @@ new_walk place = record { place = place; passed = 0; found = None }
 
 -- past one more, which is kept or not
 abbrev pub walk_keeping : Bool → Walk → Record → Walk
-walk_keeping is_here w r = record { place = w.place; passed = w.passed + 1; found = if is_here then Some r else w.found }
+walk_keeping is_here w r =
+    record { place = w.place; passed = w.passed + 1; found = if is_here then Some r else w.found }
 
 -- past one more: it is kept where as many came before it as its place says
 abbrev pub walk_past : Walk → Record → Walk

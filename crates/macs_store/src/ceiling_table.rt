@@ -1,6 +1,7 @@
 //! The ceilings of associations.
 
-ghost use Rattle.std.specs.Prelude.{◌≡◌, ◌≤◌, [], ℕ, None, true, if◌then◌else◌, get_or, length, position};
+ghost use Rattle.std.specs.Prelude.{◌≡◌, ◌≤◌, [], ℕ, None, true, if◌then◌else◌, get_or, length};
+ghost use Rattle.std.specs.Prelude.{position};
 ghost use Rattle.std.specs.Str.{bytes_eq};
 ghost use Rattle.macs_config.specs.Config.{is_among};
 ghost use Rattle.macs_config.specs.Tables.{put};
@@ -41,7 +42,8 @@ impl ChannelCeilings {
 
 /// The place of the channel of an SCI, `None` where there is none.
 fn place(channels: &[ChannelCeilings], sci: Sci) -> Option<usize>
-    ensures { result ≡ position (λ (channel : ChannelCeilings). bytes_eq channel.sci sci) channels.now }
+    ensures { result
+        ≡ position (λ (channel : ChannelCeilings). bytes_eq channel.sci sci) channels.now }
 {
     channels.iter().position(|channel| channel.sci == sci)
 }
@@ -92,7 +94,8 @@ impl CeilingTable {
 
     /// Puts a ceiling of a transmit association, or takes it away.
     pub(crate) fn put_tx(&mut self, an: An, ceiling: Option<Ceiling>)
-        ensures put { table_ceilings self.new ≡ ceilings_with_tx (table_ceilings self.old) an ceiling }
+        ensures put { table_ceilings self.new
+            ≡ ceilings_with_tx (table_ceilings self.old) an ceiling }
         ensures channels { table_scis self.new ≡ table_scis self.old }
     {
         self.tx[an.get() as usize] = ceiling;
@@ -101,7 +104,8 @@ impl CeilingTable {
     /// Puts a ceiling of a receive association of a channel that exists, or takes it away.
     pub(crate) fn put_rx(&mut self, sci: Sci, an: An, ceiling: Option<Ceiling>)
         requires { is_among (table_scis self.old) sci ≡ true }
-        ensures put { table_ceilings self.new ≡ ceilings_with_rx (table_ceilings self.old) sci an ceiling }
+        ensures put { table_ceilings self.new
+            ≡ ceilings_with_rx (table_ceilings self.old) sci an ceiling }
         ensures channels { table_scis self.new ≡ table_scis self.old }
     {
         if let Some(place) = place(self.channels.as_slice(), sci) {
@@ -113,7 +117,8 @@ impl CeilingTable {
     pub(crate) fn keep(&mut self, scis: &[Sci])
         requires few { length scis.now ≤ 32 }
         ensures tx { (table_ceilings self.new).tx ≡ (table_ceilings self.old).tx }
-        ensures rx { (table_ceilings self.new).rx ≡ (λ sci. if is_among scis.now sci then (table_ceilings self.old).rx sci else (λ an. None)) }
+        ensures rx { (table_ceilings self.new).rx ≡ (λ sci. if is_among scis.now sci
+            then (table_ceilings self.old).rx sci else (λ an. None)) }
         ensures channels { table_scis self.new ≡ scis.now }
     {
         let mut channels = ArrayVec::new();

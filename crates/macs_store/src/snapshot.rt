@@ -1,12 +1,16 @@
 //! The standing, as the records of a snapshot, one by one.
 
-ghost use Rattle.std.specs.Prelude.{◌≡◌, ◌≤◌, ◌<◌, ◌+◌, ◌*◌, ◌==◌, [], false, true, IfNone, IfSome, Some, length};
+ghost use Rattle.std.specs.Prelude.{◌≡◌, ◌≤◌, ◌<◌, ◌+◌, ◌*◌, ◌==◌, [], false, true, IfNone, IfSome};
+ghost use Rattle.std.specs.Prelude.{Some, length};
 ghost use Rattle.std.specs.List.{slice_get};
 ghost use Rattle.macs_config.specs.Config.{spent_of, this_edition};
 ghost use Rattle.macs_config.specs.Value.{config_of};
 ghost use Rattle.macs_store.specs.Replay.{snapshot_of};
-ghost use Rattle.macs_store.specs.Snapshot.{channel_records, fingerprints_at, most_records, most_spent_records, rx_records, rx_records_at, rx_records_of};
-ghost use Rattle.macs_store.specs.Snapshot.{settings_record, snapshot, spent_records, spent_records_at, tx_records, tx_records_at};
+ghost use Rattle.macs_store.specs.Snapshot.{channel_records, fingerprints_at, most_records};
+ghost use Rattle.macs_store.specs.Snapshot.{most_spent_records, rx_records, rx_records_at};
+ghost use Rattle.macs_store.specs.Snapshot.{rx_records_of};
+ghost use Rattle.macs_store.specs.Snapshot.{settings_record, snapshot, spent_records};
+ghost use Rattle.macs_store.specs.Snapshot.{spent_records_at, tx_records, tx_records_at};
 ghost use Rattle.macs_store.specs.Table.{standing_of, table_ceilings};
 ghost use Rattle.macs_store.specs.Walk.{new_walk, walk_past, walk_past_all};
 
@@ -38,7 +42,8 @@ impl RecordSource for Standing {
 impl Standing {
     /// What holds of every snapshot: it stands for what it was taken of, in 1 to 235 records.
     pub(crate) fn facts(&self)
-        ensures stands { snapshot_of this_edition self.now.config.identity (snapshot (standing_of self.now)) ≡ Some (standing_of self.now) }
+        ensures stands { snapshot_of this_edition self.now.config.identity
+            (snapshot (standing_of self.now)) ≡ Some (standing_of self.now) }
         ensures some { 1 ≤ length (snapshot (standing_of self.now)) }
         ensures few { length (snapshot (standing_of self.now)) ≤ most_records }
     {
@@ -54,7 +59,8 @@ impl Standing {
         passed
     }
 
-    /// The record at a place of a snapshot of the standing, counted from 0; `None` after the last one.
+    /// The record at a place of a snapshot of the standing, counted from 0; `None` after the last
+    /// one.
     fn record_at(&self, place: usize) -> Option<Record>
         ensures { result ≡ slice_get (snapshot (standing_of self.now)) place }
     {
@@ -95,7 +101,8 @@ fn pass_settings(config: &Config, walk: &mut Walk)
 /// Goes past the transmit associations, by their numbers.
 fn pass_tx(config: &Config, ceilings: &CeilingTable, walk: &mut Walk)
     requires room { walk.old.passed + 4 ≤ most_records }
-    ensures walked { walk.new ≡ walk_past_all walk.old (tx_records (config_of config.now) (table_ceilings ceilings.now)) }
+    ensures walked { walk.new
+        ≡ walk_past_all walk.old (tx_records (config_of config.now) (table_ceilings ceilings.now)) }
     ensures few { walk.new.passed ≤ walk.old.passed + 4 }
 {
     for an in An::all() {
@@ -106,7 +113,8 @@ fn pass_tx(config: &Config, ceilings: &CeilingTable, walk: &mut Walk)
 /// Goes past a transmit association, if there is one at that number.
 fn pass_tx_at(config: &Config, ceilings: &CeilingTable, an: An, walk: &mut Walk)
     requires room { walk.old.passed < most_records }
-    ensures walked { walk.new ≡ walk_past_all walk.old (tx_records_at (config_of config.now) (table_ceilings ceilings.now) an) }
+    ensures walked { walk.new ≡ walk_past_all walk.old
+        (tx_records_at (config_of config.now) (table_ceilings ceilings.now) an) }
     ensures few { walk.new.passed ≤ walk.old.passed + 1 }
 {
     if let Some(sa) = config.tx(an) {
@@ -133,7 +141,8 @@ fn pass_rx(config: &Config, ceilings: &CeilingTable, scis: &[Sci], walk: &mut Wa
     requires channels { scis.now ≡ (config_of config.now).channels }
     requires fit { length scis.now ≤ 32 }
     requires room { walk.old.passed + 128 ≤ most_records }
-    ensures walked { walk.new ≡ walk_past_all walk.old (rx_records (config_of config.now) (table_ceilings ceilings.now)) }
+    ensures walked { walk.new
+        ≡ walk_past_all walk.old (rx_records (config_of config.now) (table_ceilings ceilings.now)) }
     ensures few { walk.new.passed ≤ walk.old.passed + 128 }
 {
     for sci in scis {
@@ -144,7 +153,8 @@ fn pass_rx(config: &Config, ceilings: &CeilingTable, scis: &[Sci], walk: &mut Wa
 /// Goes past the receive associations of a channel, by their numbers.
 fn pass_rx_of(config: &Config, ceilings: &CeilingTable, sci: Sci, walk: &mut Walk)
     requires room { walk.old.passed + 4 ≤ most_records }
-    ensures walked { walk.new ≡ walk_past_all walk.old (rx_records_of (config_of config.now) (table_ceilings ceilings.now) sci) }
+    ensures walked { walk.new ≡ walk_past_all walk.old
+        (rx_records_of (config_of config.now) (table_ceilings ceilings.now) sci) }
     ensures few { walk.new.passed ≤ walk.old.passed + 4 }
 {
     for an in An::all() {
@@ -155,7 +165,8 @@ fn pass_rx_of(config: &Config, ceilings: &CeilingTable, sci: Sci, walk: &mut Wal
 /// Goes past a receive association, if there is one at that number.
 fn pass_rx_at(config: &Config, ceilings: &CeilingTable, sci: Sci, an: An, walk: &mut Walk)
     requires room { walk.old.passed < most_records }
-    ensures walked { walk.new ≡ walk_past_all walk.old (rx_records_at (config_of config.now) (table_ceilings ceilings.now) sci an) }
+    ensures walked { walk.new ≡ walk_past_all walk.old
+        (rx_records_at (config_of config.now) (table_ceilings ceilings.now) sci an) }
     ensures few { walk.new.passed ≤ walk.old.passed + 1 }
 {
     if let Some(sa) = config.rx(sci, an) {
@@ -173,7 +184,8 @@ fn pass_rx_at(config: &Config, ceilings: &CeilingTable, sci: Sci, an: An, walk: 
 /// Goes past the spent keys of a side, in the order of installing.
 fn pass_spent(config: &Config, role: Role, walk: &mut Walk)
     requires room { walk.old.passed + 35 ≤ most_records }
-    ensures walked { walk.new ≡ walk_past_all walk.old (spent_records role (spent_of role (config_of config.now))) }
+    ensures walked { walk.new
+        ≡ walk_past_all walk.old (spent_records role (spent_of role (config_of config.now))) }
     ensures few { walk.new.passed ≤ walk.old.passed + 35 }
 {
     for place in 0..MAX_SPENT_RECORDS {
@@ -181,12 +193,13 @@ fn pass_spent(config: &Config, role: Role, walk: &mut Walk)
     }
 }
 
-/// Goes past a side's record of spent keys at a place, if there is one. It is made where it is the one that is
-/// looked for, and not to be counted.
+/// Goes past a side's record of spent keys at a place, if there is one. It is made where it is the
+/// one that is looked for, and not to be counted.
 fn pass_spent_at(config: &Config, role: Role, place: usize, walk: &mut Walk)
     requires within { place < most_spent_records }
     requires room { walk.old.passed < most_records }
-    ensures walked { walk.new ≡ walk_past_all walk.old (spent_records_at role (spent_of role (config_of config.now)) place) }
+    ensures walked { walk.new ≡ walk_past_all walk.old
+        (spent_records_at role (spent_of role (config_of config.now)) place) }
     ensures few { walk.new.passed ≤ walk.old.passed + 1 }
 {
     if walk.is_here() {
@@ -200,7 +213,8 @@ fn pass_spent_at(config: &Config, role: Role, place: usize, walk: &mut Walk)
 fn pass_fingerprints(config: &Config, role: Role, place: usize, walk: &mut Walk)
     requires within { place < most_spent_records }
     requires room { walk.old.passed < most_records }
-    ensures walked { walk.new ≡ walk_past_all walk.old (spent_records_at role (spent_of role (config_of config.now)) place) }
+    ensures walked { walk.new ≡ walk_past_all walk.old
+        (spent_records_at role (spent_of role (config_of config.now)) place) }
     ensures few { walk.new.passed ≤ walk.old.passed + 1 }
 {
     if let Some(fingerprints) = fingerprints_at(config, role, place) {
@@ -208,12 +222,14 @@ fn pass_fingerprints(config: &Config, role: Role, place: usize, walk: &mut Walk)
     }
 }
 
-/// Goes past the record of the fingerprints at a place, if there are any, where it is not the one that is looked for.
+/// Goes past the record of the fingerprints at a place, if there are any, where it is not the one
+/// that is looked for.
 fn pass_over_fingerprints(config: &Config, role: Role, place: usize, walk: &mut Walk)
     requires within { place < most_spent_records }
     requires room { walk.old.passed < most_records }
     requires other { (walk.old.passed == walk.old.place) ≡ false }
-    ensures walked { walk.new ≡ walk_past_all walk.old (spent_records_at role (spent_of role (config_of config.now)) place) }
+    ensures walked { walk.new ≡ walk_past_all walk.old
+        (spent_records_at role (spent_of role (config_of config.now)) place) }
     ensures few { walk.new.passed ≤ walk.old.passed + 1 }
 {
     if has_fingerprints(config, role, place) {
@@ -224,8 +240,10 @@ fn pass_over_fingerprints(config: &Config, role: Role, place: usize, walk: &mut 
 /// Whether a side's record at a place has fingerprints.
 fn has_fingerprints(config: &Config, role: Role, place: usize) -> bool
     requires within { place < most_spent_records }
-    ensures some { result ≡ true → 1 ≤ length (fingerprints_at (spent_of role (config_of config.now)) place) }
-    ensures none { result ≡ false → fingerprints_at (spent_of role (config_of config.now)) place ≡ [] }
+    ensures some { result ≡ true
+        → 1 ≤ length (fingerprints_at (spent_of role (config_of config.now)) place) }
+    ensures none { result ≡ false
+        → fingerprints_at (spent_of role (config_of config.now)) place ≡ [] }
 {
     config.spent_at(role, MAX_FINGERPRINTS * place).is_some()
 }
@@ -233,9 +251,11 @@ fn has_fingerprints(config: &Config, role: Role, place: usize) -> bool
 /// The fingerprints of a side's record at a place, 15 but in the last; `None` where there are none.
 fn fingerprints_at(config: &Config, role: Role, place: usize) -> Option<Fingerprints>
     requires within { place < most_spent_records }
-    ensures some { IfSome result (λ fingerprints. (fingerprints ≡ fingerprints_at (spent_of role (config_of config.now)) place)
+    ensures some { IfSome result (λ fingerprints.
+        (fingerprints ≡ fingerprints_at (spent_of role (config_of config.now)) place)
         × (1 ≤ length fingerprints)) }
-    ensures none { IfNone result (fingerprints_at (spent_of role (config_of config.now)) place ≡ []) }
+    ensures none { IfNone result
+        (fingerprints_at (spent_of role (config_of config.now)) place ≡ []) }
 {
     let start = MAX_FINGERPRINTS * place;
     let Some(first) = config.spent_at(role, start) else {

@@ -1,6 +1,7 @@
 //! What a journal's records stand for.
 
-ghost use Rattle.std.specs.Prelude.{◌≡◌, ◌≤◌, ◌↔◌, List, true, false, if◌then◌else◌, Some, None, IfSome, IsSome, Ok, Err, IsOk, IfOk, OnOk, length};
+ghost use Rattle.std.specs.Prelude.{◌≡◌, ◌≤◌, ◌↔◌, List, true, false, if◌then◌else◌, Some, None};
+ghost use Rattle.std.specs.Prelude.{IfSome, IsSome, Ok, Err, IsOk, IfOk, OnOk, length};
 ghost use Rattle.macs_config.specs.Apply.{Named, apply};
 ghost use Rattle.macs_config.specs.Config as spec;
 ghost use Rattle.macs_config.specs.Config.{this_edition};
@@ -9,8 +10,13 @@ ghost use Rattle.macs_config.specs.Snapshot.{config_of_parts};
 ghost use Rattle.macs_config.specs.Value.{config_of};
 ghost use Rattle.macs_config.specs.declared.part.Part.{Part};
 ghost use Rattle.macs_store.specs.Commands.{command_of};
-ghost use Rattle.macs_store.specs.Replay.{standing_after_command, standing_after_record, standing_after_records, snapshot_parts, all_belong, is_long_kind, reading_of, reads, replay_of, is_raise, snapshot_of, ceilings_with_records};
-ghost use Rattle.macs_store.specs.Standing.{IsStanding, accept, ceilings_after, new_standing, no_ceilings, standing_with_rx_ceiling, standing_with_tx_ceiling};
+ghost use Rattle.macs_store.specs.Replay.{standing_after_command, standing_after_record};
+ghost use Rattle.macs_store.specs.Replay.{standing_after_records, snapshot_parts, all_belong};
+ghost use Rattle.macs_store.specs.Replay.{is_long_kind, reading_of, reads, replay_of, is_raise};
+ghost use Rattle.macs_store.specs.Replay.{snapshot_of, ceilings_with_records};
+ghost use Rattle.macs_store.specs.Standing.{IsStanding, accept, ceilings_after, new_standing};
+ghost use Rattle.macs_store.specs.Standing.{no_ceilings, standing_with_rx_ceiling};
+ghost use Rattle.macs_store.specs.Standing.{standing_with_tx_ceiling};
 ghost use Rattle.macs_store.specs.Table.{StandingValue, table_ceilings, table_scis, standing_of};
 ghost use Rattle.macs_store.specs.Value.{IsOfRecord};
 
@@ -34,7 +40,8 @@ impl Model for Standing {
 
     ghost view = { λ s. record { config = s.config; table = s.ceilings } };
 
-    ghost invariant = { λ s. IsStanding (standing_of (record { config = s.config; table = s.ceilings }))
+    ghost invariant = { λ s.
+        IsStanding (standing_of (record { config = s.config; table = s.ceilings }))
         × (table_scis s.ceilings ≡ (config_of s.config).channels) };
 }
 
@@ -48,7 +55,8 @@ fn is_read(format: Format) -> bool
     }
 }
 
-/// Whether an area of this format may have records of these kinds: those of long keys are of format two alone.
+/// Whether an area of this format may have records of these kinds: those of long keys are of format
+/// two alone.
 fn all_belong(format: Format, records: &[Record]) -> bool
     ensures { result ≡ all_belong format records.now }
 {
@@ -79,9 +87,10 @@ impl Standing {
         }
     }
 
-    /// Makes it, in its place, what the records of an area of this format stand for under its identity, those of
-    /// the snapshot first, and answers whether they stand for something. Where they are refused, one is of a kind that
-    /// the format does not have, or this edition does not read the format, nothing is said of what is left.
+    /// Makes it, in its place, what the records of an area of this format stand for under its
+    /// identity, those of the snapshot first, and answers whether they stand for something. Where
+    /// they are refused, one is of a kind that the format does not have, or this edition does not
+    /// read the format, nothing is said of what is left.
     pub(crate) fn read(&mut self, format: Format, count: usize, records: &[Record]) -> bool
         requires { count ≤ length records.now }
         ensures { reading_of this_edition format (standing_of self.old).identity count records.now
@@ -90,8 +99,9 @@ impl Standing {
         is_read(format) && all_belong(format, records) && self.replay(count, records)
     }
 
-    /// Makes it, in its place, what the records of a snapshot stand for under its identity, then those after
-    /// it, and answers whether they stand for something; where they are refused, nothing is said of what is left.
+    /// Makes it, in its place, what the records of a snapshot stand for under its identity, then
+    /// those after it, and answers whether they stand for something; where they are refused,
+    /// nothing is said of what is left.
     #[inline(never)]
     fn replay(&mut self, count: usize, records: &[Record]) -> bool
         requires { count ≤ length records.now }
@@ -102,7 +112,8 @@ impl Standing {
         self.restore(snapshot) && self.replay_records(later)
     }
 
-    /// Makes it what a snapshot stands for under its identity, and answers whether it stands for something.
+    /// Makes it what a snapshot stands for under its identity, and answers whether it stands for
+    /// something.
     fn restore(&mut self, records: &[Record]) -> bool
         ensures { snapshot_of this_edition (standing_of self.old).identity records.now
             ≡ (if result then Some (standing_of self.new) else None) }
@@ -130,8 +141,10 @@ impl Standing {
 
     /// Goes on with the record of a command or of a raised ceiling, and answers whether it fits.
     pub(crate) fn replay_record(&mut self, value: &Record) -> bool
-        ensures fits { result ≡ true → standing_after_record (standing_of self.old) value.now ≡ Some (standing_of self.new) }
-        ensures refused { result ≡ false → standing_after_record (standing_of self.old) value.now ≡ None }
+        ensures fits { result ≡ true
+            → standing_after_record (standing_of self.old) value.now ≡ Some (standing_of self.new) }
+        ensures refused { result ≡ false
+            → standing_after_record (standing_of self.old) value.now ≡ None }
     {
         match value {
             Record::TxCeiling { an, ceiling } => self.replay_tx(*an, *ceiling),
@@ -146,11 +159,13 @@ impl Standing {
         }
     }
 
-    /// What is judged of the command that a record keeps; `None` where it keeps none, and where the configuration
-    /// refuses the command.
+    /// What is judged of the command that a record keeps; `None` where it keeps none, and where the
+    /// configuration refuses the command.
     fn judge(&self, value: &Record) -> Option<Checked>
-        ensures fits { IfSome result (λ command. (command_of value.now ≡ Some command) × IsOk (accept (standing_of self.now) command)) }
-        ensures refused { result ≡ None → standing_after_command (standing_of self.now) (command_of value.now) ≡ None }
+        ensures fits { IfSome result (λ command. (command_of value.now ≡ Some command)
+            × IsOk (accept (standing_of self.now) command)) }
+        ensures refused { result ≡ None
+            → standing_after_command (standing_of self.now) (command_of value.now) ≡ None }
     {
         match value {
             Record::TxInstall { an, sa, start } => self.config.check_tx(*an, *sa, *start).ok(),
@@ -161,12 +176,13 @@ impl Standing {
         }
     }
 
-    /// Goes on with a record that follows from the standing: that of a command as its check judged it, and a
-    /// raised ceiling where nothing was judged.
+    /// Goes on with a record that follows from the standing: that of a command as its check judged
+    /// it, and a raised ceiling where nothing was judged.
     pub(crate) fn keep(&mut self, value: &Record, checked: Option<Checked>)
         requires follows { IsSome (standing_after_record (standing_of self.old) value.now) }
         requires checked { IsOfRecord value.now checked }
-        ensures { standing_after_record (standing_of self.old) value.now ≡ Some (standing_of self.new) }
+        ensures { standing_after_record (standing_of self.old) value.now
+            ≡ Some (standing_of self.new) }
     {
         match checked {
             Some(checked) => self.accept_checked(&checked),
@@ -179,7 +195,8 @@ impl Standing {
     /// Goes on with a raised ceiling of a transmit association, and answers whether it is one.
     fn replay_tx(&mut self, an: An, ceiling: Ceiling) -> bool
         ensures fits { result ≡ is_raise ((standing_of self.old).ceilings.tx an) ceiling }
-        ensures raised { result ≡ true → standing_of self.new ≡ standing_with_tx_ceiling (standing_of self.old) an ceiling }
+        ensures raised { result ≡ true
+            → standing_of self.new ≡ standing_with_tx_ceiling (standing_of self.old) an ceiling }
     {
         let is_raised = rises(self.ceilings.tx(an), ceiling);
         if is_raised {
@@ -191,7 +208,8 @@ impl Standing {
     /// Goes on with a raised ceiling of a receive association, and answers whether it is one.
     fn replay_rx(&mut self, sci: Sci, an: An, ceiling: Ceiling) -> bool
         ensures fits { result ≡ is_raise ((standing_of self.old).ceilings.rx sci an) ceiling }
-        ensures raised { result ≡ true → standing_of self.new ≡ standing_with_rx_ceiling (standing_of self.old) sci an ceiling }
+        ensures raised { result ≡ true → standing_of self.new
+            ≡ standing_with_rx_ceiling (standing_of self.old) sci an ceiling }
     {
         let is_raised = rises(self.ceilings.rx(sci, an), ceiling);
         if is_raised {
@@ -203,7 +221,8 @@ impl Standing {
     /// Raises the ceiling of a transmit association that exists.
     pub(crate) fn raise_tx(&mut self, an: An, ceiling: Ceiling)
         requires stands { IsSome ((standing_of self.old).ceilings.tx an) }
-        ensures { standing_of self.new ≡ standing_with_tx_ceiling (standing_of self.old) an ceiling }
+        ensures { standing_of self.new
+            ≡ standing_with_tx_ceiling (standing_of self.old) an ceiling }
     {
         self.ceilings.put_tx(an, Some(ceiling));
     }
@@ -211,16 +230,19 @@ impl Standing {
     /// Raises the ceiling of a receive association that exists.
     pub(crate) fn raise_rx(&mut self, sci: Sci, an: An, ceiling: Ceiling)
         requires stands { IsSome ((standing_of self.old).ceilings.rx sci an) }
-        ensures { standing_of self.new ≡ standing_with_rx_ceiling (standing_of self.old) sci an ceiling }
+        ensures { standing_of self.new
+            ≡ standing_with_rx_ceiling (standing_of self.old) sci an ceiling }
     {
         self.ceilings.put_rx(sci, an, Some(ceiling));
     }
 
-    /// What is judged of a command that fits the configuration, or the first refusal in the order of `Refusal`.
+    /// What is judged of a command that fits the configuration, or the first refusal in the order
+    /// of `Refusal`.
     pub(crate) fn check(&self, command: &Command) -> Result<Checked, Refusal>
         ensures fits { OnOk result (IsOk (accept (standing_of self.now) command.now)) }
         ensures checked { IfOk result (λ checked. checked ≡ command.now) }
-        ensures refused { (refusal : Refusal) → (result ≡ Err refusal) ↔ (accept (standing_of self.now) command.now ≡ Err (Named refusal)) }
+        ensures refused { (refusal : Refusal) → (result ≡ Err refusal)
+            ↔ (accept (standing_of self.now) command.now ≡ Err (Named refusal)) }
     {
         self.config.check(command)
     }
@@ -262,8 +284,10 @@ fn ceilings_in(config: &Config, records: &[Record]) -> CeilingTable
 /// What becomes of the ceilings by a command that made this configuration.
 fn adjust(config: &Config, ceilings: &mut CeilingTable, judged: &Judged)
     requires { (old : spec.Config) × (table_scis ceilings.old ≡ old.channels)
-        × (apply this_edition config.now.identity old (asked_by judged.now) ≡ Ok (config_of config.now)) }
-    ensures ceilings { table_ceilings ceilings.new ≡ ceilings_after config.now.identity (asked_by judged.now) (table_ceilings ceilings.old) }
+        × (apply this_edition config.now.identity old (asked_by judged.now)
+        ≡ Ok (config_of config.now)) }
+    ensures ceilings { table_ceilings ceilings.new
+        ≡ ceilings_after config.now.identity (asked_by judged.now) (table_ceilings ceilings.old) }
     ensures channels { table_scis ceilings.new ≡ (config_of config.now).channels }
 {
     match *judged {

@@ -1,6 +1,7 @@
 //! What a store keeps, one device call at a time.
 
-ghost use Rattle.std.specs.Prelude.{◌≡◌, ◌<◌, ◌≤◌, ◌^◌, if◌then◌else◌, IfSome, IsOk, IsSome, Some, Ok, Err, true, false};
+ghost use Rattle.std.specs.Prelude.{◌≡◌, ◌<◌, ◌≤◌, ◌^◌, if◌then◌else◌, IfSome, IsOk, IsSome, Some};
+ghost use Rattle.std.specs.Prelude.{Ok, Err, true, false};
 ghost use Rattle.macs_config.specs.Numbers.{block_beyond};
 ghost use Rattle.macs_journal.specs.Stepping as journal_steps;
 ghost use Rattle.macs_journal.specs.Stepping.{Renews, RenewsWith};
@@ -9,7 +10,8 @@ ghost use Rattle.macs_journal.specs.declared.fault.JournalFault.TheVariants.{Sto
 ghost use Rattle.macs_journal.specs.declared.work.JournalStep.TheVariants.{Idle};
 ghost use Rattle.macs_store.specs.Replay.{standing_after_record};
 ghost use Rattle.macs_store.specs.Snapshot.{snapshot};
-ghost use Rattle.macs_store.specs.Standing.{accept, standing_with_rx_raised, standing_with_tx_raised};
+ghost use Rattle.macs_store.specs.Standing.{accept, standing_with_rx_raised};
+ghost use Rattle.macs_store.specs.Standing.{standing_with_tx_raised};
 ghost use Rattle.macs_store.specs.Stepping.{Finishes, IsAppending, IsRenewing};
 ghost use Rattle.macs_store.specs.Stepping.{Starts, StartsCommit, StartsRecord, Steps};
 ghost use Rattle.macs_store.specs.Table.{standing_of};
@@ -28,9 +30,10 @@ use macs_record::Record;
 use std::mem::replace;
 
 impl<D: SectorDisk> Store<D> {
-    /// Starts a command, and makes no device call. No work is under way before. Refused as `Stopped` where a device
-    /// call failed before, then as `Refused` with the first refusal that holds, then as `GenerationsSpent` where all 256
-    /// slots are used and the generation is 2^64 - 1; never as `Disk`. A refusal changes nothing.
+    /// Starts a command, and makes no device call. No work is under way before. Refused as
+    /// `Stopped` where a device call failed before, then as `Refused` with the first refusal that
+    /// holds, then as `GenerationsSpent` where all 256 slots are used and the generation is 2^64 -
+    /// 1; never as `Disk`. A refusal changes nothing.
     pub fn start_commit(&mut self, command: &Command) -> Result<(), CommitFault>
         requires idle { IsIdle self.old }
         ensures { StartsCommit D.disk self.old command.now result self.new }
@@ -44,9 +47,10 @@ impl<D: SectorDisk> Store<D> {
         }
     }
 
-    /// Starts a command that the configuration does not refuse, as its check judged it, and makes no device
-    /// call. No work is under way before, and no device call failed. Refused as `GenerationsSpent` where all 256 slots
-    /// are used and the generation is 2^64 - 1; then nothing changes.
+    /// Starts a command that the configuration does not refuse, as its check judged it, and makes
+    /// no device call. No work is under way before, and no device call failed. Refused as
+    /// `GenerationsSpent` where all 256 slots are used and the generation is 2^64 - 1; then nothing
+    /// changes.
     pub fn start_checked(&mut self, checked: &Checked) -> Result<(), CommitFault>
         requires idle { IsIdle self.old }
         requires running { is_stopped self.old ≡ false }
@@ -60,37 +64,40 @@ impl<D: SectorDisk> Store<D> {
         }
     }
 
-    /// Starts to raise the ceiling of a transmit association by a block, to 2^32 at most, and makes no
-    /// device call. No work is under way before; the association exists, and its ceiling is below 2^32. Refused as
-    /// `Stopped` where a device call failed before, then as `GenerationsSpent` where all 256 slots are used and the
-    /// generation is 2^64 - 1; these change nothing.
+    /// Starts to raise the ceiling of a transmit association by a block, to 2^32 at most, and makes
+    /// no device call. No work is under way before; the association exists, and its ceiling is
+    /// below 2^32. Refused as `Stopped` where a device call failed before, then as
+    /// `GenerationsSpent` where all 256 slots are used and the generation is 2^64 - 1; these change
+    /// nothing.
     pub fn start_tx(&mut self, an: An) -> Result<(), JournalFault>
         requires idle { IsIdle self.old }
         requires raised { IfSome ((standing_in self.old).ceilings.tx an) (λ old. old < 2 ^ 32) }
         requires stands { IsSome ((standing_in self.old).ceilings.tx an) }
-        ensures { Starts D.disk self.old (standing_with_tx_raised (standing_in self.old) an) result self.new }
+        ensures { Starts D.disk self.old (standing_with_tx_raised (standing_in self.old) an)
+            result self.new }
     {
         let old = self.tx_ceiling(an).unwrap();
         let ceiling = ahead(old.get(), self.identity().tx_block());
         self.start(Record::TxCeiling { an, ceiling }, None)
     }
 
-    /// Starts to raise the ceiling of a receive association to a block beyond a packet number, to 2^32
-    /// at most, and makes no device call. No work is under way; the association exists, and its ceiling is below the new
-    /// one. Refused as `start_tx`.
+    /// Starts to raise the ceiling of a receive association to a block beyond a packet number, to
+    /// 2^32 at most, and makes no device call. No work is under way; the association exists, and
+    /// its ceiling is below the new one. Refused as `start_tx`.
     pub fn start_rx(&mut self, sci: Sci, an: An, pn: Pn) -> Result<(), JournalFault>
         requires idle { IsIdle self.old }
         requires raised { IfSome ((standing_in self.old).ceilings.rx sci an)
             (λ old. old < block_beyond pn (standing_in self.old).identity.rx_block) }
         requires stands { IsSome ((standing_in self.old).ceilings.rx sci an) }
-        ensures { Starts D.disk self.old (standing_with_rx_raised (standing_in self.old) sci an pn) result self.new }
+        ensures { Starts D.disk self.old (standing_with_rx_raised (standing_in self.old) sci an pn)
+            result self.new }
     {
         let ceiling = ahead(u64::from(pn.get()), self.identity().rx_block());
         self.start(Record::RxCeiling { sci, an, ceiling }, None)
     }
 
-    /// Starts work on a record that follows from the standing; where it is a command's, with what its check judged: nothing
-    /// is judged of a raised ceiling, and of each command its record.
+    /// Starts work on a record that follows from the standing; where it is a command's, with what
+    /// its check judged: nothing is judged of a raised ceiling, and of each command its record.
     /// Where all 256 slots are used the journal is to start over first.
     fn start(&mut self, value: Record, checked: Option<Checked>) -> Result<(), JournalFault>
         requires idle { IsIdle self.old }
@@ -111,10 +118,11 @@ impl<D: SectorDisk> Store<D> {
         Ok(())
     }
 
-    /// Makes the next device call of the work under way, and none where no work is under way. Configuration and ceilings
-    /// change where it answers `Finished` and at no other time. A record that waits for a compaction is begun by the
-    /// step after it. Refused as `Stopped`, and as `Disk` where the call fails: then no work is under way, the standing is
-    /// as it was, and a power loss leaves it with the work or without.
+    /// Makes the next device call of the work under way, and none where no work is under way.
+    /// Configuration and ceilings change where it answers `Finished` and at no other time. A record
+    /// that waits for a compaction is begun by the step after it. Refused as `Stopped`, and as
+    /// `Disk` where the call fails: then no work is under way, the standing is as it was, and a
+    /// power loss leaves it with the work or without.
     pub fn step(&mut self) -> Result<JournalStep, JournalFault>
         ensures { Steps D.disk self.old result self.new }
     {
@@ -125,7 +133,8 @@ impl<D: SectorDisk> Store<D> {
         }
     }
 
-    /// Makes the device calls of the work under way up to its end, and none where no work is under way. Refused as `step`.
+    /// Makes the device calls of the work under way up to its end, and none where no work is under
+    /// way. Refused as `step`.
     pub fn finish(&mut self) -> Result<(), JournalFault>
         ensures { Finishes D.disk self.old result self.new }
     {
@@ -161,7 +170,8 @@ impl<D: SectorDisk> Store<D> {
         Ok(JournalStep::Idle)
     }
 
-    /// The next device call of a journal that starts over. After the last one the record is under way.
+    /// The next device call of a journal that starts over. After the last one the record is under
+    /// way.
     fn step_renewal(&mut self) -> Result<JournalStep, JournalFault>
         requires renewing { IsRenewing self.old.hand }
         ensures { Steps D.disk self.old result self.new }
@@ -186,8 +196,8 @@ impl<D: SectorDisk> Store<D> {
         }
     }
 
-    /// The next device call of an append. After the last one the standing is what the record makes of it: a command
-    /// is applied as its check judged it, since the standing has not changed.
+    /// The next device call of an append. After the last one the standing is what the record makes
+    /// of it: a command is applied as its check judged it, since the standing has not changed.
     fn step_append(&mut self) -> Result<JournalStep, JournalFault>
         requires appending { IsAppending self.old.hand }
         ensures { Steps D.disk self.old result self.new }
@@ -218,20 +228,23 @@ fn start_renewal<D: SectorDisk>(
     standing: &Standing,
 ) -> Result<(), JournalFault>
     requires idle { journal_value.IsIdle journal.old }
-    ensures { journal_steps.Starts D.disk journal.old (Renews (snapshot (standing_of standing.now))) result journal.new }
+    ensures { journal_steps.Starts D.disk journal.old (Renews (snapshot (standing_of standing.now)))
+        result journal.new }
 {
     standing.facts();
     journal.start_compact(standing)
 }
 
-/// The next device call of a journal that starts over with a snapshot of the standing: the record whose body it writes
-/// is made for that call.
+/// The next device call of a journal that starts over with a snapshot of the standing: the record
+/// whose body it writes is made for that call.
 fn step_with_snapshot<D: SectorDisk>(
     journal: &mut Journal<D>,
     standing: &Standing,
 ) -> Result<JournalStep, JournalFault>
-    requires renews { RenewsWith journal.old.place journal.old.hand (snapshot (standing_of standing.now)) }
-    ensures { journal_steps.Steps D.disk journal.old (snapshot (standing_of standing.now)) result journal.new }
+    requires renews { RenewsWith journal.old.place journal.old.hand
+        (snapshot (standing_of standing.now)) }
+    ensures { journal_steps.Steps D.disk journal.old (snapshot (standing_of standing.now)) result
+        journal.new }
 {
     standing.facts();
     journal.step_from(standing)

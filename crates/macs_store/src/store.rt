@@ -1,13 +1,16 @@
 //! What an endpoint keeps, in memory and on its disk.
 
-ghost use Rattle.std.specs.Prelude.{◌≡◌, ◌<◌, ◌^◌, ◌↔◌, false, Err, IfOk, IsOk, IsSome, IsTrue, IfSome, OnOk};
+ghost use Rattle.std.specs.Prelude.{◌≡◌, ◌<◌, ◌^◌, ◌↔◌, false, Err, IfOk, IsOk, IsSome, IsTrue};
+ghost use Rattle.std.specs.Prelude.{IfSome, OnOk};
 ghost use Rattle.macs_config.specs.Apply.{Named};
 ghost use Rattle.macs_config.specs.Value.{config_of};
 ghost use Rattle.macs_store.specs.Keeps.{Commits, Keeps};
 ghost use Rattle.macs_store.specs.Table.{standing_of};
-ghost use Rattle.macs_store.specs.Value.{FitsChange, IsIdle, IsOfChange, StoreValue, device_in, is_stopped, standing_in};
+ghost use Rattle.macs_store.specs.Value.{FitsChange, IsIdle, IsOfChange, StoreValue, device_in};
+ghost use Rattle.macs_store.specs.Value.{is_stopped, standing_in};
 ghost use Rattle.macs_config.specs.Numbers.{block_beyond};
-ghost use Rattle.macs_store.specs.Standing.{IsStanding, accept, standing_with_rx_raised, standing_with_tx_raised};
+ghost use Rattle.macs_store.specs.Standing.{IsStanding, accept, standing_with_rx_raised};
+ghost use Rattle.macs_store.specs.Standing.{standing_with_tx_raised};
 
 use crate::change::Change;
 use crate::fault::CommitFault;
@@ -19,17 +22,18 @@ use macs_journal::{Journal, JournalFault};
 use macs_record::Ceiling;
 use std::marker::Model;
 
-/// The configuration of an endpoint and the ceilings of its packet numbers, as they are on its disk.
-/// A change is in memory only after its record is durable. Where all 256 slots of the journal's current
-/// area are used it starts over in the other area, with a snapshot of both, before it takes the
-/// next record. After a device fault the store answers `Stopped` until the disk is opened again.
+/// The configuration of an endpoint and the ceilings of its packet numbers, as they are on its
+/// disk. A change is in memory only after its record is durable. Where all 256 slots of the
+/// journal's current area are used it starts over in the other area, with a snapshot of both,
+/// before it takes the next record. After a device fault the store answers `Stopped` until the disk
+/// is opened again.
 #[derive(Drop)]
 pub struct Store<D: SectorDisk> {
     pub(crate) journal: Journal<D>,
     pub(crate) standing: Standing,
     pub(crate) hand: Change,
-    /// What the check of the command under way judged; `None` where a ceiling is being raised or no work is under way, so
-    /// that a key is kept no longer than its record is under way.
+    /// What the check of the command under way judged; `None` where a ceiling is being raised or no
+    /// work is under way, so that a key is kept no longer than its record is under way.
     pub(crate) checked: Option<Checked>,
 }
 
@@ -38,23 +42,27 @@ impl<D: SectorDisk> Model for Store<D> {
 
     ghost view = { λ s. record { journal = s.journal; held = s.standing; hand = s.hand } };
 
-    ghost invariant = { λ s. FitsChange s.journal (standing_of s.standing) s.hand × IsOfChange s.hand s.checked };
+    ghost invariant = { λ s. FitsChange s.journal (standing_of s.standing) s.hand
+        × IsOfChange s.hand s.checked };
 }
 
 impl<D: SectorDisk> Store<D> {
-    /// What is judged of a command that the configuration does not refuse, or the first refusal in the order of
-    /// `Refusal`. It holds while the configuration stays: raised ceilings leave it as it is.
+    /// What is judged of a command that the configuration does not refuse, or the first refusal in
+    /// the order of `Refusal`. It holds while the configuration stays: raised ceilings leave it as
+    /// it is.
     pub fn check(&self, command: &Command) -> Result<Checked, Refusal>
         ensures fits { OnOk result (IsOk (accept (standing_in self.now) command.now)) }
         ensures checked { IfOk result (λ checked. checked ≡ command.now) }
-        ensures refused { (refusal : Refusal) → (result ≡ Err refusal) ↔ (accept (standing_in self.now) command.now ≡ Err (Named refusal)) }
+        ensures refused { (refusal : Refusal) → (result ≡ Err refusal)
+            ↔ (accept (standing_in self.now) command.now ≡ Err (Named refusal)) }
     {
         self.standing.check(command)
     }
 
-    /// Keeps a command and applies it. No work is under way. Refused as `Stopped`, then as `Refused` with the first
-    /// refusal that holds, then as `GenerationsSpent`; these change nothing. `Disk` at the first device call that
-    /// fails: the configuration is as it was, and after a power loss it is found with the command or without.
+    /// Keeps a command and applies it. No work is under way. Refused as `Stopped`, then as
+    /// `Refused` with the first refusal that holds, then as `GenerationsSpent`; these change
+    /// nothing. `Disk` at the first device call that fails: the configuration is as it was, and
+    /// after a power loss it is found with the command or without.
     pub fn commit(&mut self, command: &Command) -> Result<(), CommitFault>
         requires idle { IsIdle self.old }
         ensures { Commits D.disk self.old command.now result self.new }
@@ -66,8 +74,9 @@ impl<D: SectorDisk> Store<D> {
         }
     }
 
-    /// Keeps a command that the configuration does not refuse, and applies it, as its check judged it. No work is
-    /// under way, and no device call failed. Refused as `GenerationsSpent`, which changes nothing, and as `Disk` as `commit`.
+    /// Keeps a command that the configuration does not refuse, and applies it, as its check judged
+    /// it. No work is under way, and no device call failed. Refused as `GenerationsSpent`, which
+    /// changes nothing, and as `Disk` as `commit`.
     pub fn commit_checked(&mut self, checked: &Checked) -> Result<(), CommitFault>
         requires idle { IsIdle self.old }
         requires running { is_stopped self.old ≡ false }
@@ -81,28 +90,31 @@ impl<D: SectorDisk> Store<D> {
         }
     }
 
-    /// Raises the ceiling of a transmit association by a block, to 2^32 at most. No work is under way; the association
-    /// exists, and its ceiling is below 2^32. Refused as `Stopped`, then as `GenerationsSpent`; these change
-    /// nothing. `Disk` at the first device call that fails: the ceiling is as it was, and after a power
-    /// loss it is found raised or not.
+    /// Raises the ceiling of a transmit association by a block, to 2^32 at most. No work is under
+    /// way; the association exists, and its ceiling is below 2^32. Refused as `Stopped`, then as
+    /// `GenerationsSpent`; these change nothing. `Disk` at the first device call that fails: the
+    /// ceiling is as it was, and after a power loss it is found raised or not.
     pub fn reserve_tx(&mut self, an: An) -> Result<(), JournalFault>
         requires idle { IsIdle self.old }
         requires raised { IfSome ((standing_in self.old).ceilings.tx an) (λ old. old < 2 ^ 32) }
         requires stands { IsSome ((standing_in self.old).ceilings.tx an) }
-        ensures { Keeps D.disk self.old (standing_with_tx_raised (standing_in self.old) an) result self.new }
+        ensures { Keeps D.disk self.old (standing_with_tx_raised (standing_in self.old) an)
+            result self.new }
     {
         self.start_tx(an)?;
         self.finish()
     }
 
-    /// Raises the ceiling of a receive association to a block beyond a packet number, to 2^32 at most. No work is
-    /// under way; the association exists, and its ceiling is below the new one. Refused as `reserve_tx`.
+    /// Raises the ceiling of a receive association to a block beyond a packet number, to 2^32 at
+    /// most. No work is under way; the association exists, and its ceiling is below the new one.
+    /// Refused as `reserve_tx`.
     pub fn reserve_rx(&mut self, sci: Sci, an: An, pn: Pn) -> Result<(), JournalFault>
         requires idle { IsIdle self.old }
         requires raised { IfSome ((standing_in self.old).ceilings.rx sci an)
             (λ old. old < block_beyond pn (standing_in self.old).identity.rx_block) }
         requires stands { IsSome ((standing_in self.old).ceilings.rx sci an) }
-        ensures { Keeps D.disk self.old (standing_with_rx_raised (standing_in self.old) sci an pn) result self.new }
+        ensures { Keeps D.disk self.old (standing_with_rx_raised (standing_in self.old) sci an pn)
+            result self.new }
     {
         self.start_rx(sci, an, pn)?;
         self.finish()
@@ -148,7 +160,8 @@ impl<D: SectorDisk> Store<D> {
         self.standing.ceilings.tx(an)
     }
 
-    /// The ceiling of a receive association, `None` where there is none at that number of that channel.
+    /// The ceiling of a receive association, `None` where there is none at that number of that
+    /// channel.
     pub fn rx_ceiling(&self, sci: Sci, an: An) -> Option<Ceiling>
         ensures { result ≡ (standing_in self.now).ceilings.rx sci an }
     {

@@ -6,7 +6,8 @@ ghost use Rattle.macs_store.specs.Walk.{new_walk, walk_past};
 
 use macs_record::Record;
 
-/// Records gone through one by one, of which the one at a place is kept, and the others are counted alone.
+/// Records gone through one by one, of which the one at a place is kept, and the others are counted
+/// alone.
 #[derive(Drop)]
 pub(crate) struct Walk {
     /// The place that is looked for, counted from 0.

@@ -18,8 +18,8 @@ enum Wish {
     End,
 }
 
-/// What was reported to it: of a submission its ticket or why it was not taken, and what became of the one
-/// with this ticket.
+/// What was reported to it: of a submission its ticket or why it was not taken, and what became of
+/// the one with this ticket.
 #[derive(Clone, Copy)]
 enum Told {
     Ticket(u64),

@@ -82,8 +82,8 @@ fn is_delivered(told: Result<Verdict, Stopped>) -> bool {
     matches!(told, Ok(Verdict::Delivered(_)))
 }
 
-/// Receives a frame, and reports the verdict. What is given is to be these octets where the frame is
-/// delivered, and else nothing: it is reported where it is not.
+/// Receives a frame, and reports the verdict. What is given is to be these octets where the frame
+/// is delivered, and else nothing: it is reported where it is not.
 fn receive(endpoint: &mut Played, frame: &[u8], plain: &[u8], answer: &mut Answer) {
     let mut out = stale();
     let told = received(endpoint, frame, &mut out);

@@ -49,8 +49,8 @@ fn tell_run(told: Result<Summary, RunFault>, answer: &mut Answer) {
     }
 }
 
-/// `protect-capture`, `validate-capture`: the capture runs through an endpoint. How many frames passed and were dropped,
-/// or the fault.
+/// `protect-capture`, `validate-capture`: the capture runs through an endpoint. How many frames
+/// passed and were dropped, or the fault.
 pub fn run(
     endpoint: &mut Played,
     words: Words<'_>,

@@ -66,7 +66,8 @@ impl<'a> Stage<'a> {
         }
     }
 
-    /// What is printed of the file, also where the file of its disk gave other octets than the disk in memory.
+    /// What is printed of the file, also where the file of its disk gave other octets than the disk
+    /// in memory.
     pub fn into_report(self, rt: &impl Print) -> Report<'a> {
         let Stage {
             report,

@@ -207,7 +207,8 @@ fn play_rows<'a>(
     None
 }
 
-/// Plays the stories of a file. What is to be reported of it, unless there was no memory or no file.
+/// Plays the stories of a file. What is to be reported of it, unless there was no memory or no
+/// file.
 pub fn play<'a>(
     rt: &(impl Print + Files<File = File>),
     alloc: Global,

@@ -12,8 +12,8 @@ struct Told {
     text: String,
 }
 
-/// What clients do, a line for each time that the desk listens, and what was said to them. It claims
-/// nothing.
+/// What clients do, a line for each time that the desk listens, and what was said to them. It
+/// claims nothing.
 #[derive(Drop)]
 pub struct Talks {
     alloc: Global,

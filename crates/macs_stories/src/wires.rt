@@ -395,8 +395,8 @@ fn rest_and_tell(endpoint: &mut Played, wires: &mut Wires, turns: u64, answer: &
     answer.number(idle.slept);
 }
 
-/// `relay TURNS`, `relay-resting TURNS`, `attend TURNS`, `serve-clients TURNS`: frames pass between the wires through an
-/// endpoint; `None` where the words say no such act.
+/// `relay TURNS`, `relay-resting TURNS`, `attend TURNS`, `serve-clients TURNS`: frames pass between
+/// the wires through an endpoint; `None` where the words say no such act.
 pub fn pass_frames(
     endpoint: &mut Played,
     words: Words<'_>,

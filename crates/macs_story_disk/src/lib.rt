@@ -1,5 +1,5 @@
-//! What stories do with a disk, a journal and a store, and what they ask of them: the words of their
-//! acts, and the disk of a story.
+//! What stories do with a disk, a journal and a store, and what they ask of them: the words of
+//! their acts, and the disk of a story.
 #![tactic(auto)]
 
 mod commands;

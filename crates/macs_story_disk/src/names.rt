@@ -20,8 +20,8 @@ pub fn sci_of(words: &mut Words<'_>) -> Option<Sci> {
     Some(Sci(words.hex_number()?.to_be_bytes()))
 }
 
-/// The next word as a key: of 256 bits where it is 64 hex digits; else of 128, by its hex digits, with zeros
-/// in front where they are fewer than 32, or by the number of a turn.
+/// The next word as a key: of 256 bits where it is 64 hex digits; else of 128, by its hex digits,
+/// with zeros in front where they are fewer than 32, or by the number of a turn.
 pub fn key_of(words: &mut Words<'_>) -> Option<Key> {
     let mut behind = *words;
     if let Ok(octets) = <[u8; 32] as FromHex>::from_hex(behind.take()) {

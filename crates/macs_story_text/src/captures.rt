@@ -34,7 +34,8 @@ impl Captures {
     }
 }
 
-/// The header of a record whose stamp is told from others by its place: the kept length and the original one.
+/// The header of a record whose stamp is told from others by its place: the kept length and the
+/// original one.
 fn push_record(octets: &mut Vec<u8>, words: &mut Words<'_>) -> Option<()> {
     let place = words.short()?;
     let kept = words.short()?;

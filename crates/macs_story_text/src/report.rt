@@ -98,7 +98,8 @@ impl<'a> Report<'a> {
         }
     }
 
-    /// Reports the counts. Whether nothing was wrong, and all that was to be reported could be printed.
+    /// Reports the counts. Whether nothing was wrong, and all that was to be reported could be
+    /// printed.
     pub fn close(&self, rt: &impl Print) -> bool {
         tell_counts(rt, self.file, self.counts) && !self.is_silent && self.counts.wrong == 0
     }

@@ -88,8 +88,8 @@ impl<'a> Words<'a> {
         (length <= 9_217).then_some(length)
     }
 
-    /// A number of 128 bits: hex digits, with zeros in front where they are fewer than 32; or the number
-    /// of a turn.
+    /// A number of 128 bits: hex digits, with zeros in front where they are fewer than 32; or the
+    /// number of a turn.
     pub fn hex_or_turn(&mut self) -> Option<u128> {
         let word = self.raw();
         match hex_number(self.values.text_of(word)) {
@@ -150,7 +150,8 @@ pub fn is_wanted(answer: &str, wanted: &str, values: Values<'_>) -> bool {
     false
 }
 
-/// Whether the next word of an answer is what is expected: this word, a sum, or what a name stands for.
+/// Whether the next word of an answer is what is expected: this word, a sum, or what a name stands
+/// for.
 fn is_next(answer: &mut Words<'_>, wanted: &str, values: Values<'_>) -> bool {
     let given = answer.raw();
     if !wanted.contains('$') && !wanted.contains('+') {

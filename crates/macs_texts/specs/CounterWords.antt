@@ -20,10 +20,10 @@ use Rattle.macs_texts.specs.Counting.{channel_text, left_text, rx_line, verdict_
 use Rattle.macs_texts.specs.Lines.{count_line, count_line_of}
 
 -- A line says of what it is, which count, and the number, in decimal. Each fault and each verdict has its own word, and
--- its own number on the line of that word, of each channel for those that name it; a wire, what it took, sent, took from
--- strangers, how often it failed, and what is kept for it, where that is known.
--- What is left are the packet numbers below 2^32 of each association that has a next one, and the keys of each side.
--- Frames that were sent come first, then those received, by channels next, then the wires, and last what is left.
+-- its own number on the line of that word, of each channel for those that name it; a wire, what it took, sent, took
+-- from strangers, how often it failed, and what is kept for it, where that is known. What is left are the packet
+-- numbers below 2^32 of each association that has a next one, and the keys of each side. Frames that were sent come
+-- first, then those received, by channels next, then the wires, and last what is left.
 pub record CounterWords : Type 0 where
   pub faults : map fault_words (tx.Runt ∷ tx.TooLong ∷ tx.ForeignSource ∷ tx.NoEncodingSa ∷ tx.Exhausted ∷ tx.NoNumber
       ∷ [])

@@ -71,7 +71,8 @@ rx_verdicts =
     Delivered kind.Ok ∷ Delivered kind.Delayed ∷ Delivered kind.Invalid ∷ Delivered kind.Untagged
     ∷ Delivered kind.UnknownSci ∷ Delivered kind.UnusedSa
     ∷ Discarded reason.Runt ∷ Discarded reason.Oversize ∷ Discarded reason.NoTag ∷ Discarded reason.BadTag
-    ∷ Discarded reason.ForKay ∷ Discarded reason.NoSci ∷ Discarded reason.NotUsingSa ∷ Discarded reason.Late ∷ Discarded reason.NotValid ∷ []
+    ∷ Discarded reason.ForKay ∷ Discarded reason.NoSci ∷ Discarded reason.NotUsingSa ∷ Discarded reason.Late
+    ∷ Discarded reason.NotValid ∷ []
 
 -- how often a verdict was given
 abbrev pub rx_line : RxCounters → Verdict → List ℕ
@@ -90,7 +91,8 @@ channel_verdicts =
 -- how often a verdict was given on frames of a channel, where there is such a channel
 abbrev pub channel_line : (List ℕ → Option ChannelCounters) → List ℕ → Verdict → List ℕ
 channel_line table sci verdict =
-    count_line_of (codes "channel " ++ encode_lower sci) (verdict_words verdict) (option_map (channel_count_of verdict) (table sci))
+    count_line_of (codes "channel " ++ encode_lower sci) (verdict_words verdict)
+    (option_map (channel_count_of verdict) (table sci))
 
 -- and each of them
 abbrev pub channel_text : (List ℕ → Option ChannelCounters) → List ℕ → List ℕ
@@ -130,4 +132,5 @@ abbrev pub counters_text : State → TxCounters → RxCounters → (List ℕ →
     → WireCounts → List ℕ
 counters_text s sent received table controlled common =
     tx_text sent ++ (rx_text received ++ (concat (map (channel_text table) s.config.channels)
-    ++ (wire_text (codes "wire 1") controlled ++ (wire_text (codes "wire 2") common ++ (left_text s ++ keys_text s.config)))))
+    ++ (wire_text (codes "wire 1") controlled
+    ++ (wire_text (codes "wire 2") common ++ (left_text s ++ keys_text s.config)))))

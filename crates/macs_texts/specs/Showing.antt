@@ -27,7 +27,8 @@ sci_line identity = line (codes "sci " ++ encode_lower identity.sci)
 
 -- how many packet numbers the blocks of either side have
 abbrev pub blocks_line : Identity → List ℕ
-blocks_line identity = line (codes "blocks tx " ++ (decimal identity.tx_block ++ (codes " rx " ++ decimal identity.rx_block)))
+blocks_line identity =
+    line (codes "blocks tx " ++ (decimal identity.tx_block ++ (codes " rx " ++ decimal identity.rx_block)))
 
 -- how received frames are validated
 abbrev pub validate_word : Validate → List ℕ
@@ -40,7 +41,8 @@ validate_line validate = line (codes "validate " ++ validate_word validate)
 
 -- replay protection and its window
 abbrev pub replay_line : Replay → List ℕ
-replay_line replay = line (codes "replay " ++ ((if replay.on then codes "on" else codes "off") ++ (codes " window " ++ decimal replay.window)))
+replay_line replay = line (codes "replay "
+    ++ ((if replay.on then codes "on" else codes "off") ++ (codes " window " ++ decimal replay.window)))
 
 -- how the SecTAG names the channel
 abbrev pub mode_word : SciMode → List ℕ
@@ -68,7 +70,8 @@ protection_words (Confidentiality offset) = codes "confidential offset " ++ deci
 
 -- a transmit association and its next packet number
 abbrev pub tx_line : ℕ → TxSa → ℕ → List ℕ
-tx_line an sa next = line (codes "tx " ++ (decimal an ++ (codes " " ++ (protection_words sa.protection ++ (codes " next " ++ decimal next)))))
+tx_line an sa next = line
+    (codes "tx " ++ (decimal an ++ (codes " " ++ (protection_words sa.protection ++ (codes " next " ++ decimal next)))))
 
 -- a receive channel
 abbrev pub channel_line : List ℕ → List ℕ
@@ -76,12 +79,14 @@ channel_line sci = line (codes "channel " ++ encode_lower sci)
 
 -- a receive association, its next and its lowest acceptable packet number
 abbrev pub rx_line : List ℕ → ℕ → RxSa → Numbers → List ℕ
-rx_line sci an sa numbers = line (codes "rx " ++ (encode_lower sci ++ (codes " " ++ (decimal an ++ (codes " offset " ++ (decimal (octets_of sa.offset)
+rx_line sci an sa numbers = line (codes "rx "
+    ++ (encode_lower sci ++ (codes " " ++ (decimal an ++ (codes " offset " ++ (decimal (octets_of sa.offset)
     ++ (codes " next " ++ (decimal numbers.next ++ (codes " lowest " ++ decimal numbers.lowest)))))))))
 
 -- how many keys are spent on either side
 abbrev pub spent_line : Config → List ℕ
-spent_line config = line (codes "spent tx " ++ (decimal (length config.spent_tx) ++ (codes " rx " ++ decimal (length config.spent_rx))))
+spent_line config =
+    line (codes "spent tx " ++ (decimal (length config.spent_tx) ++ (codes " rx " ++ decimal (length config.spent_rx))))
 
 -- ---- associations and channels
 

@@ -191,7 +191,8 @@ fn left_line<D: SectorDisk>(
     endpoint: &Endpoint<D>,
     an: An,
 ) -> Result<String, AllocError>
-    ensures { IfOk result (λ text. string_bytes text ≡ left_line (state_of endpoint.now no_logs) an) }
+    ensures { IfOk result
+        (λ text. string_bytes text ≡ left_line (state_of endpoint.now no_logs) an) }
 {
     let number = an.get().to_string(alloc)?;
     let left = left_of(endpoint.next_number(an));

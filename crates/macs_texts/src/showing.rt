@@ -181,7 +181,8 @@ fn rx_text<D: SectorDisk>(
     sci: Sci,
     an: An,
 ) -> Result<String, AllocError>
-    ensures { IfOk result (λ text. string_bytes text ≡ rx_text (state_of endpoint.now no_logs) sci an) }
+    ensures { IfOk result
+        (λ text. string_bytes text ≡ rx_text (state_of endpoint.now no_logs) sci an) }
 {
     let Some(sa) = endpoint.config().rx(sci, an) else {
         return Ok(String::new(alloc));
@@ -198,7 +199,8 @@ fn channel_text<D: SectorDisk>(
     endpoint: &Endpoint<D>,
     sci: Sci,
 ) -> Result<String, AllocError>
-    ensures { IfOk result (λ text. string_bytes text ≡ channel_text (state_of endpoint.now no_logs) sci) }
+    ensures { IfOk result
+        (λ text. string_bytes text ≡ channel_text (state_of endpoint.now no_logs) sci) }
 {
     let mut text = channel_line(alloc, sci)?;
     for an in An::all() {
@@ -222,7 +224,8 @@ fn tx_texts<D: SectorDisk>(alloc: Global, endpoint: &Endpoint<D>) -> Result<Stri
 /// The channels with their associations.
 fn channel_texts<D: SectorDisk>(alloc: Global, endpoint: &Endpoint<D>) -> Result<String, AllocError>
     ensures { IfOk result (λ text. string_bytes text
-        ≡ concat (map (channel_text (state_of endpoint.now no_logs)) (state_of endpoint.now no_logs).config.channels)) }
+        ≡ concat (map (channel_text (state_of endpoint.now no_logs))
+        (state_of endpoint.now no_logs).config.channels)) }
 {
     let mut text = String::new(alloc);
     let channels = endpoint.config().channels();
@@ -234,7 +237,8 @@ fn channel_texts<D: SectorDisk>(alloc: Global, endpoint: &Endpoint<D>) -> Result
 
 /// What was formatted: the SCI and the blocks.
 fn identity_lines(alloc: Global, identity: &Identity) -> Result<String, AllocError>
-    ensures { IfOk result (λ text. string_bytes text ≡ sci_line identity.now ++ blocks_line identity.now) }
+    ensures { IfOk result
+        (λ text. string_bytes text ≡ sci_line identity.now ++ blocks_line identity.now) }
 {
     joined(sci_line(alloc, identity), blocks_line(alloc, identity))
 }
@@ -242,8 +246,10 @@ fn identity_lines(alloc: Global, identity: &Identity) -> Result<String, AllocErr
 /// The settings.
 fn setting_lines(alloc: Global, config: &Config) -> Result<String, AllocError>
     ensures { IfOk result (λ text. string_bytes text
-        ≡ validate_line (config_of config.now).validate ++ (replay_line (config_of config.now).replay
-        ++ (mode_line (config_of config.now).mode ++ encoding_line (config_of config.now).encoding))) }
+        ≡ validate_line (config_of config.now).validate
+        ++ (replay_line (config_of config.now).replay
+        ++ (mode_line (config_of config.now).mode
+        ++ encoding_line (config_of config.now).encoding))) }
 {
     let text = encoding_line(alloc, config.encoding());
     let text = joined(mode_line(alloc, config.sci_mode()), text);

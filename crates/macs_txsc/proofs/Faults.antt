@@ -1,5 +1,6 @@
 -- Which fault comes first: those that lie in the frame, and then those that lie in the association.
-use Rattle.std.proofs.Common.{rules, ◌≡◌, ◌∙◌, ℕ, ◌≤◌, ◌+◌, ◌^◌, arith, Bool, true, false, List, [], ◌∷◌, length, refl, ap}
+use Rattle.std.proofs.Common.{rules, ◌≡◌, ◌∙◌, ℕ, ◌≤◌, ◌+◌, ◌^◌, arith, Bool, true, false, List, [], ◌∷◌, length, refl}
+use Rattle.std.proofs.Common.{ap}
 use Rattle.std.specs.Prelude.{◌==◌, ◌&&◌, not, nat_lt, Option, Some, None, is_none, get_or}
 use Rattle.std.specs.Option.{option_map}
 use Rattle.std.proofs.lemmas.Bool.Decides.{nat_tests}
@@ -11,8 +12,10 @@ use Rattle.macs_frame.specs.declared.tag.ScName.{ScName}
 use Rattle.macs_txsc.specs.declared.association.Association.{Association}
 use Rattle.macs_txsc.specs.declared.channel.Tx.{Tx}
 use Rattle.macs_txsc.specs.declared.fault.TxFault.{TxFault}
-use Rattle.macs_txsc.specs.declared.fault.TxFault.TheVariants.{Runt, TooLong, ForeignSource, NoEncodingSa, Exhausted, NoNumber}
-use Rattle.macs_txsc.specs.Transmit.{Outgoing, TxSide, all_tx_faults, frame_of, is_at_ceiling, is_own_source, is_used_up, name_in, next_outgoing}
+use Rattle.macs_txsc.specs.declared.fault.TxFault.TheVariants.{Runt, TooLong, ForeignSource, NoEncodingSa, Exhausted}
+use Rattle.macs_txsc.specs.declared.fault.TxFault.TheVariants.{NoNumber}
+use Rattle.macs_txsc.specs.Transmit.{Outgoing, TxSide, all_tx_faults, frame_of, is_at_ceiling, is_own_source}
+use Rattle.macs_txsc.specs.Transmit.{is_used_up, name_in, next_outgoing}
 use Rattle.macs_txsc.specs.Value.{ceilings_of, sa_of, tx_side_of}
 
 -- what lies in the frame, with its tests
@@ -48,26 +51,31 @@ back false false true rest is = search rules
 back false false false rest is = refl
 
 -- a frame without faults is neither short nor long
-pub has_length : (n m : ℕ) (r : Bool) → first ((Runt, nat_lt n 14) ∷ (TooLong, nat_lt 9216 m) ∷ (ForeignSource, r) ∷ []) ≡ None
+pub has_length : (n m : ℕ) (r : Bool)
+    → first ((Runt, nat_lt n 14) ∷ (TooLong, nat_lt 9216 m) ∷ (ForeignSource, r) ∷ []) ≡ None
     → (14 ≤ n) × (m ≤ 9216)
 has_length n m r none = search (rules, nat_tests, arith)
 
 -- a fault of the frame comes first
-pub in_frame : (side : TxSide) (ceilings : ℕ → Option ℕ) (plain : List ℕ) (fault : TxFault) → first (frame_faults side plain) ≡ Some fault
+pub in_frame : (side : TxSide) (ceilings : ℕ → Option ℕ) (plain : List ℕ) (fault : TxFault)
+    → first (frame_faults side plain) ≡ Some fault
     → first (all_tx_faults side ceilings plain) ≡ Some fault
 in_frame side ceilings plain fault is = front _ _ _ (association_faults ceilings (next_outgoing side)) fault is
 
 -- after a frame without faults come those of the association
-pub behind : (side : TxSide) (ceilings : ℕ → Option ℕ) (plain : List ℕ) (o : Option Outgoing) → first (frame_faults side plain) ≡ None → next_outgoing side ≡ o
+pub behind : (side : TxSide) (ceilings : ℕ → Option ℕ) (plain : List ℕ) (o : Option Outgoing)
+    → first (frame_faults side plain) ≡ None → next_outgoing side ≡ o
     → first (all_tx_faults side ceilings plain) ≡ first (association_faults ceilings o)
 behind side ceilings plain o none is =
-    back _ _ _ (association_faults ceilings (next_outgoing side)) none ∙ ap (λ x. first (association_faults ceilings x)) is
+    back _ _ _ (association_faults ceilings (next_outgoing side)) none
+    ∙ ap (λ x. first (association_faults ceilings x)) is
 
 -- no association is chosen, or there is none at the number
 pub unset : (t : Tx) → t.encoding ≡ None → next_outgoing (tx_side_of t) ≡ None
 unset t encoding = rw encoding refl
 
-pub vacant : (t : Tx) (an : ℕ) → t.encoding ≡ Some an → get_or t.associations an None ≡ None → next_outgoing (tx_side_of t) ≡ None
+pub vacant : (t : Tx) (an : ℕ) → t.encoding ≡ Some an → get_or t.associations an None ≡ None
+    → next_outgoing (tx_side_of t) ≡ None
 vacant t an encoding place = rw (encoding, place) refl
 
 -- the association that frames go out under
@@ -76,12 +84,14 @@ pub chosen : (t : Tx) (an : ℕ) (a : Association) → t.encoding ≡ Some an �
 chosen t an a encoding place = rw (encoding, place) refl
 
 -- after a frame without faults come those of the numbers of the association
-pub in_numbers : (t : Tx) (plain : List ℕ) (an : ℕ) (a : Association) → first (frame_faults (tx_side_of t) plain) ≡ None → t.encoding ≡ Some an
+pub in_numbers : (t : Tx) (plain : List ℕ) (an : ℕ) (a : Association) → first (frame_faults (tx_side_of t) plain) ≡ None
+    → t.encoding ≡ Some an
     → get_or t.associations an None ≡ Some a
     → first (all_tx_faults (tx_side_of t) (ceilings_of t) plain) ≡ first (number_faults a.next a.ceiling)
 in_numbers t plain an a none encoding place =
     let o : Outgoing = record { an = an; sa = sa_of a; pn = a.next } in
-    let numbers : first (association_faults (ceilings_of t) (Some o)) ≡ first (number_faults a.next a.ceiling) = rw place refl in
+    let numbers : first (association_faults (ceilings_of t) (Some o)) ≡ first (number_faults a.next a.ceiling) =
+    rw place refl in
     behind (tx_side_of t) (ceilings_of t) plain (Some o) none (chosen t an a encoding place) ∙ numbers
 
 -- the frame that an association makes is the one that goes out

@@ -1,5 +1,7 @@
 -- The transmit channel (IEEE Std 802.1AE-2018, 10.5): which fault comes first, and the frame that goes out.
-use Rattle.std.specs.Prelude.{◌≡◌, ◌≤◌, ℕ, ◌+◌, ◌-◌, ◌/◌, ◌^◌, ◌==◌, min, nat_le, nat_lt, Bool, false, not, ◌&&◌, if◌then◌else◌, List, [], ◌∷◌, ◌++◌, length, take, slice_range, Option, Some, None, is_none, Result, Ok, Err}
+use Rattle.std.specs.Prelude.{◌≡◌, ◌≤◌, ℕ, ◌+◌, ◌-◌, ◌/◌, ◌^◌, ◌==◌, min, nat_le, nat_lt, Bool, false, not, ◌&&◌}
+use Rattle.std.specs.Prelude.{if◌then◌else◌, List, [], ◌∷◌, ◌++◌, length, take, slice_range, Option, Some, None}
+use Rattle.std.specs.Prelude.{is_none, Result, Ok, Err}
 use Rattle.std.specs.Option.{option_map_or}
 use Rattle.std.specs.Str.{bytes_eq}
 use Rattle.macs_config.specs.Association.{is_confidential, is_end_station, offset_of}
@@ -11,11 +13,13 @@ use Rattle.macs_config.specs.declared.command.SciMode.TheVariants.{Explicit, End
 use Rattle.macs_fields.specs.Fields.{octets_of}
 use Rattle.macs_frame.specs.Protection.{overhead, protected_frame}
 use Rattle.macs_frame.specs.declared.tag.ScName.{ScName}
-use Rattle.macs_frame.specs.declared.tag.ScName.TheVariants.{Explicit as NamesSci, EndStation as NamesStation, Implicit as NamesNone}
+use Rattle.macs_frame.specs.declared.tag.ScName.TheVariants.{Explicit as NamesSci, EndStation as NamesStation}
+use Rattle.macs_frame.specs.declared.tag.ScName.TheVariants.{Implicit as NamesNone}
 use Rattle.macs_frame.specs.declared.tag.SecTag.{SecTag}
 use Rattle.macs_txsc.specs.declared.counters.TxCounters.{TxCounters}
 use Rattle.macs_txsc.specs.declared.fault.TxFault.{TxFault}
-use Rattle.macs_txsc.specs.declared.fault.TxFault.TheVariants.{Runt, TooLong, ForeignSource, NoEncodingSa, Exhausted, NoNumber}
+use Rattle.macs_txsc.specs.declared.fault.TxFault.TheVariants.{Runt, TooLong, ForeignSource, NoEncodingSa, Exhausted}
+use Rattle.macs_txsc.specs.declared.fault.TxFault.TheVariants.{NoNumber}
 
 -- a transmit channel: associations and their next packet numbers by association number
 pub record TxSide : Type 0 where
@@ -51,7 +55,8 @@ outgoing_at side (Some an) = outgoing_with an (side.tx an) (side.next an)
 abbrev pub next_outgoing : TxSide → Option Outgoing
 next_outgoing side = outgoing_at side side.encoding
 
--- how SecTAGs name the channel of this SCI in a mode: with SC set and the SCI spelled out, with ES set, or with neither (9.5)
+-- how SecTAGs name the channel of this SCI in a mode: with SC set and the SCI spelled out, with ES set, or with neither
+-- (9.5)
 abbrev pub name_in : SciMode → List ℕ → ScName
 name_in Explicit sci = NamesSci sci
 name_in EndStation sci = NamesStation

@@ -1,6 +1,7 @@
 //! A transmit association.
 
-ghost use Rattle.std.specs.Prelude.{◌≡◌, ◌≤◌, ◌<◌, ◌+◌, ◌^◌, ◌==◌, ◌∷◌, [], None, Some, IfErr, IfOk, OnOk, length};
+ghost use Rattle.std.specs.Prelude.{◌≡◌, ◌≤◌, ◌<◌, ◌+◌, ◌^◌, ◌==◌, ◌∷◌, [], None, Some, IfErr};
+ghost use Rattle.std.specs.Prelude.{IfOk, OnOk, length};
 ghost use Rattle.macs_config.specs.Association.{is_confidential, offset_of};
 ghost use Rattle.macs_fields.specs.Fields.{octets_of};
 ghost use Rattle.macs_fields.specs.First.{first};
@@ -27,7 +28,8 @@ pub struct Association {
 }
 
 impl Association {
-    /// The next packet number, or why there is none: every one is used, or the next is not reserved.
+    /// The next packet number, or why there is none: every one is used, or the next is not
+    /// reserved.
     pub fn packet_number(&self) -> Result<Pn, TxFault>
         ensures fault { IfErr result (λ fault. first ((Exhausted, self.now.next == 2 ^ 32)
             ∷ (NoNumber, self.now.ceiling == self.now.next) ∷ []) ≡ Some fault) }
@@ -45,8 +47,9 @@ impl Association {
         Ok(pn)
     }
 
-    /// Protects a plain frame under the next packet number, which is then used. `sci` is that of the
-    /// transmit channel, `an` the association's number in it, and `name` how frames name the channel.
+    /// Protects a plain frame under the next packet number, which is then used. `sci` is that of
+    /// the transmit channel, `an` the association's number in it, and `name` how frames name the
+    /// channel.
     pub fn seal(&mut self, sci: Sci, an: An, pn: Pn, name: ScName, plain: &[u8], out: &mut FrameBuf)
         requires next { pn ≡ self.old.next }
         requires below { self.old.next < self.old.ceiling }

@@ -1,6 +1,8 @@
 //! The transmit channel (IEEE Std 802.1AE-2018, 10.5).
 
-ghost use Rattle.std.specs.Prelude.{◌≡◌, ◌≢◌, ◌≤◌, ◌^◌, ◌↔◌, ℕ, [], true, Some, None, IsSome, IfSome, IfOk, IfErr, OnOk, OnErr, Err, ◌+◌, ◌∷◌, ◌&&◌, not, nat_lt, length};
+ghost use Rattle.std.specs.Prelude.{◌≡◌, ◌≢◌, ◌≤◌, ◌^◌, ◌↔◌, ℕ, [], true, Some, None, IsSome};
+ghost use Rattle.std.specs.Prelude.{IfSome, IfOk, IfErr, OnOk, OnErr, Err, ◌+◌, ◌∷◌, ◌&&◌, not};
+ghost use Rattle.std.specs.Prelude.{nat_lt, length};
 ghost use Rattle.std.specs.Option.{option_map};
 ghost use Rattle.macs_aes.specs.Keys.{octets_of_key};
 ghost use Rattle.macs_config.specs.Association.{is_end_station, protection_of};
@@ -10,7 +12,10 @@ ghost use Rattle.macs_config.specs.declared.command.SciMode.TheVariants.{EndStat
 ghost use Rattle.macs_fields.specs.First.{first};
 ghost use Rattle.macs_frame.specs.Protection.{overhead};
 ghost use Rattle.macs_txsc.specs.declared.fault.TxFault.TheVariants.{Runt, TooLong, ForeignSource};
-ghost use Rattle.macs_txsc.specs.Transmit.{AreOrdered, Outgoing, all_tx_faults, fault_count, frame_of, is_own_source, name_in, need_of, new_tx_side, no_counts, next_outgoing, side_after_frame, counters_after_answer};
+ghost use Rattle.macs_txsc.specs.Transmit.{AreOrdered, Outgoing, all_tx_faults, fault_count};
+ghost use Rattle.macs_txsc.specs.Transmit.{frame_of, is_own_source, name_in, need_of, new_tx_side};
+ghost use Rattle.macs_txsc.specs.Transmit.{no_counts, next_outgoing, side_after_frame};
+ghost use Rattle.macs_txsc.specs.Transmit.{counters_after_answer};
 ghost use Rattle.macs_txsc.specs.Value.{ceilings_of, counters_of, tx_side_of};
 
 use crate::association::Association;
@@ -76,7 +81,10 @@ impl Tx {
         requires ordered { next ≤ ceiling }
         requires bounded { ceiling ≤ 2 ^ 32 }
         ensures side { tx_side_of self.new ≡ record (tx_side_of self.old) {
-          tx = put (tx_side_of self.old).tx an (Some (record { key = octets_of_key key.now; protection = protection_of confidential offset }));
+          tx = put (tx_side_of self.old).tx an (Some (record {
+            key = octets_of_key key.now;
+            protection = protection_of confidential offset;
+          }));
           next = put (tx_side_of self.old).next an (Some next);
         } }
         ensures ceilings { ceilings_of self.new ≡ put (ceilings_of self.old) an (Some ceiling) }
@@ -94,8 +102,11 @@ impl Tx {
     pub fn remove(&mut self, an: An)
         requires stands { IsSome ((tx_side_of self.old).tx an) }
         requires unused { (tx_side_of self.old).encoding ≢ Some an }
-        ensures side { tx_side_of self.new ≡ record (tx_side_of self.old)
-            { tx = put (tx_side_of self.old).tx an None; next = put (tx_side_of self.old).next an None } }
+        ensures side { tx_side_of self.new ≡ record (tx_side_of self.old) {
+          tx = put (tx_side_of self.old).tx an None;
+          next =
+              put (tx_side_of self.old).next an None;
+        } }
         ensures ceilings { ceilings_of self.new ≡ put (ceilings_of self.old) an None }
         ensures counters { counters_of self.new ≡ counters_of self.old }
     {
@@ -112,7 +123,8 @@ impl Tx {
         self.encoding = Some(an);
     }
 
-    /// Raises the ceiling of an association that exists: not below the one before, and at most 2^32.
+    /// Raises the ceiling of an association that exists: not below the one before, and at most
+    /// 2^32.
     pub fn raise(&mut self, an: An, ceiling: u64)
         requires stands { IsSome ((tx_side_of self.old).tx an) }
         requires higher { IfSome (ceilings_of self.old an) (λ old. old ≤ ceiling) }
@@ -126,7 +138,8 @@ impl Tx {
         }
     }
 
-    /// The next packet number of an association, 1 to 2^32, `None` where there is none at that number.
+    /// The next packet number of an association, 1 to 2^32, `None` where there is none at that
+    /// number.
     pub fn next_number(&self, an: An) -> Option<u64>
         ensures { result ≡ (tx_side_of self.now).next an }
     {
@@ -135,8 +148,8 @@ impl Tx {
     }
 
     /// The number of the association whose ceiling has to be raised: the one that frames go out
-    /// under, where at most half a block of packet numbers, rounded down, is left below its ceiling,
-    /// and the ceiling is below 2^32. `tx_block` is 1 to 65,536 packet numbers.
+    /// under, where at most half a block of packet numbers, rounded down, is left below its
+    /// ceiling, and the ceiling is below 2^32. `tx_block` is 1 to 65,536 packet numbers.
     pub fn needs(&self, tx_block: u32) -> Option<An>
         ensures { result ≡ need_of (tx_side_of self.now) (ceilings_of self.now) tx_block }
     {
@@ -148,19 +161,23 @@ impl Tx {
     }
 
     /// Protects a plain frame, writes the protected frame to `out`, and answers its packet number,
-    /// which is then used. The first fault, in the order of `TxFault`, is answered in its place; then
-    /// `out` is empty, and no number is used. Each answer is counted.
+    /// which is then used. The first fault, in the order of `TxFault`, is answered in its place;
+    /// then `out` is empty, and no number is used. Each answer is counted.
     pub fn protect(&mut self, plain: &[u8], out: &mut FrameBuf) -> Result<Pn, TxFault>
         ensures fault { (fault : TxFault) → (result ≡ Err fault)
-            ↔ (first (all_tx_faults (tx_side_of self.old) (ceilings_of self.old) plain.now) ≡ Some fault) }
-        ensures number { IfOk result (λ pn. option_map (λ (o : Outgoing). o.pn) (next_outgoing (tx_side_of self.old)) ≡ Some pn) }
+            ↔ (first (all_tx_faults (tx_side_of self.old) (ceilings_of self.old) plain.now)
+            ≡ Some fault) }
+        ensures number { IfOk result (λ pn.
+            option_map (λ (o : Outgoing). o.pn) (next_outgoing (tx_side_of self.old)) ≡ Some pn) }
         ensures frame { OnOk result
-            (option_map (λ (o : Outgoing). frame_of (tx_side_of self.old) o plain.now) (next_outgoing (tx_side_of self.old)) ≡ Some out.new.items) }
+            (option_map (λ (o : Outgoing). frame_of (tx_side_of self.old) o plain.now)
+            (next_outgoing (tx_side_of self.old)) ≡ Some out.new.items) }
         ensures sent { OnOk result (tx_side_of self.new ≡ side_after_frame (tx_side_of self.old)) }
         ensures same { OnErr result (tx_side_of self.new ≡ tx_side_of self.old) }
         ensures ceilings { ceilings_of self.new ≡ ceilings_of self.old }
         ensures empty { OnErr result (out.new.items ≡ []) }
-        ensures counters { counters_of self.new ≡ counters_after_answer result (counters_of self.old) }
+        ensures counters { counters_of self.new
+            ≡ counters_after_answer result (counters_of self.old) }
     {
         out.clear();
         let answer = self.send(plain, out);
@@ -182,20 +199,25 @@ impl Tx {
         self.counters.protected
     }
 
-    /// Each association has a next number, 1 to 2^32, that is not above its ceiling, which is at most
-    /// 2^32.
+    /// Each association has a next number, 1 to 2^32, that is not above its ceiling, which is at
+    /// most 2^32.
     pub fn facts(&self)
         ensures { (an : ℕ) → AreOrdered (tx_side_of self.now) (ceilings_of self.now) an }
     {}
 
-    /// Protects a plain frame as `protect` does, and counts nothing. After a fault `out` is as before.
+    /// Protects a plain frame as `protect` does, and counts nothing. After a fault `out` is as
+    /// before.
     fn send(&mut self, plain: &[u8], out: &mut FrameBuf) -> Result<Pn, TxFault>
         ensures fault { IfErr result
-            (λ fault. first (all_tx_faults (tx_side_of self.old) (ceilings_of self.old) plain.now) ≡ Some fault) }
-        ensures none { OnOk result (first (all_tx_faults (tx_side_of self.old) (ceilings_of self.old) plain.now) ≡ None) }
-        ensures number { IfOk result (λ pn. option_map (λ (o : Outgoing). o.pn) (next_outgoing (tx_side_of self.old)) ≡ Some pn) }
+            (λ fault. first (all_tx_faults (tx_side_of self.old) (ceilings_of self.old) plain.now)
+            ≡ Some fault) }
+        ensures none { OnOk result
+            (first (all_tx_faults (tx_side_of self.old) (ceilings_of self.old) plain.now) ≡ None) }
+        ensures number { IfOk result (λ pn.
+            option_map (λ (o : Outgoing). o.pn) (next_outgoing (tx_side_of self.old)) ≡ Some pn) }
         ensures frame { OnOk result
-            (option_map (λ (o : Outgoing). frame_of (tx_side_of self.old) o plain.now) (next_outgoing (tx_side_of self.old)) ≡ Some out.new.items) }
+            (option_map (λ (o : Outgoing). frame_of (tx_side_of self.old) o plain.now)
+            (next_outgoing (tx_side_of self.old)) ≡ Some out.new.items) }
         ensures sent { OnOk result (tx_side_of self.new ≡ side_after_frame (tx_side_of self.old)) }
         ensures same { OnErr result (tx_side_of self.new ≡ tx_side_of self.old) }
         ensures ceilings { ceilings_of self.new ≡ ceilings_of self.old }
@@ -240,8 +262,15 @@ impl Tx {
     fn frame_fault(&self, plain: &[u8]) -> Option<TxFault>
         ensures { result ≡ first (
             (Runt, nat_lt (length plain.now) 14)
-            ∷ (TooLong, nat_lt 9216 (length plain.now + overhead (name_in self.now.mode self.now.sci)))
-            ∷ (ForeignSource, is_end_station self.now.mode && not (is_own_source self.now.sci plain.now))
+            ∷ (
+              TooLong,
+              nat_lt 9216 (length plain.now + overhead (name_in self.now.mode self.now.sci)),
+            )
+            ∷ (
+              ForeignSource,
+              is_end_station self.now.mode
+                  && not (is_own_source self.now.sci plain.now),
+            )
             ∷ []) }
     {
         if plain.len() < MIN_FRAME {

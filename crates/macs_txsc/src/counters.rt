@@ -2,7 +2,8 @@
 
 ghost use Rattle.std.specs.Prelude.{◌≡◌};
 ghost use Rattle.macs_config.specs.Numbers.{one_more};
-ghost use Rattle.macs_txsc.specs.Transmit.{fault_count, counters_after_fault, no_counts, counters_after_answer};
+ghost use Rattle.macs_txsc.specs.Transmit.{fault_count, counters_after_fault, no_counts};
+ghost use Rattle.macs_txsc.specs.Transmit.{counters_after_answer};
 
 use crate::fault::TxFault;
 use macs_frame::Pn;

@@ -1,5 +1,6 @@
 -- Text whose control characters are replaced.
-use Rattle.std.proofs.Common.{◌≡◌, ◌∙◌, ℕ, Bool, true, false, List, [], ◌∷◌, map, slice_index_or, if◌then◌else◌, refl, ap}
+use Rattle.std.proofs.Common.{◌≡◌, ◌∙◌, ℕ, Bool, true, false, List, [], ◌∷◌, map, slice_index_or, if◌then◌else◌, refl}
+use Rattle.std.proofs.Common.{ap}
 use Rattle.std.specs.Char.{is_control}
 use Rattle.std.specs.Str.{IsUtf8, chars, encode_utf8_all}
 use Rattle.std.proofs.Math.Utf8.{scalar, scalars}
@@ -34,9 +35,11 @@ printable-is character = go (is_control character) refl
 pub chars-printable : (text shown : List ℕ) → IsUtf8 text → shown ≡ encode_utf8_all (map printable_char (chars text))
     → chars shown ≡ map printable_char (chars text)
 chars-printable text shown utf8 written =
-    ap chars written ∙ chars-encodes (map printable_char (chars text)) (scalars-printable (chars text) (scalars-chars text utf8))
+    ap chars written
+    ∙ chars-encodes (map printable_char (chars text)) (scalars-printable (chars text) (scalars-chars text utf8))
 
 -- none of them is a control character
 pub is-printable : (text shown : List ℕ) → chars shown ≡ map printable_char (chars text) → IsPrintable shown
 is-printable text shown same =
-    rw same (All-map (λ (character : ℕ). is_control character ≡ false) printable_char (chars text) (λ i d within. printable-is (slice_index_or (chars text) i d)))
+    rw same (All-map (λ (character : ℕ). is_control character ≡ false) printable_char (chars text)
+    (λ i d within. printable-is (slice_index_or (chars text) i d)))

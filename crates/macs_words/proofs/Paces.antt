@@ -23,7 +23,8 @@ turns-unread rows read none found is (Sleepless turns) has fits = let some = fou
 turns-unread rows read none found is (Waiting limit turns) has fits = let e = sym none ∙ has.0.1 in cc
 
 -- a wait that is there
-pub wait-unread : (rows : List Row) (text : Text) (read : Option Milliseconds) → first_of (codes "wait") rows ≡ Some text
+pub wait-unread : (rows : List Row) (text : Text) (read : Option Milliseconds)
+    → first_of (codes "wait") rows ≡ Some text
     → ((n : ℕ) → HasNumber rows (codes "wait") n → IsWaitLimit n → IsSome read) → read ≡ None
     → (pace : Pace) → HasPace rows pace → FitsPace pace → ⊥
 wait-unread rows text read there found is (Sleepless turns) has fits = let e = sym there ∙ has.1 in cc

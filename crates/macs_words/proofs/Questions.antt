@@ -14,13 +14,17 @@ plain-read rows word None there none exactly = tt
 plain-read rows word (Some question.Show) there none exactly = (there ∙ (exactly question.Show).0 refl, none)
 plain-read rows word (Some question.Counters) there none exactly = (there ∙ (exactly question.Counters).0 refl, none)
 plain-read rows word (Some question.Stop) there none exactly = (there ∙ (exactly question.Stop).0 refl, none)
-plain-read rows word (Some (question.Apply file)) there none exactly = let e = (exactly (question.Apply file)).0 refl in cc
+plain-read rows word (Some (question.Apply file)) there none exactly = let e = (exactly (question.Apply file)).0 refl in
+    cc
 
 -- what is asked was read
 pub plain-found : (rows : List Row) (word : Text) (found : Option Question) → first_of (codes "WORD") rows ≡ Some word
     → first_of (codes "FILE") rows ≡ None → ((asked : Question) → (found ≡ Some asked) ↔ (Some word ≡ plain_word asked))
     → (asked : Question) → HasQuestion rows asked → IsSome found
-plain-found rows word found there none exactly question.Show has = let e = (exactly question.Show).1 (sym there ∙ has.0) in cc
-plain-found rows word found there none exactly question.Counters has = let e = (exactly question.Counters).1 (sym there ∙ has.0) in cc
-plain-found rows word found there none exactly question.Stop has = let e = (exactly question.Stop).1 (sym there ∙ has.0) in cc
+plain-found rows word found there none exactly question.Show has = let e =
+    (exactly question.Show).1 (sym there ∙ has.0) in cc
+plain-found rows word found there none exactly question.Counters has = let e =
+    (exactly question.Counters).1 (sym there ∙ has.0) in cc
+plain-found rows word found there none exactly question.Stop has = let e =
+    (exactly question.Stop).1 (sym there ∙ has.0) in cc
 plain-found rows word found there none exactly (question.Apply file) has = let e = sym none ∙ has.1 in cc

@@ -1,5 +1,6 @@
 -- The subcommands of the program: how their words are built, and what each of them is given.
-use Rattle.std.proofs.Common.{◌≡◌, ◌∙◌, ◌↔◌, ◌⊎◌, ◌<◌, ◌^◌, ◌-◌, inl, inr, ℕ, Bool, true, false, ◌&&◌, ◌||◌, List, [], ◌∷◌, Option, Some, None, codes, refl, ap, ap₂, arith, option_map, sym, if◌then◌else◌}
+use Rattle.std.proofs.Common.{◌≡◌, ◌∙◌, ◌↔◌, ◌⊎◌, ◌<◌, ◌^◌, ◌-◌, inl, inr, ℕ, Bool, true, false, ◌&&◌, ◌||◌, List, []}
+use Rattle.std.proofs.Common.{◌∷◌, Option, Some, None, codes, refl, ap, ap₂, arith, option_map, sym, if◌then◌else◌}
 use Rattle.std.specs.Prelude.{find, slice_index, unwrap_or}
 use Rattle.std.specs.List.{AllByRecursion, slice_index_or}
 use Rattle.std.specs.Option.{option_map_or}
@@ -8,11 +9,13 @@ use Rattle.std.specs.Str.{bytes_eq}
 use Rattle.std.proofs.lemmas.Slice.Eq.{bytes_eq-Decides}
 use Rattle.std.specs.Str.Parse.{digits_value, without_leading_plus}
 use Rattle.clap.specs.Built.{AddsArg, AddsSubcommand}
-use Rattle.clap.specs.Simple.{Shape, app_of_fields, argument_words, built, entered, filled, label_of, names_of, on_top, rows_at, with_index}
+use Rattle.clap.specs.Simple.{Shape, app_of_fields, argument_words, built, entered, filled, label_of, names_of, on_top}
+use Rattle.clap.specs.Simple.{rows_at, with_index}
 use Rattle.clap.specs.Takes.{entered_passes, level_passes, takes, value_passes}
 use Rattle.clap.specs.Values.{IsUnsignedIn}
 use Rattle.clap.specs.Walk.{answers_to, first_of, nothing_held, rows_after, stop_after}
-use Rattle.clap.specs.Words.{App, Row, Rule, Text, app_of, fault_of, is_simple, is_simple_and_free, kind_of, new_app, rule_of, subcommand_of, with_rule, with_subcommand}
+use Rattle.clap.specs.Words.{App, Row, Rule, Text, app_of, fault_of, is_simple, is_simple_and_free, kind_of, new_app}
+use Rattle.clap.specs.Words.{rule_of, subcommand_of, with_rule, with_subcommand}
 use Rattle.clap.specs.declared.builder.arg.Arg.{Arg}
 use Rattle.clap.specs.declared.builder.command.Command.{Command}
 use Rattle.clap.specs.declared.builder.command.Command.TheOpen.{Command-F}
@@ -23,7 +26,8 @@ use Rattle.clap.specs.declared.error.kind.ErrorKind.TheVariants.{OutOfMemory}
 use Rattle.clap.proofs.OnLiterals.{clap_on_literals}
 use Rattle.clap.proofs.ValueTestLemmas.{accepts-Accepts}
 use Rattle.macs_words.specs.declared.action.Action.{Action}
-use Rattle.macs_words.specs.declared.action.Action.TheVariants.{Open, Format, Apply, Show, Protect, Validate, Relay, Ask, Key, Inspect, Check, Examine, About}
+use Rattle.macs_words.specs.declared.action.Action.TheVariants.{Open, Format, Apply, Show, Protect, Validate, Relay}
+use Rattle.macs_words.specs.declared.action.Action.TheVariants.{Ask, Key, Inspect, Check, Examine, About}
 use Rattle.macs_words.specs.declared.action.Question.{Question}
 use Rattle.macs_words.specs.declared.action.Question.TheVariants as question
 use Rattle.macs_words.specs.declared.pace.Pace.{Pace}
@@ -31,15 +35,19 @@ use Rattle.macs_words.specs.declared.pace.Pace.TheVariants.{Sleepless, Waiting}
 use Rattle.macs_words.specs.declared.action.UsageFault.{UsageFault}
 use Rattle.macs_words.specs.declared.action.UsageFault.TheVariants.{Usage, Memory}
 use Rattle.macs_words.specs.Waits.{IsRoom}
-use Rattle.macs_words.specs.Words.{FitsNumbers, FitsPace, HasNumber, HasPace, HasQuestion, IsClapCommand, IsFaultOf, IsFlagged, MayHaveRoom, Names, NamesNothing}
-use Rattle.macs_words.specs.Words.{bare_app, count_rule, flag_rule, last_rule, macsecd, number_rule, option_rule, room_rule, value_rule, wait_rule}
+use Rattle.macs_words.specs.Words.{FitsNumbers, FitsPace, HasNumber, HasPace, HasQuestion, IsClapCommand, IsFaultOf}
+use Rattle.macs_words.specs.Words.{IsFlagged, MayHaveRoom, Names, NamesNothing}
+use Rattle.macs_words.specs.Words.{bare_app, count_rule, flag_rule, last_rule, macsecd, number_rule, option_rule}
+use Rattle.macs_words.specs.Words.{room_rule, value_rule, wait_rule}
 use Rattle.macs_words.proofs.Given.{AreValueRules, IsValueRule, given, passes_where_given}
 use Rattle.macs_words.proofs.Taken.{is_bare_app, taken}
 
 -- ---- the words as they are built
 
-pub bare_words : (a b d e f : Command) → app_of a ≡ new_app (codes "macsecd") → fields_of b ≡ record (fields_of a) { no_binary_name = true }
-    → fields_of d ≡ record (fields_of b) { disable_help_flag = true } → fields_of e ≡ record (fields_of d) { disable_help_subcommand = true }
+pub bare_words : (a b d e f : Command) → app_of a ≡ new_app (codes "macsecd")
+    → fields_of b ≡ record (fields_of a) { no_binary_name = true }
+    → fields_of d ≡ record (fields_of b) { disable_help_flag = true }
+    → fields_of e ≡ record (fields_of d) { disable_help_subcommand = true }
     → fields_of f ≡ record (fields_of e) { disable_version_flag = true } → app_of f ≡ bare_app
 bare_words a b d e f is one two three four =
     ap app_of_fields (four ∙ ap (λ (x : Command-F Command). record x { disable_version_flag = true })
@@ -53,7 +61,8 @@ bare_words a b d e f is one two three four =
     })) is
 
 -- one value more
-pub one_value : (old new : Command) (a : Arg) (app : App) (r : Rule) → IsClapCommand old app → rule_of a ≡ r → a.global ≡ false → AddsArg old a new
+pub one_value : (old new : Command) (a : Arg) (app : App) (r : Rule) → IsClapCommand old app → rule_of a ≡ r
+    → a.global ≡ false → AddsArg old a new
     → IsClapCommand new (with_rule app r)
 one_value old new a app r its is local added = record {
   app_is = added.shape local ∙ ap₂ with_rule its.app_is is;
@@ -61,7 +70,8 @@ one_value old new a app r its is local added = record {
 }
 
 -- a new subcommand
-pub no_values : (new : Command) (name : Text) → app_of new ≡ new_app name → (fields_of new).has_globals ≡ false → IsClapCommand new (new_app name)
+pub no_values : (new : Command) (name : Text) → app_of new ≡ new_app name → (fields_of new).has_globals ≡ false
+    → IsClapCommand new (new_app name)
 no_values new name is local = record { app_is = is; local = local }
 
 -- one subcommand more
@@ -77,12 +87,16 @@ pub blocks : (rows : List Row) (action : Action) → Names (Some (codes "format"
     → (tx_block : ℕ) × (rx_block : ℕ) × HasNumber rows (codes "TX") tx_block × (tx_block < 2 ^ 32)
     × HasNumber rows (codes "RX") rx_block × (rx_block < 2 ^ 32)
 blocks rows Open named fits = cc
-blocks rows (Format disk sci tx_block rx_block block is_over) named fits = (tx_block, rx_block, named.3, fits.0, named.4, fits.1)
+blocks rows (Format disk sci tx_block rx_block block is_over) named fits =
+    (tx_block, rx_block, named.3, fits.0, named.4, fits.1)
 blocks rows (Apply disk file) named fits = absurd (omega (arith, ap (λ (t : Text). slice_index t 0) named.0))
 blocks rows (Show disk) named fits = absurd (omega (arith, ap (λ (t : Text). slice_index t 0) named.0))
-blocks rows (Protect disk input output is_all) named fits = absurd (omega (arith, ap (λ (t : Text). slice_index t 0) named.0))
-blocks rows (Validate disk input output is_all is_each) named fits = absurd (omega (arith, ap (λ (t : Text). slice_index t 0) named.0))
-blocks rows (Relay disk controlled common running) named fits = absurd (omega (arith, ap (λ (t : Text). slice_index t 0) named.0))
+blocks rows (Protect disk input output is_all) named fits =
+    absurd (omega (arith, ap (λ (t : Text). slice_index t 0) named.0))
+blocks rows (Validate disk input output is_all is_each) named fits =
+    absurd (omega (arith, ap (λ (t : Text). slice_index t 0) named.0))
+blocks rows (Relay disk controlled common running) named fits =
+    absurd (omega (arith, ap (λ (t : Text). slice_index t 0) named.0))
 blocks rows (Ask path asked) named fits = absurd (omega (arith, ap (λ (t : Text). slice_index t 0) named.0))
 blocks rows (Key is_long) named fits = absurd (omega (arith, ap (λ (t : Text). slice_index t 0) named.0))
 blocks rows (Inspect input) named fits = absurd (omega (arith, ap (λ (t : Text). slice_index t 0) named.0))
@@ -96,11 +110,14 @@ blocks rows About named fits = absurd (omega (arith, ap (λ (t : Text). slice_in
 pub pace_of : (rows : List Row) (action : Action) → Names (Some (codes "relay", rows)) action → FitsNumbers action
     → (pace : Pace) × (room : Option ℕ) × HasPace rows pace × FitsPace pace × MayHaveRoom rows (codes "buffer") room
 pace_of rows Open named fits = cc
-pace_of rows (Format disk sci tx_block rx_block block is_over) named fits = absurd (omega (arith, ap (λ (t : Text). slice_index t 0) named.0))
+pace_of rows (Format disk sci tx_block rx_block block is_over) named fits =
+    absurd (omega (arith, ap (λ (t : Text). slice_index t 0) named.0))
 pace_of rows (Apply disk file) named fits = absurd (omega (arith, ap (λ (t : Text). slice_index t 0) named.0))
 pace_of rows (Show disk) named fits = absurd (omega (arith, ap (λ (t : Text). slice_index t 0) named.0))
-pace_of rows (Protect disk input output is_all) named fits = absurd (omega (arith, ap (λ (t : Text). slice_index t 0) named.0))
-pace_of rows (Validate disk input output is_all is_each) named fits = absurd (omega (arith, ap (λ (t : Text). slice_index t 0) named.0))
+pace_of rows (Protect disk input output is_all) named fits =
+    absurd (omega (arith, ap (λ (t : Text). slice_index t 0) named.0))
+pace_of rows (Validate disk input output is_all is_each) named fits =
+    absurd (omega (arith, ap (λ (t : Text). slice_index t 0) named.0))
 pace_of rows (Relay disk controlled common running) named fits = (running.pace, running.buffer, named.6, fits, named.7)
 pace_of rows (Ask path asked) named fits = absurd (omega (arith, ap (λ (t : Text). slice_index t 0) named.0))
 pace_of rows (Key is_long) named fits = absurd (omega (arith, ap (λ (t : Text). slice_index t 0) named.0))
@@ -112,14 +129,19 @@ pace_of rows About named fits = absurd (omega (arith, ap (λ (t : Text). slice_i
 -- ---- what `ask` is given
 
 -- its question is there
-pub question_of : (rows : List Row) (action : Action) → Names (Some (codes "ask", rows)) action → (asked : Question) × HasQuestion rows asked
+pub question_of : (rows : List Row) (action : Action) → Names (Some (codes "ask", rows)) action
+    → (asked : Question) × HasQuestion rows asked
 question_of rows Open named = cc
-question_of rows (Format disk sci tx_block rx_block block is_over) named = absurd (omega (arith, ap (λ (t : Text). slice_index t 0) named.0))
+question_of rows (Format disk sci tx_block rx_block block is_over) named =
+    absurd (omega (arith, ap (λ (t : Text). slice_index t 0) named.0))
 question_of rows (Apply disk file) named = absurd (omega (arith, ap (λ (t : Text). slice_index t 1) named.0))
 question_of rows (Show disk) named = absurd (omega (arith, ap (λ (t : Text). slice_index t 0) named.0))
-question_of rows (Protect disk input output is_all) named = absurd (omega (arith, ap (λ (t : Text). slice_index t 0) named.0))
-question_of rows (Validate disk input output is_all is_each) named = absurd (omega (arith, ap (λ (t : Text). slice_index t 0) named.0))
-question_of rows (Relay disk controlled common running) named = absurd (omega (arith, ap (λ (t : Text). slice_index t 0) named.0))
+question_of rows (Protect disk input output is_all) named =
+    absurd (omega (arith, ap (λ (t : Text). slice_index t 0) named.0))
+question_of rows (Validate disk input output is_all is_each) named =
+    absurd (omega (arith, ap (λ (t : Text). slice_index t 0) named.0))
+question_of rows (Relay disk controlled common running) named =
+    absurd (omega (arith, ap (λ (t : Text). slice_index t 0) named.0))
 question_of rows (Ask path asked) named = (asked, named.2)
 question_of rows (Key is_long) named = absurd (omega (arith, ap (λ (t : Text). slice_index t 0) named.0))
 question_of rows (Inspect input) named = absurd (omega (arith, ap (λ (t : Text). slice_index t 0) named.0))
@@ -181,7 +203,8 @@ is_flagged rows name = option_map_or (λ text. bytes_eq text (codes "true")) (fi
 flagged : (rows : List Row) (name : Text) → IsFlagged rows name (is_flagged rows name)
 flagged rows name = go (first_of name rows)
   where
-    go : (found : Option Text) → (option_map_or (λ text. bytes_eq text (codes "true")) found false ≡ true) ↔ (found ≡ Some (codes "true"))
+    go : (found : Option Text)
+        → (option_map_or (λ text. bytes_eq text (codes "true")) found false ≡ true) ↔ (found ≡ Some (codes "true"))
     go None = (λ is. cc, λ is. cc)
     go (Some text) = (
       λ is. ap (λ (t : Text). Some t) ((bytes_eq-Decides text (codes "true")).0 is),
@@ -189,17 +212,20 @@ flagged rows name = go (first_of name rows)
     )
 
 -- a value that passed as a number is one
-number-read : (place : ℕ) (name : Text) (text : Text) → value_passes (with_index place (filled (number_rule name))) text ≡ true
+number-read : (place : ℕ) (name : Text) (text : Text)
+    → value_passes (with_index place (filled (number_rule name))) text ≡ true
     → IsUnsignedIn 0 (2 ^ 32 - 1) text
 number-read place name text passes = accepts-Accepts false (vp.Unsigned 0 (2 ^ 32 - 1)) text passes
 
-count-read : (name : Text) (text : Text) → value_passes (filled (count_rule name)) text ≡ true → IsUnsignedIn 0 (2 ^ 64 - 1) text
+count-read : (name : Text) (text : Text) → value_passes (filled (count_rule name)) text ≡ true
+    → IsUnsignedIn 0 (2 ^ 64 - 1) text
 count-read name text passes = accepts-Accepts false (vp.Unsigned 0 (2 ^ 64 - 1)) text passes
 
 wait-read : (name : Text) (text : Text) → value_passes (filled (wait_rule name)) text ≡ true → IsUnsignedIn 1 60000 text
 wait-read name text passes = accepts-Accepts false (vp.Unsigned 1 60000) text passes
 
-room-read : (name : Text) (text : Text) → value_passes (filled (room_rule name)) text ≡ true → IsUnsignedIn 1 1073741823 text
+room-read : (name : Text) (text : Text) → value_passes (filled (room_rule name)) text ≡ true
+    → IsUnsignedIn 1 1073741823 text
 room-read name text passes = accepts-Accepts false (vp.Unsigned 1 1073741823) text passes
 
 open-named : IsNamed (shape_at 0)
@@ -221,7 +247,8 @@ format-named words passes =
       );
       own = (refl, (refl, (refl, (refl, (refl, (refl, tt))))));
     } in
-    let disk = given (shape_at 1) words (with_index 1 (filled (value_rule (codes "DISK")))) rules refl passes refl refl in
+    let disk =
+    given (shape_at 1) words (with_index 1 (filled (value_rule (codes "DISK")))) rules refl passes refl refl in
     let sci = given (shape_at 1) words (with_index 2 (filled (value_rule (codes "SCI")))) rules refl passes refl refl in
     let tx = given (shape_at 1) words (with_index 3 (filled (number_rule (codes "TX")))) rules refl passes refl refl in
     let rx = given (shape_at 1) words (with_index 4 (filled (number_rule (codes "RX")))) rules refl passes refl refl in
@@ -232,7 +259,8 @@ format-named words passes =
     let tx_fits : tx_block < 2 ^ 32 = omega (arith, tx_in.3) in
     let rx_fits : rx_block < 2 ^ 32 = omega (arith, rx_in.3) in
     let rows = rows_after (shape_at 1).rules [] words in inr (
-      Format (text_of disk.0) (text_of sci.0) tx_block rx_block (option_map text_of (first_of (codes "block") rows)) (is_flagged rows (codes "over")),
+      Format (text_of disk.0) (text_of sci.0) tx_block rx_block (option_map text_of (first_of (codes "block") rows))
+          (is_flagged rows (codes "over")),
       (
         refl,
         disk.1,
@@ -252,8 +280,10 @@ apply-named words passes =
       each = (value-is 1 (codes "DISK"), (value-is 2 (codes "FILE"), tt));
       own = (refl, (refl, tt));
     } in
-    let disk = given (shape_at 2) words (with_index 1 (filled (value_rule (codes "DISK")))) rules refl passes refl refl in
-    let file = given (shape_at 2) words (with_index 2 (filled (value_rule (codes "FILE")))) rules refl passes refl refl in
+    let disk =
+    given (shape_at 2) words (with_index 1 (filled (value_rule (codes "DISK")))) rules refl passes refl refl in
+    let file =
+    given (shape_at 2) words (with_index 2 (filled (value_rule (codes "FILE")))) rules refl passes refl refl in
     inr (Apply (text_of disk.0) (text_of file.0), (refl, disk.1, file.1), tt)
 
 show-named : IsNamed (shape_at 3)
@@ -263,41 +293,63 @@ show-named words passes =
       each = (value-is 1 (codes "DISK"), tt);
       own = (refl, tt);
     } in
-    let disk = given (shape_at 3) words (with_index 1 (filled (value_rule (codes "DISK")))) rules refl passes refl refl in
+    let disk =
+    given (shape_at 3) words (with_index 1 (filled (value_rule (codes "DISK")))) rules refl passes refl refl in
     inr (Show (text_of disk.0), (refl, disk.1), tt)
 
 protect-named : IsNamed (shape_at 4)
 unfolding clap_on_literals
 protect-named words passes =
     let rules : AreValueRules (shape_at 4).rules = record {
-      each = (value-is 1 (codes "DISK"), (value-is 2 (codes "INPUT"), (value-is 3 (codes "OUTPUT"), (flag-is (codes "all"), tt))));
+      each = (
+        value-is 1 (codes "DISK"),
+        (value-is 2 (codes "INPUT"), (value-is 3 (codes "OUTPUT"), (flag-is (codes "all"), tt))),
+      );
       own = (refl, (refl, (refl, (refl, tt))));
     } in
-    let disk = given (shape_at 4) words (with_index 1 (filled (value_rule (codes "DISK")))) rules refl passes refl refl in
-    let input = given (shape_at 4) words (with_index 2 (filled (value_rule (codes "INPUT")))) rules refl passes refl refl in
-    let output = given (shape_at 4) words (with_index 3 (filled (value_rule (codes "OUTPUT")))) rules refl passes refl refl in
+    let disk =
+    given (shape_at 4) words (with_index 1 (filled (value_rule (codes "DISK")))) rules refl passes refl refl in
+    let input =
+    given (shape_at 4) words (with_index 2 (filled (value_rule (codes "INPUT")))) rules refl passes refl refl in
+    let output =
+    given (shape_at 4) words (with_index 3 (filled (value_rule (codes "OUTPUT")))) rules refl passes refl refl in
     let rows = rows_after (shape_at 4).rules [] words in
-    inr (Protect (text_of disk.0) (text_of input.0) (text_of output.0) (is_flagged rows (codes "all")), (refl, disk.1, input.1, output.1, flagged rows (codes "all")), tt)
+    inr (
+      Protect (text_of disk.0) (text_of input.0) (text_of output.0) (is_flagged rows (codes "all")),
+      (refl, disk.1, input.1, output.1, flagged rows (codes "all")),
+      tt,
+    )
 
 validate-named : IsNamed (shape_at 5)
 unfolding clap_on_literals
 validate-named words passes =
     let rules : AreValueRules (shape_at 5).rules = record {
-      each = (value-is 1 (codes "DISK"), (value-is 2 (codes "INPUT"), (value-is 3 (codes "OUTPUT"), (flag-is (codes "all"), (flag-is (codes "each"), tt)))));
+      each = (
+        value-is 1 (codes "DISK"),
+        (
+          value-is 2 (codes "INPUT"),
+          (value-is 3 (codes "OUTPUT"), (flag-is (codes "all"), (flag-is (codes "each"), tt))),
+        ),
+      );
       own = (refl, (refl, (refl, (refl, (refl, tt)))));
     } in
-    let disk = given (shape_at 5) words (with_index 1 (filled (value_rule (codes "DISK")))) rules refl passes refl refl in
-    let input = given (shape_at 5) words (with_index 2 (filled (value_rule (codes "INPUT")))) rules refl passes refl refl in
-    let output = given (shape_at 5) words (with_index 3 (filled (value_rule (codes "OUTPUT")))) rules refl passes refl refl in
+    let disk =
+    given (shape_at 5) words (with_index 1 (filled (value_rule (codes "DISK")))) rules refl passes refl refl in
+    let input =
+    given (shape_at 5) words (with_index 2 (filled (value_rule (codes "INPUT")))) rules refl passes refl refl in
+    let output =
+    given (shape_at 5) words (with_index 3 (filled (value_rule (codes "OUTPUT")))) rules refl passes refl refl in
     let rows = rows_after (shape_at 5).rules [] words in
     inr (
-      Validate (text_of disk.0) (text_of input.0) (text_of output.0) (is_flagged rows (codes "all")) (is_flagged rows (codes "each")),
+      Validate (text_of disk.0) (text_of input.0) (text_of output.0) (is_flagged rows (codes "all"))
+          (is_flagged rows (codes "each")),
       (refl, disk.1, input.1, output.1, flagged rows (codes "all"), flagged rows (codes "each")),
       tt,
     )
 
 -- where they are given, turns and a wait are numbers: so they are a pace, or neither is given
-paced : (rows : List Row) → ((text : Text) → first_of (codes "turns") rows ≡ Some text → IsUnsignedIn 0 (2 ^ 64 - 1) text)
+paced : (rows : List Row)
+    → ((text : Text) → first_of (codes "turns") rows ≡ Some text → IsUnsignedIn 0 (2 ^ 64 - 1) text)
     → ((text : Text) → first_of (codes "wait") rows ≡ Some text → IsUnsignedIn 1 60000 text)
     → ((first_of (codes "turns") rows ≡ None) × (first_of (codes "wait") rows ≡ None))
     ⊎ ((pace : Pace) × HasPace rows pace × FitsPace pace)
@@ -328,7 +380,8 @@ paced rows count limit = go (first_of (codes "turns") rows) (first_of (codes "wa
         )
 
 -- a buffer is a number, where it is given
-roomed : (rows : List Row) (name : Text) → ((text : Text) → first_of name rows ≡ Some text → IsUnsignedIn 1 1073741823 text)
+roomed : (rows : List Row) (name : Text)
+    → ((text : Text) → first_of name rows ≡ Some text → IsUnsignedIn 1 1073741823 text)
     → (room : Option ℕ) × MayHaveRoom rows name room
 roomed rows name read = go (first_of name rows) refl
   where
@@ -368,18 +421,26 @@ relay-named words passes =
       );
       own = (refl, (refl, (refl, (refl, (refl, (refl, (refl, (refl, (refl, (refl, tt))))))))));
     } in
-    let disk = given (shape_at 6) words (with_index 1 (filled (value_rule (codes "DISK")))) rules refl passes refl refl in
-    let own_1 = given (shape_at 6) words (with_index 2 (filled (value_rule (codes "OWN1")))) rules refl passes refl refl in
-    let peer_1 = given (shape_at 6) words (with_index 3 (filled (value_rule (codes "PEER1")))) rules refl passes refl refl in
-    let own_2 = given (shape_at 6) words (with_index 4 (filled (value_rule (codes "OWN2")))) rules refl passes refl refl in
-    let peer_2 = given (shape_at 6) words (with_index 5 (filled (value_rule (codes "PEER2")))) rules refl passes refl refl in
+    let disk =
+    given (shape_at 6) words (with_index 1 (filled (value_rule (codes "DISK")))) rules refl passes refl refl in
+    let own_1 =
+    given (shape_at 6) words (with_index 2 (filled (value_rule (codes "OWN1")))) rules refl passes refl refl in
+    let peer_1 =
+    given (shape_at 6) words (with_index 3 (filled (value_rule (codes "PEER1")))) rules refl passes refl refl in
+    let own_2 =
+    given (shape_at 6) words (with_index 4 (filled (value_rule (codes "OWN2")))) rules refl passes refl refl in
+    let peer_2 =
+    given (shape_at 6) words (with_index 5 (filled (value_rule (codes "PEER2")))) rules refl passes refl refl in
     let rows = rows_after (shape_at 6).rules [] words in
     let count : (text : Text) → first_of (codes "turns") rows ≡ Some text → IsUnsignedIn 0 (2 ^ 64 - 1) text =
-    λ text there. count-read (codes "turns") text (passes_where_given (shape_at 6) words (filled (count_rule (codes "turns"))) text rules passes refl there) in
+    λ text there. count-read (codes "turns") text
+    (passes_where_given (shape_at 6) words (filled (count_rule (codes "turns"))) text rules passes refl there) in
     let limit : (text : Text) → first_of (codes "wait") rows ≡ Some text → IsUnsignedIn 1 60000 text =
-    λ text there. wait-read (codes "wait") text (passes_where_given (shape_at 6) words (filled (wait_rule (codes "wait"))) text rules passes refl there) in
+    λ text there. wait-read (codes "wait") text
+    (passes_where_given (shape_at 6) words (filled (wait_rule (codes "wait"))) text rules passes refl there) in
     let octets : (text : Text) → first_of (codes "buffer") rows ≡ Some text → IsUnsignedIn 1 1073741823 text =
-    λ text there. room-read (codes "buffer") text (passes_where_given (shape_at 6) words (filled (room_rule (codes "buffer"))) text rules passes refl there) in
+    λ text there. room-read (codes "buffer") text
+    (passes_where_given (shape_at 6) words (filled (room_rule (codes "buffer"))) text rules passes refl there) in
     let room = roomed rows (codes "buffer") octets in
     elim (paced rows count limit) [
       | inl none ↦ inl (inl (refl, none.0, none.1))
@@ -428,14 +489,16 @@ asks rows word there = go (first_of (codes "FILE") rows) refl
     none-with file given other question.Stop has = let e = sym given ∙ has.1 in cc
     none-with file given other (question.Apply name) has = differs (codes "apply") other has.0
 
-    none-alone : first_of (codes "FILE") rows ≡ None → bytes_eq word (codes "show") ≡ false → bytes_eq word (codes "counters") ≡ false
+    none-alone : first_of (codes "FILE") rows ≡ None → bytes_eq word (codes "show") ≡ false
+        → bytes_eq word (codes "counters") ≡ false
         → bytes_eq word (codes "stop") ≡ false → (asked : Question) → HasQuestion rows asked → ⊥
     none-alone none first second third question.Show has = differs (codes "show") first has.0
     none-alone none first second third question.Counters has = differs (codes "counters") second has.0
     none-alone none first second third question.Stop has = differs (codes "stop") third has.0
     none-alone none first second third (question.Apply name) has = let e = sym none ∙ has.1 in cc
 
-    with-file : (file : Text) → first_of (codes "FILE") rows ≡ Some file → (applies : Bool) → bytes_eq word (codes "apply") ≡ applies
+    with-file : (file : Text) → first_of (codes "FILE") rows ≡ Some file → (applies : Bool)
+        → bytes_eq word (codes "apply") ≡ applies
         → ((asked : Question) × HasQuestion rows asked) ⊎ ((asked : Question) → ¬ HasQuestion rows asked)
     with-file file given true equal = inl (question.Apply (text_of file), (is (codes "apply") equal, given))
     with-file file given false other = inr (none-with file given other)
@@ -450,7 +513,8 @@ asks rows word there = go (first_of (codes "FILE") rows) refl
 
     go : (found : Option Text) → first_of (codes "FILE") rows ≡ found
         → ((asked : Question) × HasQuestion rows asked) ⊎ ((asked : Question) → ¬ HasQuestion rows asked)
-    go None none = alone none (bytes_eq word (codes "show")) (bytes_eq word (codes "counters")) (bytes_eq word (codes "stop")) refl refl refl
+    go None none = alone none (bytes_eq word (codes "show")) (bytes_eq word (codes "counters"))
+        (bytes_eq word (codes "stop")) refl refl refl
     go (Some file) given = with-file file given (bytes_eq word (codes "apply")) refl
 
 ask-named : IsNamed (shape_at 7)
@@ -460,8 +524,10 @@ ask-named words passes =
       each = (value-is 1 (codes "PATH"), (value-is 2 (codes "WORD"), (last-is 3 (codes "FILE"), tt)));
       own = (refl, (refl, (refl, tt)));
     } in
-    let path = given (shape_at 7) words (with_index 1 (filled (value_rule (codes "PATH")))) rules refl passes refl refl in
-    let word = given (shape_at 7) words (with_index 2 (filled (value_rule (codes "WORD")))) rules refl passes refl refl in
+    let path =
+    given (shape_at 7) words (with_index 1 (filled (value_rule (codes "PATH")))) rules refl passes refl refl in
+    let word =
+    given (shape_at 7) words (with_index 2 (filled (value_rule (codes "WORD")))) rules refl passes refl refl in
     let rows = rows_after (shape_at 7).rules [] words in
     elim (asks rows word.0 word.1) [
       | inl (asked, has) ↦ inr (Ask (text_of path.0) asked, (refl, path.1, has), tt)
@@ -481,7 +547,8 @@ inspect-named words passes =
       each = (value-is 1 (codes "INPUT"), tt);
       own = (refl, tt);
     } in
-    let input = given (shape_at 9) words (with_index 1 (filled (value_rule (codes "INPUT")))) rules refl passes refl refl in
+    let input =
+    given (shape_at 9) words (with_index 1 (filled (value_rule (codes "INPUT")))) rules refl passes refl refl in
     inr (Inspect (text_of input.0), (refl, input.1), tt)
 
 check-named : IsNamed (shape_at 10)
@@ -491,7 +558,8 @@ check-named words passes =
       each = (value-is 1 (codes "FILE"), (last-is 2 (codes "DISK"), tt));
       own = (refl, (refl, tt));
     } in
-    let file = given (shape_at 10) words (with_index 1 (filled (value_rule (codes "FILE")))) rules refl passes refl refl in
+    let file =
+    given (shape_at 10) words (with_index 1 (filled (value_rule (codes "FILE")))) rules refl passes refl refl in
     let rows = rows_after (shape_at 10).rules [] words in inr (
       Check (text_of file.0) (option_map text_of (first_of (codes "DISK") rows)),
       (refl, file.1, texts-back (first_of (codes "DISK") rows)),
@@ -505,7 +573,8 @@ examine-named words passes =
       each = (value-is 1 (codes "DISK"), tt);
       own = (refl, tt);
     } in
-    let disk = given (shape_at 11) words (with_index 1 (filled (value_rule (codes "DISK")))) rules refl passes refl refl in
+    let disk =
+    given (shape_at 11) words (with_index 1 (filled (value_rule (codes "DISK")))) rules refl passes refl refl in
     inr (Examine (text_of disk.0), (refl, disk.1), tt)
 
 about-named : IsNamed (shape_at 12)
@@ -518,17 +587,20 @@ named-first : (shapes : List Shape) (answers : Shape → Bool) (words : List Tex
     → option_map_or (λ s. level_passes s [] nothing_held words false) (find answers shapes) true ≡ true
     → IsRead (option_map (λ s. rows_at s words) (find answers shapes))
 named-first [] answers words all passes = inr (Open, refl, tt)
-named-first (s ∷ rest) answers words all passes = go (answers s) passes (λ later. named-first rest answers words all.1 later)
+named-first (s ∷ rest) answers words all passes =
+    go (answers s) passes (λ later. named-first rest answers words all.1 later)
   where
     go : (is : Bool)
-        → option_map_or (λ s. level_passes s [] nothing_held words false) (if is then Some s else find answers rest) true ≡ true
+        → option_map_or (λ s. level_passes s [] nothing_held words false)
+        (if is then Some s else find answers rest) true ≡ true
         → (option_map_or (λ s. level_passes s [] nothing_held words false) (find answers rest) true ≡ true
         → IsRead (option_map (λ s. rows_at s words) (find answers rest)))
         → IsRead (option_map (λ s. rows_at s words) (if is then Some s else find answers rest))
     go true passes below = all.0 words passes
     go false passes below = below passes
 
-named-entered : (a : App) (stop : Option (Text × List Text)) → AllByRecursion IsNamed a.subs → entered_passes a stop ≡ true
+named-entered : (a : App) (stop : Option (Text × List Text)) → AllByRecursion IsNamed a.subs
+    → entered_passes a stop ≡ true
     → IsRead (entered a stop)
 named-entered a None all passes = inr (Open, refl, tt)
 named-entered a (Some p) all passes = named-first a.subs (λ s. answers_to p.0 (label_of s)) p.1 all passes
@@ -543,12 +615,19 @@ lone-named : AllByRecursion IsNamed (shape_at 8 ∷ shape_at 9 ∷ shape_at 10 �
 lone-named = (key-named, (inspect-named, (check-named, (examine-named, (about-named, tt)))))
 
 all-named : AllByRecursion IsNamed (built macsecd).subs
-all-named = (open-named, (format-named, (apply-named, (show-named, (protect-named, (validate-named, (relay-named, (ask-named, lone-named))))))))
+all-named = (
+  open-named,
+  (
+    format-named,
+    (apply-named, (show-named, (protect-named, (validate-named, (relay-named, (ask-named, lone-named)))))),
+  ),
+)
 
 -- each command line that clap takes is read
 pub named : (words : List Text) → takes macsecd words ≡ true → IsRead (subcommand_of macsecd words)
 named words taken =
-    named-entered (built macsecd) (stop_after (built macsecd).top.rules (names_of (built macsecd)) (argument_words macsecd words)) all-named
+    named-entered (built macsecd)
+    (stop_after (built macsecd).top.rules (names_of (built macsecd)) (argument_words macsecd words)) all-named
     (first-of-three (is_simple macsecd) _ _ taken)
 
 -- ---- the commands are ones of which clap reports all
@@ -567,6 +646,7 @@ pub taken_without_fault : (words : List Text) → fault_of macsecd words ≡ [] 
 taken_without_fault words faultless = taken macsecd words simple bare faultless
 
 -- a fault for want of memory
-pub wants_memory : (error : Error) (fault : UsageFault) → IsFaultOf error fault → kind_of error ≡ OutOfMemory → fault ≡ Memory
+pub wants_memory : (error : Error) (fault : UsageFault) → IsFaultOf error fault → kind_of error ≡ OutOfMemory
+    → fault ≡ Memory
 wants_memory error (Usage cause) is memory = absurd (is memory)
 wants_memory error Memory is memory = refl

@@ -1,12 +1,15 @@
 -- What is to be drawn of the words that say which action the program's words name, and what they ask for.
-use Rattle.std.specs.Prelude.{◌≡◌, ◌≢◌, ◌≤◌, ◌↔◌, ◌⊎◌, ℕ, map, Bool, true, List, [], ◌∷◌, Option, Some, None, codes, option_map}
+use Rattle.std.specs.Prelude.{◌≡◌, ◌≢◌, ◌≤◌, ◌↔◌, ◌⊎◌, ℕ, map, Bool, true, List, [], ◌∷◌, Option, Some, None, codes}
+use Rattle.std.specs.Prelude.{option_map}
 use Rattle.std.specs.Str.Parse.{IsNumeral, digits_value, without_leading_plus}
 use Rattle.std.specs.Borrow.{Bor}
 use Rattle.clap.specs.Words.{Row, Text, first_of, subcommand_of, takes}
-use Rattle.macs_words.specs.Words.{AreRefused, AsksFor, HasNumber, HasPace, HasQuestion, MayHaveRoom, Names, macsecd, name_of}
+use Rattle.macs_words.specs.Words.{AreRefused, AsksFor, HasNumber, HasPace, HasQuestion, MayHaveRoom, Names, macsecd}
+use Rattle.macs_words.specs.Words.{name_of}
 use Rattle.macs_words.specs.Help.{topic_text}
 use Rattle.macs_words.specs.declared.action.Action.{Action}
-use Rattle.macs_words.specs.declared.action.Action.TheVariants.{Open, Format, Apply, Show, Protect, Validate, Relay, Ask}
+use Rattle.macs_words.specs.declared.action.Action.TheVariants.{Open, Format, Apply, Show, Protect, Validate, Relay}
+use Rattle.macs_words.specs.declared.action.Action.TheVariants.{Ask}
 use Rattle.macs_words.specs.declared.action.Action.TheVariants.{Key, Inspect, Check, Examine, About}
 use Rattle.macs_words.specs.declared.action.Question.{Question}
 use Rattle.macs_words.specs.declared.action.Question.TheVariants as question
@@ -14,7 +17,8 @@ use Rattle.macs_words.specs.declared.action.WireEnds.{WireEnds}
 use Rattle.macs_words.specs.declared.help.Subcommand.{Subcommand}
 use Rattle.macs_words.specs.declared.help.Subcommand.TheVariants as subcommand
 use Rattle.macs_words.specs.declared.help.Topic.TheVariants.{Help, HelpOn, Version}
-use Rattle.macs_words.specs.declared.help_texts.TheConstants.{APPLY, ASK, CHECK, FORMAT, HELP, INSPECT, KEY, OPEN, PROTECT}
+use Rattle.macs_words.specs.declared.help_texts.TheConstants.{APPLY, ASK, CHECK, FORMAT, HELP, INSPECT, KEY, OPEN}
+use Rattle.macs_words.specs.declared.help_texts.TheConstants.{PROTECT}
 use Rattle.macs_words.specs.declared.help_texts.TheConstants.{ABOUT, EXAMINE, RELAY, SHOW, VALIDATE, VERSION}
 use Rattle.macs_words.specs.declared.pace.Milliseconds.{Milliseconds}
 use Rattle.macs_words.specs.declared.pace.Pace.{Pace}
@@ -27,12 +31,13 @@ use Rattle.macs_words.specs.declared.pace.Running.{Running}
 -- sleepless;
 -- one that is given a wait, any of 1 to 60,000 ms, waits so long at most. A running relay is asked one of four words,
 -- and of these `apply` alone with a file. An option without a value is on exactly where it is used. Words that the
--- program does not take are refused, and so are a relay without turns and without a wait, and an `ask` of anything else;
--- no others.
+-- program does not take are refused, and so are a relay without turns and without a wait, and an `ask` of anything
+-- else; no others.
 pub record ActionWords : Type 0 where
   pub none : (action : Action) → Names None action → action ≡ Open
   pub opening : (name : Text) (values : List Row) → Names (Some (name, values)) Open → name ≡ codes "open"
-  pub format : (name : Text) (values : List Row) (disk sci : Bor Text) (tx rx : ℕ) (block : Option (Bor Text)) (is_over : Bool)
+  pub format : (name : Text) (values : List Row) (disk sci : Bor Text) (tx rx : ℕ) (block : Option (Bor Text))
+      (is_over : Bool)
       → Names (Some (name, values)) (Format disk sci tx rx block is_over) → (name ≡ codes "format")
       × (first_of (codes "DISK") values ≡ Some disk.now) × (first_of (codes "SCI") values ≡ Some sci.now)
       × HasNumber values (codes "TX") tx × HasNumber values (codes "RX") rx
@@ -59,13 +64,15 @@ pub record ActionWords : Type 0 where
       → (name ≡ codes "relay") × (first_of (codes "DISK") values ≡ Some disk.now)
       × (first_of (codes "OWN1") values ≡ Some controlled.own.now)
       × (first_of (codes "PEER1") values ≡ Some controlled.peer.now)
-      × (first_of (codes "OWN2") values ≡ Some common.own.now) × (first_of (codes "PEER2") values ≡ Some common.peer.now)
+      × (first_of (codes "OWN2") values ≡ Some common.own.now)
+      × (first_of (codes "PEER2") values ≡ Some common.peer.now)
       × HasPace values running.pace × MayHaveRoom values (codes "buffer") running.buffer
       × (first_of (codes "control") values ≡ option_map (λ t. t.now) running.control)
       × (first_of (codes "metrics") values ≡ option_map (λ t. t.now) running.metrics)
   pub buffer : (values : List Row) (octets : ℕ) → MayHaveRoom values (codes "buffer") (Some octets)
       → HasNumber values (codes "buffer") octets × (1 ≤ octets) × (octets ≤ 1073741823)
-  pub no_buffer : (values : List Row) → MayHaveRoom values (codes "buffer") None → first_of (codes "buffer") values ≡ None
+  pub no_buffer : (values : List Row) → MayHaveRoom values (codes "buffer") None
+      → first_of (codes "buffer") values ≡ None
   pub ask : (name : Text) (values : List Row) (path : Bor Text) (asked : Question)
       → Names (Some (name, values)) (Ask path asked)
       → (name ≡ codes "ask") × (first_of (codes "PATH") values ≡ Some path.now) × HasQuestion values asked
@@ -107,8 +114,8 @@ pub record ActionWords : Type 0 where
       ⊎ ((values : List Row) × (subcommand_of macsecd words ≡ Some (codes "ask", values))
       × ((asked : Question) → ¬ HasQuestion values asked))
 
--- `--help` and `-h` ask for help, alone, and after the name of a subcommand for help on it; `--version` alone asks which
--- program it is. Each is answered with its own text.
+-- `--help` and `-h` ask for help, alone, and after the name of a subcommand for help on it; `--version` alone asks
+-- which program it is. Each is answered with its own text.
 pub record HelpWords : Type 0 where
   pub help : (word : Text) → AsksFor (word ∷ []) Help ↔ ((word ≡ codes "--help") ⊎ (word ≡ codes "-h"))
   pub help_on : (name word : Text) (which : Subcommand) → AsksFor (name ∷ word ∷ []) (HelpOn which)
@@ -118,7 +125,8 @@ pub record HelpWords : Type 0 where
       ∷ subcommand.Protect ∷ subcommand.Validate ∷ subcommand.Relay ∷ subcommand.Ask ∷ subcommand.Key
       ∷ subcommand.Inspect ∷ subcommand.Check ∷ subcommand.Examine ∷ subcommand.About ∷ [])
       ≡ codes "open" ∷ codes "format" ∷ codes "apply" ∷ codes "show" ∷ codes "protect" ∷ codes "validate"
-      ∷ codes "relay" ∷ codes "ask" ∷ codes "key" ∷ codes "inspect" ∷ codes "check" ∷ codes "examine" ∷ codes "about" ∷ []
+      ∷ codes "relay" ∷ codes "ask" ∷ codes "key" ∷ codes "inspect" ∷ codes "check" ∷ codes "examine"
+      ∷ codes "about" ∷ []
   pub topics : map topic_text (Help ∷ Version ∷ HelpOn subcommand.Open ∷ HelpOn subcommand.Format
       ∷ HelpOn subcommand.Apply ∷ HelpOn subcommand.Show ∷ HelpOn subcommand.Protect ∷ HelpOn subcommand.Validate
       ∷ HelpOn subcommand.Relay ∷ HelpOn subcommand.Ask ∷ HelpOn subcommand.Key ∷ HelpOn subcommand.Inspect

@@ -4,7 +4,8 @@ use Rattle.macs_words.specs.declared.help.Subcommand.{Subcommand}
 use Rattle.macs_words.specs.declared.help.Subcommand.TheVariants as subcommand
 use Rattle.macs_words.specs.declared.help.Topic.{Topic}
 use Rattle.macs_words.specs.declared.help.Topic.TheVariants.{Help, HelpOn, Version}
-use Rattle.macs_words.specs.declared.help_texts.TheConstants.{ABOUT, APPLY, ASK, CHECK, EXAMINE, FORMAT, HELP, INSPECT, KEY, OPEN, PROTECT, RELAY, SHOW, VALIDATE, VERSION}
+use Rattle.macs_words.specs.declared.help_texts.TheConstants.{ABOUT, APPLY, ASK, CHECK, EXAMINE, FORMAT, HELP, INSPECT}
+use Rattle.macs_words.specs.declared.help_texts.TheConstants.{KEY, OPEN, PROTECT, RELAY, SHOW, VALIDATE, VERSION}
 
 -- what is printed on a subcommand
 abbrev pub subcommand_text : Subcommand → List ℕ

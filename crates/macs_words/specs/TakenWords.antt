@@ -1,6 +1,7 @@
--- What is to be drawn of the words that are known and taken: each subcommand with its values and options, and the action
--- that these name.
-use Rattle.std.specs.Prelude.{◌≡◌, ◌≢◌, ◌≤◌, ◌↔◌, ◌-◌, ◌^◌, ◌++◌, ℕ, map, Bool, true, false, List, [], ◌∷◌, Option, Some, None}
+-- What is to be drawn of the words that are known and taken: each subcommand with its values and options, and the
+-- action that these name.
+use Rattle.std.specs.Prelude.{◌≡◌, ◌≢◌, ◌≤◌, ◌↔◌, ◌-◌, ◌^◌, ◌++◌, ℕ, map, Bool, true, false, List, [], ◌∷◌, Option}
+use Rattle.std.specs.Prelude.{Some, None}
 use Rattle.std.specs.Prelude.{codes, option_map, replicate, string_bytes}
 use Rattle.std.specs.Borrow.{Bor}
 use Rattle.std.specs.Char.{is_control}
@@ -13,7 +14,8 @@ use Rattle.clap.specs.declared.builder.value_parser.ValueParser.TheVariants as v
 use Rattle.macs_words.specs.Controls.{printable_char}
 use Rattle.macs_words.specs.Words.{AreRefused, HasNumber, HasPace, HasPrintableCause, HasQuestion, MayHaveRoom, Names}
 use Rattle.macs_words.specs.Words.{macsecd}
-use Rattle.macs_words.specs.declared.action.Action.TheVariants.{Open, Format, Apply, Show, Protect, Validate, Relay, Ask}
+use Rattle.macs_words.specs.declared.action.Action.TheVariants.{Open, Format, Apply, Show, Protect, Validate, Relay}
+use Rattle.macs_words.specs.declared.action.Action.TheVariants.{Ask}
 use Rattle.macs_words.specs.declared.action.Action.TheVariants.{Key, Inspect, Check, Examine, About}
 use Rattle.macs_words.specs.declared.action.Question.{Question}
 use Rattle.macs_words.specs.declared.action.Question.TheVariants as question

@@ -1,9 +1,11 @@
 -- The words that the program knows, the action that they name, and those that ask for help.
-use Rattle.std.specs.Prelude.{◌≡◌, ◌≢◌, ◌↔◌, ◌⊎◌, ◌<◌, ◌-◌, ◌^◌, ℕ, ⊤, map, Bool, true, false, List, [], ◌∷◌, ◌++◌, Option, Some, None, codes, IfSome, option_map, string_bytes}
+use Rattle.std.specs.Prelude.{◌≡◌, ◌≢◌, ◌↔◌, ◌⊎◌, ◌<◌, ◌-◌, ◌^◌, ℕ, ⊤, map, Bool, true, false, List, [], ◌∷◌, ◌++◌}
+use Rattle.std.specs.Prelude.{Option, Some, None, codes, IfSome, option_map, string_bytes}
 use Rattle.std.specs.Str.Parse.{IsNumeral, digits_value, without_leading_plus}
 use Rattle.std.specs.Borrow.{Bor}
 use Rattle.clap.specs.Simple.{new_shape, on_top}
-use Rattle.clap.specs.Words.{App, Row, Rule, Shape, Text, app_of, first_of, kind_of, new_app, new_rule, subcommand_of, takes, with_subcommand}
+use Rattle.clap.specs.Words.{App, Row, Rule, Shape, Text, app_of, first_of, kind_of, new_app, new_rule, subcommand_of}
+use Rattle.clap.specs.Words.{takes, with_subcommand}
 use Rattle.clap.specs.declared.builder.action.ArgAction.TheVariants.{Set, SetTrue}
 use Rattle.clap.specs.declared.builder.value_parser.ValueParser.TheVariants as vp
 use Rattle.clap.specs.declared.builder.command.Command.{Command}
@@ -15,7 +17,8 @@ use Rattle.macs_words.specs.Waits.{IsRoom, IsWaitLimit}
 use Rattle.macs_words.specs.declared.action.UsageFault.{UsageFault}
 use Rattle.macs_words.specs.declared.action.UsageFault.TheVariants.{Usage, Memory}
 use Rattle.macs_words.specs.declared.action.Action.{Action}
-use Rattle.macs_words.specs.declared.action.Action.TheVariants.{Open, Format, Apply, Show, Protect, Validate, Relay, Ask, Key, Inspect, Check, Examine, About}
+use Rattle.macs_words.specs.declared.action.Action.TheVariants.{Open, Format, Apply, Show, Protect, Validate, Relay}
+use Rattle.macs_words.specs.declared.action.Action.TheVariants.{Ask, Key, Inspect, Check, Examine, About}
 use Rattle.macs_words.specs.declared.action.Question.{Question}
 use Rattle.macs_words.specs.declared.action.Question.TheVariants as question
 use Rattle.macs_words.specs.declared.pace.Pace.{Pace}
@@ -71,7 +74,8 @@ subcommand_with name rules = record (new_shape name) { rules = rules }
 abbrev pub first_subcommands : List Shape
 first_subcommands =
     subcommand_with (codes "open") []
-    ∷ subcommand_with (codes "format") (value_rule (codes "DISK") ∷ value_rule (codes "SCI") ∷ number_rule (codes "TX") ∷ number_rule (codes "RX")
+    ∷ subcommand_with (codes "format")
+    (value_rule (codes "DISK") ∷ value_rule (codes "SCI") ∷ number_rule (codes "TX") ∷ number_rule (codes "RX")
     ∷ option_rule (codes "block") ∷ flag_rule (codes "over") ∷ [])
     ∷ subcommand_with (codes "apply") (value_rule (codes "DISK") ∷ value_rule (codes "FILE") ∷ [])
     ∷ subcommand_with (codes "show") (value_rule (codes "DISK") ∷ [])
@@ -80,18 +84,22 @@ first_subcommands =
 -- those that take frames through an endpoint
 abbrev pub frame_subcommands : List Shape
 frame_subcommands =
-    subcommand_with (codes "protect") (value_rule (codes "DISK") ∷ value_rule (codes "INPUT") ∷ value_rule (codes "OUTPUT")
+    subcommand_with (codes "protect")
+    (value_rule (codes "DISK") ∷ value_rule (codes "INPUT") ∷ value_rule (codes "OUTPUT")
     ∷ flag_rule (codes "all") ∷ [])
-    ∷ subcommand_with (codes "validate") (value_rule (codes "DISK") ∷ value_rule (codes "INPUT") ∷ value_rule (codes "OUTPUT")
+    ∷ subcommand_with (codes "validate")
+    (value_rule (codes "DISK") ∷ value_rule (codes "INPUT") ∷ value_rule (codes "OUTPUT")
     ∷ flag_rule (codes "all") ∷ flag_rule (codes "each") ∷ [])
-    ∷ subcommand_with (codes "relay") (value_rule (codes "DISK") ∷ value_rule (codes "OWN1") ∷ value_rule (codes "PEER1")
+    ∷ subcommand_with (codes "relay")
+    (value_rule (codes "DISK") ∷ value_rule (codes "OWN1") ∷ value_rule (codes "PEER1")
     ∷ value_rule (codes "OWN2") ∷ value_rule (codes "PEER2") ∷ count_rule (codes "turns") ∷ wait_rule (codes "wait")
     ∷ room_rule (codes "buffer") ∷ option_rule (codes "control") ∷ option_rule (codes "metrics") ∷ [])
     ∷ []
 
 -- the one that asks a running relay
 abbrev pub ask_subcommand : Shape
-ask_subcommand = subcommand_with (codes "ask") (value_rule (codes "PATH") ∷ value_rule (codes "WORD") ∷ last_rule (codes "FILE") ∷ [])
+ask_subcommand = subcommand_with (codes "ask")
+    (value_rule (codes "PATH") ∷ value_rule (codes "WORD") ∷ last_rule (codes "FILE") ∷ [])
 
 -- those that change no endpoint
 abbrev pub lone_subcommands : List Shape
@@ -140,8 +148,8 @@ abbrev pub MayHaveNumber : List Row → Text → Option ℕ → Type 0
 MayHaveNumber values name None = first_of name values ≡ None
 MayHaveNumber values name (Some number) = HasNumber values name number
 
--- How a relay takes its turns: so many, and no wait is given; or it waits so long at most, 1 to 60,000 ms, and takes so many where they
--- are given
+-- How a relay takes its turns: so many, and no wait is given; or it waits so long at most, 1 to 60,000 ms, and takes so
+-- many where they are given
 abbrev pub HasPace : List Row → Pace → Type 0
 HasPace values (Sleepless turns) = HasNumber values (codes "turns") turns × (first_of (codes "wait") values ≡ None)
 HasPace values (Waiting limit turns) =
@@ -161,7 +169,8 @@ plain_word (question.Apply file) = None
 
 -- the words of `ask` ask this: a word alone, or `apply` and the file
 abbrev pub HasQuestion : List Row → Question → Type 0
-HasQuestion values (question.Apply file) = HasText values (codes "WORD") (codes "apply") × HasText values (codes "FILE") file.now
+HasQuestion values (question.Apply file) = HasText values (codes "WORD") (codes "apply")
+    × HasText values (codes "FILE") file.now
 HasQuestion values asked = (first_of (codes "WORD") values ≡ plain_word asked) × (first_of (codes "FILE") values ≡ None)
 
 -- the option without a value is used
@@ -193,7 +202,8 @@ Names (Some found) (Relay disk controlled common running) =
     × HasText found.1 (codes "OWN2") common.own.now × HasText found.1 (codes "PEER2") common.peer.now
     × HasPace found.1 running.pace × MayHaveRoom found.1 (codes "buffer") running.buffer
     × MayHaveText found.1 (codes "control") running.control × MayHaveText found.1 (codes "metrics") running.metrics
-Names (Some found) (Ask path asked) = (found.0 ≡ codes "ask") × HasText found.1 (codes "PATH") path.now × HasQuestion found.1 asked
+Names (Some found) (Ask path asked) = (found.0 ≡ codes "ask") × HasText found.1 (codes "PATH") path.now
+    × HasQuestion found.1 asked
 Names (Some found) (Key is_long) = (found.0 ≡ codes "key") × IsFlagged found.1 (codes "long") is_long
 Names (Some found) (Inspect input) = (found.0 ≡ codes "inspect") × HasText found.1 (codes "INPUT") input.now
 Names (Some found) (Check file disk) =
@@ -276,7 +286,8 @@ name_of subcommand.Check = codes "check"
 name_of subcommand.Examine = codes "examine"
 name_of subcommand.About = codes "about"
 
--- The words ask for the topic: a help flag alone, the name of a subcommand and a help flag after it, or the version flag alone
+-- The words ask for the topic: a help flag alone, the name of a subcommand and a help flag after it, or the version
+-- flag alone
 abbrev pub AsksFor : List Text → Topic → Type 0
 AsksFor (word ∷ []) Help = IsHelpFlag word
 AsksFor (name ∷ word ∷ []) (HelpOn which) = (name ≡ name_of which) × IsHelpFlag word

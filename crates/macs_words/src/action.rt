@@ -1,11 +1,17 @@
 //! What the program's words ask for.
 
-ghost use Rattle.std.specs.Prelude.{◌≡◌, ◌≢◌, ◌⊎◌, ◌↔◌, ◌<◌, ◌^◌, ℕ, Option, IfOk, IfErr, IfSome, IsSome, IsTrue, OnOk, Some, true, false, [], codes, option_map, string_bytes};
-ghost use Rattle.clap.specs.Words.{App, Rule, Text, app_of, fault_of, first_of, found_of, new_app, rows_of, rule_of, subcommand_of, subcommand_rows_of, takes, with_rule, with_subcommand};
+ghost use Rattle.std.specs.Prelude.{◌≡◌, ◌≢◌, ◌⊎◌, ◌↔◌, ◌<◌, ◌^◌, ℕ, Option, IfOk, IfErr, IfSome};
+ghost use Rattle.std.specs.Prelude.{IsSome, IsTrue, OnOk, Some, true, false, [], codes, option_map};
+ghost use Rattle.std.specs.Prelude.{string_bytes};
+ghost use Rattle.clap.specs.Words.{App, Rule, Text, app_of, fault_of, first_of, found_of, new_app};
+ghost use Rattle.clap.specs.Words.{rows_of, rule_of, subcommand_of, subcommand_rows_of, takes};
+ghost use Rattle.clap.specs.Words.{with_rule, with_subcommand};
 ghost use Rattle.macs_words.specs.Controls.{IsPrintable};
 ghost use Rattle.macs_words.specs.Waits.{IsRoom, IsWaitLimit};
-ghost use Rattle.macs_words.specs.Words.{FitsNumbers, FitsPace, HasNumber, HasPace, HasPrintableCause, HasText, IsClapCommand, IsFaultOf};
-ghost use Rattle.macs_words.specs.Words.{HasQuestion, MayHaveNumber, MayHaveRoom, Names, NamesNothing, bare_app, count_rule, macsecd, number_rule};
+ghost use Rattle.macs_words.specs.Words.{FitsNumbers, FitsPace, HasNumber, HasPace};
+ghost use Rattle.macs_words.specs.Words.{HasPrintableCause, HasText, IsClapCommand, IsFaultOf};
+ghost use Rattle.macs_words.specs.Words.{HasQuestion, MayHaveNumber, MayHaveRoom, Names};
+ghost use Rattle.macs_words.specs.Words.{NamesNothing, bare_app, count_rule, macsecd, number_rule};
 ghost use Rattle.macs_words.specs.Words.{NamesNoAction, plain_word, texts, value_rule};
 ghost use Rattle.macs_words.specs.Words.{flag_rule, last_rule, option_rule, room_rule, wait_rule};
 ghost use Rattle.macs_words.specs.declared.action.Question.{Question};
@@ -44,7 +50,8 @@ pub enum Action<'a> {
     Show {
         disk: &'a str,
     },
-    /// Protects the frames of a capture: `protect DISK INPUT OUTPUT`, and `--all` where it is given.
+    /// Protects the frames of a capture: `protect DISK INPUT OUTPUT`, and `--all` where it is
+    /// given.
     Protect {
         disk: &'a str,
         input: &'a str,
@@ -52,8 +59,8 @@ pub enum Action<'a> {
         /// Whether a frame that is dropped is said by the status.
         is_all: bool,
     },
-    /// Validates the frames of a capture: `validate DISK INPUT OUTPUT`, and `--all` and `--each` where they are
-    /// given.
+    /// Validates the frames of a capture: `validate DISK INPUT OUTPUT`, and `--all` and `--each`
+    /// where they are given.
     Validate {
         disk: &'a str,
         input: &'a str,
@@ -63,8 +70,9 @@ pub enum Action<'a> {
         /// Whether the verdict on each frame is printed.
         is_each: bool,
     },
-    /// Relays frames between two wires: `relay DISK OWN1 PEER1 OWN2 PEER2` with `--turns n`, `--wait MS` or
-    /// both, and with `--control PATH`, `--metrics FILE` and `--buffer OCTETS` where they are given.
+    /// Relays frames between two wires: `relay DISK OWN1 PEER1 OWN2 PEER2` with `--turns n`,
+    /// `--wait MS` or both, and with `--control PATH`, `--metrics FILE` and `--buffer OCTETS` where
+    /// they are given.
     Relay {
         disk: &'a str,
         controlled: WireEnds<'a>,
@@ -86,8 +94,8 @@ pub enum Action<'a> {
     Inspect {
         input: &'a str,
     },
-    /// Checks the commands of a file, `check FILE`, or what the endpoint on a disk would answer to them,
-    /// `check FILE DISK`.
+    /// Checks the commands of a file, `check FILE`, or what the endpoint on a disk would answer to
+    /// them, `check FILE DISK`.
     Check {
         file: &'a str,
         /// The disk file, where it is given.
@@ -196,9 +204,12 @@ fn open_words<'a>(alloc: Global) -> Command<'a>
 
 /// The words of `format`.
 fn format_words<'a>(alloc: Global) -> Result<Command<'a>, AllocError>
-    ensures { IfOk result (λ command. IsClapCommand command (with_rule (with_rule (with_rule (with_rule (with_rule
-        (with_rule (new_app (codes "format")) (value_rule (codes "DISK"))) (value_rule (codes "SCI")))
-        (number_rule (codes "TX"))) (number_rule (codes "RX"))) (option_rule (codes "block"))) (flag_rule (codes "over")))) }
+    ensures { IfOk result
+        (λ command. IsClapCommand command (with_rule (with_rule (with_rule (with_rule (with_rule
+        (with_rule (new_app (codes "format")) (value_rule (codes "DISK")))
+        (value_rule (codes "SCI")))
+        (number_rule (codes "TX"))) (number_rule (codes "RX"))) (option_rule (codes "block")))
+        (flag_rule (codes "over")))) }
 {
     let words = with_value(Ok(Command::new(alloc, "format")), value(alloc, "DISK"));
     let words = with_value(words, value(alloc, "SCI"));
@@ -227,7 +238,8 @@ fn show_words<'a>(alloc: Global) -> Result<Command<'a>, AllocError>
 
 /// The words of a subcommand over a disk and two captures.
 fn capture_words<'a>(alloc: Global, name: &'a str) -> Result<Command<'a>, AllocError>
-    ensures { IfOk result (λ command. IsClapCommand command (with_rule (with_rule (with_rule (with_rule
+    ensures { IfOk result
+        (λ command. IsClapCommand command (with_rule (with_rule (with_rule (with_rule
         (new_app name.entry.now) (value_rule (codes "DISK"))) (value_rule (codes "INPUT")))
         (value_rule (codes "OUTPUT"))) (flag_rule (codes "all")))) }
 {
@@ -239,7 +251,8 @@ fn capture_words<'a>(alloc: Global, name: &'a str) -> Result<Command<'a>, AllocE
 
 /// The words of `validate`.
 fn validate_words<'a>(alloc: Global) -> Result<Command<'a>, AllocError>
-    ensures { IfOk result (λ command. IsClapCommand command (with_rule (with_rule (with_rule (with_rule (with_rule
+    ensures { IfOk result
+        (λ command. IsClapCommand command (with_rule (with_rule (with_rule (with_rule (with_rule
         (new_app (codes "validate")) (value_rule (codes "DISK"))) (value_rule (codes "INPUT")))
         (value_rule (codes "OUTPUT"))) (flag_rule (codes "all"))) (flag_rule (codes "each")))) }
 {
@@ -280,8 +293,10 @@ fn last<'a>(alloc: Global, name: &'a str) -> Arg<'a>
 
 /// The words of `relay` that are values, and how it takes its turns.
 fn wire_words<'a>(alloc: Global) -> Result<Command<'a>, AllocError>
-    ensures { IfOk result (λ command. IsClapCommand command (with_rule (with_rule (with_rule (with_rule (with_rule
-        (with_rule (with_rule (new_app (codes "relay")) (value_rule (codes "DISK"))) (value_rule (codes "OWN1")))
+    ensures { IfOk result
+        (λ command. IsClapCommand command (with_rule (with_rule (with_rule (with_rule (with_rule
+        (with_rule (with_rule (new_app (codes "relay")) (value_rule (codes "DISK")))
+        (value_rule (codes "OWN1")))
         (value_rule (codes "PEER1"))) (value_rule (codes "OWN2"))) (value_rule (codes "PEER2")))
         (count_rule (codes "turns"))) (wait_rule (codes "wait")))) }
 {
@@ -296,11 +311,14 @@ fn wire_words<'a>(alloc: Global) -> Result<Command<'a>, AllocError>
 
 /// The words of `relay`.
 fn relay_words<'a>(alloc: Global) -> Result<Command<'a>, AllocError>
-    ensures { IfOk result (λ command. IsClapCommand command (with_rule (with_rule (with_rule (with_rule (with_rule
-        (with_rule (with_rule (with_rule (with_rule (with_rule (new_app (codes "relay")) (value_rule (codes "DISK")))
+    ensures { IfOk result
+        (λ command. IsClapCommand command (with_rule (with_rule (with_rule (with_rule (with_rule
+        (with_rule (with_rule
+        (with_rule (with_rule (with_rule (new_app (codes "relay")) (value_rule (codes "DISK")))
         (value_rule (codes "OWN1"))) (value_rule (codes "PEER1"))) (value_rule (codes "OWN2")))
         (value_rule (codes "PEER2"))) (count_rule (codes "turns"))) (wait_rule (codes "wait")))
-        (room_rule (codes "buffer"))) (option_rule (codes "control"))) (option_rule (codes "metrics")))) }
+        (room_rule (codes "buffer"))) (option_rule (codes "control")))
+        (option_rule (codes "metrics")))) }
 {
     let words = with_value(wire_words(alloc), room(alloc, "buffer"));
     let words = with_value(words, option(alloc, "control"));
@@ -349,8 +367,8 @@ fn about_words<'a>(alloc: Global) -> Command<'a>
     Command::new(alloc, "about")
 }
 
-/// The words before any subcommand: they begin after the program's name, and nothing of the library's own asks for
-/// help or the version.
+/// The words before any subcommand: they begin after the program's name, and nothing of the
+/// library's own asks for help or the version.
 fn bare_words<'a>(alloc: Global) -> Command<'a>
     ensures { app_of result ≡ bare_app }
 {
@@ -415,7 +433,8 @@ fn usage_fault_of(alloc: Global, error: &clap::Error) -> Result<UsageFault, Allo
 
 /// The text of a value.
 fn text_in<'a>(values: &ArgMatches<'a>, name: &str) -> Option<&'a str>
-    ensures { option_map (λ text. text.now) result ≡ first_of name.now (rows_of (found_of values.now)) }
+    ensures { option_map (λ text. text.now) result
+        ≡ first_of name.now (rows_of (found_of values.now)) }
 {
     values.get_str(name)
 }
@@ -441,7 +460,8 @@ fn count_in(values: &ArgMatches, name: &str) -> Option<u64>
 /// The number of 64 bits that a value is in decimal digits, where it is given.
 fn optional_count_in(values: &ArgMatches, name: &str) -> Option<Option<u64>>
     ensures read { IfSome result (MayHaveNumber (rows_of (found_of values.now)) name.now) }
-    ensures found { (number : Option ℕ) → MayHaveNumber (rows_of (found_of values.now)) name.now number
+    ensures found { (number : Option ℕ)
+        → MayHaveNumber (rows_of (found_of values.now)) name.now number
         → IfSome number (λ n. n < 2 ^ 64) → IsSome result }
 {
     match text_in(values, name) {
@@ -455,7 +475,8 @@ fn optional_count_in(values: &ArgMatches, name: &str) -> Option<Option<u64>>
 
 /// The milliseconds, 1 to 60,000, that a value is in decimal digits.
 fn wait_in(values: &ArgMatches, name: &str) -> Option<Milliseconds>
-    ensures read { IfSome result (λ limit. HasNumber (rows_of (found_of values.now)) name.now limit.0 × IsWaitLimit limit.0) }
+    ensures read { IfSome result (λ limit.
+        HasNumber (rows_of (found_of values.now)) name.now limit.0 × IsWaitLimit limit.0) }
     ensures found { (number : ℕ) → HasNumber (rows_of (found_of values.now)) name.now number
         → IsWaitLimit number → IsSome result }
 {
@@ -468,7 +489,8 @@ fn wait_in(values: &ArgMatches, name: &str) -> Option<Milliseconds>
 
 /// The octets of a buffer, 1 to 1,073,741,823, that a value is in decimal digits.
 fn room_in(values: &ArgMatches, name: &str) -> Option<u32>
-    ensures read { IfSome result (λ octets. HasNumber (rows_of (found_of values.now)) name.now octets × IsRoom octets) }
+    ensures read { IfSome result
+        (λ octets. HasNumber (rows_of (found_of values.now)) name.now octets × IsRoom octets) }
     ensures found { (number : ℕ) → HasNumber (rows_of (found_of values.now)) name.now number
         → IsRoom number → IsSome result }
 {
@@ -482,7 +504,8 @@ fn room_in(values: &ArgMatches, name: &str) -> Option<u32>
 /// The same, where it is given.
 fn optional_room_in(values: &ArgMatches, name: &str) -> Option<Option<u32>>
     ensures read { IfSome result (MayHaveRoom (rows_of (found_of values.now)) name.now) }
-    ensures found { (room : Option ℕ) → MayHaveRoom (rows_of (found_of values.now)) name.now room → IsSome result }
+    ensures found { (room : Option ℕ) → MayHaveRoom (rows_of (found_of values.now)) name.now room
+        → IsSome result }
 {
     match text_in(values, name) {
         None => Some(None),
@@ -502,8 +525,10 @@ fn is_flagged(values: &ArgMatches, name: &str) -> bool
 
 /// `format` with its values.
 fn format_in<'a>(values: &ArgMatches<'a>) -> Option<Action<'a>>
-    ensures read { IfSome result (λ action. Names (Some (codes "format", rows_of (found_of values.now))) action) }
-    ensures found { (action : Action) → Names (Some (codes "format", rows_of (found_of values.now))) action
+    ensures read { IfSome result
+        (λ action. Names (Some (codes "format", rows_of (found_of values.now))) action) }
+    ensures found { (action : Action)
+        → Names (Some (codes "format", rows_of (found_of values.now))) action
         → FitsNumbers action → IsSome result }
 {
     let disk = text_in(values, "DISK")?;
@@ -522,8 +547,10 @@ fn format_in<'a>(values: &ArgMatches<'a>) -> Option<Action<'a>>
 
 /// `apply` with its values.
 fn apply_in<'a>(values: &ArgMatches<'a>) -> Option<Action<'a>>
-    ensures read { IfSome result (λ action. Names (Some (codes "apply", rows_of (found_of values.now))) action) }
-    ensures found { (action : Action) → Names (Some (codes "apply", rows_of (found_of values.now))) action
+    ensures read { IfSome result
+        (λ action. Names (Some (codes "apply", rows_of (found_of values.now))) action) }
+    ensures found { (action : Action)
+        → Names (Some (codes "apply", rows_of (found_of values.now))) action
         → IsSome result }
 {
     let disk = text_in(values, "DISK")?;
@@ -533,8 +560,10 @@ fn apply_in<'a>(values: &ArgMatches<'a>) -> Option<Action<'a>>
 
 /// `show` with its value.
 fn show_in<'a>(values: &ArgMatches<'a>) -> Option<Action<'a>>
-    ensures read { IfSome result (λ action. Names (Some (codes "show", rows_of (found_of values.now))) action) }
-    ensures found { (action : Action) → Names (Some (codes "show", rows_of (found_of values.now))) action
+    ensures read { IfSome result
+        (λ action. Names (Some (codes "show", rows_of (found_of values.now))) action) }
+    ensures found { (action : Action)
+        → Names (Some (codes "show", rows_of (found_of values.now))) action
         → IsSome result }
 {
     let disk = text_in(values, "DISK")?;
@@ -543,8 +572,10 @@ fn show_in<'a>(values: &ArgMatches<'a>) -> Option<Action<'a>>
 
 /// `protect` with its values.
 fn protect_in<'a>(values: &ArgMatches<'a>) -> Option<Action<'a>>
-    ensures read { IfSome result (λ action. Names (Some (codes "protect", rows_of (found_of values.now))) action) }
-    ensures found { (action : Action) → Names (Some (codes "protect", rows_of (found_of values.now))) action
+    ensures read { IfSome result
+        (λ action. Names (Some (codes "protect", rows_of (found_of values.now))) action) }
+    ensures found { (action : Action)
+        → Names (Some (codes "protect", rows_of (found_of values.now))) action
         → IsSome result }
 {
     let disk = text_in(values, "DISK")?;
@@ -560,8 +591,10 @@ fn protect_in<'a>(values: &ArgMatches<'a>) -> Option<Action<'a>>
 
 /// `validate` with its values.
 fn validate_in<'a>(values: &ArgMatches<'a>) -> Option<Action<'a>>
-    ensures read { IfSome result (λ action. Names (Some (codes "validate", rows_of (found_of values.now))) action) }
-    ensures found { (action : Action) → Names (Some (codes "validate", rows_of (found_of values.now))) action
+    ensures read { IfSome result
+        (λ action. Names (Some (codes "validate", rows_of (found_of values.now))) action) }
+    ensures found { (action : Action)
+        → Names (Some (codes "validate", rows_of (found_of values.now))) action
         → IsSome result }
 {
     let disk = text_in(values, "DISK")?;
@@ -578,7 +611,8 @@ fn validate_in<'a>(values: &ArgMatches<'a>) -> Option<Action<'a>>
 
 /// The two addresses of a wire.
 fn ends_in<'a>(values: &ArgMatches<'a>, own: &str, peer: &str) -> Option<WireEnds<'a>>
-    ensures read { IfSome result (λ ends. HasText (rows_of (found_of values.now)) own.now ends.own.now
+    ensures read { IfSome result
+        (λ ends. HasText (rows_of (found_of values.now)) own.now ends.own.now
         × HasText (rows_of (found_of values.now)) peer.now ends.peer.now) }
     ensures found { (at there : Text) → HasText (rows_of (found_of values.now)) own.now at
         → HasText (rows_of (found_of values.now)) peer.now there → IsSome result }
@@ -591,7 +625,8 @@ fn ends_in<'a>(values: &ArgMatches<'a>, own: &str, peer: &str) -> Option<WireEnd
 /// How `relay` takes its turns: `None` where neither `turns` nor `wait` is given.
 fn pace_in(values: &ArgMatches) -> Option<Pace>
     ensures read { IfSome result (HasPace (rows_of (found_of values.now))) }
-    ensures found { (pace : Pace) → HasPace (rows_of (found_of values.now)) pace → FitsPace pace → IsSome result }
+    ensures found { (pace : Pace) → HasPace (rows_of (found_of values.now)) pace → FitsPace pace
+        → IsSome result }
 {
     match text_in(values, "wait") {
         None => {
@@ -608,8 +643,10 @@ fn pace_in(values: &ArgMatches) -> Option<Pace>
 
 /// `relay` with its values.
 fn relay_in<'a>(values: &ArgMatches<'a>) -> Option<Action<'a>>
-    ensures read { IfSome result (λ action. Names (Some (codes "relay", rows_of (found_of values.now))) action) }
-    ensures found { (action : Action) → Names (Some (codes "relay", rows_of (found_of values.now))) action
+    ensures read { IfSome result
+        (λ action. Names (Some (codes "relay", rows_of (found_of values.now))) action) }
+    ensures found { (action : Action)
+        → Names (Some (codes "relay", rows_of (found_of values.now))) action
         → FitsNumbers action → IsSome result }
 {
     let disk = text_in(values, "DISK")?;
@@ -633,7 +670,8 @@ fn relay_in<'a>(values: &ArgMatches<'a>) -> Option<Action<'a>>
 
 /// The question that a word alone asks, but for `apply`.
 fn plain_question<'a>(word: &str) -> Option<Question<'a>>
-    ensures { (question : Question) → (result ≡ Some question) ↔ (Some word.now ≡ plain_word question) }
+    ensures { (question : Question)
+        → (result ≡ Some question) ↔ (Some word.now ≡ plain_word question) }
 {
     match word {
         "show" => Some(Question::Show),
@@ -646,7 +684,8 @@ fn plain_question<'a>(word: &str) -> Option<Question<'a>>
 /// The question of `ask`: `None` where its words ask none.
 fn question_in<'a>(values: &ArgMatches<'a>) -> Option<Question<'a>>
     ensures read { IfSome result (HasQuestion (rows_of (found_of values.now))) }
-    ensures found { (question : Question) → HasQuestion (rows_of (found_of values.now)) question → IsSome result }
+    ensures found { (question : Question) → HasQuestion (rows_of (found_of values.now)) question
+        → IsSome result }
 {
     let word = text_in(values, "WORD")?;
     match text_in(values, "FILE") {
@@ -658,8 +697,10 @@ fn question_in<'a>(values: &ArgMatches<'a>) -> Option<Question<'a>>
 
 /// `ask` with its values.
 fn ask_in<'a>(values: &ArgMatches<'a>) -> Option<Action<'a>>
-    ensures read { IfSome result (λ action. Names (Some (codes "ask", rows_of (found_of values.now))) action) }
-    ensures found { (action : Action) → Names (Some (codes "ask", rows_of (found_of values.now))) action
+    ensures read { IfSome result
+        (λ action. Names (Some (codes "ask", rows_of (found_of values.now))) action) }
+    ensures found { (action : Action)
+        → Names (Some (codes "ask", rows_of (found_of values.now))) action
         → IsSome result }
 {
     let path = text_in(values, "PATH")?;
@@ -669,7 +710,8 @@ fn ask_in<'a>(values: &ArgMatches<'a>) -> Option<Action<'a>>
 
 /// `key`, with `--long` or without it.
 fn key_in<'a>(values: &ArgMatches<'a>) -> Option<Action<'a>>
-    ensures read { IfSome result (λ action. Names (Some (codes "key", rows_of (found_of values.now))) action) }
+    ensures read { IfSome result
+        (λ action. Names (Some (codes "key", rows_of (found_of values.now))) action) }
     ensures found { IsSome result }
 {
     Some(Action::Key {
@@ -679,8 +721,10 @@ fn key_in<'a>(values: &ArgMatches<'a>) -> Option<Action<'a>>
 
 /// `inspect` with its value.
 fn inspect_in<'a>(values: &ArgMatches<'a>) -> Option<Action<'a>>
-    ensures read { IfSome result (λ action. Names (Some (codes "inspect", rows_of (found_of values.now))) action) }
-    ensures found { (action : Action) → Names (Some (codes "inspect", rows_of (found_of values.now))) action
+    ensures read { IfSome result
+        (λ action. Names (Some (codes "inspect", rows_of (found_of values.now))) action) }
+    ensures found { (action : Action)
+        → Names (Some (codes "inspect", rows_of (found_of values.now))) action
         → IsSome result }
 {
     let input = text_in(values, "INPUT")?;
@@ -689,8 +733,10 @@ fn inspect_in<'a>(values: &ArgMatches<'a>) -> Option<Action<'a>>
 
 /// `check` with its values.
 fn check_in<'a>(values: &ArgMatches<'a>) -> Option<Action<'a>>
-    ensures read { IfSome result (λ action. Names (Some (codes "check", rows_of (found_of values.now))) action) }
-    ensures found { (action : Action) → Names (Some (codes "check", rows_of (found_of values.now))) action
+    ensures read { IfSome result
+        (λ action. Names (Some (codes "check", rows_of (found_of values.now))) action) }
+    ensures found { (action : Action)
+        → Names (Some (codes "check", rows_of (found_of values.now))) action
         → IsSome result }
 {
     let file = text_in(values, "FILE")?;
@@ -702,8 +748,10 @@ fn check_in<'a>(values: &ArgMatches<'a>) -> Option<Action<'a>>
 
 /// `examine` with its value.
 fn examine_in<'a>(values: &ArgMatches<'a>) -> Option<Action<'a>>
-    ensures read { IfSome result (λ action. Names (Some (codes "examine", rows_of (found_of values.now))) action) }
-    ensures found { (action : Action) → Names (Some (codes "examine", rows_of (found_of values.now))) action
+    ensures read { IfSome result
+        (λ action. Names (Some (codes "examine", rows_of (found_of values.now))) action) }
+    ensures found { (action : Action)
+        → Names (Some (codes "examine", rows_of (found_of values.now))) action
         → IsSome result }
 {
     let disk = text_in(values, "DISK")?;
@@ -712,11 +760,13 @@ fn examine_in<'a>(values: &ArgMatches<'a>) -> Option<Action<'a>>
 
 /// The action of a subcommand that needs no frames and no running relay, with its values.
 fn lone_in<'a>(name: &str, values: &ArgMatches<'a>) -> Option<Action<'a>>
-    requires others { (name.now ≢ codes "open") × (name.now ≢ codes "format") × (name.now ≢ codes "apply")
+    requires others { (name.now ≢ codes "open") × (name.now ≢ codes "format")
+        × (name.now ≢ codes "apply")
         × (name.now ≢ codes "show") × (name.now ≢ codes "protect") × (name.now ≢ codes "validate")
         × (name.now ≢ codes "relay") × (name.now ≢ codes "ask") }
     ensures read { IfSome result (Names (Some (name.now, rows_of (found_of values.now)))) }
-    ensures found { (action : Action) → Names (Some (name.now, rows_of (found_of values.now))) action
+    ensures found { (action : Action)
+        → Names (Some (name.now, rows_of (found_of values.now))) action
         → IsSome result }
 {
     match name {
@@ -751,8 +801,8 @@ fn action_in<'a>(matches: &ArgMatches<'a>) -> Option<Action<'a>>
     }
 }
 
-/// What is said where the words of a subcommand name no action: of `ask` what it may be asked, and of a relay that has
-/// neither `--turns` nor `--wait` what clap says where a value is missing.
+/// What is said where the words of a subcommand name no action: of `ask` what it may be asked, and
+/// of a relay that has neither `--turns` nor `--wait` what clap says where a value is missing.
 fn missing_cause(alloc: Global, matches: &ArgMatches) -> Result<String, AllocError>
     ensures { IfOk result (λ cause. IsPrintable (string_bytes cause)) }
 {
@@ -762,7 +812,8 @@ fn missing_cause(alloc: Global, matches: &ArgMatches) -> Result<String, AllocErr
     }
 }
 
-/// The action that was read. Refused as `Usage` where the words name none, then as `Memory` where memory runs out.
+/// The action that was read. Refused as `Usage` where the words name none, then as `Memory` where
+/// memory runs out.
 fn action_read<'a>(alloc: Global, matches: &ArgMatches<'a>) -> Result<Action<'a>, UsageFault>
     ensures read { IfOk result (Names (subcommand_rows_of matches.now)) }
     ensures refused { IfErr result (λ fault. NamesNoAction (subcommand_rows_of matches.now)) }
@@ -774,14 +825,14 @@ fn action_read<'a>(alloc: Global, matches: &ArgMatches<'a>) -> Result<Action<'a>
     }
 }
 
-/// The action that the words name, without the program's own name among them. Refused as `Usage` where clap
-/// refuses the words, or where they name a relay with neither `--turns` nor `--wait`, or ask a relay nothing that it
-/// is asked; else as `Memory` where there is no memory.
+/// The action that the words name, without the program's own name among them. Refused as `Usage`
+/// where clap refuses the words, or where they name a relay with neither `--turns` nor `--wait`, or
+/// ask a relay nothing that it is asked; else as `Memory` where there is no memory.
 pub fn action_of<'a>(alloc: Global, words: &'a [&'a str]) -> Result<Action<'a>, UsageFault>
     // What is answered is what clap reads.
     ensures read { IfOk result (Names (subcommand_of macsecd (texts words.now))) }
-    // What clap takes is refused for memory alone, but for a relay with neither turns nor a wait, and a question that
-    // is none.
+    // What clap takes is refused for memory alone, but for a relay with neither turns nor a wait,
+    // and a question that is none.
     ensures taken { takes macsecd (texts words.now) ≡ true → IfErr result (λ fault.
         (fault ≡ UsageFault.Memory) ⊎ NamesNothing (subcommand_of macsecd (texts words.now))) }
     // What is answered is nothing that clap refuses.

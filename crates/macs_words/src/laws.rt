@@ -4,8 +4,8 @@ ghost use Rattle.macs_words.specs.ActionWords.{ActionWords, HelpWords};
 ghost use Rattle.macs_words.specs.AskedWords.{AskedWords};
 ghost use Rattle.macs_words.specs.TakenWords.{KnownWords, PlainWords, TakenWords};
 
-/// The words of `action_of` and `topic_of` say this: which action is named, with which values, and what
-/// asks for help.
+/// The words of `action_of` and `topic_of` say this: which action is named, with which values, and
+/// what asks for help.
 pub fn words()
     // Which action is named, and which words name none.
     ensures actions { ActionWords }

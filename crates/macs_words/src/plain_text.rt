@@ -20,7 +20,8 @@ fn printable_char(character: char) -> char
 /// The text with `?` in the place of each control character. It fails for want of memory alone.
 pub fn printable(alloc: Global, text: &str) -> Result<String, AllocError>
     // Each character is kept or replaced.
-    ensures each { IfOk result (λ shown. chars (string_bytes shown) ≡ map printable_char (chars text.now)) }
+    ensures each { IfOk result
+        (λ shown. chars (string_bytes shown) ≡ map printable_char (chars text.now)) }
     // None is left that a terminal obeys.
     ensures printable { IfOk result (λ shown. IsPrintable (string_bytes shown)) }
 {

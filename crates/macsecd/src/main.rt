@@ -12,9 +12,9 @@ use std::process::ExitCode;
 /// The greatest descriptor of standard input, output and error.
 const LAST_STANDARD: i32 = 2;
 
-/// Takes those descriptors of standard input, output and error that are closed, by a folder that can be
-/// neither read nor written. Else the disk file would get one of them, and what is printed would
-/// be written over its sectors.
+/// Takes those descriptors of standard input, output and error that are closed, by a folder that
+/// can be neither read nor written. Else the disk file would get one of them, and what is printed
+/// would be written over its sectors.
 fn take_closed_descriptors(rt: &HostRuntime) -> Result<[Option<File>; 3], Failure> {
     let mut taken = [None, None, None];
     for i in 0..taken.len() {

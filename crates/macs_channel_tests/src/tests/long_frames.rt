@@ -1,5 +1,6 @@
-//! Frames under a key of 256 bits by Python's `cryptography`, printed by tools/channel_vectors.py, which
-//! has their inputs. A line of a frame is its addresses, its SecTAG, its Secure Data or its ICV.
+//! Frames under a key of 256 bits by Python's `cryptography`, printed by tools/channel_vectors.py,
+//! which has their inputs. A line of a frame is its addresses, its SecTAG, its Secure Data or its
+//! ICV.
 
 use macs_aes::Key;
 

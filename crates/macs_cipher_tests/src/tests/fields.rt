@@ -1,4 +1,5 @@
-//! The fields of `macs_gf`: worked products of the standards, and of polynomial arithmetic outside this repository.
+//! The fields of `macs_gf`: worked products of the standards, and of polynomial arithmetic outside
+//! this repository.
 
 use macs_gf::{mul8, mul128, xtime128};
 

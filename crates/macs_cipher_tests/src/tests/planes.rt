@@ -1,4 +1,5 @@
-//! Blocks side by side against single blocks, and the steps of one round as FIPS 197 (2001), appendix B, has them.
+//! Blocks side by side against single blocks, and the steps of one round as FIPS 197 (2001),
+//! appendix B, has them.
 
 use macs_aes::{Block, Key, Schedule, encrypt_block};
 use macs_planes::{Planes, encrypt16};

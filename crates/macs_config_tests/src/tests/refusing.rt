@@ -162,8 +162,8 @@ fn refuses_end_stations(rt: HostRuntime) {
     }
 }
 
-/// A key that is spent on the other side or for another channel is taken, and so is a number that is
-/// taken there.
+/// A key that is spent on the other side or for another channel is taken, and so is a number that
+/// is taken there.
 #[test]
 fn takes_what_differs(rt: HostRuntime) {
     let mut config = configured(&rt);

@@ -16,13 +16,15 @@ use std::test::Fail;
 fn keep<D: SectorDisk>(disk: &mut D, at: u64, octets: &[u8; 512]) -> Result<(), DeviceFault>
     requires honest { IsHonest (D.disk disk.old) }
     requires within { at < (D.disk disk.old).sectors }
-    ensures { OnOk result ((image : Image) → MayLeave (D.disk disk.new) image → image at ≡ octets.now) }
+    ensures { OnOk result ((image : Image) → MayLeave (D.disk disk.new) image
+        → image at ≡ octets.now) }
 {
     disk.write(at, octets)?;
     disk.sync()
 }
 
-/// Writes a sector of a packed disk and syncs it, done or not. The disk is found again then, where it was.
+/// Writes a sector of a packed disk and syncs it, done or not. The disk is found again then, where
+/// it was.
 fn use_packed<F: DiskFile>(disk: &mut FileDisk<F>)
     requires packed { layout_of disk.old ≡ Layout.Packed }
     requires within { 3 < (disk_in_file F.file disk.old).sectors }

@@ -117,10 +117,10 @@ const NOT_READ: Life = Ok((true, None, false));
 
 const NOT_SYNCED: Life = Ok((true, Some(7), false));
 
-/// What is answered where no call fails, and where this one does: the claim, the size, the sync, the reading
-/// again, the write of zeros and its sync; the write, the read and the sync. Want of memory is reported where
-/// there is no disk yet, but for the calls that find out what the device has. An interrupted write or read
-/// is tried again. Each call after one that failed fails.
+/// What is answered where no call fails, and where this one does: the claim, the size, the sync,
+/// the reading again, the write of zeros and its sync; the write, the read and the sync. Want of
+/// memory is reported where there is no disk yet, but for the calls that find out what the device
+/// has. An interrupted write or read is tried again. Each call after one that failed fails.
 const LIVES: [(ErrorKind, [Life; 10]); 3] = [
     (
         ErrorKind::Other,
@@ -170,9 +170,9 @@ fn each_call_that_fails_is_answered(rt: HostRuntime) {
     }
 }
 
-/// What is answered where this call fails of those that make a blank disk: the claim, the size, the sync, the
-/// reading again, the sync of the layout's mark and the write of zeros. The file has no room for all of these, so
-/// there is no disk where no call fails.
+/// What is answered where this call fails of those that make a blank disk: the claim, the size, the
+/// sync, the reading again, the sync of the layout's mark and the write of zeros. The file has no
+/// room for all of these, so there is no disk where no call fails.
 const NOT_BLANK: [(ErrorKind, [FileFault; 7]); 2] = [
     (
         ErrorKind::Other,
@@ -211,9 +211,9 @@ fn each_call_of_a_blank_disk_that_fails_is_answered(rt: HostRuntime) {
     }
 }
 
-/// How many octets the file has at first and a call moves at most, which call fails, and the life: short moves are
-/// finished, and one that moves nothing fails. The last two fail at the second of two reads, and are
-/// interrupted there.
+/// How many octets the file has at first and a call moves at most, which call fails, and the life:
+/// short moves are finished, and one that moves nothing fails. The last two fail at the second of
+/// two reads, and are interrupted there.
 const SHORT: [(u64, usize, u64, ErrorKind, Life); 8] = [
     (1_024, 1, 0, ErrorKind::Other, DONE),
     (1_024, 100, 0, ErrorKind::Other, DONE),

@@ -1,5 +1,5 @@
-//! Disks in files of the operating system: what is found again, how long a file is then, and which files
-//! are refused.
+//! Disks in files of the operating system: what is found again, how long a file is then, and which
+//! files are refused.
 
 use super::Call::{Fill, Read, Sync};
 use super::{Call, make};
@@ -15,8 +15,8 @@ use std::{fs, io};
 /// How many sectors a disk has, or why there is none.
 type Answer = Result<u64, FileFault>;
 
-/// A step of a story of one file and the disk in it. A disk that is opened or made takes the place of
-/// the present one; where there is none, the present one stays.
+/// A step of a story of one file and the disk in it. A disk that is opened or made takes the place
+/// of the present one; where there is none, the present one stays.
 #[derive(Clone, Copy)]
 enum Step {
     /// Makes the file again, so many octets of zeros, behind the back of a present disk.
@@ -266,8 +266,8 @@ fn a_file_has_one_disk_at_a_time(rt: HostRuntime) -> Result<(), Fail> {
     begin(&rt, "disk-claimed", CLAIMED)
 }
 
-/// A sector that the file no longer has whole is not read. Each later call of that disk fails, and a new one
-/// is opened.
+/// A sector that the file no longer has whole is not read. Each later call of that disk fails, and
+/// a new one is opened.
 const CUT: &[Step] = &[
     Create(3, Ok(3)),
     Make(Fill(1, 5)),
@@ -310,7 +310,8 @@ fn what_cannot_be_opened_is_refused(rt: HostRuntime) -> Result<(), Fail> {
     Ok(())
 }
 
-/// The system neither syncs a pipe nor reads it again, nor writes at a place of it. Its octets cannot be counted.
+/// The system neither syncs a pipe nor reads it again, nor writes at a place of it. Its octets
+/// cannot be counted.
 const PIPE: &[Step] = &[
     Open(Err(FileFault::Device)),
     Create(0, Err(FileFault::Device)),

@@ -14,8 +14,10 @@ struct Forgetful {
 
 impl Forgetful {
     fn pass(&mut self) -> Result<(), DeviceFault>
-        ensures ok { OnOk result ((self.old.clock < 2 ^ 64 - 1) × (self.new.clock ≡ self.old.clock + 1)) }
-        ensures err { OnErr result ((self.old.clock ≡ 2 ^ 64 - 1) × (self.new.clock ≡ self.old.clock)) }
+        ensures ok { OnOk result
+            ((self.old.clock < 2 ^ 64 - 1) × (self.new.clock ≡ self.old.clock + 1)) }
+        ensures err { OnErr result
+            ((self.old.clock ≡ 2 ^ 64 - 1) × (self.new.clock ≡ self.old.clock)) }
     {
         if self.clock == u64::MAX {
             return Err(DeviceFault);

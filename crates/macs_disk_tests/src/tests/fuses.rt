@@ -17,8 +17,8 @@ const STORY: &[Call] = &[
     Read(0, 2),
 ];
 
-/// What is found of sectors 0 and 1 after so many calls of the story, and what a power loss then leaves in
-/// the second one, where 9 is chosen for it.
+/// What is found of sectors 0 and 1 after so many calls of the story, and what a power loss then
+/// leaves in the second one, where 9 is chosen for it.
 const AFTER: [(Found, Found, u8); 9] = [
     ((0, 0, false), (0, 0, false), 0),
     ((1, 0, true), (0, 0, false), 0),
@@ -154,8 +154,8 @@ fn a_fuse_fails_one_call_of_each_kind(rt: HostRuntime) -> Result<(), Fail> {
 /// What a write that the fuse behind the other one fails leaves in its sector.
 const LEFT_BEHIND: u8 = 8;
 
-/// After how many calls each of two fuses fails one, the calls of both and which of them are done, and what
-/// is found of the sector.
+/// After how many calls each of two fuses fails one, the calls of both and which of them are done,
+/// and what is found of the sector.
 const TWICE_BLOWN: [(u64, u64, [(Call, bool); 4], Found); 4] = [
     (
         2,

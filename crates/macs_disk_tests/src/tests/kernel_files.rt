@@ -1,5 +1,6 @@
-//! Disks in a file that behaves as one of a kernel's does. Each sync in turn fails once, and the program goes on.
-//! Then memory is short, and the power is lost: what was acknowledged is there, and so is what reads gave.
+//! Disks in a file that behaves as one of a kernel's does. Each sync in turn fails once, and the
+//! program goes on. Then memory is short, and the power is lost: what was acknowledged is there,
+//! and so is what reads gave.
 
 use super::{fill, full, seen};
 use macs_disk::{FileDisk, FileFault, Layout, SectorDisk};
@@ -63,8 +64,8 @@ enum Going {
     Ends,
 }
 
-/// A trial: which sync fails, how many blocks that it was to write reach the device, how the program goes on,
-/// and what the power loss leaves.
+/// A trial: which sync fails, how many blocks that it was to write reach the device, how the
+/// program goes on, and what the power loss leaves.
 #[derive(Clone, Copy)]
 struct Trial {
     failing: u64,
@@ -157,8 +158,8 @@ fn octet(rt: &impl Abort, disk: &mut Disk<'_>, at: usize) -> u8 {
     seen(rt, disk, at as u64).expect(rt, "a sector")
 }
 
-/// Writes a sector and syncs it. Where that fails, the program goes on, and takes the sector as it finds it:
-/// as before or as written.
+/// Writes a sector and syncs it. Where that fails, the program goes on, and takes the sector as it
+/// finds it: as before or as written.
 fn keep<'a>(
     rt: &impl Abort,
     kernel: &'a Kernel,

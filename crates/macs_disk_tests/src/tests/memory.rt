@@ -1,4 +1,5 @@
-//! How many sectors and calls a disk in memory has room for, and calls that are refused for want of memory.
+//! How many sectors and calls a disk in memory has room for, and calls that are refused for want of
+//! memory.
 
 use super::Call::{Fill, Read, Sync};
 use super::Step::{Find, Make};

@@ -1,5 +1,5 @@
-//! Promises of calls that follow one another, put together by the laws, over a disk that stops at each
-//! call in turn.
+//! Promises of calls that follow one another, put together by the laws, over a disk that stops at
+//! each call in turn.
 
 ghost use Rattle.std.specs.Prelude.{◌≡◌, ◌<◌, ℕ, true, IsErr};
 ghost use Rattle.macs_disk.specs.States.{settled_state, zero_sector};
@@ -34,13 +34,14 @@ impl Property for FirstIsBlank {
     ghost holds = { λ image. image 0 ≡ zero_sector };
 }
 
-/// Reads sector 0 of a blank disk and replaces sector 1 durably. A power loss meanwhile leaves sector 0
-/// blank.
+/// Reads sector 0 of a blank disk and replaces sector 1 durably. A power loss meanwhile leaves
+/// sector 0 blank.
 fn replace_second<D: SectorDisk>(disk: &mut D, octets: &[u8; 512]) -> Result<(), DeviceFault>
     requires { 1 < (D.disk disk.old).sectors }
     ensures work { IsWork (D.disk disk.old) (D.disk disk.new) result }
     ensures worn { (D.disk disk.old).worn ≡ true → IsErr result }
-    ensures leaves { IsHonest (D.disk disk.new) → now (D.disk disk.old) ≡ settled_state (λ _. zero_sector)
+    ensures leaves { IsHonest (D.disk disk.new)
+        → now (D.disk disk.old) ≡ settled_state (λ _. zero_sector)
         → Leaves (D.disk disk.old) (D.disk disk.new) (λ image. image 0 ≡ zero_sector) }
 {
     calls_are_counted::<(), DeviceFault>();
@@ -67,7 +68,8 @@ fn replace_in_memory<A: Allocator>(
 ) -> Result<(), DeviceFault>
     requires { 1 < (disk_of_fuse disk_of disk.old).sectors }
     ensures { now (disk_of_fuse disk_of disk.old) ≡ settled_state (λ _. zero_sector)
-        → Leaves (disk_of_fuse disk_of disk.old) (disk_of_fuse disk_of disk.new) (λ image. image 0 ≡ zero_sector) }
+        → Leaves (disk_of_fuse disk_of disk.old) (disk_of_fuse disk_of disk.new)
+        (λ image. image 0 ≡ zero_sector) }
 {
     memory_is_honest::<A>();
     fuses_are_honest::<MemDisk<A>>();

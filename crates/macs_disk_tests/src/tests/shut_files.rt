@@ -1,4 +1,5 @@
-//! A system that opens no file, for each reason that a disk tells apart, and one that makes no name durable.
+//! A system that opens no file, for each reason that a disk tells apart, and one that makes no name
+//! durable.
 
 use super::failing_files::{FailingFile, file};
 use macs_disk::{FileDisk, FileFault};
@@ -54,8 +55,8 @@ impl OpenFile for FailingFile {
 #[derive(Clone, Copy)]
 struct Shut {
     kind: ErrorKind,
-    /// Each name is that of a file of two sectors. What a disk asks of the file is done, and `sync_all`, which
-    /// makes the names in a folder durable, is an error.
+    /// Each name is that of a file of two sectors. What a disk asks of the file is done, and
+    /// `sync_all`, which makes the names in a folder durable, is an error.
     has_files: bool,
 }
 

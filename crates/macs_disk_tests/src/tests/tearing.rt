@@ -10,8 +10,8 @@ use macs_disk::{DeviceFault, SectorDisk};
 use std::process::Abort;
 use std::test::Fail;
 
-/// A disk in front of another. The first write that the other does answers DeviceFault all the same,
-/// and has filled its sector. Over an honest disk it is an honest disk.
+/// A disk in front of another. The first write that the other does answers DeviceFault all the
+/// same, and has filled its sector. Over an honest disk it is an honest disk.
 #[derive(Drop)]
 struct Tearing<D> {
     disk: D,

@@ -1,5 +1,6 @@
 //! Captures that run through an endpoint, whose disk is in memory and whose blocks are 4 packet
-//! numbers on either side. Readers and writers move one octet a call, and fail where they are told to.
+//! numbers on either side. Readers and writers move one octet a call, and fail where they are told
+//! to.
 
 mod faults;
 mod frames;
@@ -67,8 +68,8 @@ fn run<D: SectorDisk, R: Source, W: Sink, A: Allocator>(
     }
 }
 
-/// Runs these octets with memory for frames from an allocator, and answers what was written, too. The call
-/// of the reader with this number fails, and that of the writer with the other.
+/// Runs these octets with memory for frames from an allocator, and answers what was written, too.
+/// The call of the reader with this number fails, and that of the writer with the other.
 fn run_in<D: SectorDisk, A: Allocator>(
     memory: A,
     alloc: Global,

@@ -29,8 +29,8 @@ fn socket(rt: &(impl Abort + Net), at: SocketAddr) -> Option<UdpSocket> {
     Some(socket)
 }
 
-/// Asks a socket at most 1,000 times for a datagram of so many octets, each of which is this one: where it
-/// comes from.
+/// Asks a socket at most 1,000 times for a datagram of so many octets, each of which is this one:
+/// where it comes from.
 fn arrived(
     rt: &impl Abort,
     socket: &UdpSocket,
@@ -58,8 +58,8 @@ fn got(wire: &mut UdpWire<Global>, into: &mut FrameBuf) -> Result<Got, WireFault
     Ok(Got::Nothing)
 }
 
-/// A wire from an address with any port to a socket there, where that can be bound: where the wire is bound,
-/// its first frame shows.
+/// A wire from an address with any port to a socket there, where that can be bound: where the wire
+/// is bound, its first frame shows.
 fn line(rt: &(impl Abort + Net), alloc: Global, at: SocketAddr) -> Option<Ends> {
     let peer = socket(rt, at)?;
     let there = peer.local_addr().expect(rt, "the address of the peer");
@@ -191,7 +191,8 @@ fn refused(
     }
 }
 
-/// In a heap of so many octets a bind is refused so at an address that is bound, and so at a free one.
+/// In a heap of so many octets a bind is refused so at an address that is bound, and so at a free
+/// one.
 fn expect_refused(
     rt: &(impl Abort + Net),
     alloc: Global,
@@ -213,8 +214,8 @@ fn expect_refused(
     );
 }
 
-/// Heaps with room for less than the longest frame and one octet, and one that suffices: want of memory comes
-/// first.
+/// Heaps with room for less than the longest frame and one octet, and one that suffices: want of
+/// memory comes first.
 #[test]
 fn a_bind_without_memory_is_refused(rt: HostRuntime) {
     let line = local_line(&rt, rt.alloc());

@@ -1,5 +1,5 @@
-//! Command files as an adversary writes them. Each has one fault, which is worked out from the table of words
-//! and keys; none gives a command, even where good tables come before the bad one.
+//! Command files as an adversary writes them. Each has one fault, which is worked out from the
+//! table of words and keys; none gives a command, even where good tables come before the bad one.
 
 use super::hostile_texts::{CONTROLS, NO_TOML, SHAPES};
 use macs_edge::{ConfigFault, KeyName, commands_of};
@@ -22,8 +22,9 @@ rx-remove sci="12153524c0895e81" an=0"#;
 const KEYS: &str =
     r#"mode="check" on=true window=0 an=0 key="000102030405060708090a0b0c0d0e0f" start=1 confidential=true offset=0 sci="12153524c0895e81""#;
 
-/// Values that are wrong at every key, and are no word: 60 of them. Numbers that no key takes; floats; dates
-/// and times; texts that are neither a mode nor 16, 32 or 64 hex digits; arrays; tables.
+/// Values that are wrong at every key, and are no word: 60 of them. Numbers that no key takes;
+/// floats; dates and times; texts that are neither a mode nor 16, 32 or 64 hex digits; arrays;
+/// tables.
 const WRONG: &str = r#"4294967296
 4294967297
 9223372036854775807
@@ -287,8 +288,8 @@ fn is_no_toml(rt: &impl Abort, alloc: Global, text: &str) {
     assert!(rt; toml::table_from_str(alloc, text).is_err(), "{text}");
 }
 
-/// The table of a word whose key at this place has a wrong value, after so many good tables. The keys
-/// before it are right.
+/// The table of a word whose key at this place has a wrong value, after so many good tables. The
+/// keys before it are right.
 fn with_wrong_key(
     rt: &impl Abort,
     alloc: Global,
@@ -343,8 +344,8 @@ fn refuse_value(
     4
 }
 
-/// Values that are wrong at every key, at each of the 20 keys of the ten words, in four forms of the table, with
-/// no good table before it or up to two.
+/// Values that are wrong at every key, at each of the 20 keys of the ten words, in four forms of
+/// the table, with no good table before it or up to two.
 #[test]
 fn a_wrong_value_is_told(rt: HostRuntime) {
     let mut files = 0_usize;
@@ -438,8 +439,8 @@ fn refuse_value_as_word(rt: &impl Abort, alloc: Global, value: &str) -> usize {
     refuse_word_of_all(rt, alloc, &first)
 }
 
-/// 85 values that are no word, ten keys that are nearly `do`, and none, in three forms with the keys of each
-/// word.
+/// 85 values that are no word, ten keys that are nearly `do`, and none, in three forms with the
+/// keys of each word.
 #[test]
 fn a_wrong_word_is_told(rt: HostRuntime) {
     let mut files = refuse_word_of_all(&rt, rt.alloc(), "");
@@ -454,8 +455,8 @@ fn a_wrong_word_is_told(rt: HostRuntime) {
     assert!(rt; files == 2_880);
 }
 
-/// A table that is right but for a key too many, which comes first or last, between a good one and one without
-/// a word.
+/// A table that is right but for a key too many, which comes first or last, between a good one and
+/// one without a word.
 fn refuse_extra(rt: &impl Abort, alloc: Global, line: &str, extra: &str, is_first: bool) {
     let mut text = begun(rt, alloc, 1);
     if is_first {
@@ -489,8 +490,8 @@ fn has_key(line: &str, pair: &str) -> bool {
     false
 }
 
-/// 25 keys that no word has besides the keys of each of the ten, and the keys of the others: of the nine keys the
-/// words have 20, so 70 are left.
+/// 25 keys that no word has besides the keys of each of the ten, and the keys of the others: of the
+/// nine keys the words have 20, so 70 are left.
 #[test]
 fn a_key_too_many_is_told(rt: HostRuntime) {
     let mut files = 0_usize;
@@ -597,8 +598,8 @@ fn nested(
     text
 }
 
-/// A number inside arrays or tables: 1,000 of them are more than the reader of TOML takes, which is 80, though
-/// all are closed; seventy are read, and refused for where they are.
+/// A number inside arrays or tables: 1,000 of them are more than the reader of TOML takes, which is
+/// 80, though all are closed; seventy are read, and refused for where they are.
 fn refuse_deep(
     rt: &impl Abort,
     alloc: Global,

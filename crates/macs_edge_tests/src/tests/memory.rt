@@ -8,7 +8,8 @@ use std::process::Abort;
 /// A command of few octets.
 const SHORT: &str = "[[command]]\ndo='tx-use'\nan=0\n";
 
-/// How many of them a command file has room for: together they have 1,048,553 octets, of at most 1,048,576.
+/// How many of them a command file has room for: together they have 1,048,553 octets, of at most
+/// 1,048,576.
 const MOST: usize = 36_157;
 
 /// However many commands a file has room for, they are read: there is no want of memory.
@@ -24,8 +25,8 @@ fn a_file_of_the_limit_is_commands(rt: HostRuntime) {
     assert!(rt; commands.len() == MOST);
 }
 
-/// Heaps from 0 octets on, in steps of 16, until one suffices: each smaller one is refused as `Memory`, and gives no
-/// command. The others give the commands that are read in ample memory.
+/// Heaps from 0 octets on, in steps of 16, until one suffices: each smaller one is refused as
+/// `Memory`, and gives no command. The others give the commands that are read in ample memory.
 #[test]
 fn a_refused_growth_is_memory(rt: HostRuntime) {
     let file = toml::table_from_str(rt.alloc(), ALL).expect(&rt, "a table");

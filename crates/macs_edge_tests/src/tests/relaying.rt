@@ -65,8 +65,8 @@ fn expect_rising<A: Allocator + Copy>(rt: &impl Abort, wire: &MemWire<A>) {
     }
 }
 
-/// Six frames to a wire in this heap: how many were sent. Each of the others is lost with its number, which
-/// stays used.
+/// Six frames to a wire in this heap: how many were sent. Each of the others is lost with its
+/// number, which stays used.
 fn sent_in(rt: &impl Abort, alloc: Global, heap: &LocalHeap) -> u64 {
     let mut endpoint = sending(rt, formatted(rt, alloc, LEFT, 4));
     let mut controlled = MemWire::new(alloc);

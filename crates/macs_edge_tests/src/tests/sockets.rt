@@ -12,8 +12,8 @@ use std::process::Abort;
 /// What a socket answers to each receive and to each send.
 #[derive(Clone, Copy)]
 enum Answer {
-    /// To a receive: a datagram of so many octets, from the address that ends with this one. To a send: so many octets
-    /// fewer than it was given.
+    /// To a receive: a datagram of so many octets, from the address that ends with this one. To a
+    /// send: so many octets fewer than it was given.
     Octets(usize, u8),
     Failure(ErrorKind),
 }

@@ -78,8 +78,8 @@ fn a_burst_is_handed_on(rt: HostRuntime) {
     }
 }
 
-/// Notes the octet of a frame that was taken. Where it was refused that is for want of memory, and the
-/// answer is 1.
+/// Notes the octet of a frame that was taken. Where it was refused that is for want of memory, and
+/// the answer is 1.
 fn noted(rt: &impl Abort, done: Result<(), WireFault>, taken: &mut FrameBuf, octet: u8) -> u16 {
     match done {
         Ok(()) => {
@@ -111,8 +111,9 @@ fn expect_sent<A: Allocator + Copy>(rt: &impl Abort, wire: &MemWire<A>, sent: &[
     }
 }
 
-/// Six frames pushed and six sent, by turns, on a wire in this heap: each that is not refused is given, or
-/// is among those that were sent, and no other. The answer has a bit for each call that was refused.
+/// Six frames pushed and six sent, by turns, on a wire in this heap: each that is not refused is
+/// given, or is among those that were sent, and no other. The answer has a bit for each call that
+/// was refused.
 fn refused(rt: &impl Abort, heap: &LocalHeap) -> u16 {
     let mut wire = MemWire::new(heap);
     let mut pushed = FrameBuf::new();

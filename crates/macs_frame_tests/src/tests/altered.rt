@@ -16,12 +16,14 @@ struct Row {
 
 /// Worked out from the tables of the SecTAG's bits and of the faults:
 /// - a changed EtherType is no tag (16 bits), E without C is for KaY (1);
-/// - V, SCB, a second name and each bit of SL make a bad tag: another SL is never the length (3 + 8);
-/// - without SC the first frame has 50 octets of Secure Data for an SL of 42, a bad tag; the second without SC and
-///   the third without ES name no channel, and are not valid;
-/// - an SCI that is spelled out is another one (64), as is that of an end station's source address (48);
-/// - every other bit is authenticated: addresses, the rest of the TCI and AN, the packet number (32), the Secure
-///   Data and the ICV;
+/// - V, SCB, a second name and each bit of SL make a bad tag: another SL is never the length (3 +
+///   8);
+/// - without SC the first frame has 50 octets of Secure Data for an SL of 42, a bad tag; the second
+///   without SC and the third without ES name no channel, and are not valid;
+/// - an SCI that is spelled out is another one (64), as is that of an end station's source address
+///   (48);
+/// - every other bit is authenticated: addresses, the rest of the TCI and AN, the packet number
+///   (32), the Secure Data and the ICV;
 /// - a frame of fewer than 14 octets is a runt, and another cut one is not as long as SL says.
 const ROWS: &[Row] = &[
     Row {
@@ -55,7 +57,8 @@ fn place_of(answer: Result<(An, Pn), OpenFault>) -> usize {
     }
 }
 
-/// Opens a frame under the key, SCI and offset of a case, and counts the answer. After a fault there is no octet.
+/// Opens a frame under the key, SCI and offset of a case, and counts the answer. After a fault
+/// there is no octet.
 fn count(rt: &impl Abort, case: &Case, frame: &FrameBuf, counts: &mut Counts) {
     let (answer, out) = case.security().open(frame.as_slice());
     assert!(rt; answer.is_ok() || out.is_empty());

@@ -12,7 +12,8 @@ struct Head {
     fields: Fields,
 }
 
-/// The addresses and the SecTAG of the frame of Annex C under integrity, but with SL 0 and packet number 1.
+/// The addresses and the SecTAG of the frame of Annex C under integrity, but with SL 0 and packet
+/// number 1.
 const LONG: Head = Head {
     octets: b"\xd6\x09\xb1\xf0\x56\x63\x7a\x0d\x46\xdf\x99\x8d\
 \x88\xe5\x22\x00\x00\x00\x00\x01\x12\x15\x35\x24\xc0\x89\x5e\x81",

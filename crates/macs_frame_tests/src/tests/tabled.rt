@@ -24,7 +24,8 @@ fn plain_of(rt: &impl Abort, user_data: u16) -> FrameBuf {
     plain
 }
 
-/// The key of a frame: octet i is 13 i + number. It has 32 octets where the number is 2 modulo 3, else 16.
+/// The key of a frame: octet i is 13 i + number. It has 32 octets where the number is 2 modulo 3,
+/// else 16.
 fn key_of(number: u8) -> Key {
     let mut octets = [0; 32];
     for i in 0..32u8 {

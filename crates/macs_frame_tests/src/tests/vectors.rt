@@ -1,5 +1,5 @@
-//! Protected frames by Python's `cryptography`, printed by tools/frame_vectors.py, which has the rules
-//! of the inputs.
+//! Protected frames by Python's `cryptography`, printed by tools/frame_vectors.py, which has the
+//! rules of the inputs.
 
 use super::Naming;
 use macs_frame::Offset;
@@ -13,8 +13,8 @@ pub struct Group {
     pub sci: u64,
     /// Of confidentiality, `None` under integrity alone.
     pub offset: Option<Offset>,
-    /// One for each of the lengths, in blocks of 16 octets, filled up with zero octets. Of a frame of
-    /// more than 1,000 octets, the first 64 and the last 32.
+    /// One for each of the lengths, in blocks of 16 octets, filled up with zero octets. Of a frame
+    /// of more than 1,000 octets, the first 64 and the last 32.
     pub frames: [[u128; 6]; 11],
 }
 

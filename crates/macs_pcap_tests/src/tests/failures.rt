@@ -7,7 +7,8 @@ use macs_pcap::{Header as CaptureHeader, PcapFault, WriterSink};
 use std::alloc::Global;
 use std::process::Abort;
 
-/// Each octet takes a read, and the end one more: 44 calls of each of two captures, and five that do not come.
+/// Each octet takes a read, and the end one more: 44 calls of each of two captures, and five that
+/// do not come.
 #[test]
 fn each_read_fails_in_turn(rt: HostRuntime) {
     let mut readings = 0_u32;
@@ -41,7 +42,8 @@ fn record_headers_are_judged_before_frames_are_read(rt: HostRuntime) {
     }
 }
 
-/// Writes the worked capture, of whose calls one fails. What was written is the front of the capture.
+/// Writes the worked capture, of whose calls one fails. What was written is the front of the
+/// capture.
 fn expect_front(rt: &impl Abort, alloc: Global, big: bool, failure: Failure, call: u64) {
     let header = CaptureHeader {
         big,
@@ -64,8 +66,8 @@ fn expect_front(rt: &impl Abort, alloc: Global, big: bool, failure: Failure, cal
     assert!(rt; writer.octets() == front, "write {call}");
 }
 
-/// Each octet takes a write, and the flush is one call more: 44 calls of each of two captures, which fail in three
-/// ways, and five that do not come. No call that was interrupted is made again.
+/// Each octet takes a write, and the flush is one call more: 44 calls of each of two captures,
+/// which fail in three ways, and five that do not come. No call that was interrupted is made again.
 #[test]
 fn each_write_fails_in_turn(rt: HostRuntime) {
     let mut writings = 0_u32;

@@ -18,8 +18,8 @@ fn short_headers_are_cut(rt: HostRuntime) {
     }
 }
 
-/// Inside the header and inside a record a capture is cut; after the header and after a record it ends. Both
-/// captures of 43 octets: 2 * 44 lengths.
+/// Inside the header and inside a record a capture is cut; after the header and after a record it
+/// ends. Both captures of 43 octets: 2 * 44 lengths.
 #[test]
 fn cut_at_every_length(rt: HostRuntime) {
     let mut captures = 0_u32;

@@ -18,10 +18,11 @@ struct Row {
 const NO_KIND: u32 = 4 * 255 + 235;
 
 /// Worked out from the layout. The summands of each count, in this order:
-/// - records: the mark, the kinds that fit what is after them, the field values in range, the zeros after the
-///   fields;
+/// - records: the mark, the kinds that fit what is after them, the field values in range, the zeros
+///   after the fields;
 /// - `Field`: the kinds that find a wrong field there, the field values out of range;
-/// - `Rest`: the kinds that leave octets after their fields, the field values that do, 255 for each zero.
+/// - `Rest`: the kinds that leave octets after their fields, the field values that do, 255 for each
+///   zero.
 ///
 /// Of a snapshot: settings, a transmit association, a channel, a receive association, spent keys.
 const SNAPSHOT: &[Row] = &[
@@ -127,7 +128,8 @@ const LONG_KEYS: &[Row] = &[
     },
 ];
 
-/// The place of a sector's answer among the counts. A record is written as the very sector it was read from.
+/// The place of a sector's answer among the counts. A record is written as the very sector it was
+/// read from.
 fn place_of(rt: &impl Abort, sector: &[u8; SECTOR]) -> usize {
     match decode(sector) {
         Ok(read) => {

@@ -41,7 +41,8 @@ fn stands_as(rt: &impl Abort, head: Head, sector: [u8; SECTOR]) {
     assert_eq!(rt; decode_head(&sector), Some(head));
 }
 
-/// The sector of the first head is no head once octets of it are changed, each time these at a place.
+/// The sector of the first head is no head once octets of it are changed, each time these at a
+/// place.
 fn are_no_heads(rt: &impl Abort, changes: &[(usize, &[u8])]) {
     for &(place, octets) in changes {
         assert!(rt; decode_head(&first_but(rt, place, octets)).is_none());

@@ -6,12 +6,12 @@ use super::stops::{Behind, Totals, stop_at_each};
 use std::alloc::Global;
 use std::process::Abort;
 
-/// A format: a sync, the reads of two head gates, two bodies, the reads of 256 gates, a sync, the head gate
-/// and a sync.
+/// A format: a sync, the reads of two head gates, two bodies, the reads of 256 gates, a sync, the
+/// head gate and a sync.
 const FORMAT: u64 = 1 + 2 + 2 + 256 + 1 + 1 + 1;
 
-/// The opening after it: a sync, the reads of two head gates and a head body, of 255 gates after the snapshot
-/// and of the one record in it.
+/// The opening after it: a sync, the reads of two head gates and a head body, of 255 gates after
+/// the snapshot and of the one record in it.
 const OPENING: u64 = 1 + 3 + 255 + 1;
 
 /// A command or a reservation: a body, a sync, a gate and a sync.
@@ -20,14 +20,15 @@ const PIECE: u64 = 4;
 /// The first piece of work.
 const PIECES: u64 = FORMAT + OPENING;
 
-/// After 16 pieces the windows begin: seven commands are kept by then, and nine ceilings were raised.
+/// After 16 pieces the windows begin: seven commands are kept by then, and nine ceilings were
+/// raised.
 const WINDOWS: u64 = PIECES + 16 * PIECE;
 
 /// The second transmit association is installed after 12 pieces.
 const SECOND_INSTALL: u64 = PIECES + 12 * PIECE;
 
-/// After 255 pieces the journal starts over: the reads of 257 gates, a sync, the body of the head and of six
-/// records, a sync, the head gate and a sync.
+/// After 255 pieces the journal starts over: the reads of 257 gates, a sync, the body of the head
+/// and of six records, a sync, the head gate and a sync.
 const COMPACTION: u64 = PIECES + 255 * PIECE;
 
 /// Its end.
@@ -39,14 +40,16 @@ const KEPT: u64 = COMPACTED + PIECE;
 /// The script ends: six ceilings were raised.
 const END: u64 = KEPT + 6 * PIECE;
 
-/// Each device call from one to before another is a stop: so many stops, power losses and stopped openings.
+/// Each device call from one to before another is a stop: so many stops, power losses and stopped
+/// openings.
 fn expect(rt: &impl Abort, alloc: Global, calls: [u64; 2], behind: Behind, totals: Totals) {
     let [first, end] = calls;
     assert!(rt; stop_at_each(rt, alloc, first, end, behind) == totals);
 }
 
-/// How many power losses there are for a piece of work. After a call that does not reach the disk nothing is
-/// pending at either write, and one sector at either sync; after a write that fills its sector, one at each.
+/// How many power losses there are for a piece of work. After a call that does not reach the disk
+/// nothing is pending at either write, and one sector at either sync; after a write that fills its
+/// sector, one at each.
 const LOSSES: u64 = 1 + 6 + 1 + 6 + 4 * 6;
 
 /// So many pieces of work from a device call on are stopped at each of their calls.
@@ -84,8 +87,8 @@ fn the_script_has_so_many_device_calls(rt: HostRuntime) {
     assert!(rt; !is_cut);
 }
 
-/// So many calls of a format from one on are stopped, at which two bodies are pending: the reads of gates and the
-/// sync after them.
+/// So many calls of a format from one on are stopped, at which two bodies are pending: the reads of
+/// gates and the sync after them.
 fn expect_bodies(rt: &impl Abort, alloc: Global, first: u64, calls: u64) {
     assert!(rt; first < FORMAT);
     assert!(rt; calls < FORMAT);
@@ -97,8 +100,8 @@ fn expect_bodies(rt: &impl Abort, alloc: Global, first: u64, calls: u64) {
     expect(rt, alloc, [first, first + calls], Loses, totals);
 }
 
-/// Nothing is pending at the first four calls, one body at the fifth, and two at the 65 after it. Where a write fills
-/// its sector, that is one more.
+/// Nothing is pending at the first four calls, one body at the fifth, and two at the 65 after it.
+/// Where a write fills its sector, that is one more.
 #[test]
 fn the_start_of_a_format_is_stopped_at_each_call(rt: HostRuntime) {
     let dead = 4 + 6 + 65 * 36;
@@ -121,7 +124,8 @@ fn further_reads_of_a_format_are_stopped_at_each_call(rt: HostRuntime) {
     expect_bodies(&rt, rt.alloc(), 134, 66);
 }
 
-/// Two bodies are pending at the first 62 calls, nothing when the head gate is written, and that gate at the last sync.
+/// Two bodies are pending at the first 62 calls, nothing when the head gate is written, and that
+/// gate at the last sync.
 #[test]
 fn the_end_of_a_format_is_stopped_at_each_call(rt: HostRuntime) {
     let dead = 62 * 36 + 1 + 6;
@@ -184,8 +188,9 @@ fn what_comes_behind_a_compaction_is_stopped_at_each_call(rt: HostRuntime) {
     expect_pieces(&rt, rt.alloc(), COMPACTED, 7);
 }
 
-/// An opening takes 272 calls, and one more where the command is found: where the gate was written, or left open.
-/// That is so in one of six contents where a write filled it with ones, and in three of six at either sync of it.
+/// An opening takes 272 calls, and one more where the command is found: where the gate was written,
+/// or left open. That is so in one of six contents where a write filled it with ones, and in three
+/// of six at either sync of it.
 #[test]
 fn openings_behind_a_cut_command_are_stopped_at_each_call(rt: HostRuntime) {
     let before = 1 + 6 + 6 + 6 + 1 + 5 + 3 + 3;
@@ -222,8 +227,8 @@ fn openings_behind_cut_bodies_are_stopped_at_each_call(rt: HostRuntime) {
     );
 }
 
-/// An opening takes 515 calls, or 261 where the new head gate is open: in one of six contents where a write filled it, and
-/// in three of six at either sync of it.
+/// An opening takes 515 calls, or 261 where the new head gate is open: in one of six contents where
+/// a write filled it, and in three of six at either sync of it.
 #[test]
 fn openings_behind_a_cut_head_gate_are_stopped_at_each_call(rt: HostRuntime) {
     let before = 6 + 6 + 1 + 6 + 6 + 5 + 3 + 3;

@@ -76,7 +76,8 @@ pub(super) fn opened(rt: &impl Abort, disk: MemDisk) -> Endpoint<MemDisk> {
     }
 }
 
-/// Plays the script from a blank disk on, to a stop or to its end: whether there was a stop, and what is left.
+/// Plays the script from a blank disk on, to a stop or to its end: whether there was a stop, and
+/// what is left.
 pub(super) fn play_to(rt: &impl Abort, alloc: Global, stop: Stop) -> (bool, Cut) {
     let identity = identity(rt);
     let mut disk = fused(blank(rt, alloc), stop);

@@ -1,5 +1,6 @@
-//! Each sync of a file fails in turn, and the program goes on as its operator does: it opens the disk again, and plays
-//! on. Then memory is short, the power is lost, and what an opening finds is judged.
+//! Each sync of a file fails in turn, and the program goes on as its operator does: it opens the
+//! disk again, and plays on. Then memory is short, the power is lost, and what an opening finds is
+//! judged.
 
 use super::cutting::{identity, opening};
 use super::judging::judge;
@@ -15,7 +16,8 @@ use macs_mem_file::Left;
 use std::alloc::Global;
 use std::process::Abort;
 
-/// What is played: commands, frames of both sides with refills after them, and a command that is refused.
+/// What is played: commands, frames of both sides with refills after them, and a command that is
+/// refused.
 const PARTS: [Part; 12] = [
     Part::Keeps(Asked::AddsPeer),
     Part::Keeps(Asked::InstallsPeer),
@@ -57,8 +59,9 @@ enum Behind {
     Plays,
 }
 
-/// The syncs of a run without a failure: three of a new disk, two of a format, whose first leaves the file alone, and
-/// one of an opening; and two for each of eight commands and nine ceilings that are kept.
+/// The syncs of a run without a failure: three of a new disk, two of a format, whose first leaves
+/// the file alone, and one of an opening; and two for each of eight commands and nine ceilings that
+/// are kept.
 const SYNCS: u64 = 3 + 2 + 1 + 2 * (8 + 9);
 
 /// More syncs than any run has.

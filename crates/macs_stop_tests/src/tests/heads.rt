@@ -112,8 +112,9 @@ enum Answer {
     Refused(JournalFault),
 }
 
-/// The answer where a bit of this octet of the head's body is changed. Its generation is 1, its count 1, and its
-/// blocks are 4. Another count takes in a command or a slot without a record, and a block is 65,536 at most.
+/// The answer where a bit of this octet of the head's body is changed. Its generation is 1, its
+/// count 1, and its blocks are 4. Another count takes in a command or a slot without a record, and
+/// a block is 65,536 at most.
 fn of_body(at: usize, bit: u8) -> Answer {
     match at {
         12..=18 => Answer::Same,
@@ -144,7 +145,8 @@ fn identity_in(rt: &impl Abort, body: &[u8; SECTOR]) -> Identity {
     Identity::new(Sci(sci), tx_block, rx_block).expect(rt, "identity")
 }
 
-/// Opens a disk with a bit of a sector changed. What is found, the body of its head then, and the disk as it was.
+/// Opens a disk with a bit of a sector changed. What is found, the body of its head then, and the
+/// disk as it was.
 fn with_bit(
     rt: &impl Abort,
     disk: MemDisk,
@@ -167,7 +169,8 @@ fn with_bit(
     (found, body, disk)
 }
 
-/// Whether an opening finds what is expected: nothing, or the window of 9 and the identity of the head.
+/// Whether an opening finds what is expected: nothing, or the window of 9 and the identity of the
+/// head.
 fn is_as(rt: &impl Abort, answer: Answer, found: Found, body: &[u8; SECTOR]) -> bool {
     let first = Identity::new(PEER, 4, 4).expect(rt, "identity");
     match answer {
@@ -217,8 +220,9 @@ fn check_octet(
     disk
 }
 
-/// A head's sector, and the answers to its 4,096 bits. Of the body, all bits of the generation but one do not count;
-/// the SCI has 64 bits, and each block 15 that leave it 1 to 65,536. Of the gate the first 64 bits count.
+/// A head's sector, and the answers to its 4,096 bits. Of the body, all bits of the generation but
+/// one do not count; the SCI has 64 bits, and each block 15 that leave it 1 to 65,536. Of the gate
+/// the first 64 bits count.
 const HEADS: [(u64, Counts); 2] = [(0, [63, 64 + 15 + 15, 3_939, 0]), (1, [504 * 8, 0, 0, 64])];
 
 #[test]

@@ -17,8 +17,8 @@ const SENT_AGAIN: u32 = 2;
 /// More device calls than any opening takes.
 const MOST_CALLS: u64 = 600;
 
-/// What an opening finds is what was known, and goes on above it. Where a format was cut short, the disk may
-/// be none of an endpoint yet.
+/// What an opening finds is what was known, and goes on above it. Where a format was cut short, the
+/// disk may be none of an endpoint yet.
 pub(super) fn judge<D: SectorDisk + Drop>(rt: &impl Abort, disk: D, known: &Known) {
     match Endpoint::open(disk) {
         Ok(mut endpoint) => {
@@ -33,8 +33,8 @@ pub(super) fn judge<D: SectorDisk + Drop>(rt: &impl Abort, disk: D, known: &Know
     }
 }
 
-/// Plain frames go out under packet numbers above all before, and no frame that was delivered is delivered
-/// as Ok again.
+/// Plain frames go out under packet numbers above all before, and no frame that was delivered is
+/// delivered as Ok again.
 fn go_on<D: SectorDisk>(rt: &impl Abort, endpoint: &mut Endpoint<D>, passed: Passed) {
     let mut passed = passed;
     assert!(rt; endpoint.refill().is_ok());
@@ -49,7 +49,8 @@ fn go_on<D: SectorDisk>(rt: &impl Abort, endpoint: &mut Endpoint<D>, passed: Pas
     }
 }
 
-/// The opening of a disk behind which so many device calls pass: the disk, and whether it was opened.
+/// The opening of a disk behind which so many device calls pass: the disk, and whether it was
+/// opened.
 fn open_behind(rt: &impl Abort, disk: MemDisk, calls: u64) -> (MemDisk, bool) {
     open_fused(rt, Fuse::new(disk, calls))
 }
@@ -70,8 +71,8 @@ fn open_whole(rt: &impl Abort, disk: MemDisk, known: &Known) -> MemDisk {
     endpoint.into_disk()
 }
 
-/// The opening is stopped at each of its device calls, twice in a row, and is whole then. How many stops
-/// that were.
+/// The opening is stopped at each of its device calls, twice in a row, and is whole then. How many
+/// stops that were.
 pub(super) fn judge_stopped_openings(rt: &impl Abort, disk: MemDisk, known: &Known) -> u64 {
     let mut disk = disk;
     for calls in 0..MOST_CALLS {
@@ -87,8 +88,9 @@ pub(super) fn judge_stopped_openings(rt: &impl Abort, disk: MemDisk, known: &Kno
     panic!(rt; "an opening without an end")
 }
 
-/// The same, each time over a copy of the disk, since an opening that is whole may start the journal over. Where the
-/// call that stops is the last sync of that, the new journal is found already, and the second opening is whole.
+/// The same, each time over a copy of the disk, since an opening that is whole may start the
+/// journal over. Where the call that stops is the last sync of that, the new journal is found
+/// already, and the second opening is whole.
 pub(super) fn judge_stopped_migrations(
     rt: &impl Abort,
     alloc: Global,
@@ -120,8 +122,8 @@ pub(super) fn judge_opened(rt: &impl Abort, cut: Cut) {
     judge(rt, disk, &known);
 }
 
-/// The disk is formatted as it is, unless the format that was cut short was done. That leaves nothing
-/// pending. Then the power goes.
+/// The disk is formatted as it is, unless the format that was cut short was done. That leaves
+/// nothing pending. Then the power goes.
 pub(super) fn judge_formatted(rt: &impl Abort, cut: Cut) {
     let Cut { mut disk, known } = cut;
     if let Err(fault) = format_again(rt, &mut disk) {

@@ -54,7 +54,8 @@ pub(super) fn file<'a>(rt: &impl Abort, kernel: &'a Kernel) -> RefMut<'a, MemFil
     }
 }
 
-/// Has a sync of the file fail, counted from 1, and some of the blocks that it was to write reach the device.
+/// Has a sync of the file fail, counted from 1, and some of the blocks that it was to write reach
+/// the device.
 pub(super) fn fail_sync(rt: &impl Abort, kernel: &Kernel, failing: u64, reached: usize) {
     file(rt, kernel).fail(FileCall::Sync, failing);
     file(rt, kernel).reach(reached);

@@ -47,8 +47,8 @@ impl Known {
         }
     }
 
-    /// An endpoint was opened again: it has what was acknowledged, and goes on above what passed. Nothing is
-    /// under way, and the peer's frames below the next that is taken are lost.
+    /// An endpoint was opened again: it has what was acknowledged, and goes on above what passed.
+    /// Nothing is under way, and the peer's frames below the next that is taken are lost.
     pub(super) fn catch_up<D: SectorDisk>(&mut self, rt: &impl Abort, endpoint: &Endpoint<D>) {
         assert!(rt; self.allows(endpoint.config()));
         assert!(rt; self.passed.is_behind(rt, endpoint));

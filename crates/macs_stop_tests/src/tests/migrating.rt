@@ -1,4 +1,5 @@
-//! Disks of format one: an opening starts the journal over, in format two, and is stopped at each of its device calls.
+//! Disks of format one: an opening starts the journal over, in format two, and is stopped at each
+//! of its device calls.
 
 use super::SECTORS;
 use super::cutting::{Cut, Kind, Stop, format_again, fused, identity, opened};
@@ -17,7 +18,8 @@ use std::process::Abort;
 /// What an older program left.
 #[derive(Clone, Copy)]
 enum Old {
-    /// The first parts of the script: four commands, and twelve frames each way. The second area was never written.
+    /// The first parts of the script: four commands, and twelve frames each way. The second area
+    /// was never written.
     Young,
     /// The whole script: the second area is current, and the first one has 256 open gates.
     Grown,
@@ -35,22 +37,24 @@ const VERSION: usize = 11;
 /// Where the head of the second area is.
 const SECOND_HEAD: u64 = 514;
 
-/// An opening of the young disk, of any format, begins with a sync, the reads of two head gates and a head body, of 255
-/// gates after the snapshot, and of the settings, four commands and eight ceilings.
+/// An opening of the young disk, of any format, begins with a sync, the reads of two head gates and
+/// a head body, of 255 gates after the snapshot, and of the settings, four commands and eight
+/// ceilings.
 const FINDS: u64 = 1 + 3 + 255 + 13;
 
-/// Its journal starts over: the reads of 257 gates, a sync, the body of the head and of six records, a sync, the head
-/// gate and a sync.
+/// Its journal starts over: the reads of 257 gates, a sync, the body of the head and of six
+/// records, a sync, the head gate and a sync.
 const CALLS: u64 = FINDS + 257 + 1 + 7 + 1 + 1 + 1;
 
-/// An opening of the disk once that is done: a sync, the reads of two head gates and both head bodies, of 250 gates and
-/// of six records.
+/// An opening of the disk once that is done: a sync, the reads of two head gates and both head
+/// bodies, of 250 gates and of six records.
 const OPENING: u64 = 1 + 4 + 250 + 6;
 
 /// An opening of the grown disk finds six records of a snapshot, a command and six ceilings.
 const GROWN_FINDS: u64 = OPENING + 7;
 
-/// Of 257 gates each is read, and written closed but for that of the settings, the snapshot of the first area.
+/// Of 257 gates each is read, and written closed but for that of the settings, the snapshot of the
+/// first area.
 const GROWN_CLOSED: u64 = GROWN_FINDS + 257 + 256;
 
 /// A hundred gates are closed, and another hundred.
@@ -126,7 +130,8 @@ fn older(rt: &impl Abort, alloc: Global, old: Old) -> Cut {
     Cut { disk, known }
 }
 
-/// Its opening is stopped at each of these calls, in both ways, each on a copy of the disk; then the power goes.
+/// Its opening is stopped at each of these calls, in both ways, each on a copy of the disk; then
+/// the power goes.
 fn stop_at_each(rt: &impl Abort, alloc: Global, old: Old, calls: [u64; 2], after: After) -> Totals {
     let [first, end] = calls;
     let mut totals = Totals {
@@ -178,8 +183,9 @@ fn a_migration_has_so_many_device_calls(rt: HostRuntime) {
     expect_calls(&rt, rt.alloc(), Old::Grown, GROWN_CALLS);
 }
 
-/// The rest of the script is played on the young disk, with a key of 256 bits besides the short one, and as many records more as
-/// an area has slots: the journal starts over in the area that was of format one, whose gates are open.
+/// The rest of the script is played on the young disk, with a key of 256 bits besides the short
+/// one, and as many records more as an area has slots: the journal starts over in the area that was
+/// of format one, whose gates are open.
 #[test]
 fn the_script_goes_on_behind_a_migration(rt: HostRuntime) {
     let Cut { disk, mut known } = older(&rt, rt.alloc(), Old::Young);
@@ -206,8 +212,8 @@ fn a_migration_is_stopped_at_each_call(rt: HostRuntime) {
     expect(&rt, rt.alloc(), Old::Young, [FINDS, CALLS], dead + filled);
 }
 
-/// At the read and the write of a gate as many sectors are pending as gates were closed before, and one more where a write
-/// filled its own.
+/// At the read and the write of a gate as many sectors are pending as gates were closed before, and
+/// one more where a write filled its own.
 #[test]
 fn the_first_closed_gates_of_a_migration_are_stopped_at_each_call(rt: HostRuntime) {
     let reads = 2 * (1 + 6 + 6 + 36 + 97 * 6);
@@ -233,8 +239,9 @@ fn the_end_of_such_a_migration_is_stopped_at_each_call(rt: HostRuntime) {
     expect(&rt, rt.alloc(), Old::Grown, calls, gates + dead + filled);
 }
 
-/// After these calls of the young disk's opening there are so many power losses after which the journal of format one is
-/// found, and starts over again, and so many after which that of format two is. Each call of the openings is stopped.
+/// After these calls of the young disk's opening there are so many power losses after which the
+/// journal of format one is found, and starts over again, and so many after which that of format
+/// two is. Each call of the openings is stopped.
 fn expect_openings(rt: &impl Abort, alloc: Global, calls: [u64; 2], before: u64, after: u64) {
     assert!(rt; before <= 12);
     assert!(rt; after <= 12);

@@ -6,8 +6,8 @@ use macs_config::{Command, Refusal};
 use macs_frame::An;
 use std::process::Abort;
 
-/// The keys of the two transmit associations that the script installs. The second has 256 bits; an older program takes the
-/// third in its place.
+/// The keys of the two transmit associations that the script installs. The second has 256 bits; an
+/// older program takes the third in its place.
 pub(super) const KEYS: [Key; 3] = [Key::Short([1; 16]), Key::Long([2; 32]), Key::Short([2; 16])];
 
 /// The key of the peer's association.
@@ -44,8 +44,8 @@ pub(super) enum Asked {
     Replays(u32),
 }
 
-/// The parts, in their order. All 256 slots of the first area are used after the 239th `SetReplay`, so that
-/// the 240th starts the journal over.
+/// The parts, in their order. All 256 slots of the first area are used after the 239th `SetReplay`,
+/// so that the 240th starts the journal over.
 pub(super) const SCRIPT: [Part; 12] = [
     Part::Keeps(Asked::AddsPeer),
     Part::Keeps(Asked::InstallsPeer),

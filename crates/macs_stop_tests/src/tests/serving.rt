@@ -1,5 +1,5 @@
-//! Events that are served, by a source and a sink that report what they have: their clauses are met. What is answered to
-//! events is in stories, too, whose source and sink report nothing.
+//! Events that are served, by a source and a sink that report what they have: their clauses are
+//! met. What is answered to events is in stories, too, whose source and sink report nothing.
 
 ghost use Rattle.std.specs.Prelude.{true};
 
@@ -112,8 +112,8 @@ fn install(an: An) -> Command {
     }
 }
 
-/// An install and its use, which are kept; a frame that goes out, one that comes and has no SecTAG, and
-/// work.
+/// An install and its use, which are kept; a frame that goes out, one that comes and has no SecTAG,
+/// and work.
 fn some_events(rt: &impl Abort, alloc: Global) -> Script {
     let an = An::new(0).expect(rt, "association number");
     let mut events = VecDeque::new(alloc);

@@ -11,7 +11,8 @@ use macs_disk::MemDisk;
 use std::alloc::Global;
 use std::process::Abort;
 
-/// How many stops there were, how many power losses after them, and how many openings that were stopped.
+/// How many stops there were, how many power losses after them, and how many openings that were
+/// stopped.
 #[derive(Clone, Copy, PartialEq)]
 pub(super) struct Totals {
     pub(super) stops: u64,

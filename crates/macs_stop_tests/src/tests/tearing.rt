@@ -53,8 +53,8 @@ pub(super) fn pending(rt: &impl Abort, disk: &MemDisk) -> Pending {
     pending
 }
 
-/// How many ways there are to leave so many pending sectors: one where there is none; each pair of contents
-/// where there are two; else the same content in each.
+/// How many ways there are to leave so many pending sectors: one where there is none; each pair of
+/// contents where there are two; else the same content in each.
 pub(super) fn ways(pending: usize) -> u64 {
     match pending {
         0 => 1,

@@ -303,8 +303,8 @@ const COMMANDS_FAULT: Outcome = Outcome::Fault("macsecd: commands\n");
 /// Applies the file that was made last.
 const APPLY: &[&str] = &["apply", "story-files/disk", "story-files/file"];
 
-/// Command files with a fault, and two that say no command: one is empty, one is a comment of the greatest
-/// length.
+/// Command files with a fault, and two that say no command: one is empty, one is a comment of the
+/// greatest length.
 const FILES: &[Step] = &[
     Run(
         &[

@@ -1,5 +1,5 @@
-//! A command file and captures of which a read, a write or a flush fails, an output that cannot be read,
-//! and files that standard output goes to.
+//! A command file and captures of which a read, a write or a flush fails, an output that cannot be
+//! read, and files that standard output goes to.
 
 use super::Outcome;
 use super::captures::{CAPTURE_FAULT, PLAIN, SENDER};
@@ -53,7 +53,8 @@ const FORMAT_NEW: &[&str] = &["format", NEW, "12153524c0895e81", "4", "4", "--ov
 const FRONT: &str =
     "d4c3b2a1020004000000000000000000000004000100000000f15365000000003600000036000000d609b1f056637a0d46df998d88e52c0a0000000512153524c0895e8137f1a95160312fcf3e0ed2dce4357b7a4fdaf25f25642f5d36bb";
 
-/// A read of 100 octets has the first record whole and the second one in part: the first frame goes out.
+/// A read of 100 octets has the first record whole and the second one in part: the first frame goes
+/// out.
 const STREAMS: &[Step] = &[
     Run(FORMAT, Outcome::Done("formatted\n")),
     Text(FILE, SENDER),

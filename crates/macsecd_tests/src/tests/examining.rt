@@ -33,8 +33,8 @@ whole
 ",
 );
 
-/// Four commands more: the ceiling of the transmit association is its start and a block, that of the receive
-/// association its start.
+/// Four commands more: the ceiling of the transmit association is its start and a block, that of
+/// the receive association its start.
 const APPLIED: Outcome = Outcome::Done(
     "format 2
 block 512
@@ -237,7 +237,8 @@ const SPOILED: &str = "story-examine-spoiled/disk";
 
 const SPOILED_WORDS: &[&str] = &["examine", SPOILED];
 
-/// The first sector at fault. A slot whose gate is closed has none, unless a gate behind it is open.
+/// The first sector at fault. A slot whose gate is closed has none, unless a gate behind it is
+/// open.
 const SPOILED_SECTORS: &[Step] = &[
     Run(
         &["format", SPOILED, "12153524c0895e81", "1", "1"],

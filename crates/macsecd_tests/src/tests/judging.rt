@@ -1,4 +1,5 @@
-//! The verdict on each frame of a capture, as a line. The protected frames are those of the captures' story.
+//! The verdict on each frame of a capture, as a line. The protected frames are those of the
+//! captures' story.
 
 use super::Outcome;
 use super::captures::{CAPTURE_FAULT, RECEIVER};
@@ -6,8 +7,8 @@ use super::stories::Step::{Closing, Hex, Holds, Run, Text};
 use super::stories::{Step, play};
 use std::test::Fail;
 
-/// A good frame, one without a SecTAG, the first once more, one of which the last octet was altered, and one of 13
-/// octets.
+/// A good frame, one without a SecTAG, the first once more, one of which the last octet was
+/// altered, and one of 13 octets.
 const MIXED: &str =
     "d4c3b2a1020004000000000000000000000004000100000000f15365000000003600000036000000d609b1f056637a0d46df998d88e52c0a0000000512153524c0895e8137f1a95160312fcf3e0ed2dce4357b7a4fdaf25f25642f5d36bb00f15365000000001600000016000000d609b1f056637a0d46df998d0800101112131415161700f15365000000003600000036000000d609b1f056637a0d46df998d88e52c0a0000000512153524c0895e8137f1a95160312fcf3e0ed2dce4357b7a4fdaf25f25642f5d36bb01f15365e80300005c0000005c000000d609b1f056637a0d46df998d88e52c000000000612153524c0895e81389f1c545914028d06fd03ad61b860bdc7febe61d2a1a2bb95ef1e5bb359c2b2618b3b682648a7475a4610d997f243b4e46d1348ef1269db33fd333626bf098100f15365000000000d0000000d000000d609b1f056637a0d46df998d88";
 

@@ -73,8 +73,9 @@ const DISK: &str = "story-older/disk";
 
 const SHOW: &[&str] = &["show", DISK];
 
-/// `format` leaves the file as it is. An opening syncs it; then the journal starts over: a sync, a head and three
-/// records, a sync, a gate and a sync. From the gate on it is of format two, and a `show` writes nothing.
+/// `format` leaves the file as it is. An opening syncs it; then the journal starts over: a sync, a
+/// head and three records, a sync, a gate and a sync. From the gate on it is of format two, and a
+/// `show` writes nothing.
 const BEGUN_ANEW: &[Step] = &[
     Zeros(DISK, 526_336),
     Patch(DISK, 0, HEAD),

@@ -1,4 +1,5 @@
-//! The peers of two wires: a frame of theirs waits at each wire as soon as it is bound, after what strangers sent or not.
+//! The peers of two wires: a frame of theirs waits at each wire as soon as it is bound, after what
+//! strangers sent or not.
 
 use std::alloc::Global;
 use std::cell::Cell;
@@ -32,7 +33,8 @@ impl Peer {
         Ok(Peer { socket, frame })
     }
 
-    /// Whether this frame comes, where the peer is asked at most 1,000 times. A frame of no octets is none.
+    /// Whether this frame comes, where the peer is asked at most 1,000 times. A frame of no octets
+    /// is none.
     fn has(&self, frame: &[u8]) -> bool {
         if frame.is_empty() {
             return true;
@@ -88,7 +90,8 @@ impl Peers {
         Ok(())
     }
 
-    /// Binds a wire, and has its peer's frame wait there. A wire that is bound out of its turn is refused.
+    /// Binds a wire, and has its peer's frame wait there. A wire that is bound out of its turn is
+    /// refused.
     pub fn bind(&self, net: &impl Net, own: SocketAddr) -> io::Result<UdpSocket> {
         let is_first = own == at(1);
         if is_first == self.is_begun.get() {

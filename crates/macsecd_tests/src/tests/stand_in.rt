@@ -1,5 +1,5 @@
-//! A stand-in for the system: it hands on to the system's own files and sockets, but for the file of one
-//! path, of which something fails, and for wires at which a frame waits.
+//! A stand-in for the system: it hands on to the system's own files and sockets, but for the file
+//! of one path, of which something fails, and for wires at which a frame waits.
 
 use super::peers::Peers;
 use macs_disk::DiskFile;

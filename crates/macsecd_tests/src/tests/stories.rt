@@ -24,8 +24,8 @@ pub enum Step {
     Run(&'static [&'static str], Outcome),
     /// Runs these words where the file of this path fails so.
     Failing(&'static str, Broken, &'static [&'static str], Outcome),
-    /// Runs these words over a standard output that takes so many writes and so many flushes, and then
-    /// fails: that is `output`.
+    /// Runs these words over a standard output that takes so many writes and so many flushes, and
+    /// then fails: that is `output`.
     Closing(u32, u32, &'static [&'static str]),
     /// Relays a frame each way.
     Relay(Relayed),
@@ -100,8 +100,8 @@ fn take_beside(
     }
 }
 
-/// Takes steps, one after another, over files in a folder that is not there at first, and that is removed
-/// at the end.
+/// Takes steps, one after another, over files in a folder that is not there at first, and that is
+/// removed at the end.
 pub fn play(
     rt: &(impl Abort + Files<File = File> + Net + Clock + Env + RandomSource + AllocGlobal),
     alloc: Global,

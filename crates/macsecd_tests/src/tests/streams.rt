@@ -177,7 +177,8 @@ fn expect_written<W: Write>(
     expect_told(rt, word, (answer, err.as_slice()), status, message);
 }
 
-/// The line goes out as far as there is room for it, an octet at a time; the call of this number takes none.
+/// The line goes out as far as there is room for it, an octet at a time; the call of this number
+/// takes none.
 fn expect_narrow(
     rt: &(impl Abort + Files<File = File> + Net + Clock + Env + RandomSource),
     alloc: Global,
@@ -223,8 +224,8 @@ fn a_writer_that_fails_is_output(rt: HostRuntime) {
     }
 }
 
-/// What a word on the input comes to over streams that keep what they take: its status, and how many octets wait in
-/// either.
+/// What a word on the input comes to over streams that keep what they take: its status, and how
+/// many octets wait in either.
 fn waiting(
     rt: &(impl Abort + Files<File = File> + Net + Clock + Env + RandomSource),
     alloc: Global,

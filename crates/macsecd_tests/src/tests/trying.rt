@@ -108,7 +108,8 @@ const OLDER_KEYS: &str = "story-trying-older/keys.toml";
 
 const LAST: &str = "story-trying-older/last";
 
-/// Files of an older program: they are not brought up to date. One in its last generation cannot be.
+/// Files of an older program: they are not brought up to date. One in its last generation cannot
+/// be.
 const TRIED_OLDER: &[Step] = &[
     Zeros(OLDER, 526_336),
     Patch(OLDER, 0, HEAD),

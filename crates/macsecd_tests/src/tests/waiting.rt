@@ -52,8 +52,9 @@ const ARRIVED: Frames = Frames {
     ..FRAMES
 };
 
-/// A frame on one wire and nothing on the other: forty of a stranger's datagrams are each seen without a sleep of a
-/// second between. A plain frame is sent in the next turn, a protected one after the four turns of a reservation.
+/// A frame on one wire and nothing on the other: forty of a stranger's datagrams are each seen
+/// without a sleep of a second between. A plain frame is sent in the next turn, a protected one
+/// after the four turns of a reservation.
 const WAKES: &[Step] = &[
     Run(
         &[

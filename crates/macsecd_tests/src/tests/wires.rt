@@ -1,4 +1,5 @@
-//! A frame on each wire of a relay. The protected frames were made by Python's `cryptography` (AESGCM).
+//! A frame on each wire of a relay. The protected frames were made by Python's `cryptography`
+//! (AESGCM).
 
 use super::Outcome;
 use super::link_files::RIGHT;

@@ -130,8 +130,8 @@ pub(super) enum Source {
     /// It is sealed under the channel's key. Its tag spells this SCI out, and has this association
     /// and this number. Its plain frame has so many octets of 7.
     Sealed([u8; 8], u8, u32, Security, usize),
-    /// It is one of the channel under association 2 and number 5 whose SL says 50. A sender writes 0
-    /// there (9.7). It has 50 octets of Secure Data in the clear.
+    /// It is one of the channel under association 2 and number 5 whose SL says 50. A sender writes
+    /// 0 there (9.7). It has 50 octets of Secure Data in the clear.
     LongSl,
 }
 

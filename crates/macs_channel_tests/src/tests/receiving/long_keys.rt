@@ -18,7 +18,8 @@ fn ready(rt: &impl Abort) -> Rx {
     rx
 }
 
-/// The frame has this verdict after the change, and is given as its plain frame where it is delivered.
+/// The frame has this verdict after the change, and is given as its plain frame where it is
+/// delivered.
 fn expect(rt: &impl Abort, rx: &mut Rx, frame: &'static [u8], change: Change, verdict: Verdict) {
     let plain = given(verdict, NUMBERED_PLAIN);
     take(

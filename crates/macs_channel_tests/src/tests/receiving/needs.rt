@@ -10,8 +10,8 @@ use macs_rxsc::Verdict;
 #[test]
 fn needs_the_greatest_number(rt: HostRuntime) {
     const STEPS: &[Step] = &[
-        // The greatest number that was seen is asked for. It was not the last, and the next one is far
-        // below.
+        // The greatest number that was seen is asked for. It was not the last, and the next one is
+        // far below.
         Step::Ready(1, 1),
         Step::Need(4, None),
         Step::Number(5, Verdict::HeldBack),
@@ -28,7 +28,8 @@ fn needs_the_greatest_number(rt: HostRuntime) {
         Step::Ready(5, 5),
         Step::Number(3, LATE),
         Step::Need(4, None),
-        // A delayed frame is verified, so that its number is seen, also where it is below the start.
+        // A delayed frame is verified, so that its number is seen, also where it is below the
+        // start.
         Step::Ready(3, 3),
         Step::Policy(Validate::Strict, false, 0),
         Step::Number(1, DELAYED),

@@ -22,14 +22,15 @@ pub(super) enum Step {
     /// A new association, by its key, its next number and its ceiling.
     Install([u8; 8], u8, Key, u64, u64),
     Remove([u8; 8], u8),
-    /// With blocks of this size the first need is of this association and this number, and is served.
+    /// With blocks of this size the first need is of this association and this number, and is
+    /// served.
     Raise(u32, [u8; 8], u8, u32),
     /// A frame has this verdict, and this is given.
     Receive(Source, Change, Verdict, &'static [u8]),
     /// A frame has this verdict, and `PLAIN` is given where it is delivered.
     Plain(Source, Change, Verdict),
-    /// So many octets of 7, which are no SecTAG, have this verdict, and are given whole where they are
-    /// delivered.
+    /// So many octets of 7, which are no SecTAG, have this verdict, and are given whole where they
+    /// are delivered.
     Untagged(usize, Verdict),
     /// A frame has so many octets.
     Length(Source, Change, usize),

@@ -72,8 +72,8 @@ pub(super) fn remove(rt: &impl Abort, tx: &mut Tx, an: An) {
     tx.remove(an);
 }
 
-/// The ceiling of the association that frames go out under rises. It is not above the new one, since
-/// a block of twice the numbers up to that would need more.
+/// The ceiling of the association that frames go out under rises. It is not above the new one,
+/// since a block of twice the numbers up to that would need more.
 pub(super) fn raise(rt: &impl Abort, tx: &mut Tx, an: An, ceiling: u32) {
     tx.facts();
     let next = tx.next_number(an).expect(rt, "next number");
@@ -90,8 +90,8 @@ pub(super) fn next_numbers(rt: &impl Abort, tx: &Tx) -> [Option<u64>; 4] {
     [next(0), next(1), next(2), next(3)]
 }
 
-/// Protects a plain frame into a buffer with an octet that has to go, and answers its number. A fault
-/// leaves the buffer empty and the numbers as they were.
+/// Protects a plain frame into a buffer with an octet that has to go, and answers its number. A
+/// fault leaves the buffer empty and the numbers as they were.
 pub(super) fn protect(
     rt: &impl Abort,
     tx: &mut Tx,

@@ -8,8 +8,8 @@ use macs_frame::{FrameBuf, Offset};
 use macs_txsc::Tx;
 use std::process::Abort;
 
-/// What a frame goes out under, and the frame. A line of it is its addresses, its SecTAG, its Secure
-/// Data or its ICV.
+/// What a frame goes out under, and the frame. A line of it is its addresses, its SecTAG, its
+/// Secure Data or its ICV.
 #[derive(Clone, Copy)]
 pub(super) struct Case {
     pub(super) sci: [u8; 8],

@@ -1,4 +1,5 @@
-//! Sealing by groups of blocks gives what single blocks give: AES by one block, and products of two blocks.
+//! Sealing by groups of blocks gives what single blocks give: AES by one block, and products of two
+//! blocks.
 
 use macs_aes::{Key, Schedule, encrypt_block};
 use macs_gcm::{GcmKey, seal};
@@ -13,7 +14,8 @@ const KEYS: [Key; 2] = [Key::Short([0x5a; 16]), Key::Long([0xa7; 32])];
 
 const IV: [u8; 12] = [0xc3; 12];
 
-/// The key stream's block n, n from 1 on (SP 800-38D, 7.1, steps 2 and 3): the first is that of the tag.
+/// The key stream's block n, n from 1 on (SP 800-38D, 7.1, steps 2 and 3): the first is that of the
+/// tag.
 fn key_block(key: &Key, n: u32) -> [u8; 16] {
     let mut counter = [0; 16];
     counter[..12].copy_from_slice(&IV);

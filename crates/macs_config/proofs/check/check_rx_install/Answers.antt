@@ -20,7 +20,10 @@ returns-in_default-new c identity =
 
 pub returns : goal.returns
 returns c identity =
-    let asked = rx-asked c.args.sci c.args.an (record { key = c.of-key.result; offset = c.in-Some-new.offset }) c.in-Some.start c.args.key.now
-    c.as_slice-octets.ensures.size c.args.start c.args.offset c.of-key.ensures c.in-Some.ensures.value ((c.in-Some-new.ensures c.in-Some-new.offset).0 refl) in
+    let asked = rx-asked c.args.sci c.args.an (record { key = c.of-key.result; offset = c.in-Some-new.offset })
+    c.in-Some.start c.args.key.now
+    c.as_slice-octets.ensures.size c.args.start c.args.offset c.of-key.ensures c.in-Some.ensures.value
+    ((c.in-Some-new.ensures c.in-Some-new.offset).0 refl) in
     c.check_rx.ensures identity
-    ∙ ap (λ (command : Command). answer_or_refusal (refusal_of this_edition identity (config_in c.args.contents.now) command) command) asked
+    ∙ ap (λ (command : Command).
+    answer_or_refusal (refusal_of this_edition identity (config_in c.args.contents.now) command) command) asked

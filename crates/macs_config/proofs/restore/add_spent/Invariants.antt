@@ -5,4 +5,5 @@ use Rattle.macs_config.specs.declared.part.Part.TheVariants.{Spent}
 use Rattle.macs_config.proofs.restore.add_spent.Given as goal
 
 abbrev pub invariant-loop-fingerprint : goal.invariant-loop-fingerprint
-invariant-loop-fingerprint l = config_in l.contents ≡ config_with_part (config_in l.fn.contents) (Spent l.role (take l.fingerprint-index l.fingerprints))
+invariant-loop-fingerprint l = config_in l.contents
+    ≡ config_with_part (config_in l.fn.contents) (Spent l.role (take l.fingerprint-index l.fingerprints))

@@ -10,5 +10,6 @@ returns-then-are_distinct c =
     let fingerprints = c.args.fingerprints.now in
     let distinct : are_distinct fingerprints ≡ true = cc in
     let new = λ (fingerprint : List ℕ). not (is_among c.args.spent.now fingerprint) in
-    all_from_yields_List new _ _ c.all.result c.all.ensures.ran (YieldsList-from_slice fingerprints (cc)) (λ x b q k. search (rules, tests))
+    all_from_yields_List new _ _ c.all.result c.all.ensures.ran (YieldsList-from_slice fingerprints (cc))
+    (λ x b q k. search (rules, tests))
     ∙ ap (λ (first : Bool). first && list_all new fingerprints) (sym distinct)

@@ -11,6 +11,8 @@ use Rattle.macs_config.proofs.restore.are_rx_spent.Goals as goal
 pub returns : goal.returns
 returns c =
     let channels = c.args.contents.now.channels.items in
-    all_from_yields_List (λ (channel : Channel). list_all (is_rx_spent (config_in c.args.contents.now) channel.sci) every_an) _ _ _ c.all.ensures.ran
+    all_from_yields_List (λ (channel : Channel).
+    list_all (is_rx_spent (config_in c.args.contents.now) channel.sci) every_an) _ _ _ c.all.ensures.ran
     (YieldsList-from_slice channels (cc)) (λ x b q k. search (rules, tests))
-    ∙ sym (list_all-map (λ sci. list_all (is_rx_spent (config_in c.args.contents.now) sci) every_an) (λ (channel : Channel). channel.sci) channels)
+    ∙ sym (list_all-map (λ sci. list_all (is_rx_spent (config_in c.args.contents.now) sci) every_an)
+    (λ (channel : Channel). channel.sci) channels)

@@ -10,5 +10,6 @@ returns-in-Ok g c =
       Asked true ∷ Put text ∷ [],
       inr (inr refl),
       written (g.M.Metrics.notes c.args.metrics.now) (g.M.Metrics.notes c.is_due.new.self)
-          (g.M.Metrics.notes c.put.new.self) c.as_bytes.result.now text (c.as_bytes.ensures.value ∙ c.in-Ok.ensures) c.if-not-is_due.ensures c.put.ensures,
+          (g.M.Metrics.notes c.put.new.self) c.as_bytes.result.now text (c.as_bytes.ensures.value ∙ c.in-Ok.ensures)
+          c.if-not-is_due.ensures c.put.ensures,
     )

@@ -12,21 +12,24 @@ use Rattle.macs_disk.proofs.clearing.erase_mark.Goals as goal
 pub returns-clause-marked : goal.returns-clause-marked
 returns-clause-marked g c behaves sure size =
     let reaches = c.if-octets-le-MARK_PLACE.false in
-    erased (g.F.DiskFile.file c.args.file.now) (g.F.DiskFile.file c.write_zeros.new.file) sure (omega (arith, reaches, size))
+    erased (g.F.DiskFile.file c.args.file.now) (g.F.DiskFile.file c.write_zeros.new.file) sure
+    (omega (arith, reaches, size))
     ((c.in_ok-write_zeros.ensures.effect behaves).ok sure)
 
 pub returns-in_err-write_zeros-clause-front : goal.returns-in_err-write_zeros-clause-front
 returns-in_err-write_zeros-clause-front g c behaves sure suited =
     let file = g.F.DiskFile.file in
     let old = file c.args.file.now in
-    front-writes old (file c.write_zeros.new.file) mark_place (mark_place / old.block) mark_place _ _ (g.met.F.DiskFile.sound c.args.file.now behaves) sure
+    front-writes old (file c.write_zeros.new.file) mark_place (mark_place / old.block) mark_place _ _
+    (g.met.F.DiskFile.sound c.args.file.now behaves) sure
     (mark-stands Packed old.block suited).front (le_refl mark_place) (c.in_err-write_zeros.ensures.effect behaves)
 
 pub returns-clause-front : goal.returns-clause-front
 returns-clause-front g c behaves sure suited =
     let file = g.F.DiskFile.file in
     let old = file c.args.file.now in
-    front-writes old (file c.write_zeros.new.file) mark_place (mark_place / old.block) mark_place _ _ (g.met.F.DiskFile.sound c.args.file.now behaves) sure
+    front-writes old (file c.write_zeros.new.file) mark_place (mark_place / old.block) mark_place _ _
+    (g.met.F.DiskFile.sound c.args.file.now behaves) sure
     (mark-stands Packed old.block suited).front (le_refl mark_place) (c.in_ok-write_zeros.ensures.effect behaves)
 
 pub returns-then-octets-le-MARK_PLACE-clause-quiet : goal.returns-then-octets-le-MARK_PLACE-clause-quiet

@@ -9,5 +9,6 @@ returns-in_default-clause-cause g c = not-synced _ _ error_kind c.sync.result (s
 
 pub returns-in_default-reread-clause-cause : goal.returns-in_default-reread-clause-cause
 returns-in_default-reread-clause-cause g c =
-    not-reread _ (g.F.DiskFile.failures c.sync.new.self) _ error_kind c.reread.result (none-failed _ _ Syncs error_kind _ c.in-Ok.ensures.failure) (search rules)
+    not-reread _ (g.F.DiskFile.failures c.sync.new.self) _ error_kind c.reread.result
+    (none-failed _ _ Syncs error_kind _ c.in-Ok.ensures.failure) (search rules)
     c.reread.ensures.failure

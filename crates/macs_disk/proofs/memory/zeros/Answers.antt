@@ -7,7 +7,8 @@ zeros : zero_sector ≡ replicate 512 0
 unfolding zero_sector
 zeros = refl
 
-replicate-push : (xs : List (List ℕ)) (n : ℕ) (x y : List ℕ) → y ≡ x → xs ≡ replicate n y → xs ++ x ∷ [] ≡ replicate (n + 1) y
+replicate-push : (xs : List (List ℕ)) (n : ℕ) (x y : List ℕ) → y ≡ x → xs ≡ replicate n y
+    → xs ++ x ∷ [] ≡ replicate (n + 1) y
 replicate-push xs n x y same is = rw (sym same, is) (replicate-append-replicate n 1 y)
 
 pub loop-i-preserved : goal.loop-i-preserved

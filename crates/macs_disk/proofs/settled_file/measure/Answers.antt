@@ -8,7 +8,8 @@ use Rattle.macs_disk.proofs.settled_file.measure.Goals as goal
 pub returns-in_err-claim-clause-cause : goal.returns-in_err-claim-clause-cause
 returns-in_err-claim-clause-cause g c =
     let p = err_from_is_err_and c.from_residual.result c.from_residual.ensures.1 in
-    rw p.1 (not-claimed _ _ (error_kind c.in_err-claim.field-0.0) p.0 (one-failed (Unit {0}) _ _ Claims error_kind c.in_err-claim.field-0.0 c.in_err-claim.ensures.failure) p.2)
+    rw p.1 (not-claimed _ _ (error_kind c.in_err-claim.field-0.0) p.0
+    (one-failed (Unit {0}) _ _ Claims error_kind c.in_err-claim.field-0.0 c.in_err-claim.ensures.failure) p.2)
 
 pub returns-in_err-octets-clause-cause : goal.returns-in_err-octets-clause-cause
 returns-in_err-octets-clause-cause g c =
@@ -20,11 +21,13 @@ returns-in_err-octets-clause-cause g c =
 pub returns-then-octets-ne0-clause-cause : goal.returns-then-octets-ne0-clause-cause
 returns-then-octets-ne0-clause-cause g c = inl (
   refl,
-  none-after _ (g.F.DiskFile.failures c.claim.new.self) _ (none-failed _ _ Claims error_kind _ c.in_ok-claim.ensures.failure)
+  none-after _ (g.F.DiskFile.failures c.claim.new.self) _
+      (none-failed _ _ Claims error_kind _ c.in_ok-claim.ensures.failure)
       (none-failed _ _ Measures error_kind _ c.in_ok-octets.ensures.failure),
 )
 
 pub returns-clause-quiet : goal.returns-clause-quiet
 returns-clause-quiet g c =
-    none-after _ (g.F.DiskFile.failures c.claim.new.self) _ (none-failed _ _ Claims error_kind _ c.in_ok-claim.ensures.failure)
+    none-after _ (g.F.DiskFile.failures c.claim.new.self) _
+    (none-failed _ _ Claims error_kind _ c.in_ok-claim.ensures.failure)
     (none-failed _ _ Measures error_kind _ c.in_ok-octets.ensures.failure)

@@ -30,18 +30,22 @@ counted-summary-requires g c =
     (run_of c.loop-passes.endpoint (g.R.Source.state c.loop-passes.source) (g.W.Sink.state c.loop-passes.sink))
     (telling_of c.args.told.now c.args.to.now) (telling_of c.loop-passes.told c.loop-passes.to)
     c.loop-passes.count c.loop-passes.summary c.loop-passes.invariant in
-    let room : c.loop-passes.count < max_records = taken-room g.D.SectorDisk.disk g.V.Verdicts.tells c.args.side c.args.big
+    let room : c.loop-passes.count < max_records =
+    taken-room g.D.SectorDisk.disk g.V.Verdicts.tells c.args.side c.args.big
     (run_of c.loop-passes.endpoint (g.R.Source.state c.loop-passes.source) (g.W.Sink.state c.loop-passes.sink))
     (run_of c.take_next.new.endpoint (g.R.Source.state c.take_next.new.source) (g.W.Sink.state c.take_next.new.sink))
-    c.loop-passes.count c.in_ok-passes.field-0 c.in-Some.passes c.take_next.new.verdict c.in-Some.is c.in_ok-passes.ensures in
+    c.loop-passes.count c.in_ok-passes.field-0 c.in-Some.passes c.take_next.new.verdict c.in-Some.is
+    c.in_ok-passes.ensures in
     omega (arith, few, room)
 
 pub loop-passes-smaller : goal.loop-passes-smaller
 loop-passes-smaller g c =
-    let room : c.loop-passes.count < max_records = taken-room g.D.SectorDisk.disk g.V.Verdicts.tells c.args.side c.args.big
+    let room : c.loop-passes.count < max_records =
+    taken-room g.D.SectorDisk.disk g.V.Verdicts.tells c.args.side c.args.big
     (run_of c.loop-passes.endpoint (g.R.Source.state c.loop-passes.source) (g.W.Sink.state c.loop-passes.sink))
     (run_of c.take_next.new.endpoint (g.R.Source.state c.take_next.new.source) (g.W.Sink.state c.take_next.new.sink))
-    c.loop-passes.count c.in_ok-passes.field-0 c.in-Some.passes c.take_next.new.verdict c.in-Some.is c.in_ok-passes.ensures in
+    c.loop-passes.count c.in_ok-passes.field-0 c.in-Some.passes c.take_next.new.verdict c.in-Some.is
+    c.in_ok-passes.ensures in
     let less : 2 ^ 32 - (c.loop-passes.count + 1) < 2 ^ 32 - c.loop-passes.count = omega (arith, room) in
     less
 

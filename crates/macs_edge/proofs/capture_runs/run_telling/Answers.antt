@@ -24,20 +24,37 @@ returns-in_err-header g c =
 
 pub returns-in_err-write_header : goal.returns-in_err-write_header
 returns-in_err-write_header g c =
-    let risen = err_from_is_err_and c.from_residual-in_err-write_header.result c.from_residual-in_err-write_header.ensures.1 in
+    let risen =
+    err_from_is_err_and c.from_residual-in_err-write_header.result c.from_residual-in_err-write_header.ensures.1 in
     let is = c.in_err-write_header.ensures.write.names in
-    let writes = subst (λ (f : PcapFault). WritesText {T = Unit {0}} (g.W.Sink.state c.args.sink.now) (g.W.Sink.state c.write_header.new.sink)
+    let writes = subst (λ (f : PcapFault).
+    WritesText {T = Unit {0}} (g.W.Sink.state c.args.sink.now) (g.W.Sink.state c.write_header.new.sink)
     (header_text c.in_ok-header.header) (Err f)) is c.in_err-write_header.ensures in (
       [],
-      inr (inl (c.in_ok-header.header, c.in_ok-header.ensures, rw (risen.1, risen.2, is) refl, writes, refl {a = c.args.endpoint.now}, refl)),
+      inr (inl (
+        c.in_ok-header.header,
+        c.in_ok-header.ensures,
+        rw (risen.1, risen.2, is) refl,
+        writes,
+        refl {a = c.args.endpoint.now},
+        refl,
+      )),
       refl {a = telling_of c.args.told.now c.args.to.now},
     )
 
 pub returns : goal.returns
 returns g c =
-    let between = run_of c.args.endpoint.now (g.R.Source.state c.read_header.new.source) (g.W.Sink.state c.write_header.new.sink) in
+    let between = run_of c.args.endpoint.now (g.R.Source.state c.read_header.new.source)
+    (g.W.Sink.state c.write_header.new.sink) in
     let (verdicts, judges, telling) = c.run_records.ensures in (
       verdicts,
-      inr (inr (c.in_ok-header.header, between, c.in_ok-header.ensures, c.in_ok-write_header.ensures, refl {a = c.args.endpoint.now}, judges)),
+      inr (inr (
+        c.in_ok-header.header,
+        between,
+        c.in_ok-header.ensures,
+        c.in_ok-write_header.ensures,
+        refl {a = c.args.endpoint.now},
+        judges,
+      )),
       telling,
     )

@@ -1,4 +1,5 @@
-use Rattle.macs_edge.proofs.Drawn.{count-words, desk-words, fault-words, pass-words, rest-words, socket-words, turn-words}
+use Rattle.macs_edge.proofs.Drawn.{count-words, desk-words, fault-words, pass-words, rest-words, socket-words}
+use Rattle.macs_edge.proofs.Drawn.{turn-words}
 use Rattle.macs_edge.proofs.laws.drawn.Goals as goal
 
 pub returns-clause-passes : goal.returns-clause-passes

@@ -14,7 +14,8 @@ fn fault(fault: PcapFault) -> Result<Summary, RunFault> {
     Err(RunFault::Pcap(fault))
 }
 
-/// Which way a published frame runs, how many octets its capture has, and that of the frame that goes out for it.
+/// Which way a published frame runs, how many octets its capture has, and that of the frame that
+/// goes out for it.
 #[derive(Clone, Copy)]
 struct One {
     way: Way,

@@ -38,8 +38,8 @@ fn push_protected(
     push_frame(octets, place, out.as_slice())
 }
 
-/// The capture of these frames as an endpoint protects them that never waits for a number, each with its
-/// record's stamp.
+/// The capture of these frames as an endpoint protects them that never waits for a number, each
+/// with its record's stamp.
 pub(super) fn protected_capture(
     rt: &impl Abort,
     alloc: Global,
@@ -58,7 +58,8 @@ pub(super) fn protected_capture(
     Ok(octets)
 }
 
-/// A capture goes through a new endpoint: so many frames pass, as these octets, and so many are left out.
+/// A capture goes through a new endpoint: so many frames pass, as these octets, and so many are
+/// left out.
 fn expect_protected(
     rt: &impl Abort,
     alloc: Global,

@@ -61,7 +61,8 @@ fn as_written(rt: &impl Abort, capture: Vec<u8>) -> Vec<u8> {
     capture
 }
 
-/// How many whole records a front of a written capture has. Each protected frame is 32 octets longer.
+/// How many whole records a front of a written capture has. Each protected frame is 32 octets
+/// longer.
 fn records_in(rt: &impl Abort, length: usize, way: Way) -> usize {
     let more = match way {
         Way::Protect => 16 + 32,
@@ -78,8 +79,8 @@ fn records_in(rt: &impl Abort, length: usize, way: Way) -> usize {
     6
 }
 
-/// Heaps from 0 octets on, until one suffices: in each smaller one a run is refused memory, and what it wrote is a
-/// front of the capture. Each of the six growths is refused in one of them.
+/// Heaps from 0 octets on, until one suffices: in each smaller one a run is refused memory, and
+/// what it wrote is a front of the capture. Each of the six growths is refused in one of them.
 fn refuse_each(rt: &impl Abort, alloc: Global, way: Way) -> Result<(), Fail> {
     let (octets, whole) = captures_of(rt, alloc, way)?;
     let mut refused = [false; 6];

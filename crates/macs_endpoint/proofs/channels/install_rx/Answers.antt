@@ -7,7 +7,8 @@ use Rattle.macs_endpoint.proofs.channels.install_rx.Goals as goal
 
 pub unwrap-sa-requires : goal.unwrap-sa-requires
 unwrap-sa-requires g c =
-    ap is_some (c.rx.ensures ∙ ap (λ (k : Config). k.rx c.args.sci c.args.an) c.config.ensures.config) ∙ c.requires.stands
+    ap is_some (c.rx.ensures ∙ ap (λ (k : Config). k.rx c.args.sci c.args.an) c.config.ensures.config)
+    ∙ c.requires.stands
 
 pub returns-clause-side : goal.returns-clause-side
 returns-clause-side g c =

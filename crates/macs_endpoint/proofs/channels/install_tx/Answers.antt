@@ -13,5 +13,6 @@ pub returns-clause-side : goal.returns-clause-side
 returns-clause-side g c =
     c.install.ensures.side
     ∙ ap (with_tx (txsc.tx_side_of c.args.tx.now) c.args.an c.args.next)
-    (tx_made c.unwrap-sa.result (octets_of_key c.get-key.result) c.is_confidential.result c.offset.result c.tx.result _ c.get-key.ensures c.is_confidential.ensures c.offset.ensures c.unwrap-sa.ensures
+    (tx_made c.unwrap-sa.result (octets_of_key c.get-key.result) c.is_confidential.result c.offset.result c.tx.result _
+    c.get-key.ensures c.is_confidential.ensures c.offset.ensures c.unwrap-sa.ensures
     (c.tx.ensures ∙ ap (λ (k : Config). k.tx c.args.an) c.config.ensures.config))

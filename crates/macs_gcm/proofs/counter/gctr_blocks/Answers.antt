@@ -20,8 +20,10 @@ rest-preserved c =
       masked = λ k low below within. elim (cases_lt k (16 * i)) [
         | inl earlier ↦ xor.before k earlier ∙ held.masked k low earlier (omega (arith, within))
         | inr here ↦
-            octet_masked c.args.schedule.now c.args.first.now c.counter_block.result c.encrypt_block.result c.args.text.now c.rest.text i k _
-            here (omega arith) c.counter_block.ensures c.encrypt_block.ensures (held.after k here) (xor.within k here (omega arith) (omega arith))
+            octet_masked c.args.schedule.now c.args.first.now c.counter_block.result c.encrypt_block.result
+            c.args.text.now c.rest.text i k _
+            here (omega arith) c.counter_block.ensures c.encrypt_block.ensures (held.after k here)
+            (xor.within k here (omega arith) (omega arith))
       ];
       after = λ k above. xor.after k (omega arith) ∙ held.after k (omega arith);
     }

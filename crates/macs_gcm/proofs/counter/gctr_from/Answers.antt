@@ -12,6 +12,8 @@ returns-clause-masked c = λ k low below.
     let left = c.gctr_blocks.ensures in
     let end : ℕ = c.args.done + GROUP * c.groups_of-groups.result in
     elim (cases_lt k (16 * end)) [
-      | inl earlier ↦ left.before k earlier ∙ made.masked k low earlier below ∙ ap (λ key. bit_xor (slice_index text k) (key_stream key first k)) c.requires.key
-      | inr here ↦ left.masked k here (omega arith) ∙ ap (λ (x : ℕ). bit_xor x (key_stream c.args.schedule.now first k)) (made.after k here)
+      | inl earlier ↦ left.before k earlier ∙ made.masked k low earlier below
+          ∙ ap (λ key. bit_xor (slice_index text k) (key_stream key first k)) c.requires.key
+      | inr here ↦ left.masked k here (omega arith)
+          ∙ ap (λ (x : ℕ). bit_xor x (key_stream c.args.schedule.now first k)) (made.after k here)
     ]

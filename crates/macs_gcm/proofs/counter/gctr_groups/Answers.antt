@@ -18,13 +18,15 @@ groups-preserved c =
     let block : ℕ = c.args.done + GROUP * c.groups.g in
     let held = c.groups.invariant in
     let xor = c.xor_group.ensures in
-    let is = masks_of_group (λ j. encrypt c.args.keys.now (counter_block c.args.first.now (block + j))) c.put_masks.new.masks GROUP c.put_masks.ensures.masks in
+    let is = masks_of_group (λ j. encrypt c.args.keys.now (counter_block c.args.first.now (block + j)))
+    c.put_masks.new.masks GROUP c.put_masks.ensures.masks in
     record {
       before = λ k low. xor.before k (omega arith) ∙ held.before k low;
       masked = λ k low below within. elim (cases_lt k (16 * block)) [
         | inl earlier ↦ xor.before k earlier ∙ held.masked k low earlier (omega (arith, within))
         | inr here ↦
-            octet_in_group c.args.keys.now c.args.first.now c.args.text.now c.groups.text c.put_masks.new.masks GROUP block 0 k _
+            octet_in_group c.args.keys.now c.args.first.now c.args.text.now c.groups.text c.put_masks.new.masks
+            GROUP block 0 k _
             here (omega arith) is (held.after k here) (xor.within k here (omega arith) (omega arith))
       ];
       after = λ k above. xor.after k (omega arith) ∙ held.after k (omega arith);

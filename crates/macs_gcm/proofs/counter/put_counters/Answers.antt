@@ -11,7 +11,8 @@ loop-j-preserved c =
     let within = held.size in
     record {
       size = length-set c.loop-j.blocks j c.counter_block.result ∙ held.size;
-      made = counters_more (λ k. counter_block c.args.first.now (c.args.steps + k)) c.loop-j.blocks j c.counter_block.result (omega (arith, within)) held.made c.counter_block.ensures;
+      made = counters_more (λ k. counter_block c.args.first.now (c.args.steps + k)) c.loop-j.blocks j
+          c.counter_block.result (omega (arith, within)) held.made c.counter_block.ensures;
     }
 
 pub returns-clause-blocks : goal.returns-clause-blocks

@@ -8,14 +8,16 @@ pub returns-then-not-is_equal-clause-exactly : goal.returns-then-not-is_equal-cl
 returns-then-not-is_equal-clause-exactly c =
     let start = c.pre_counter_block-start.ensures in
     let mask = c.encrypt_block-mask.ensures ∙ ap₂ encrypt c.key.view_is start in
-    rw c.if-not-is_equal.true at (Opens-tested _ c.args.key.now c.args.iv.now c.args.aad.now c.args.text.now c.args.tag.now c.tag_of.result
+    rw c.if-not-is_equal.true
+    at (Opens-tested _ c.args.key.now c.args.iv.now c.args.aad.now c.args.text.now c.args.tag.now c.tag_of.result
     (c.tag_of.ensures c.args.iv.now mask) c.is_equal.ensures)
 
 pub returns-clause-exactly : goal.returns-clause-exactly
 returns-clause-exactly c =
     let start = c.pre_counter_block-start.ensures in
     let mask = c.encrypt_block-mask.ensures ∙ ap₂ encrypt c.key.view_is start in
-    rw c.if-not-is_equal.false at (Opens-tested _ c.args.key.now c.args.iv.now c.args.aad.now c.args.text.now c.args.tag.now c.tag_of.result
+    rw c.if-not-is_equal.false
+    at (Opens-tested _ c.args.key.now c.args.iv.now c.args.aad.now c.args.text.now c.args.tag.now c.tag_of.result
     (c.tag_of.ensures c.args.iv.now mask) c.is_equal.ensures)
 
 pub returns-clause-opened : goal.returns-clause-opened
@@ -23,5 +25,6 @@ returns-clause-opened c =
     let start = c.pre_counter_block-start.ensures in
     let mask = c.encrypt_block-mask.ensures ∙ ap₂ encrypt c.key.view_is start in
     let text = c.gctr_next_by_blocks.ensures ∙ ap₂ (λ k b. gctr k (inc32 b) c.args.text.now) c.key.view_is start in
-    seal-opened c.args.key.now c.args.iv.now c.args.aad.now c.args.text.now c.args.tag.now c.gctr_next_by_blocks.new.text
+    seal-opened c.args.key.now c.args.iv.now c.args.aad.now c.args.text.now c.args.tag.now
+    c.gctr_next_by_blocks.new.text
     (sym (c.is_equal.ensures.0 c.if-not-is_equal.false) ∙ c.tag_of.ensures c.args.iv.now mask) text

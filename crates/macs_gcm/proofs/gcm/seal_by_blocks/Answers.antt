@@ -9,4 +9,5 @@ returns c =
     let start = c.pre_counter_block-start.ensures in
     let text = c.gctr_next_by_blocks.ensures ∙ ap₂ (λ k b. gctr k (inc32 b) c.args.text.now) c.key.view_is start in
     let mask = c.encrypt_block.ensures ∙ ap₂ encrypt c.key.view_is start in
-    seal-parts c.args.key.now c.args.iv.now c.args.aad.now c.args.text.now c.gctr_next_by_blocks.new.text c.tag_of.result text (c.tag_of.ensures c.args.iv.now mask)
+    seal-parts c.args.key.now c.args.iv.now c.args.aad.now c.args.text.now c.gctr_next_by_blocks.new.text
+    c.tag_of.result text (c.tag_of.ensures c.args.iv.now mask)

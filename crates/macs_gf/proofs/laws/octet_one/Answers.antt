@@ -6,4 +6,5 @@ pub returns-clause-left : goal.returns-clause-left
 returns-clause-left c = one-octet_product c.args.a (omega arith)
 
 pub returns-clause-right : goal.returns-clause-right
-returns-clause-right c = octet_product-comm c.args.a 1 (omega arith) (lit< tt) ∙ one-octet_product c.args.a (omega arith)
+returns-clause-right c = octet_product-comm c.args.a 1 (omega arith) (lit< tt)
+    ∙ one-octet_product c.args.a (omega arith)

@@ -2,7 +2,8 @@ use Rattle.std.proofs.Common.{◌≡◌, ◌∙◌, arith, sym}
 use Rattle.std.proofs.lemmas.Nat.Bits.{shr_and_one, bit_at-lt}
 use Rattle.std.specs.Int.{bit_at}
 use Rattle.macs_gf.specs.Gf256.{octet_product}
-use Rattle.macs_gf.proofs.OctetProduct.{multiple_first, multiple_next, product_first, product_next_one, product_next_zero}
+use Rattle.macs_gf.proofs.OctetProduct.{multiple_first, multiple_next, product_first, product_next_one}
+use Rattle.macs_gf.proofs.OctetProduct.{product_next_zero}
 use Rattle.macs_gf.proofs.octet.mul8.Goals as goal
 use Rattle.macs_gf.proofs.octet.mul8.Goals.{then-b-i-eq1, else-b-i-eq1}
 

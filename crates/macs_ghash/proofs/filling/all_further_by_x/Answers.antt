@@ -10,5 +10,6 @@ loop-l-preserved over c =
     let within = held.size in
     record {
       size = length-set c.loop-l.further c.loop-l.l c.further_by_x.result ∙ held.size;
-      done = part_more (λ k v. v ≡ times_x (get_or c.args.blocks.now k 0)) 0 c.loop-l.further c.loop-l.l c.further_by_x.result (omega (arith, within)) held.done c.further_by_x.ensures;
+      done = part_more (λ k v. v ≡ times_x (get_or c.args.blocks.now k 0)) 0 c.loop-l.further c.loop-l.l
+          c.further_by_x.result (omega (arith, within)) held.done c.further_by_x.ensures;
     }

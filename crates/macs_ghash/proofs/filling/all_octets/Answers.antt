@@ -11,7 +11,8 @@ loop-p-preserved over c =
     let within = held.size in
     record {
       size = length-set c.loop-p.parts c.loop-p.p _ ∙ held.size;
-      each = part_more (λ p v. (g b : ℕ) → g < SIXTEENS → b < 16 → octets_in v g (bit_xor b 7) ≡ octet_from_left (get_or c.args.blocks.now (SIXTEENS * p + g) 0) b) [] c.loop-p.parts c.loop-p.p _
+      each = part_more (λ p v. (g b : ℕ) → g < SIXTEENS → b < 16 → octets_in v g (bit_xor b 7)
+          ≡ octet_from_left (get_or c.args.blocks.now (SIXTEENS * p + g) 0) b) [] c.loop-p.parts c.loop-p.p _
           (omega (arith, within)) held.each c.octets_of.ensures;
     }
 

@@ -7,4 +7,5 @@ pub swizzle : goal.swizzle
 swizzle c = places_fit SIXTEENS OCTETS c.args.place c.args.k refl (omega arith) c.requires.place c.requires.bit
 
 pub returns : goal.returns
-returns c = λ g n h k. chosen_at SIXTEENS c.args.x c.args.place c.args.k g n (omega arith) c.requires.place c.requires.bit h k
+returns c =
+    λ g n h k. chosen_at SIXTEENS c.args.x c.args.place c.args.k g n (omega arith) c.requires.place c.requires.bit h k

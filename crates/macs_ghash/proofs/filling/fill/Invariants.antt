@@ -7,5 +7,6 @@ abbrev pub invariant-loop-b : goal.invariant-loop-b
 invariant-loop-b over l = record {
   size : length l.tables ≡ 16;
   each : (b : ℕ) → b < l.b → (p g n : ℕ) → p < over.row.N → g < SIXTEENS → n < 16
-      → octets_in (get_or (get_or l.tables b []) p []) g n ≡ octet_from_left (nibble_product n (get_or l.powers (SIXTEENS * p + g) 0)) b;
+      → octets_in (get_or (get_or l.tables b []) p []) g n
+      ≡ octet_from_left (nibble_product n (get_or l.powers (SIXTEENS * p + g) 0)) b;
 }

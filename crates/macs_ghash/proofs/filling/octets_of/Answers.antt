@@ -23,18 +23,23 @@ loop-g-preserved over c =
     let b : ℕ = c.second_half.result in
     let within = held.size in
     let once = length-set c.loop-g.words (2 * g) a in
-    let both = two_words c.loop-g.words SIXTEENS g a b held.size (omega arith) (λ (k v : ℕ). v ≡ get_or blocks (SIXTEENS * c.args.p + k) 0 / 2 ^ 64)
-    (λ (k v : ℕ). v ≡ get_or blocks (SIXTEENS * c.args.p + k) 0 % 2 ^ 64) held.first held.second c.first_half.ensures c.second_half.ensures in
+    let both = two_words c.loop-g.words SIXTEENS g a b held.size (omega arith)
+    (λ (k v : ℕ). v ≡ get_or blocks (SIXTEENS * c.args.p + k) 0 / 2 ^ 64)
+    (λ (k v : ℕ). v ≡ get_or blocks (SIXTEENS * c.args.p + k) 0 % 2 ^ 64) held.first held.second c.first_half.ensures
+    c.second_half.ensures in
     record {
       size = length-set (set c.loop-g.words (2 * g) a) (2 * g + 1) b ∙ once ∙ held.size;
       first = both.0;
       second = both.1;
-      small = set_below (set c.loop-g.words (2 * g) a) (2 * g + 1) b 18446744073709551616 (omega (arith, within, once)) (omega (arith, c.second_half.type_inv))
-          (set_below c.loop-g.words (2 * g) a 18446744073709551616 (omega (arith, within)) (omega (arith, c.first_half.type_inv)) held.small);
+      small = set_below (set c.loop-g.words (2 * g) a) (2 * g + 1) b 18446744073709551616 (omega (arith, within, once))
+          (omega (arith, c.second_half.type_inv))
+          (set_below c.loop-g.words (2 * g) a 18446744073709551616 (omega (arith, within))
+          (omega (arith, c.first_half.type_inv)) held.small);
     }
 
 pub returns : goal.returns
 returns over c = λ g b h k.
     let held = c.loop-g.invariant in
     octet_of_halves SIXTEENS c.loop-g.words g b (get_or c.args.blocks.now (SIXTEENS * c.args.p + g) 0) held.size
-    (Each1-from_get_or (λ x. x < 18446744073709551616) c.loop-g.words 0 (λ i l. held.small i)) h k (held.first g (omega arith)) (held.second g (omega arith))
+    (Each1-from_get_or (λ x. x < 18446744073709551616) c.loop-g.words 0 (λ i l. held.small i)) h k
+    (held.first g (omega arith)) (held.second g (omega arith))

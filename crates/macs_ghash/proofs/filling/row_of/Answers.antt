@@ -19,13 +19,16 @@ loop-p-preserved over c =
     record {
       size = length-set c.loop-p.parts q _ ∙ held.size;
       each = part_more (λ p v. (g n : ℕ) → g < SIXTEENS → n < 16 → octets_in v g n
-          ≡ chosen_octets n (octets_in (get_or c.args.x0.now p []) g place) (octets_in (get_or c.args.x1.now p []) g place) (octets_in (get_or c.args.x2.now p []) g place) (octets_in (get_or c.args.x3.now p []) g place))
+          ≡ chosen_octets n (octets_in (get_or c.args.x0.now p []) g place) (octets_in (get_or c.args.x1.now p []) g
+          place) (octets_in (get_or c.args.x2.now p []) g place) (octets_in (get_or c.args.x3.now p []) g place))
           [] c.loop-p.parts q _ (omega (arith, within)) held.each
           (λ g n h k.
           let o = λ (b : ℕ) (v : List ℕ). bit_at n b * octets_in v g place in
           c.sum.ensures g n h k
           ∙ ap₂ bit_xor (c.sum-three.ensures g n h k ∙ ap₂ bit_xor (c.sum-two.ensures g n h k
-          ∙ ap₂ bit_xor (c.chosen.ensures g n h k ∙ ap (o 3) is0) (c.chosen-in-loop-p.ensures g n h k ∙ ap (o 2) is1)) (c.chosen-in-loop-p-2.ensures g n h k ∙ ap (o 1) is2)) (c.chosen-in-loop-p-3.ensures g n h k ∙ ap (o 0) is3));
+          ∙ ap₂ bit_xor (c.chosen.ensures g n h k ∙ ap (o 3) is0) (c.chosen-in-loop-p.ensures g n h k ∙ ap (o 2) is1))
+          (c.chosen-in-loop-p-2.ensures g n h k ∙ ap (o 1) is2))
+          (c.chosen-in-loop-p-3.ensures g n h k ∙ ap (o 0) is3));
     }
 
 pub returns : goal.returns

@@ -15,6 +15,8 @@ pub returns-clause-tables : goal.returns-clause-tables
 returns-clause-tables c =
     let key : ℕ = c.args.key in
     let square : ℕ = c.product_by_first-square.result in
-    let is : square ≡ subkey_power key 2 = c.product_by_first-square.ensures (λ l. get_or (key ∷ key ∷ []) l 0) c.fill.ensures ∙ second_power key (omega arith) in
-    of_same_powers SIXTEENS TWO (λ l. get_or (square ∷ key ∷ []) l 0) (λ l. subkey_power key (2 - l)) c.fill-2.new.tables
+    let is : square ≡ subkey_power key 2 = c.product_by_first-square.ensures (λ l. get_or (key ∷ key ∷ []) l 0)
+    c.fill.ensures ∙ second_power key (omega arith) in
+    of_same_powers SIXTEENS TWO (λ l. get_or (square ∷ key ∷ []) l 0) (λ l. subkey_power key (2 - l))
+    c.fill-2.new.tables
     (λ l below. two_powers key square (omega arith) is l (omega arith)) (λ p i h k. omega arith) c.fill-2.ensures

@@ -15,8 +15,10 @@ loop-k-preserved over c =
     let held = c.loop-k.invariant in
     record {
       zeros = λ j h. c.put_block.ensures.others j (omega arith) (λ e. absurd (omega (arith, e))) ∙ held.zeros j h;
-      done = block_more_behind (block_at c.loop-k.octets) (block_at c.put_block.new.octets) (block_at (hash_input c.args.aad.now c.args.text.now)) (over.row.M / 16) (over.row.M / 16 - c.args.count) c.loop-k.k (omega arith)
-          held.done (c.put_block.ensures.block ∙ c.input_block.ensures) (λ l below other. c.put_block.ensures.others l (omega arith) other);
+      done = block_more_behind (block_at c.loop-k.octets) (block_at c.put_block.new.octets) (block_at (hash_input
+          c.args.aad.now c.args.text.now)) (over.row.M / 16) (over.row.M / 16 - c.args.count) c.loop-k.k (omega arith)
+          held.done (c.put_block.ensures.block ∙ c.input_block.ensures)
+          (λ l below other. c.put_block.ensures.others l (omega arith) other);
     }
 
 pub returns-clause-blocks : goal.returns-clause-blocks

@@ -21,15 +21,18 @@ loop-j-preserved over c =
             let same : i ≡ j = omega arith in
             rw same (get_or-set_same octets (16 * k + j) v 0 (omega (arith, within)))
       ];
-      others = λ m other. get_or-set_other octets (16 * k + j) m v 0 (λ e. other (omega (arith, e))) ∙ held.others m other;
+      others = λ m other. get_or-set_other octets (16 * k + j) m v 0 (λ e. other (omega (arith, e)))
+          ∙ held.others m other;
     }
 
 pub returns-clause-block : goal.returns-clause-block
 returns-clause-block over c =
     let held = c.loop-j.invariant in
-    sym (block_at-is c.loop-j.octets c.args.block.now c.args.k c.told-block (omega (arith, held.size)) (λ j h. sym (held.done j (omega arith))))
+    sym (block_at-is c.loop-j.octets c.args.block.now c.args.k c.told-block (omega (arith, held.size))
+    (λ j h. sym (held.done j (omega arith))))
 
 pub returns-clause-others : goal.returns-clause-others
 returns-clause-others over c = λ l h other.
     let held = c.loop-j.invariant in
-    block_same c.loop-j.octets c.args.octets.now l (omega (arith, held.size)) (omega (arith, c.told-octets)) (λ j k. held.others (16 * l + j) (λ e. other (omega (arith, e))))
+    block_same c.loop-j.octets c.args.octets.now l (omega (arith, held.size)) (omega (arith, c.told-octets))
+    (λ j k. held.others (16 * l + j) (λ e. other (omega (arith, e))))

@@ -13,5 +13,6 @@ returns c =
     block_at-is (padded_string octets) c.loop-k.block i held.size (omega (arith, length-padded octets))
     (λ k below. elim (cases_lt k c.loop-k.k) [
       | inl read ↦ held.done k read ∙ sym (get_or-padded octets (16 * i + k))
-      | inr past ↦ held.left k past ∙ sym (get_or-padded octets (16 * i + k) ∙ get_or_past octets (16 * i + k) 0 (omega arith))
+      | inr past ↦ held.left k past
+          ∙ sym (get_or-padded octets (16 * i + k) ∙ get_or_past octets (16 * i + k) 0 (omega arith))
     ])

@@ -13,7 +13,8 @@ loop-p-preserved over c =
     let within = held.size in
     record {
       size = length-set c.loop-p.parts q _ ∙ held.size;
-      each = part_more (λ p v. (g j : ℕ) → g < SIXTEENS → j < 16 → octets_in v g j ≡ get_or octets (16 * (SIXTEENS * p + g) + j) 0 / 16) [] c.loop-p.parts q _ (omega (arith, within)) held.each
+      each = part_more (λ p v. (g j : ℕ) → g < SIXTEENS → j < 16 → octets_in v g j
+          ≡ get_or octets (16 * (SIXTEENS * p + g) + j) 0 / 16) [] c.loop-p.parts q _ (omega (arith, within)) held.each
           (λ g j h k.
           let place : OCTETS * q + (16 * g + j) ≡ 16 * (SIXTEENS * q + g) + j = omega arith in
           c.left_halves.ensures g j h k

@@ -5,10 +5,25 @@ use Rattle.macs_headline.proofs.day.serve_day.Goals as goal
 pub returns-clause-served : goal.returns-clause-served
 returns-clause-served g c = record {
   turns =
-      record { call = Commands c.args.install; reply = Ran c.command-installed.result; after = c.command-installed.new.self }
-      ∷ record { call = Submits c.args.select; reply = Submitted c.submit-submitted.result; after = c.submit-submitted.new.self }
+      record {
+        call = Commands c.args.install;
+        reply = Ran c.command-installed.result;
+        after =
+            c.command-installed.new.self;
+      }
+      ∷ record {
+        call = Submits c.args.select;
+        reply = Submitted c.submit-submitted.result;
+        after =
+            c.submit-submitted.new.self;
+      }
       ∷ record { call = Advances; reply = Advanced c.step-begun.result; after = c.step-begun.new.self }
-      ∷ record { call = Protects c.args.plain.now; reply = Protected c.protect-sent.result c.protect-sent.new.out.items; after = c.protect-sent.new.self }
+      ∷ record {
+        call = Protects c.args.plain.now;
+        reply =
+            Protected c.protect-sent.result c.protect-sent.new.out.items;
+        after = c.protect-sent.new.self;
+      }
       ∷ record { call = Advances; reply = Advanced c.step-went_on.result; after = c.step-went_on.new.self } ∷ [];
   last = c.step-went_on.new.self;
   called = refl;

@@ -1,5 +1,6 @@
 use Rattle.macs_headline.proofs.AlikeEditions.{these-are-larger}
-use Rattle.macs_headline.proofs.Chains.{fitting-disks, fuses-change-none, new-disks, passed-on, settled-disks, these-are-new}
+use Rattle.macs_headline.proofs.Chains.{fitting-disks, fuses-change-none, new-disks, passed-on, settled-disks}
+use Rattle.macs_headline.proofs.Chains.{these-are-new}
 use Rattle.macs_headline.proofs.Older.{larger-find, older}
 use Rattle.macs_headline.proofs.laws.beginnings.Goals as goal
 

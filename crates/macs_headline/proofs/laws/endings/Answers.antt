@@ -1,4 +1,7 @@
-use Rattle.macs_headline.proofs.Endings.{dropped-pass-on, ends-are-earlier, images-are-whole, killings-pass-on, losses-settle, passed-on-again, power-losses-pass-on, reads-pass-on, syncs-pass-on, these-are-alike, these-are-images, these-are-passed-on, writes-back-as-syncs, written-back-pass-on}
+use Rattle.macs_headline.proofs.Endings.{dropped-pass-on, ends-are-earlier, images-are-whole, killings-pass-on}
+use Rattle.macs_headline.proofs.Endings.{losses-settle, passed-on-again, power-losses-pass-on, reads-pass-on}
+use Rattle.macs_headline.proofs.Endings.{syncs-pass-on, these-are-alike, these-are-images, these-are-passed-on}
+use Rattle.macs_headline.proofs.Endings.{writes-back-as-syncs, written-back-pass-on}
 use Rattle.macs_headline.proofs.laws.endings.Goals as goal
 
 pub returns-clause-as_alike : goal.returns-clause-as_alike

@@ -11,7 +11,8 @@ returns-clause-opened_again g c = opened-again
 
 pub returns-clause-reopened : goal.returns-clause-reopened
 returns-clause-reopened g c it file again new left found behaves honest nothing opened =
-    opened-again (g.F.DiskFile.file it.file) file it.layout again _ new (found behaves).0 (left-suited g.F.DiskFile.file it left behaves honest) honest
+    opened-again (g.F.DiskFile.file it.file) file it.layout again _ new (found behaves).0
+    (left-suited g.F.DiskFile.file it left behaves honest) honest
     (λ image is. c.a_file_is_left_as_its_disk.ensures it image left behaves is) nothing opened
 
 pub returns-clause-let_go : goal.returns-clause-let_go

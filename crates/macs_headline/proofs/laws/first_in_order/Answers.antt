@@ -4,7 +4,8 @@ use Rattle.macs_fields.specs.First.{IsFirst}
 use Rattle.macs_fields.proofs.FirstRefusal.{first-once}
 use Rattle.macs_headline.proofs.laws.first_in_order.Goals as goal
 
-behind_alone : {R : Type 0} (Holds : R → Type 0) (front found : R) (rest : List R) → ¬ Holds front → IsFirst Holds (front ∷ rest) found → IsFirst Holds rest found
+behind_alone : {R : Type 0} (Holds : R → Type 0) (front found : R) (rest : List R) → ¬ Holds front
+    → IsFirst Holds (front ∷ rest) found → IsFirst Holds rest found
 behind_alone Holds front found rest not_it (inl here) = absurd (not_it here.0)
 behind_alone Holds front found rest not_it (inr later) = later.1
 
@@ -21,10 +22,12 @@ returns-clause-behind g c = λ holds first found rest not_it is. inr (not_it, is
 
 pub returns-clause-front_alone : goal.returns-clause-front_alone
 returns-clause-front_alone g c =
-    λ holds first found rest is found_first. first-once (λ r. IsTrue (holds r)) (first ∷ rest) found first found_first (inl (is, refl))
+    λ holds first found rest is found_first.
+    first-once (λ r. IsTrue (holds r)) (first ∷ rest) found first found_first (inl (is, refl))
 
 pub returns-clause-behind_alone : goal.returns-clause-behind_alone
-returns-clause-behind_alone g c = λ holds first found rest not_it is. behind_alone (λ r. IsTrue (holds r)) first found rest not_it is
+returns-clause-behind_alone g c =
+    λ holds first found rest not_it is. behind_alone (λ r. IsTrue (holds r)) first found rest not_it is
 
 pub returns-clause-none : goal.returns-clause-none
 returns-clause-none g c = λ holds found is. is

@@ -1,5 +1,6 @@
 use Rattle.macs_headline.proofs.AlikeEditions.{editions-alike}
-use Rattle.macs_headline.proofs.Answered.{answers-are-held, delivered-below, given-once, moments-are-histories, never-ok-again, written-below, written-once}
+use Rattle.macs_headline.proofs.Answered.{answers-are-held, delivered-below, given-once, moments-are-histories}
+use Rattle.macs_headline.proofs.Answered.{never-ok-again, written-below, written-once}
 use Rattle.macs_headline.proofs.CommandInHand.{cuts-change-none, in-hand-was-begun}
 use Rattle.macs_headline.proofs.BegunByCalls.{others-begin-none}
 use Rattle.macs_headline.proofs.Cases.{cases-are}
@@ -16,11 +17,14 @@ use Rattle.macs_headline.proofs.HandedIn.{in-hand-was-given}
 use Rattle.macs_headline.proofs.Identities.{identity-was-given}
 use Rattle.macs_headline.proofs.AnsweredLogs.{logs-are-answers}
 use Rattle.macs_headline.proofs.Logs.{nothing-forgotten}
-use Rattle.macs_headline.proofs.NumbersMoved.{frames-change-few, none-appear, numbers-are-set, numbers-move, sides-are-configured}
+use Rattle.macs_headline.proofs.NumbersMoved.{frames-change-few, none-appear, numbers-are-set, numbers-move}
+use Rattle.macs_headline.proofs.NumbersMoved.{sides-are-configured}
 use Rattle.macs_headline.proofs.Naming.{channels-are-named, late-are-discarded}
-use Rattle.macs_headline.proofs.Numbers.{begin-as-asked, given-apart, given-below, ok-apart, skips-few, skips-few-received, used-below, used-once, used-once-at-end, windows-are-kept}
+use Rattle.macs_headline.proofs.Numbers.{begin-as-asked, given-apart, given-below, ok-apart, skips-few}
+use Rattle.macs_headline.proofs.Numbers.{skips-few-received, used-below, used-once, used-once-at-end, windows-are-kept}
 use Rattle.macs_headline.proofs.Older.{editions-rise}
-use Rattle.macs_headline.proofs.Openings.{nothing-changes, refused-for-disk-or-blank, refused-for-disk-or-spent, spent-are-last}
+use Rattle.macs_headline.proofs.Openings.{nothing-changes, refused-for-disk-or-blank, refused-for-disk-or-spent}
+use Rattle.macs_headline.proofs.Openings.{spent-are-last}
 use Rattle.macs_headline.proofs.Ranges.{frames-are-standard, of-its-edition}
 use Rattle.macs_headline.proofs.ReadOn.{editions-read}
 use Rattle.macs_headline.proofs.Reasons.{reasons-are-named}

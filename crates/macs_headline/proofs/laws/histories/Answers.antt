@@ -1,11 +1,14 @@
 use Rattle.macs_headline.proofs.BegunAnew.{openings-begin-anew}
-use Rattle.macs_headline.proofs.Chains.{calls-are-deeds, chains-answer, chains-keep-sizes, chains-tell, deeds-are-histories, lives-are-deeds, new-deeds-are-histories}
+use Rattle.macs_headline.proofs.Chains.{calls-are-deeds, chains-answer, chains-keep-sizes, chains-tell}
+use Rattle.macs_headline.proofs.Chains.{deeds-are-histories, lives-are-deeds, new-deeds-are-histories}
 use Rattle.macs_headline.proofs.DeedLives.{deeds-make-lives}
 use Rattle.macs_headline.proofs.Drawn.{moments-are-exact}
 use Rattle.macs_headline.proofs.ExactEnds.{lives-end-exactly}
 use Rattle.macs_headline.proofs.Faults.{faults-are-failures}
 use Rattle.macs_headline.proofs.Idling.{idle-finds-no-work}
-use Rattle.macs_headline.proofs.Moments.{cut-deliveries-are-below, cut-frames-are-below, ends-are-cuts, frames-are-delivered-once, frames-are-written-once, lives-are-moments, lives-fit, lives-fit-unbegun, lives-keep-commands, openings-find}
+use Rattle.macs_headline.proofs.Moments.{cut-deliveries-are-below, cut-frames-are-below, ends-are-cuts}
+use Rattle.macs_headline.proofs.Moments.{frames-are-delivered-once, frames-are-written-once, lives-are-moments}
+use Rattle.macs_headline.proofs.Moments.{lives-fit, lives-fit-unbegun, lives-keep-commands, openings-find}
 use Rattle.macs_headline.proofs.NumbersWanted.{reservations-are-wanted}
 use Rattle.macs_headline.proofs.OpeningWords.{refusals-are-one}
 use Rattle.macs_headline.proofs.Refusals.{refusals-are-failures}

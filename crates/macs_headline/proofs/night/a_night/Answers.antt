@@ -7,45 +7,56 @@ pub returns-clause-opened : goal.returns-clause-opened
 returns-clause-opened g c =
     let first = evening-frame g.D.SectorDisk.disk g.met.D.SectorDisk.sound c.args.identity.now c.args.an c.args.key
     c.args.disk c.format-formatted.new.disk c.requires.new c.format-formatted.result c.format-formatted.ensures
-    c.in_ok-endpoint.endpoint c.command-installed.new.self c.command-chosen.new.self c.protect-sent.new.self c.in_ok-endpoint.ensures
+    c.in_ok-endpoint.endpoint c.command-installed.new.self c.command-chosen.new.self c.protect-sent.new.self
+    c.in_ok-endpoint.ensures
     c.facts.ensures c.command-installed.result c.command-installed.ensures.call
     c.facts-2.ensures c.command-chosen.result c.command-chosen.ensures.call
-    c.facts-3.ensures c.args.evening.now c.protect-sent.result c.protect-sent.new.out.items c.protect-sent.ensures.call in
+    c.facts-3.ensures c.args.evening.now c.protect-sent.result c.protect-sent.new.out.items
+    c.protect-sent.ensures.call in
     let second = morning-frame g.D.SectorDisk.disk g.met.D.SectorDisk.sound c.args.identity.now c.args.an c.args.key
     c.args.disk c.format-formatted.new.disk c.requires.new c.format-formatted.result c.format-formatted.ensures
-    c.in_ok-endpoint.endpoint c.command-installed.new.self c.command-chosen.new.self c.protect-sent.new.self c.in_ok-endpoint.ensures
+    c.in_ok-endpoint.endpoint c.command-installed.new.self c.command-chosen.new.self c.protect-sent.new.self
+    c.in_ok-endpoint.ensures
     c.facts.ensures c.command-installed.result c.command-installed.ensures.call
     c.facts-2.ensures c.command-chosen.result c.command-chosen.ensures.call
     c.facts-3.ensures c.args.evening.now c.protect-sent.result c.protect-sent.new.out.items c.protect-sent.ensures.call
     c.into_disk-left.result c.into_disk-left.ensures c.lose_power-lost.result c.lose_power-lost.ensures
     c.in_ok-again.again c.refill-refilled.new.self c.protect-sent_again.new.self c.in_ok-again.ensures
     c.facts-4.ensures c.refill-refilled.result c.refill-refilled.ensures.call
-    c.args.morning.now c.protect-sent_again.result c.protect-sent_again.new.out.items c.protect-sent_again.ensures.call in
+    c.args.morning.now c.protect-sent_again.result c.protect-sent_again.new.out.items
+    c.protect-sent_again.ensures.call in
     let apart = numbers-apart g.D.SectorDisk.disk g.met.D.SectorDisk.sound c.args.identity.now c.args.an c.args.key
     c.args.disk c.format-formatted.new.disk c.requires.new c.format-formatted.result c.format-formatted.ensures
-    c.in_ok-endpoint.endpoint c.command-installed.new.self c.command-chosen.new.self c.protect-sent.new.self c.in_ok-endpoint.ensures
+    c.in_ok-endpoint.endpoint c.command-installed.new.self c.command-chosen.new.self c.protect-sent.new.self
+    c.in_ok-endpoint.ensures
     c.facts.ensures c.command-installed.result c.command-installed.ensures.call
     c.facts-2.ensures c.command-chosen.result c.command-chosen.ensures.call
     c.facts-3.ensures c.args.evening.now c.protect-sent.result c.protect-sent.new.out.items c.protect-sent.ensures.call
     c.into_disk-left.result c.into_disk-left.ensures c.lose_power-lost.result c.lose_power-lost.ensures
     c.in_ok-again.again c.refill-refilled.new.self c.protect-sent_again.new.self c.in_ok-again.ensures
     c.facts-4.ensures c.refill-refilled.result c.refill-refilled.ensures.call
-    c.args.morning.now c.protect-sent_again.result c.protect-sent_again.new.out.items c.protect-sent_again.ensures.call in
+    c.args.morning.now c.protect-sent_again.result c.protect-sent_again.new.out.items
+    c.protect-sent_again.ensures.call in
     record { before = first; behind = second; apart = λ one other is_one is_other. apart other is_other one is_one }
 
 pub returns-in_err-endpoint-clause-refused : goal.returns-in_err-endpoint-clause-refused
 returns-in_err-endpoint-clause-refused g c =
     let risen = err_from_is_err_and c.from_residual.result c.from_residual.ensures.1 in
-    rw (risen.1, risen.2) (inl (refused-first g.D.SectorDisk.disk g.met.D.SectorDisk.sound c.args.identity.now c.args.disk c.format-formatted.new.disk
-    c.requires.new c.format-formatted.result c.format-formatted.ensures c.in_err-endpoint.field-0.0 c.in_err-endpoint.ensures))
+    rw (risen.1, risen.2) (inl (refused-first g.D.SectorDisk.disk g.met.D.SectorDisk.sound c.args.identity.now
+    c.args.disk c.format-formatted.new.disk
+    c.requires.new c.format-formatted.result c.format-formatted.ensures c.in_err-endpoint.field-0.0
+    c.in_err-endpoint.ensures))
 
 pub returns-in_err-again-clause-refused : goal.returns-in_err-again-clause-refused
 returns-in_err-again-clause-refused g c =
     let risen = err_from_is_err_and c.from_residual-in_err-again.result c.from_residual-in_err-again.ensures.1 in
-    rw (risen.1, risen.2) (inr (refused-again g.D.SectorDisk.disk g.met.D.SectorDisk.sound c.args.identity.now c.args.an c.args.key
+    rw (risen.1, risen.2)
+    (inr (refused-again g.D.SectorDisk.disk g.met.D.SectorDisk.sound c.args.identity.now c.args.an c.args.key
     c.args.disk c.format-formatted.new.disk c.requires.new c.format-formatted.result c.format-formatted.ensures
-    c.in_ok-endpoint.endpoint c.command-installed.new.self c.command-chosen.new.self c.protect-sent.new.self c.in_ok-endpoint.ensures
+    c.in_ok-endpoint.endpoint c.command-installed.new.self c.command-chosen.new.self c.protect-sent.new.self
+    c.in_ok-endpoint.ensures
     c.facts.ensures c.command-installed.result c.command-installed.ensures.call
     c.facts-2.ensures c.command-chosen.result c.command-chosen.ensures.call
     c.facts-3.ensures c.args.evening.now c.protect-sent.result c.protect-sent.new.out.items c.protect-sent.ensures.call
-    c.into_disk-left.result c.into_disk-left.ensures c.lose_power-lost.result c.lose_power-lost.ensures c.in_err-again.field-0.0 c.in_err-again.ensures))
+    c.into_disk-left.result c.into_disk-left.ensures c.lose_power-lost.result c.lose_power-lost.ensures
+    c.in_err-again.field-0.0 c.in_err-again.ensures))

@@ -10,5 +10,6 @@ a_night-requires c =
     let disk = disk_of c.in-Ok.disk in
     record {
       new = subst (λ fuse. IsNewDisk (disk_of_fuse disk_of fuse)) (sym c.new-fuse.ensures)
-          (fused-new disk (min disk.clock disk.clock) 0 0 (omega arith) (blank-new (memory_of c.in-Ok.disk) c.in-Ok.ensures.ok));
+          (fused-new disk (min disk.clock disk.clock) 0 0 (omega arith)
+          (blank-new (memory_of c.in-Ok.disk) c.in-Ok.ensures.ok));
     }

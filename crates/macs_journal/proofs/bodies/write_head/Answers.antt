@@ -5,7 +5,8 @@ use Rattle.macs_journal.proofs.bodies.write_head.Goals as goal
 
 pub returns-clause-others : goal.returns-clause-others
 returns-clause-others g c honest i apart =
-    Spared-write _ _ _ _ c.write.result i (λ here. apart (here ∙ c.head_body.ensures.at)) c.write.ensures.call (c.write.ensures.effect honest)
+    Spared-write _ _ _ _ c.write.result i (λ here. apart (here ∙ c.head_body.ensures.at)) c.write.ensures.call
+    (c.write.ensures.effect honest)
 
 pub returns-clause-work : goal.returns-clause-work
 returns-clause-work g c = c.write.ensures.call.work

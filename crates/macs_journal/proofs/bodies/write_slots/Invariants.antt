@@ -17,5 +17,6 @@ invariant-loop-slot g l =
       steady : disk.failures ≡ old.failures;
       clock : disk.clock ≡ old.clock + l.slot;
       spared : IsHonest disk → (i : ℕ) → IsNoBody l.fn.area l.slot i → IsSpared old disk i;
-      bodies : IsHonest disk → (j : ℕ) (r : Record) → j < l.slot → slice_get l.fn.records j ≡ Some r → IsSectorOf r ((now disk).seen (slot_body l.fn.area j));
+      bodies : IsHonest disk → (j : ℕ) (r : Record) → j < l.slot → slice_get l.fn.records j ≡ Some r
+          → IsSectorOf r ((now disk).seen (slot_body l.fn.area j));
     }

@@ -13,7 +13,8 @@ use Rattle.macs_journal.proofs.compact_calls.call.Goals as goal
 pub returns-in-CloseGate-clause-does : goal.returns-in-CloseGate-clause-does
 returns-in-CloseGate-clause-does g c honest =
     let d = g.D.SectorDisk.disk in
-    rw c.in-CloseGate.is (subst (λ (at : ℕ). Writes (now (d c.args.disk.now)) (now (d c.write.new.self)) at closed_gate c.write.result) c.gate-in-CloseGate.ensures.at
+    rw c.in-CloseGate.is (subst (λ (at : ℕ). Writes (now (d c.args.disk.now)) (now (d c.write.new.self))
+    at closed_gate c.write.result) c.gate-in-CloseGate.ensures.at
     (c.write.ensures.effect honest))
 
 pub returns-in-HeadBody-clause-does : goal.returns-in-HeadBody-clause-does
@@ -22,25 +23,31 @@ returns-in-HeadBody-clause-does g c honest =
     rw c.in-HeadBody.is (
       c.encode_head.result,
       search rules,
-      subst (λ (at : ℕ). Writes (now (d c.args.disk.now)) (now (d c.write-in-HeadBody.new.self)) at c.encode_head.result c.write-in-HeadBody.result) c.head_body.ensures.at
+      subst (λ (at : ℕ). Writes (now (d c.args.disk.now)) (now (d c.write-in-HeadBody.new.self))
+          at c.encode_head.result c.write-in-HeadBody.result) c.head_body.ensures.at
           (c.write-in-HeadBody.ensures.effect honest),
     )
 
 pub unwrap-value-requires : goal.unwrap-value-requires
 unwrap-value-requires g c =
     let records = g.R.RecordSource.listed c.args.records.now in
-    let within : c.in-Body.slot < length records = subst (λ (stage : CompactStage). IsCompactStage (length records) stage) c.in-Body.is c.requires.room in
+    let within : c.in-Body.slot < length records =
+    subst (λ (stage : CompactStage). IsCompactStage (length records) stage) c.in-Body.is c.requires.room in
     ap is_some (c.at.ensures ∙ (item_at records c.in-Body.slot within).1)
 
 pub returns-in-Body-clause-does : goal.returns-in-Body-clause-does
 returns-in-Body-clause-does g c honest =
     let d = g.D.SectorDisk.disk in
     let records = g.R.RecordSource.listed c.args.records.now in
-    let here : IsSectorOf c.unwrap-value.result c.encode.result = record { range = c.record_in_range.ensures; octets = sym c.encode.ensures } in
-    let found : slice_get records c.in-Body.slot ≡ Some c.unwrap-value.result = sym c.at.ensures ∙ c.unwrap-value.ensures in
+    let here : IsSectorOf c.unwrap-value.result c.encode.result =
+    record { range = c.record_in_range.ensures; octets = sym c.encode.ensures } in
+    let found : slice_get records c.in-Body.slot ≡ Some c.unwrap-value.result = sym c.at.ensures
+    ∙ c.unwrap-value.ensures in
     rw c.in-Body.is (
       c.encode.result,
-      (λ r at. subst (λ (x : Record). IsSectorOf x c.encode.result) (same_Some c.unwrap-value.result r (sym found ∙ at)) here),
-      subst (λ (at : ℕ). Writes (now (d c.args.disk.now)) (now (d c.write-in-Body.new.self)) at c.encode.result c.write-in-Body.result) c.slot_body.ensures.at
+      (λ r at. subst (λ (x : Record). IsSectorOf x c.encode.result)
+          (same_Some c.unwrap-value.result r (sym found ∙ at)) here),
+      subst (λ (at : ℕ). Writes (now (d c.args.disk.now)) (now (d c.write-in-Body.new.self))
+          at c.encode.result c.write-in-Body.result) c.slot_body.ensures.at
           (c.write-in-Body.ensures.effect honest),
     )

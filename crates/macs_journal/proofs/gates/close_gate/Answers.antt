@@ -18,29 +18,35 @@ not_both same = absurd cc
 -- what was read is the gate
 module _ (g : Over) (c : After-is_open g) (honest : IsHonest (g.D.SectorDisk.disk c.read.new.self)) where
   gate-read : c.read.new.into ≡ (now (g.D.SectorDisk.disk c.args.disk.now)).seen (gate c.args.area c.args.k)
-  gate-read = (c.in_ok-read.ensures.effect honest).ok ∙ ap (now (g.D.SectorDisk.disk c.args.disk.now)).seen c.gate-at.ensures.at
+  gate-read = (c.in_ok-read.ensures.effect honest).ok
+      ∙ ap (now (g.D.SectorDisk.disk c.args.disk.now)).seen c.gate-at.ensures.at
 
 -- where it is written, whole or torn
 module _ (g : Over) (c : After-write g) (honest : IsHonest (g.D.SectorDisk.disk c.write.new.self)) where
   honest-read : IsHonest (g.D.SectorDisk.disk c.read.new.self)
   honest-read = sym c.write.ensures.call.work.works.honest ∙ honest
 
-  spares : (i : ℕ) → i ≢ gate c.args.area c.args.k → IsSpared (g.D.SectorDisk.disk c.args.disk.now) (g.D.SectorDisk.disk c.write.new.self) i
+  spares : (i : ℕ) → i ≢ gate c.args.area c.args.k
+      → IsSpared (g.D.SectorDisk.disk c.args.disk.now) (g.D.SectorDisk.disk c.write.new.self) i
   spares i apart =
       Spared-on _ _ _ i c.read.ensures.call.work.works c.write.ensures.call.work.works
       (Spared-read _ _ _ _ c.read.result i c.read.ensures.call (c.read.ensures.effect honest-read))
-      (Spared-write _ _ _ _ c.write.result i (λ here. apart (here ∙ c.gate-at.ensures.at)) c.write.ensures.call (c.write.ensures.effect honest))
+      (Spared-write _ _ _ _ c.write.result i (λ here. apart (here ∙ c.gate-at.ensures.at)) c.write.ensures.call
+      (c.write.ensures.effect honest))
 
 pub returns-in_err-write-clause-closed : goal.returns-in_err-write-clause-closed
 returns-in_err-write-clause-closed g c honest shut =
     let path = goal.at.returns-in_err-write-clause-closed g c in
-    absurd (shut (subst IsOpen (gate-read g path.After-is_open (honest-read g path.After-write honest)) (c.is_open.ensures.0 c.if-is_open.true)))
+    absurd (shut (subst IsOpen (gate-read g path.After-is_open (honest-read g path.After-write honest))
+    (c.is_open.ensures.0 c.if-is_open.true)))
 
 pub returns-in_err-write-clause-others : goal.returns-in_err-write-clause-others
-returns-in_err-write-clause-others g c honest = spares g (goal.at.returns-in_err-write-clause-others g c).After-write honest
+returns-in_err-write-clause-others g c honest =
+    spares g (goal.at.returns-in_err-write-clause-others g c).After-write honest
 
 pub returns-in_ok-write-clause-others : goal.returns-in_ok-write-clause-others
-returns-in_ok-write-clause-others g c honest = spares g (goal.at.returns-in_ok-write-clause-others g c).After-write honest
+returns-in_ok-write-clause-others g c honest =
+    spares g (goal.at.returns-in_ok-write-clause-others g c).After-write honest
 
 pub returns-in_ok-write-clause-gate : goal.returns-in_ok-write-clause-gate
 returns-in_ok-write-clause-gate g c honest opens =
@@ -52,22 +58,27 @@ returns-in_ok-write-clause-gate g c honest opens =
 pub returns-in_err-read-clause-work : goal.returns-in_err-read-clause-work
 returns-in_err-read-clause-work g c =
     let d = g.D.SectorDisk.disk in
-    failed (d c.args.disk.now) (d c.read.new.self) c.from_residual.result c.from_residual.ensures.0 c.read.ensures.call.work.works c.in_err-read.ensures.call.work.err
+    failed (d c.args.disk.now) (d c.read.new.self) c.from_residual.result c.from_residual.ensures.0
+    c.read.ensures.call.work.works c.in_err-read.ensures.call.work.err
 
 pub returns-in_err-read-clause-most : goal.returns-in_err-read-clause-most
 returns-in_err-read-clause-most g c = omega (arith, c.read.ensures.call.at_most_one)
 
 pub returns-in_err-read-clause-closed : goal.returns-in_err-read-clause-closed
-returns-in_err-read-clause-closed g c honest shut i = Spared-read _ _ _ _ c.read.result i c.read.ensures.call (c.read.ensures.effect honest)
+returns-in_err-read-clause-closed g c honest shut i =
+    Spared-read _ _ _ _ c.read.result i c.read.ensures.call (c.read.ensures.effect honest)
 
 pub returns-in_err-read-clause-others : goal.returns-in_err-read-clause-others
-returns-in_err-read-clause-others g c honest i apart = Spared-read _ _ _ _ c.read.result i c.read.ensures.call (c.read.ensures.effect honest)
+returns-in_err-read-clause-others g c honest i apart =
+    Spared-read _ _ _ _ c.read.result i c.read.ensures.call (c.read.ensures.effect honest)
 
 pub returns-in_err-write-clause-work : goal.returns-in_err-write-clause-work
 returns-in_err-write-clause-work g c =
     let d = g.D.SectorDisk.disk in
-    failed-later (d c.args.disk.now) (d c.read.new.self) (d c.write.new.self) c.from_residual-in_err-write.result c.from_residual-in_err-write.ensures.0
-    c.read.ensures.call.work.works c.in_ok-read.ensures.call.work.ok c.write.ensures.call.work.works c.in_err-write.ensures.call.work.err
+    failed-later (d c.args.disk.now) (d c.read.new.self) (d c.write.new.self) c.from_residual-in_err-write.result
+    c.from_residual-in_err-write.ensures.0
+    c.read.ensures.call.work.works c.in_ok-read.ensures.call.work.ok c.write.ensures.call.work.works
+    c.in_err-write.ensures.call.work.err
 
 pub returns-in_err-write-clause-most : goal.returns-in_err-write-clause-most
 returns-in_err-write-clause-most g c = omega (arith, c.read.ensures.call.at_most_one, c.write.ensures.call.at_most_one)
@@ -76,7 +87,8 @@ pub returns-in_ok-write-clause-work : goal.returns-in_ok-write-clause-work
 returns-in_ok-write-clause-work g c =
     let d = g.D.SectorDisk.disk in
     record {
-      works = Works-on (d c.args.disk.now) (d c.read.new.self) (d c.write.new.self) c.read.ensures.call.work.works c.write.ensures.call.work.works;
+      works = Works-on (d c.args.disk.now) (d c.read.new.self) (d c.write.new.self) c.read.ensures.call.work.works
+          c.write.ensures.call.work.works;
       ok = c.in_ok-write.ensures.call.work.ok ∙ c.in_ok-read.ensures.call.work.ok;
       err = tt;
     }
@@ -93,20 +105,24 @@ returns-in_ok-write-clause-two g c honest opens =
 pub returns-in_ok-write-clause-one : goal.returns-in_ok-write-clause-one
 returns-in_ok-write-clause-one g c honest shut =
     let path = goal.at.returns-in_ok-write-clause-one g c in
-    absurd (shut (subst IsOpen (gate-read g path.After-is_open (honest-read g path.After-write honest)) (c.is_open.ensures.0 c.if-is_open.true)))
+    absurd (shut (subst IsOpen (gate-read g path.After-is_open (honest-read g path.After-write honest))
+    (c.is_open.ensures.0 c.if-is_open.true)))
 
 pub returns-in_ok-write-clause-closed : goal.returns-in_ok-write-clause-closed
 returns-in_ok-write-clause-closed g c honest shut =
     let path = goal.at.returns-in_ok-write-clause-closed g c in
-    absurd (shut (subst IsOpen (gate-read g path.After-is_open (honest-read g path.After-write honest)) (c.is_open.ensures.0 c.if-is_open.true)))
+    absurd (shut (subst IsOpen (gate-read g path.After-is_open (honest-read g path.After-write honest))
+    (c.is_open.ensures.0 c.if-is_open.true)))
 
 -- where it reads closed
-module _ (g : Over) (c : After-is_open g) (honest : IsHonest (g.D.SectorDisk.disk c.read.new.self)) (reads : c.is_open.result ≡ false) where
+module _ (g : Over) (c : After-is_open g) (honest : IsHonest (g.D.SectorDisk.disk c.read.new.self))
+    (reads : c.is_open.result ≡ false) where
   not-open : ¬ IsGateOpen (now (g.D.SectorDisk.disk c.args.disk.now)).seen c.args.area c.args.k
   not-open opens = not_both (sym (c.is_open.ensures.1 (subst IsOpen (sym (gate-read g c honest)) opens)) ∙ reads)
 
 pub returns-else-is_open-clause-work : goal.returns-else-is_open-clause-work
-returns-else-is_open-clause-work g c = record { works = c.read.ensures.call.work.works; ok = c.in_ok-read.ensures.call.work.ok; err = tt }
+returns-else-is_open-clause-work g c =
+    record { works = c.read.ensures.call.work.works; ok = c.in_ok-read.ensures.call.work.ok; err = tt }
 
 pub returns-else-is_open-clause-most : goal.returns-else-is_open-clause-most
 returns-else-is_open-clause-most g c = omega (arith, c.read.ensures.call.at_most_one)
@@ -115,13 +131,17 @@ pub returns-else-is_open-clause-one : goal.returns-else-is_open-clause-one
 returns-else-is_open-clause-one g c honest shut = done-call _ _ _ c.in_ok-read.ensures.call
 
 pub returns-else-is_open-clause-two : goal.returns-else-is_open-clause-two
-returns-else-is_open-clause-two g c honest opens = absurd (not-open g (goal.at.returns-else-is_open-clause-two g c).After-is_open honest c.if-is_open.false opens)
+returns-else-is_open-clause-two g c honest opens =
+    absurd (not-open g (goal.at.returns-else-is_open-clause-two g c).After-is_open honest c.if-is_open.false opens)
 
 pub returns-else-is_open-clause-gate : goal.returns-else-is_open-clause-gate
-returns-else-is_open-clause-gate g c honest opens = absurd (not-open g (goal.at.returns-else-is_open-clause-gate g c).After-is_open honest c.if-is_open.false opens)
+returns-else-is_open-clause-gate g c honest opens =
+    absurd (not-open g (goal.at.returns-else-is_open-clause-gate g c).After-is_open honest c.if-is_open.false opens)
 
 pub returns-else-is_open-clause-closed : goal.returns-else-is_open-clause-closed
-returns-else-is_open-clause-closed g c honest shut i = Spared-read _ _ _ _ c.read.result i c.read.ensures.call (c.read.ensures.effect honest)
+returns-else-is_open-clause-closed g c honest shut i =
+    Spared-read _ _ _ _ c.read.result i c.read.ensures.call (c.read.ensures.effect honest)
 
 pub returns-else-is_open-clause-others : goal.returns-else-is_open-clause-others
-returns-else-is_open-clause-others g c honest i apart = Spared-read _ _ _ _ c.read.result i c.read.ensures.call (c.read.ensures.effect honest)
+returns-else-is_open-clause-others g c honest i apart =
+    Spared-read _ _ _ _ c.read.result i c.read.ensures.call (c.read.ensures.effect honest)

@@ -26,14 +26,17 @@ loop-k-preserved g c =
     let d = g.D.SectorDisk.disk in
     let i = c.loop-k.invariant in
     let call = c.close_gate.ensures in
-    let before : IsHonest (d c.close_gate.new.disk) → IsHonest (d c.loop-k.disk) = λ honest. sym call.work.works.honest ∙ honest in
+    let before : IsHonest (d c.close_gate.new.disk)
+    → IsHonest (d c.loop-k.disk) = λ honest. sym call.work.works.honest ∙ honest in
     record {
       works = Works-on _ _ _ i.works call.work.works;
       steady = c.in_ok-close_gate.ensures.work.ok ∙ i.steady;
       most = (let so_far = i.most in let two = call.most in omega (arith, so_far, two));
-      calls = λ honest is. counted-next _ _ _ c.args.area c.args.first c.loop-k.k i.works call.work.works (i.spared (before honest)) (call.others honest)
+      calls = λ honest is. counted-next _ _ _ c.args.area c.args.first c.loop-k.k i.works call.work.works
+          (i.spared (before honest)) (call.others honest)
           (c.in_ok-close_gate.ensures.one honest) (c.in_ok-close_gate.ensures.two honest) (i.calls (before honest) is);
-      spared = λ honest. spared-next _ _ _ _ _ _ i.works call.work.works (i.spared (before honest)) (call.others honest) c.loop-k.auto.k (call.closed honest);
+      spared = λ honest. spared-next _ _ _ _ _ _ i.works call.work.works (i.spared (before honest)) (call.others honest)
+          c.loop-k.auto.k (call.closed honest);
       closed = λ honest.
           closed-next _ _ _ _ _ _ i.works call.work.works (i.spared (before honest)) (call.others honest)
           (c.in_ok-close_gate.ensures.gate honest) (i.closed (before honest));
@@ -44,13 +47,15 @@ returns-in_err-close_gate-clause-others g c honest n apart =
     let i = c.loop-k.invariant in
     let call = c.close_gate.ensures in
     let before : IsHonest (g.D.SectorDisk.disk c.loop-k.disk) = sym call.work.works.honest ∙ honest in
-    spared-next _ _ _ c.args.area c.args.first c.loop-k.k i.works call.work.works (i.spared before) (call.others honest) c.loop-k.auto.k (call.closed honest) n
+    spared-next _ _ _ c.args.area c.args.first c.loop-k.k i.works call.work.works (i.spared before) (call.others honest)
+    c.loop-k.auto.k (call.closed honest) n
     (λ k le lt. apart k le (omega (arith, lt, c.loop-k-test.true)))
 
 pub returns-clause-calls : goal.returns-clause-calls
 returns-clause-calls g c honest is opened has =
     let last : c.loop-k.k ≡ gates = omega (arith, c.loop-k-test.false, c.loop-k.auto.k-end c.requires.room) in
-    let all = c.loop-k.invariant.calls honest is opened (subst (λ (n : ℕ). HasOpenGates (now (g.D.SectorDisk.disk c.args.disk.now)).seen c.args.area n opened) (sym last) has) in
+    let all = c.loop-k.invariant.calls honest is opened (subst (λ (n : ℕ).
+    HasOpenGates (now (g.D.SectorDisk.disk c.args.disk.now)).seen c.args.area n opened) (sym last) has) in
     omega (arith, all, last)
 
 pub returns-clause-others : goal.returns-clause-others

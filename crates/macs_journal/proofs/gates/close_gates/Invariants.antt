@@ -13,7 +13,8 @@ invariant-loop-k g l =
       works : Works old disk;
       steady : disk.failures ≡ old.failures;
       most : disk.clock + 2 * l.fn.first ≤ old.clock + 2 * l.k;
-      calls : IsHonest disk → l.fn.first ≡ 0 → (opened : ℕ) → HasOpenGates (now old).seen l.fn.area l.k opened → disk.clock ≡ old.clock + (l.k + opened);
+      calls : IsHonest disk → l.fn.first ≡ 0 → (opened : ℕ) → HasOpenGates (now old).seen l.fn.area l.k opened
+          → disk.clock ≡ old.clock + (l.k + opened);
       spared : IsHonest disk → (i : ℕ) → IsNoOpenGate (now old).seen l.fn.area l.fn.first l.k i → IsSpared old disk i;
       closed : IsHonest disk → AreClosed (now old).seen (now disk).seen l.fn.area l.fn.first l.k;
     }

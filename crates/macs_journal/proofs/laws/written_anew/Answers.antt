@@ -13,4 +13,5 @@ pub returns-clause-format_head : goal.returns-clause-format_head
 returns-clause-format_head g c = λ old new identity is honest. (is.gates honest).head
 
 pub returns-clause-format_slots : goal.returns-clause-format_slots
-returns-clause-format_slots g c = λ old new identity slot is honest within opened. (is.gates honest).slot slot within opened
+returns-clause-format_slots g c =
+    λ old new identity slot is honest within opened. (is.gates honest).slot slot within opened

@@ -19,19 +19,24 @@ pub returns-in-Ok-Journal-clause-opening : goal.returns-in-Ok-Journal-clause-ope
 returns-in-Ok-Journal-clause-opening g c =
     rw c.new.ensures (recovers-found g.D.SectorDisk.disk c.args.disk c.sync_and_find.new.disk
     (large g (goal.at.returns-in-Ok-Journal-clause-opening g c).Else-sectors-lt-LEAST_SECTORS)
-    c.sync_and_find.ensures.work.works c.sync_and_find.ensures.from_first c.sync_and_find.ensures.nothing c.in-Ok-Journal.ensures.work.ok c.in-Ok-Journal.ensures.settled
+    c.sync_and_find.ensures.work.works c.sync_and_find.ensures.from_first c.sync_and_find.ensures.nothing
+    c.in-Ok-Journal.ensures.work.ok c.in-Ok-Journal.ensures.settled
     c.in-Ok-Journal.field-0 c.in-Ok-Journal.place c.sync_and_find.new.room _ _ _
-    (search rules) (search rules) (search rules) c.in-Ok-Journal.field-0-is c.in-Ok-Journal.ensures.behind c.in-Ok-Journal.ensures.found)
+    (search rules) (search rules) (search rules) c.in-Ok-Journal.field-0-is c.in-Ok-Journal.ensures.behind
+    c.in-Ok-Journal.ensures.found)
 
 pub returns-in-Ok-Refused-clause-opening : goal.returns-in-Ok-Refused-clause-opening
 returns-in-Ok-Refused-clause-opening g c =
     refused-found g.D.SectorDisk.disk c.args.disk c.sync_and_find.new.disk
     (large g (goal.at.returns-in-Ok-Refused-clause-opening g c).Else-sectors-lt-LEAST_SECTORS)
-    c.sync_and_find.ensures.work.works c.sync_and_find.ensures.from_first c.sync_and_find.ensures.nothing c.in-Ok-Refused.ensures.work.ok c.in-Ok-Refused.ensures.settled
-    c.in-Ok-Refused.field-0 c.in-Ok-Refused.fault c.sync_and_find.new.room c.in-Ok-Refused.field-0-is c.in-Ok-Refused.ensures.names c.in-Ok-Refused.ensures.found
+    c.sync_and_find.ensures.work.works c.sync_and_find.ensures.from_first c.sync_and_find.ensures.nothing
+    c.in-Ok-Refused.ensures.work.ok c.in-Ok-Refused.ensures.settled
+    c.in-Ok-Refused.field-0 c.in-Ok-Refused.fault c.sync_and_find.new.room c.in-Ok-Refused.field-0-is
+    c.in-Ok-Refused.ensures.names c.in-Ok-Refused.ensures.found
 
 pub returns-in-Err-clause-opening : goal.returns-in-Err-clause-opening
 returns-in-Err-clause-opening g c =
     refused-failed g.D.SectorDisk.disk c.args.disk c.sync_and_find.new.disk
     (large g (goal.at.returns-in-Err-clause-opening g c).Else-sectors-lt-LEAST_SECTORS)
-    c.sync_and_find.ensures.work.works c.sync_and_find.ensures.from_first c.sync_and_find.ensures.nothing c.in-Err.ensures.work.err c.sync_and_find.ensures.unwritten
+    c.sync_and_find.ensures.work.works c.sync_and_find.ensures.from_first c.sync_and_find.ensures.nothing
+    c.in-Err.ensures.work.err c.sync_and_find.ensures.unwritten

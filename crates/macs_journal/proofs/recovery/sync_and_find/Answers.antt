@@ -16,11 +16,13 @@ module _ (g : Over) (c : After-find g) (honest : IsHonest (g.D.SectorDisk.disk c
   was_honest = sym c.sync.ensures.call.work.works.honest ∙ synced
 
   settled : now (g.D.SectorDisk.disk c.find.new.disk) ≡ state_after_sync (now (g.D.SectorDisk.disk c.args.disk.now))
-  settled = untouched-now _ _ c.find.ensures.work.works (c.find.ensures.untouched honest) ∙ (c.in_ok-sync.ensures.effect synced).ok
+  settled = untouched-now _ _ c.find.ensures.work.works (c.find.ensures.untouched honest)
+      ∙ (c.in_ok-sync.ensures.effect synced).ok
 
   leaves : LeavesNothingNew (g.D.SectorDisk.disk c.args.disk.now) (g.D.SectorDisk.disk c.find.new.disk)
   leaves =
-      synced-leaves _ _ _ c.sync.result (g.met.D.SectorDisk.sound c.args.disk.now was_honest) c.sync.ensures.call (c.sync.ensures.effect synced)
+      synced-leaves _ _ _ c.sync.result (g.met.D.SectorDisk.sound c.args.disk.now was_honest) c.sync.ensures.call
+      (c.sync.ensures.effect synced)
       c.find.ensures.work.works (c.find.ensures.untouched honest)
 
 pub returns-in_err-found-clause-nothing : goal.returns-in_err-found-clause-nothing
@@ -36,7 +38,8 @@ returns-clause-settled g c honest =
     search (rules, same)
 
 pub returns-in_err-found-clause-unwritten : goal.returns-in_err-found-clause-unwritten
-returns-in_err-found-clause-unwritten g c honest = inr (settled g (goal.at.returns-in_err-found-clause-unwritten g c).After-find honest)
+returns-in_err-found-clause-unwritten g c honest =
+    inr (settled g (goal.at.returns-in_err-found-clause-unwritten g c).After-find honest)
 
 pub returns-clause-unwritten : goal.returns-clause-unwritten
 returns-clause-unwritten g c honest = inr (settled g (goal.at.returns-clause-unwritten g c).After-find honest)
@@ -46,8 +49,10 @@ returns-in_err-sync-clause-from_first g c honest = stands-after-one _ _ c.sync.r
 
 pub returns-in_err-found-clause-from_first : goal.returns-in_err-found-clause-from_first
 returns-in_err-found-clause-from_first g c honest =
-    stands-from-first _ _ _ c.sync.result c.sync.ensures.call c.find.ensures.work.works (c.find.ensures.untouched honest)
+    stands-from-first _ _ _ c.sync.result c.sync.ensures.call c.find.ensures.work.works
+    (c.find.ensures.untouched honest)
 
 pub returns-clause-from_first : goal.returns-clause-from_first
 returns-clause-from_first g c honest =
-    stands-from-first _ _ _ c.sync.result c.sync.ensures.call c.find.ensures.work.works (c.find.ensures.untouched honest)
+    stands-from-first _ _ _ c.sync.result c.sync.ensures.call c.find.ensures.work.works
+    (c.find.ensures.untouched honest)

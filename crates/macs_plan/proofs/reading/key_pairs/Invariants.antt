@@ -6,4 +6,5 @@ use Rattle.macs_plan.proofs.Pairs.{joined}
 use Rattle.macs_plan.proofs.reading.key_pairs.Given as goal
 
 abbrev pub invariant-loop-i : goal.invariant-loop-i
-invariant-loop-i g l = key_pairs 1 (items_view l.fn.tables) ≡ joined l.pairs.items (key_pairs (l.i + 1) (items_view (drop l.i l.fn.tables)))
+invariant-loop-i g l = key_pairs 1 (items_view l.fn.tables)
+    ≡ joined l.pairs.items (key_pairs (l.i + 1) (items_view (drop l.i l.fn.tables)))

@@ -6,4 +6,5 @@ use Rattle.macs_plan.specs.Reading.{keys_of}
 use Rattle.macs_plan.proofs.soundness.have_key.Given as goal
 
 abbrev pub invariant-loop-i : goal.invariant-loop-i
-invariant-loop-i l = is_among (keys_of l.fn.pairs) (octets_of_key l.fn.key) ≡ is_among (keys_of (drop l.i l.fn.pairs)) (octets_of_key l.fn.key)
+invariant-loop-i l = is_among (keys_of l.fn.pairs) (octets_of_key l.fn.key)
+    ≡ is_among (keys_of (drop l.i l.fn.pairs)) (octets_of_key l.fn.key)

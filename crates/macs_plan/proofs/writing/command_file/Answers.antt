@@ -24,6 +24,7 @@ returns c =
     let all : AllRead commands = subst (λ (l : List Command). AllRead l) whole c.loop-i.invariant.read in
     says c.written.result commands
     (c.written.ensures (file_of commands)
-    (c.with-file.ensures no_members (array (tables_of commands)) (ap members_view c.new.ensures.empty) (c.from-2.ensures ∙ ap array tables))
+    (c.with-file.ensures no_members (array (tables_of commands)) (ap members_view c.new.ensures.empty)
+    (c.from-2.ensures ∙ ap array tables))
     (file_depth commands))
     (file_read commands all)

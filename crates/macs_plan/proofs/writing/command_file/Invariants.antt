@@ -7,4 +7,7 @@ use Rattle.macs_plan.proofs.writing.command_file.Given as goal
 
 abbrev pub invariant-loop-i : goal.invariant-loop-i
 invariant-loop-i l =
-    record { tables : items_view l.tables.items ≡ tables_of (take l.i l.fn.commands); read : AllRead (take l.i l.fn.commands) }
+    record {
+      tables : items_view l.tables.items ≡ tables_of (take l.i l.fn.commands);
+      read : AllRead (take l.i l.fn.commands);
+    }

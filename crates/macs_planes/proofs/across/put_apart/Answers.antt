@@ -24,12 +24,15 @@ loop-g-preserved c =
             rw same (ap length (get_or-set_same blocks at block [] within) ∙ c.sixteen_of.ensures.size)
       ];
       octets = λ h j below k. elim (cases_lt h g) [
-        | inl lt ↦ ap (λ b. slice_index b j) (get_or-set_other blocks at (8 * h + i) block [] (omega arith)) ∙ held.octets h j lt k
+        | inl lt ↦ ap (λ b. slice_index b j) (get_or-set_other blocks at (8 * h + i) block [] (omega arith))
+            ∙ held.octets h j lt k
         | inr ge ↦
             let same : h ≡ g = omega arith in
-            rw same (ap (λ b. slice_index b j) (get_or-set_same blocks at block [] within) ∙ c.sixteen_of.ensures.octets j k)
+            rw same (ap (λ b. slice_index b j) (get_or-set_same blocks at block [] within)
+            ∙ c.sixteen_of.ensures.octets j k)
       ];
-      others = λ n other. get_or-set_other blocks at n block [] (λ e. other (omega (arith, e, few))) ∙ held.others n other;
+      others = λ n other. get_or-set_other blocks at n block [] (λ e. other (omega (arith, e, few)))
+          ∙ held.others n other;
     }
 
 pub returns-clause-sizes : goal.returns-clause-sizes

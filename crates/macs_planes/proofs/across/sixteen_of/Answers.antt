@@ -12,4 +12,5 @@ returns-clause-octets c = λ j h.
     let g : ℕ = c.args.g in
     ap (λ b. get_or b j 0) c.copy_from_slice.ensures.after
     ∙ get_or-take (16 * g + 16 - 16 * g) (drop (16 * g) octets) j 0 (omega arith) ∙ get_or-drop (16 * g) octets j 0
-    ∙ octet_of_narrower LANES c.args.words (16 * g + j) (below_from_Fits w16 c.args.words c.fits-words.1) (omega (arith, c.requires))
+    ∙ octet_of_narrower LANES c.args.words (16 * g + j) (below_from_Fits w16 c.args.words c.fits-words.1)
+    (omega (arith, c.requires))

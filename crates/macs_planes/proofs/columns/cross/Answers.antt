@@ -18,7 +18,8 @@ returns-clause-q0 g c =
     let f = c.exchange_twos-twos.ensures in
     crossed n xs ys zs c.exchange_fours.result.q0 0 (omega arith)
     (below_eight (λ m. IsExchanged n 1 m xs (get_or ys m (zeros n))) e.q0 e.q1 e.q2 e.q3 e.q4 e.q5 e.q6 e.q7)
-    (below_eight (λ m. IsExchanged n 2 m ys (get_or zs m (zeros n))) f.q0 f.q1 f.q2 f.q3 f.q4 f.q5 f.q6 f.q7) c.exchange_fours.ensures.q0
+    (below_eight (λ m. IsExchanged n 2 m ys (get_or zs m (zeros n))) f.q0 f.q1 f.q2 f.q3 f.q4 f.q5 f.q6 f.q7)
+    c.exchange_fours.ensures.q0
 
 pub returns-clause-q1 : goal.returns-clause-q1
 returns-clause-q1 g c =
@@ -33,7 +34,8 @@ returns-clause-q1 g c =
     let f = c.exchange_twos-twos.ensures in
     crossed n xs ys zs c.exchange_fours.result.q1 1 (omega arith)
     (below_eight (λ m. IsExchanged n 1 m xs (get_or ys m (zeros n))) e.q0 e.q1 e.q2 e.q3 e.q4 e.q5 e.q6 e.q7)
-    (below_eight (λ m. IsExchanged n 2 m ys (get_or zs m (zeros n))) f.q0 f.q1 f.q2 f.q3 f.q4 f.q5 f.q6 f.q7) c.exchange_fours.ensures.q1
+    (below_eight (λ m. IsExchanged n 2 m ys (get_or zs m (zeros n))) f.q0 f.q1 f.q2 f.q3 f.q4 f.q5 f.q6 f.q7)
+    c.exchange_fours.ensures.q1
 
 pub returns-clause-q2 : goal.returns-clause-q2
 returns-clause-q2 g c =
@@ -48,7 +50,8 @@ returns-clause-q2 g c =
     let f = c.exchange_twos-twos.ensures in
     crossed n xs ys zs c.exchange_fours.result.q2 2 (omega arith)
     (below_eight (λ m. IsExchanged n 1 m xs (get_or ys m (zeros n))) e.q0 e.q1 e.q2 e.q3 e.q4 e.q5 e.q6 e.q7)
-    (below_eight (λ m. IsExchanged n 2 m ys (get_or zs m (zeros n))) f.q0 f.q1 f.q2 f.q3 f.q4 f.q5 f.q6 f.q7) c.exchange_fours.ensures.q2
+    (below_eight (λ m. IsExchanged n 2 m ys (get_or zs m (zeros n))) f.q0 f.q1 f.q2 f.q3 f.q4 f.q5 f.q6 f.q7)
+    c.exchange_fours.ensures.q2
 
 pub returns-clause-q3 : goal.returns-clause-q3
 returns-clause-q3 g c =
@@ -63,7 +66,8 @@ returns-clause-q3 g c =
     let f = c.exchange_twos-twos.ensures in
     crossed n xs ys zs c.exchange_fours.result.q3 3 (omega arith)
     (below_eight (λ m. IsExchanged n 1 m xs (get_or ys m (zeros n))) e.q0 e.q1 e.q2 e.q3 e.q4 e.q5 e.q6 e.q7)
-    (below_eight (λ m. IsExchanged n 2 m ys (get_or zs m (zeros n))) f.q0 f.q1 f.q2 f.q3 f.q4 f.q5 f.q6 f.q7) c.exchange_fours.ensures.q3
+    (below_eight (λ m. IsExchanged n 2 m ys (get_or zs m (zeros n))) f.q0 f.q1 f.q2 f.q3 f.q4 f.q5 f.q6 f.q7)
+    c.exchange_fours.ensures.q3
 
 pub returns-clause-q4 : goal.returns-clause-q4
 returns-clause-q4 g c =
@@ -78,7 +82,8 @@ returns-clause-q4 g c =
     let f = c.exchange_twos-twos.ensures in
     crossed n xs ys zs c.exchange_fours.result.q4 4 (omega arith)
     (below_eight (λ m. IsExchanged n 1 m xs (get_or ys m (zeros n))) e.q0 e.q1 e.q2 e.q3 e.q4 e.q5 e.q6 e.q7)
-    (below_eight (λ m. IsExchanged n 2 m ys (get_or zs m (zeros n))) f.q0 f.q1 f.q2 f.q3 f.q4 f.q5 f.q6 f.q7) c.exchange_fours.ensures.q4
+    (below_eight (λ m. IsExchanged n 2 m ys (get_or zs m (zeros n))) f.q0 f.q1 f.q2 f.q3 f.q4 f.q5 f.q6 f.q7)
+    c.exchange_fours.ensures.q4
 
 pub returns-clause-q5 : goal.returns-clause-q5
 returns-clause-q5 g c =
@@ -93,7 +98,8 @@ returns-clause-q5 g c =
     let f = c.exchange_twos-twos.ensures in
     crossed n xs ys zs c.exchange_fours.result.q5 5 (omega arith)
     (below_eight (λ m. IsExchanged n 1 m xs (get_or ys m (zeros n))) e.q0 e.q1 e.q2 e.q3 e.q4 e.q5 e.q6 e.q7)
-    (below_eight (λ m. IsExchanged n 2 m ys (get_or zs m (zeros n))) f.q0 f.q1 f.q2 f.q3 f.q4 f.q5 f.q6 f.q7) c.exchange_fours.ensures.q5
+    (below_eight (λ m. IsExchanged n 2 m ys (get_or zs m (zeros n))) f.q0 f.q1 f.q2 f.q3 f.q4 f.q5 f.q6 f.q7)
+    c.exchange_fours.ensures.q5
 
 pub returns-clause-q6 : goal.returns-clause-q6
 returns-clause-q6 g c =
@@ -108,7 +114,8 @@ returns-clause-q6 g c =
     let f = c.exchange_twos-twos.ensures in
     crossed n xs ys zs c.exchange_fours.result.q6 6 (omega arith)
     (below_eight (λ m. IsExchanged n 1 m xs (get_or ys m (zeros n))) e.q0 e.q1 e.q2 e.q3 e.q4 e.q5 e.q6 e.q7)
-    (below_eight (λ m. IsExchanged n 2 m ys (get_or zs m (zeros n))) f.q0 f.q1 f.q2 f.q3 f.q4 f.q5 f.q6 f.q7) c.exchange_fours.ensures.q6
+    (below_eight (λ m. IsExchanged n 2 m ys (get_or zs m (zeros n))) f.q0 f.q1 f.q2 f.q3 f.q4 f.q5 f.q6 f.q7)
+    c.exchange_fours.ensures.q6
 
 pub returns-clause-q7 : goal.returns-clause-q7
 returns-clause-q7 g c =
@@ -123,4 +130,5 @@ returns-clause-q7 g c =
     let f = c.exchange_twos-twos.ensures in
     crossed n xs ys zs c.exchange_fours.result.q7 7 (omega arith)
     (below_eight (λ m. IsExchanged n 1 m xs (get_or ys m (zeros n))) e.q0 e.q1 e.q2 e.q3 e.q4 e.q5 e.q6 e.q7)
-    (below_eight (λ m. IsExchanged n 2 m ys (get_or zs m (zeros n))) f.q0 f.q1 f.q2 f.q3 f.q4 f.q5 f.q6 f.q7) c.exchange_fours.ensures.q7
+    (below_eight (λ m. IsExchanged n 2 m ys (get_or zs m (zeros n))) f.q0 f.q1 f.q2 f.q3 f.q4 f.q5 f.q6 f.q7)
+    c.exchange_fours.ensures.q7

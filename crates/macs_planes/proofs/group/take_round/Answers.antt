@@ -11,7 +11,8 @@ returns-clause-inner c = λ k is more. elim c.if-round-rounds.branch [
   | then-round-rounds w ↦
       let t : ℕ = c.args.round % 4 in
       ap (map (turned t)) (c.add_round_key.ensures k is) ∙ all_keyed t k c.if-round-rounds.blocks
-      ∙ ap (keyed (turned t k)) (ap (map (turned t)) w.blocks-is ∙ w.mix_columns.ensures ∙ ap (λ b. map mix_columns (map (turned t) b)) c.sub_bytes.ensures)
+      ∙ ap (keyed (turned t k)) (ap (map (turned t)) w.blocks-is ∙ w.mix_columns.ensures
+      ∙ ap (λ b. map mix_columns (map (turned t) b)) c.sub_bytes.ensures)
   | else-round-rounds w ↦ absurd (omega (arith, more, w.if-round-rounds))
 ]
 

@@ -10,4 +10,5 @@ returns-clause-octets c = λ m h. plane_octet LANES c.args.octets c.args.mask m 
 pub returns-clause-small : goal.returns-clause-small
 returns-clause-small c = λ m h.
     let long = c.fits-octets.0 in
-    Each1-get_or (λ v. v < 256) c.args.octets m 0 (omega (arith, long)) (below_from_Fits w8 c.args.octets c.fits-octets.1)
+    Each1-get_or (λ v. v < 256) c.args.octets m 0 (omega (arith, long))
+    (below_from_Fits w8 c.args.octets c.fits-octets.1)

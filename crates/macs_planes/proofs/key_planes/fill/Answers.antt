@@ -14,6 +14,8 @@ loop-round-preserved c =
     let rounds = c.rounds-round-end.ensures.ten_or_fourteen in
     record {
       size = length-set c.loop-round.keys c.loop-round.round c.of.result ∙ held.size;
-      each = filled_more (λ i planes. IsKeyPlanes LANES (turned_back (i % 4) (round_key (key_words c.args.schedule.now) i)) planes) [] c.loop-round.keys c.loop-round.round c.of.result
-          (omega (arith, within, rounds)) held.each (subst (λ k. IsKeyPlanes LANES (turned_back (c.loop-round.round % 4) k) c.of.result) c.round_key.ensures c.of.ensures);
+      each = filled_more (λ i planes. IsKeyPlanes LANES (turned_back (i % 4)
+          (round_key (key_words c.args.schedule.now) i)) planes) [] c.loop-round.keys c.loop-round.round c.of.result
+          (omega (arith, within, rounds)) held.each (subst (λ k.
+          IsKeyPlanes LANES (turned_back (c.loop-round.round % 4) k) c.of.result) c.round_key.ensures c.of.ensures);
     }

@@ -9,5 +9,7 @@ returns-clause-octets c = λ m h.
     let held = c.loop-m.invariant in
     let is : ℕ → ℕ = λ k. get_or c.args.block.now (k % 16) 0 in
     let each : (k : ℕ) → get_or c.loop-m.octets k 0 < 256 =
-    octets_small is c.loop-m.octets OCTETS held.size (λ k l. held.done k (omega arith)) (λ k l. (held.whole (omega arith)).1 (k % 16)) in
-    octet_of_wider LANES c.loop-m.octets m held.size (Each1-from_get_or (λ v. v < 256) c.loop-m.octets 0 (λ k l. each k)) h each ∙ held.done m (omega arith)
+    octets_small is c.loop-m.octets OCTETS held.size (λ k l. held.done k (omega arith))
+    (λ k l. (held.whole (omega arith)).1 (k % 16)) in
+    octet_of_wider LANES c.loop-m.octets m held.size
+    (Each1-from_get_or (λ v. v < 256) c.loop-m.octets 0 (λ k l. each k)) h each ∙ held.done m (omega arith)

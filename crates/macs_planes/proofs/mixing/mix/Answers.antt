@@ -17,5 +17,6 @@ returns g c = λ i j h k.
     let e7 = c.xor-pair.ensures i (below 2 j) h within in
     let e8 = c.lift-next.ensures i (below 2 j) h within in
     let e9 = below_next j k in
-    let m = mixed_is (octet x i j) (octet x i (below 1 j)) (octet x i (below 2 j)) (octet x i (below 3 j)) (c.are_blocks.ensures.small i (below 1 j) h (below-lt 1 j k)) in
+    let m = mixed_is (octet x i j) (octet x i (below 1 j)) (octet x i (below 2 j)) (octet x i (below 3 j))
+    (c.are_blocks.ensures.small i (below 1 j) h (below-lt 1 j k)) in
     cc

@@ -1,4 +1,5 @@
-use Rattle.std.proofs.Common.{◌≡◌, ◌+◌, ◌*◌, ◌/◌, ◌∙◌, ℕ, ap, arith, get_or-take, length, length-take-le, refl, take, w16}
+use Rattle.std.proofs.Common.{◌≡◌, ◌+◌, ◌*◌, ◌/◌, ◌∙◌, ℕ, ap, arith, get_or-take, length, length-take-le, refl, take}
+use Rattle.std.proofs.Common.{w16}
 use Rattle.std.proofs.lemmas.Simd.{below_from_Fits}
 use Rattle.macs_planes.specs.Across.{octet_of_words}
 use Rattle.macs_planes.proofs.Shuffles.{moved_octet, places_fit}
@@ -9,7 +10,8 @@ pub swizzle : goal.swizzle
 swizzle c =
     let places = c.args.places.now in
     let size : length (take OCTETS places) ≡ 2 * LANES = length-take-le OCTETS places (omega arith) in
-    places_fit LANES (take OCTETS places) refl size (λ m h. omega (arith, get_or-take OCTETS places m 0 (omega arith), c.requires m (omega arith)))
+    places_fit LANES (take OCTETS places) refl size
+    (λ m h. omega (arith, get_or-take OCTETS places m 0 (omega arith), c.requires m (omega arith)))
 
 pub returns-clause-octets : goal.returns-clause-octets
 returns-clause-octets c = λ m h.

@@ -10,4 +10,5 @@ returns-clause-lanes g c = moved_lanes g.row.N lift_plane_twice_moves (c.args.x 
 
 pub returns-clause-bits : goal.returns-clause-bits
 unfolding moved lift_plane_twice_moves
-returns-clause-bits g c = λ i j h k. moved_from g.row.N lift_plane_twice_moves (λ _. 0) (below 2) (c.args.x ∷ []) i j lift_plane_twice_from (c.requires, tt) h k
+returns-clause-bits g c = λ i j h k. moved_from g.row.N lift_plane_twice_moves (λ _. 0) (below 2) (c.args.x ∷ []) i j
+    lift_plane_twice_from (c.requires, tt) h k

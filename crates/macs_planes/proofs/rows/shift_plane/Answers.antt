@@ -10,4 +10,5 @@ returns-clause-lanes g c = moved_lanes g.row.N shift_plane_moves (c.args.x ∷ [
 
 pub returns-clause-bits : goal.returns-clause-bits
 unfolding moved rows_swapped shift_plane_moves
-returns-clause-bits g c = λ i j h k. moved_from g.row.N shift_plane_moves (λ _. 0) (shifted) (c.args.x ∷ []) i j shift_plane_from (c.requires, tt) h k
+returns-clause-bits g c = λ i j h k.
+    moved_from g.row.N shift_plane_moves (λ _. 0) (shifted) (c.args.x ∷ []) i j shift_plane_from (c.requires, tt) h k

@@ -1,7 +1,8 @@
 use Rattle.std.proofs.Common.{◌∙◌, ℕ, ap₂, refl, [], ◌∷◌, ◌++◌, bit_xor}
 use Rattle.macs_gf.specs.Gf256.{octet_product}
 use Rattle.macs_planes.specs.Blocks.{octet_basis, subfield_basis}
-use Rattle.macs_planes.proofs.Circuit.{are_joined, circuit, circuit_is_ones, circuit_planes, gate, octet_of, octet_was, ones, ones_planes, pick, run}
+use Rattle.macs_planes.proofs.Circuit.{are_joined, circuit, circuit_is_ones, circuit_planes, gate, octet_of, octet_was}
+use Rattle.macs_planes.proofs.Circuit.{ones, ones_planes, pick, run}
 use Rattle.macs_planes.specs.Tower.{affine, tower_root}
 use Rattle.macs_planes.proofs.Gates.{affine_of_gates, affine_of_outputs}
 use Rattle.macs_planes.proofs.Tables.{affine_agrees, affine_in}
@@ -14,7 +15,8 @@ invariant_of-result g c =
     let f = c.f.inside in
     let es = e.p0 ∷ e.p1 ∷ e.p2 ∷ e.p3 ∷ [] in
     let fs = f.p0 ∷ f.p1 ∷ f.p2 ∷ f.p3 ∷ [] in
-    circuit_planes g.row.N affine_of_gates affine_of_outputs ((es ++ fs) ++ ones g.row.N ∷ []) (are_joined g.row.N (es ++ fs) (ones g.row.N ∷ []) (are_joined g.row.N es fs c.e.invariant c.f.invariant) (ones_planes g.row.N))
+    circuit_planes g.row.N affine_of_gates affine_of_outputs ((es ++ fs) ++ ones g.row.N ∷ []) (are_joined g.row.N
+    (es ++ fs) (ones g.row.N ∷ []) (are_joined g.row.N es fs c.e.invariant c.f.invariant) (ones_planes g.row.N))
 
 pub returns : goal.returns
 unfolding circuit gate pick run ones affine_of_gates affine_of_outputs affine_in
@@ -23,6 +25,9 @@ returns g c = λ i j h k.
     let f = c.f.inside in
     let es = e.p0 ∷ e.p1 ∷ e.p2 ∷ e.p3 ∷ [] in
     let fs = f.p0 ∷ f.p1 ∷ f.p2 ∷ f.p3 ∷ [] in
-    octet_of g.row.N octet_basis (circuit g.row.N affine_of_gates affine_of_outputs ((es ++ fs) ++ ones g.row.N ∷ [])) i j h k
-    ∙ circuit_is_ones g.row.N octet_basis affine_of_gates affine_of_outputs affine_in 8 (es ++ fs) i j affine_agrees refl (are_joined g.row.N es fs c.e.invariant c.f.invariant) h k
-    ∙ ap₂ (λ (u w : ℕ). affine (bit_xor u (octet_product tower_root (bit_xor u w)))) (octet_was g.row.N subfield_basis es c.args.e.now i j c.e.view_is h k) (octet_was g.row.N subfield_basis fs c.args.f.now i j c.f.view_is h k)
+    octet_of g.row.N octet_basis
+    (circuit g.row.N affine_of_gates affine_of_outputs ((es ++ fs) ++ ones g.row.N ∷ [])) i j h k
+    ∙ circuit_is_ones g.row.N octet_basis affine_of_gates affine_of_outputs affine_in 8 (es ++ fs) i j affine_agrees
+    refl (are_joined g.row.N es fs c.e.invariant c.f.invariant) h k
+    ∙ ap₂ (λ (u w : ℕ). affine (bit_xor u (octet_product tower_root (bit_xor u w)))) (octet_was g.row.N subfield_basis
+    es c.args.e.now i j c.e.view_is h k) (octet_was g.row.N subfield_basis fs c.args.f.now i j c.f.view_is h k)

@@ -10,7 +10,8 @@ pub invariant_of-result : goal.invariant_of-result
 unfolding circuit gate pick run low_gates low_outputs
 invariant_of-result g c =
     let x = c.x.inside in
-    circuit_planes g.row.N low_gates low_outputs (x.p0 ∷ x.p1 ∷ x.p2 ∷ x.p3 ∷ x.p4 ∷ x.p5 ∷ x.p6 ∷ x.p7 ∷ []) c.x.invariant
+    circuit_planes g.row.N low_gates low_outputs (x.p0 ∷ x.p1 ∷ x.p2 ∷ x.p3 ∷ x.p4 ∷ x.p5 ∷ x.p6 ∷ x.p7 ∷ [])
+    c.x.invariant
 
 pub returns : goal.returns
 unfolding circuit gate pick run low_gates low_outputs low_in

@@ -19,4 +19,5 @@ returns g c = λ i j h k.
     let ys = y.p0 ∷ y.p1 ∷ y.p2 ∷ y.p3 ∷ [] in
     octet_of g.row.N subfield_basis (xor_each xs ys) i j h k
     ∙ xor_octets g.row.N subfield_basis xs ys i j refl c.x.invariant c.y.invariant h
-    ∙ ap₂ bit_xor (octet_was g.row.N subfield_basis xs c.args.x.now i j c.x.view_is h k) (octet_was g.row.N subfield_basis ys c.args.y.now i j c.y.view_is h k)
+    ∙ ap₂ bit_xor (octet_was g.row.N subfield_basis xs c.args.x.now i j c.x.view_is h k)
+    (octet_was g.row.N subfield_basis ys c.args.y.now i j c.y.view_is h k)

@@ -18,5 +18,6 @@ returns g c = λ i j h k.
     let x = c.x.inside in
     let planes = x.p0 ∷ x.p1 ∷ x.p2 ∷ x.p3 ∷ [] in
     octet_of g.row.N subfield_basis (circuit g.row.N inverse_gates inverse_outputs planes) i j h k
-    ∙ circuit_is g.row.N subfield_basis inverse_gates inverse_outputs inverse_of 4 planes i j inverse_agrees refl c.x.invariant h
+    ∙ circuit_is g.row.N subfield_basis inverse_gates inverse_outputs inverse_of 4 planes i j inverse_agrees refl
+    c.x.invariant h
     ∙ ap fourteenth (octet_was g.row.N subfield_basis planes c.args.x.now i j c.x.view_is h k)

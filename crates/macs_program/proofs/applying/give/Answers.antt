@@ -8,9 +8,11 @@ use Rattle.macs_program.proofs.applying.give.Goals as goal
 pub returns-in-Err-clause-settled : goal.returns-in-Err-clause-settled
 returns-in-Err-clause-settled g c =
     IfOk-weaker c.outcome_of.result _ _
-    (λ outcome is. subst (λ (told : Result (Unit {0}) CommandFault). IsCall g.D.SectorDisk.disk c.args.endpoint.now (Commands c.args.command) (Ran told) c.command.new.self)
+    (λ outcome is. subst (λ (told : Result (Unit {0}) CommandFault).
+    IsCall g.D.SectorDisk.disk c.args.endpoint.now (Commands c.args.command) (Ran told) c.command.new.self)
     (sym is) c.in-Err.ensures.call) c.outcome_of.ensures.refused
 
 pub returns-in-Err-clause-failed : goal.returns-in-Err-clause-failed
 returns-in-Err-clause-failed g c =
-    IfErr-weaker c.outcome_of.result _ _ (λ ends is. (c.in-Err.fault, is, c.in-Err.ensures.call)) c.outcome_of.ensures.failed
+    IfErr-weaker c.outcome_of.result _ _ (λ ends is. (c.in-Err.fault, is, c.in-Err.ensures.call))
+    c.outcome_of.ensures.failed

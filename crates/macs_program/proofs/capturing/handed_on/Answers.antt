@@ -12,7 +12,8 @@ returns-in_err-summary-clause-ended g c =
     let p = err_from_is_err_and c.from_residual.result c.from_residual.ensures.1 in
     let e = c.flush-flushed.ensures in
     rw p.1
-    (subst (λ (a : Result Summary RunFault). EndsWith a p.0 (g.W.Sink.state c.args.sink.now) (g.W.Sink.state c.flush-flushed.new.self))
+    (subst (λ (a : Result Summary RunFault).
+    EndsWith a p.0 (g.W.Sink.state c.args.sink.now) (g.W.Sink.state c.flush-flushed.new.self))
     (sym c.in_err-summary.was) (p.2, flushed-or-not _ _ c.flush-flushed.result e.octets e.flushed e.done e.failed))
 
 pub returns-in-Ok-clause-ended : goal.returns-in-Ok-clause-ended
@@ -23,5 +24,6 @@ returns-in-Ok-clause-ended g c =
 pub returns-in-Err-clause-ended : goal.returns-in-Err-clause-ended
 returns-in-Err-clause-ended g c =
     let e = c.in-Err.ensures in
-    subst (λ (a : Result Summary RunFault). EndsWith a failures.Capture (g.W.Sink.state c.args.sink.now) (g.W.Sink.state c.flush-flushed.new.self))
+    subst (λ (a : Result Summary RunFault).
+    EndsWith a failures.Capture (g.W.Sink.state c.args.sink.now) (g.W.Sink.state c.flush-flushed.new.self))
     (sym c.in_ok-summary.was) (refl, record { held = e.octets; fails = e.failed })

@@ -24,4 +24,5 @@ pub returns-clause-ended : goal.returns-clause-ended
 returns-clause-ended g c =
     let (octets, says) = c.in_ok-commands.ensures.spelled in
     let given = subst (λ (commands : List Command). SaysCommands octets commands) (sym c.as_slice.ensures.value) says in
-    rw c.in-Some.is (IfErr-weaker c.print_trial.result _ _ (λ failure ends. trial-ended g.T.File.DiskFile.file c.in-Some.disk octets c.as_slice.result.now failure given ends) c.print_trial.ensures.ended)
+    rw c.in-Some.is (IfErr-weaker c.print_trial.result _ _ (λ failure ends. trial-ended g.T.File.DiskFile.file
+    c.in-Some.disk octets c.as_slice.result.now failure given ends) c.print_trial.ensures.ended)

@@ -8,6 +8,7 @@ returns-in_default c = record {
   said = tt;
   fault = λ text parsed.
       complains-weaker _ (HasFault text) c.failure_saying.result
-      (λ said is. (table_view c.args.table.now, parsed, c.in-Err.fault, c.in-Err.ensures.fault c.in_default.not-Memory, is))
+      (λ said is.
+      (table_view c.args.table.now, parsed, c.in-Err.fault, c.in-Err.ensures.fault c.in_default.not-Memory, is))
       (c.failure_saying.ensures _ c.fault_text.ensures);
 }

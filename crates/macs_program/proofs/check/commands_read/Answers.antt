@@ -8,12 +8,14 @@ pub returns-in-Ok-clause-said : goal.returns-in-Ok-clause-said
 returns-in-Ok-clause-said g c =
     IfOk-weaker c.commands_said.result _ _
     (λ commands says. says-read (g.R.Read.remaining c.args.file.now) _ commands.items
-    (rw (c.take.ensures.limit, c.take.ensures.inner, c.new-octets.ensures.items) at c.in-Ok.ensures.bytes) (rw c.as_slice.ensures.value at says))
+    (rw (c.take.ensures.limit, c.take.ensures.inner, c.new-octets.ensures.items) at c.in-Ok.ensures.bytes)
+    (rw c.as_slice.ensures.value at says))
     c.commands_said.ensures.said
 
 pub returns-in-Ok-clause-fault : goal.returns-in-Ok-clause-fault
 returns-in-Ok-clause-fault g c =
     IfErr-weaker c.commands_said.result _ _
     (λ failure complains. inr (complains-read (g.R.Read.remaining c.args.file.now) _ failure
-    (rw (c.take.ensures.limit, c.take.ensures.inner, c.new-octets.ensures.items) at c.in-Ok.ensures.bytes) (rw c.as_slice.ensures.value at complains)))
+    (rw (c.take.ensures.limit, c.take.ensures.inner, c.new-octets.ensures.items) at c.in-Ok.ensures.bytes)
+    (rw c.as_slice.ensures.value at complains)))
     c.commands_said.ensures.fault

@@ -6,7 +6,8 @@ use Rattle.macs_program.proofs.check.commands_said.Goals as goal
 
 pub returns-then-octets-gt-MAX_FILE-clause-fault : goal.returns-then-octets-gt-MAX_FILE-clause-fault
 returns-then-octets-gt-MAX_FILE-clause-fault c =
-    complains-weaker _ (IsSaidOfFile c.args.octets.now) c.failure_saying.result (λ said is. inl (omega (arith, c.if-octets-gt-MAX_FILE.true), is))
+    complains-weaker _ (IsSaidOfFile c.args.octets.now) c.failure_saying.result
+    (λ said is. inl (omega (arith, c.if-octets-gt-MAX_FILE.true), is))
     (c.failure_saying.ensures _ c.from_str-text.ensures.ok)
 
 pub returns-in_default-clause-fault : goal.returns-in_default-clause-fault

@@ -9,11 +9,13 @@ pub returns-then-not-is_unused-clause-found : goal.returns-then-not-is_unused-cl
 returns-then-not-is_unused-clause-found g c = λ behaves sure.
     let inv = c.loop-number.invariant in
     let number = c.loop-number.number in
-    let octets = carried (λ (f : FileState). c.read_sector.new.sector ≡ sector_in f number) _ _ (inv.1 behaves) behaves sure
+    let octets =
+    carried (λ (f : FileState). c.read_sector.new.sector ≡ sector_in f number) _ _ (inv.1 behaves) behaves sure
     c.in_ok-read_sector.ensures.octets in (
       λ is. cc,
       λ blank.
-          let is = c.is_unused.ensures.1 (subst (λ (s : List ℕ). IsUnused number s) (sym octets) (blank number c.loop-number-test.true)) in
+          let is = c.is_unused.ensures.1
+          (subst (λ (s : List ℕ). IsUnused number s) (sym octets) (blank number c.loop-number-test.true)) in
           let not_unused = c.if-not-is_unused.true in
           cc,
     )
@@ -26,7 +28,8 @@ loop-number-preserved g c =
       c.in_ok-read_sector.ensures.steady ∙ inv.0,
       λ behaves. c.in_ok-read_sector.ensures.same (inv.0 ∙ behaves) ∙ inv.1 behaves,
       λ behaves sure k below.
-          let octets = carried (λ (f : FileState). c.read_sector.new.sector ≡ sector_in f number) _ _ (inv.1 behaves) behaves sure
+          let octets = carried (λ (f : FileState). c.read_sector.new.sector ≡ sector_in f number) _ _ (inv.1 behaves)
+          behaves sure
           c.in_ok-read_sector.ensures.octets in
           let here : IsUnused number (sector_in file number) =
           subst (λ (s : List ℕ). IsUnused number s) octets (c.is_unused.ensures.0 c.if-not-is_unused.false) in
@@ -39,5 +42,7 @@ loop-number-preserved g c =
     )
 
 pub returns-clause-found : goal.returns-clause-found
-returns-clause-found g c = λ behaves sure.
-    (λ is k below. c.loop-number.invariant.2 behaves sure k (omega (arith, below, c.loop-number-test.false)), λ blank. refl)
+returns-clause-found g c = λ behaves sure. (
+  λ is k below. c.loop-number.invariant.2 behaves sure k (omega (arith, below, c.loop-number-test.false)),
+  λ blank. refl,
+)

@@ -2,11 +2,13 @@ use Rattle.std.proofs.Common.{◌≡◌, ◌↔◌, ◌∙◌, IsTrue, List, ℕ
 use Rattle.macs_record.specs.Heads.{Head, IsHeadOf}
 use Rattle.macs_program.specs.Contents.{IsPartOf}
 use Rattle.macs_program.proofs.contents.is_unused.Goals as goal
-use Rattle.macs_program.proofs.contents.is_unused.Goals.{else-number-eq0-via-then-number-eq0+else-is_head, else-number-eq0-via-else-number-eq0}
+use Rattle.macs_program.proofs.contents.is_unused.Goals.{else-number-eq0-via-then-number-eq0+else-is_head}
+use Rattle.macs_program.proofs.contents.is_unused.Goals.{else-number-eq0-via-else-number-eq0}
 
 pub returns : goal.returns
 returns c =
-    let part = subst (λ (whole : List ℕ). IsTrue c.is_part_of.result ↔ IsPartOf c.args.sector.now whole) c.leftover.ensures c.is_part_of.ensures in
+    let part = subst (λ (whole : List ℕ). IsTrue c.is_part_of.result ↔ IsPartOf c.args.sector.now whole)
+    c.leftover.ensures c.is_part_of.ensures in
     let no_head : (zero : c.args.number ≡ 0) (head : Head) → ¬ IsHeadOf head c.args.sector.now = λ zero head is.
     elim c.else-number-eq0.branch [
       | else-number-eq0-via-then-number-eq0+else-is_head w ↦ absurd (

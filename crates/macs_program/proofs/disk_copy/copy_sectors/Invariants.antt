@@ -13,4 +13,5 @@ invariant-loop-at g l =
     ((g.F.DiskFile.file l.file).behaves ≡ file.behaves)
     × (Behaves file → g.F.DiskFile.file l.file ≡ file)
     × ((disk_of l.copy).sectors ≡ least_sectors)
-    × (Behaves file → IsSure file → (k : ℕ) → k < l.at → (now (disk_of l.copy)).seen k ≡ sector_in file (number_of l.layout k))
+    × (Behaves file → IsSure file → (k : ℕ) → k < l.at
+    → (now (disk_of l.copy)).seen k ≡ sector_in file (number_of l.layout k))

@@ -24,7 +24,8 @@ pub returns-in-Ok-clause-ended : goal.returns-in-Ok-clause-ended
 returns-in-Ok-clause-ended c =
     let (content, has, figures) = c.in-Ok.ensures.found in
     IfErr-weaker c.tell.result _ _
-    (λ failure. not-told (disk_of c.args.copy) (disk_of c.in-Ok.found.disk) failure content has c.in-Ok.ensures.seen c.in-Ok.ensures.sectors)
+    (λ failure. not-told (disk_of c.args.copy) (disk_of c.in-Ok.found.disk) failure content has c.in-Ok.ensures.seen
+    c.in-Ok.ensures.sectors)
     (c.tell.ensures.ended c.in-Ok.found.disk c.open.ensures)
 
 pub tell_refused-requires-clause-room : goal.tell_refused-requires-clause-room
@@ -39,11 +40,13 @@ pub returns-in-Err-clause-told : goal.returns-in-Err-clause-told
 returns-in-Err-clause-told c =
     IfOk-weaker c.tell_refused.result _ _ (λ said all.
     let (bad, says) = all in
-    inr (subst (λ (i : Image). SaysFault i (string_bytes said.text) said.status) (c.in-Err.ensures.left bad).1 says)) c.tell_refused.ensures.told
+    inr (subst (λ (i : Image). SaysFault i (string_bytes said.text) said.status) (c.in-Err.ensures.left bad).1 says))
+    c.tell_refused.ensures.told
 
 pub returns-in-Err-clause-ended : goal.returns-in-Err-clause-ended
 returns-in-Err-clause-ended c =
     IfErr-weaker c.tell_refused.result _ _ (λ failure ends. elim ends [
       | inl memory ↦ inl memory
-      | inr (other, is) ↦ not-found (disk_of c.args.copy) c.in-Err.refused.fault failure is other c.in-Err.ensures.refused
+      | inr (other, is) ↦ not-found (disk_of c.args.copy) c.in-Err.refused.fault failure is other
+          c.in-Err.ensures.refused
     ]) c.tell_refused.ensures.ended

@@ -19,7 +19,8 @@ returns-in_err-found-clause-left c =
     let left = c.in_err-found.field-0.0 in
     let risen = err_from_is_err_and c.from_residual.result c.from_residual.ensures.1 in
     let opening = c.in_err-found.ensures.opening in
-    rw (risen.1, risen.2) (λ bad. left-bad (disk_of c.args.copy) (disk_of left.disk) left.fault bad (λ other. opening.found other refl)
+    rw (risen.1, risen.2)
+    (λ bad. left-bad (disk_of c.args.copy) (disk_of left.disk) left.fault bad (λ other. opening.found other refl)
     opening.works.sectors (opening.unwritten refl))
 
 pub returns-clause-found : goal.returns-clause-found
@@ -29,14 +30,17 @@ returns-clause-found c =
     let content = content_of found.journal (take found.used c.recover_into.new.room) in (
       content,
       (is.found refl).1,
-      figures-read found.format c.area.result c.generation.result c.used.result content is.form c.area.ensures c.generation.ensures
+      figures-read found.format c.area.result c.generation.result c.used.result content is.form c.area.ensures
+          c.generation.ensures
           (c.used.ensures ∙ sym is.used),
     )
 
 pub returns-clause-seen : goal.returns-clause-seen
 returns-clause-seen c =
-    ap (λ (m : MemDisk Global). (now (disk_of m)).seen) c.into_disk.ensures ∙ ap (λ (s : DiskState). s.seen) (c.in_ok-found.ensures.opening.device.settled refl)
+    ap (λ (m : MemDisk Global). (now (disk_of m)).seen) c.into_disk.ensures
+    ∙ ap (λ (s : DiskState). s.seen) (c.in_ok-found.ensures.opening.device.settled refl)
 
 pub returns-clause-sectors : goal.returns-clause-sectors
 returns-clause-sectors c =
-    ap (λ (m : MemDisk Global). (disk_of m).sectors) c.into_disk.ensures ∙ c.in_ok-found.ensures.opening.device.works.sectors
+    ap (λ (m : MemDisk Global). (disk_of m).sectors) c.into_disk.ensures
+    ∙ c.in_ok-found.ensures.opening.device.works.sectors

@@ -13,4 +13,5 @@ returns-in-Ok-clause-told c = λ disk opening.
 pub returns-clause-ended : goal.returns-clause-ended
 returns-clause-ended c = λ disk opening.
     let refuses = rw c.in-Err.is at opening in
-    refused-so (disk_of disk) c.in-Err.refused.fault c.failure_in_memory.result c.failure_in_memory.ensures (λ other. refuses.found other refl)
+    refused-so (disk_of disk) c.in-Err.refused.fault c.failure_in_memory.result c.failure_in_memory.ensures
+    (λ other. refuses.found other refl)

@@ -5,4 +5,5 @@ use Rattle.macs_program.specs.Examining.{channel_ceilings_text}
 use Rattle.macs_program.proofs.examined_text.channels_text.Given as goal
 
 abbrev pub invariant-loop-sci : goal.invariant-loop-sci
-invariant-loop-sci g l = string_bytes l.text ≡ [] ++ concat (map (channel_ceilings_text (standing_in l.store)) (take l.sci-index l.sci-items))
+invariant-loop-sci g l = string_bytes l.text
+    ≡ [] ++ concat (map (channel_ceilings_text (standing_in l.store)) (take l.sci-index l.sci-items))

@@ -5,7 +5,8 @@ use Rattle.macs_program.proofs.examined_text.examined_text.Goals as goal
 
 pub returns : goal.returns
 returns g c =
-    let ended = subst (λ (x : Config). IfOk c.end_text.result (λ text. string_bytes text ≡ end_text x)) c.config.ensures.config c.end_text.ensures in
+    let ended = subst (λ (x : Config). IfOk c.end_text.result (λ text. string_bytes text ≡ end_text x))
+    c.config.ensures.config c.end_text.ensures in
     let with-1 = c.joined-text.ensures _ _ c.channels_text.ensures ended in
     let with-2 = c.joined-text-2.ensures _ _ c.tx_text.ensures with-1 in
     c.joined.ensures _ _ c.figures_text.ensures with-2

@@ -5,7 +5,8 @@ pub returns-then-slot-ge-SLOTS-clause-none : goal.returns-then-slot-ge-SLOTS-cla
 returns-then-slot-ge-SLOTS-clause-none c = λ none. record {
   free = c.sound_slots-slot.result;
   before = c.sound_slots-slot.ensures.before;
-  behind = inl (let most = c.sound_slots-slot.ensures.most in let past = c.if-slot-ge-SLOTS.true in omega (arith, most, past));
+  behind = inl (let most = c.sound_slots-slot.ensures.most in let past = c.if-slot-ge-SLOTS.true in
+      omega (arith, most, past));
 }
 
 pub returns-then-counts-clause-first : goal.returns-then-counts-clause-first

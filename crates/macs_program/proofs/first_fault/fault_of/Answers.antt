@@ -26,7 +26,8 @@ pub returns-in-Current-clause-first : goal.returns-in-Current-clause-first
 returns-in-Current-clause-first c =
     let image = (now (disk_of c.args.copy.now)).durable in
     let current = rw c.in-Current.is at (c.choose.ensures image c.head_in.ensures c.head_in-2.ensures) in
-    some-weaker c.current_fault.result _ _ (λ at fault. inr (c.in-Current.area, c.in-Current.head, current, fault)) c.current_fault.ensures.first
+    some-weaker c.current_fault.result _ _ (λ at fault. inr (c.in-Current.area, c.in-Current.head, current, fault))
+    c.current_fault.ensures.first
 
 pub returns-in-Current-clause-none : goal.returns-in-Current-clause-none
 returns-in-Current-clause-none c = λ none bad.

@@ -14,7 +14,8 @@ loop-behind-preserved c =
         | inl before ↦ inv.1 k above before opens
         | inr here ↦
             let same : k ≡ c.loop-behind.behind = omega (arith, below, here) in
-            let yes = c.is_gate_open.ensures.1 (subst (λ (n : ℕ). IsGateOpen (now (disk_of c.args.copy.now)).durable c.args.area (n + 1)) same opens) in
+            let yes = c.is_gate_open.ensures.1 (subst
+            (λ (n : ℕ). IsGateOpen (now (disk_of c.args.copy.now)).durable c.args.area (n + 1)) same opens) in
             let no = c.if-is_gate_open.false in
             absurd cc
       ],
@@ -22,12 +23,18 @@ loop-behind-preserved c =
 
 pub returns-then-is_gate_open : goal.returns-then-is_gate_open
 returns-then-is_gate_open c = (
-  λ is. (c.loop-behind.behind, c.loop-behind.invariant.0, c.loop-behind-test.true, c.is_gate_open.ensures.0 c.if-is_gate_open.true),
+  λ is. (
+    c.loop-behind.behind,
+    c.loop-behind.invariant.0,
+    c.loop-behind-test.true,
+    c.is_gate_open.ensures.0 c.if-is_gate_open.true,
+  ),
   λ has. refl,
 )
 
 pub returns : goal.returns
 returns c = (
   λ is. cc,
-  λ has. absurd (c.loop-behind.invariant.1 has.0 has.1 (let within = has.2 in let past = c.loop-behind-test.false in omega (arith, within, past)) has.3),
+  λ has. absurd (c.loop-behind.invariant.1 has.0 has.1 (let within = has.2 in let past = c.loop-behind-test.false in
+      omega (arith, within, past)) has.3),
 )

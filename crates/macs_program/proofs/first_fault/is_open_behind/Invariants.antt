@@ -7,4 +7,5 @@ use Rattle.macs_program.proofs.first_fault.is_open_behind.Given as goal
 -- the gates so far are closed
 abbrev pub invariant-loop-behind : goal.invariant-loop-behind
 invariant-loop-behind l =
-    (l.slot < l.behind) × ((k : ℕ) → l.slot < k → k < l.behind → ¬ IsGateOpen (now (disk_of l.copy)).durable l.area (k + 1))
+    (l.slot < l.behind)
+    × ((k : ℕ) → l.slot < k → k < l.behind → ¬ IsGateOpen (now (disk_of l.copy)).durable l.area (k + 1))

@@ -10,7 +10,8 @@ loop-slot-preserved c = λ j below. elim (cases_lt j c.loop-slot.slot) [
   | inl before ↦ c.loop-slot.invariant j before
   | inr behind ↦
       let same : c.loop-slot.slot ≡ j = omega (arith, below, behind) in
-      subst (λ (n : ℕ). IsSound (now (disk_of c.args.copy.now)).durable c.args.area c.args.count n) same (c.is_sound.ensures.0 c.if-not-is_sound.false)
+      subst (λ (n : ℕ). IsSound (now (disk_of c.args.copy.now)).durable c.args.area c.args.count n) same
+      (c.is_sound.ensures.0 c.if-not-is_sound.false)
 ]
 
 pub returns-then-not-is_sound-clause-next : goal.returns-then-not-is_sound-clause-next

@@ -8,12 +8,15 @@ returns-clause-printed g c =
     IfOk-weaker c.inspect_capture.result _ _ (λ status all. ((_, _, all.0), all.1)) c.inspect_capture.ensures.runs.done
 
 pub returns-clause-ended : goal.returns-clause-ended
-returns-clause-ended g c = IfErr-weaker c.inspect_capture.result _ _ (λ failure stops. inr (_, _, stops)) c.inspect_capture.ensures.runs.stopped
+returns-clause-ended g c = IfErr-weaker c.inspect_capture.result _ _ (λ failure stops. inr (_, _, stops))
+    c.inspect_capture.ensures.runs.stopped
 
 pub returns-clause-failed : goal.returns-clause-failed
 returns-clause-failed g c =
-    IfErr-weaker c.inspect_capture.result _ _ (λ failure stops. of-inspecting _ _ _ _ failure stops) c.inspect_capture.ensures.runs.stopped
+    IfErr-weaker c.inspect_capture.result _ _ (λ failure stops. of-inspecting _ _ _ _ failure stops)
+    c.inspect_capture.ensures.runs.stopped
 
 pub returns-clause-front : goal.returns-clause-front
 returns-clause-front g c =
-    IfErr-weaker c.inspect_capture.result _ _ (λ failure stops. front-printed _ _ _ _ failure stops) c.inspect_capture.ensures.runs.stopped
+    IfErr-weaker c.inspect_capture.result _ _ (λ failure stops. front-printed _ _ _ _ failure stops)
+    c.inspect_capture.ensures.runs.stopped

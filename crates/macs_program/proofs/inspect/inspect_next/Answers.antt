@@ -7,9 +7,11 @@ use Rattle.macs_program.proofs.inspect.inspect_next.Goals as goal
 pub returns-clause-next : goal.returns-clause-next
 returns-clause-next g c =
     let items = c.read_record.new.into.items in
-    let read = read_as c.args.big c.args.count _ (g.R.Source.state c.args.source.now) (g.R.Source.state c.read_record.new.source) items
+    let read = read_as c.args.big c.args.count _ (g.R.Source.state c.args.source.now)
+    (g.R.Source.state c.read_record.new.source) items
     c.in_ok-_stamp.field-0 c.in-Some._stamp c.in-Some.is c.in_ok-_stamp.ensures in
-    let line = subst (λ frame. IsLineOf (c.from.result + 1) frame (string_bytes c.in_ok-line.line)) c.as_slice.ensures.value c.in_ok-line.ensures in
+    let line = subst (λ frame. IsLineOf (c.from.result + 1) frame (string_bytes c.in_ok-line.line))
+    c.as_slice.ensures.value c.in_ok-line.ensures in
     let said = subst (λ n. IsLineOf (n + 1) items (string_bytes c.in_ok-line.line)) c.from.ensures line in (
       record { stamp = c.in-Some._stamp; frame = items },
       _,

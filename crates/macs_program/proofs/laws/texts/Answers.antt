@@ -1,5 +1,6 @@
 use Rattle.macs_program.proofs.ExamineDrawn.{about-texts, examine-texts}
-use Rattle.macs_program.proofs.TextDrawn.{capture-octets, check-texts, failure-texts, fault-orders, frame-texts, line-texts, show-texts}
+use Rattle.macs_program.proofs.TextDrawn.{capture-octets, check-texts, failure-texts, fault-orders, frame-texts}
+use Rattle.macs_program.proofs.TextDrawn.{line-texts, show-texts}
 use Rattle.macs_program.proofs.laws.texts.Goals as goal
 
 pub returns-clause-lines : goal.returns-clause-lines

@@ -43,11 +43,14 @@ returns-in_err-admit-clause-refused g c =
           let still : Behaves now = ap (λ (f : FileState). f.behaves) settles.3 ∙ behaves in
           let sure = ap (λ (f : FileState). f.is_sure) settles.3 in
           let count : c.sectors-sectors.result ≡ (file c.args.file).size / 512 =
-          c.sectors-sectors.ensures.count ∙ ap (λ (n : ℕ). n / 512) (settled.1 ∙ ap (λ (f : FileState). f.size) settles.3) in
-          taken c.args.how.is_over (file c.args.file) now c.sectors-sectors.result fault settles count (c.in_err-admit.ensures.refused still sure fault (ap Err told)),
+          c.sectors-sectors.ensures.count
+          ∙ ap (λ (n : ℕ). n / 512) (settled.1 ∙ ap (λ (f : FileState). f.size) settles.3) in
+          taken c.args.how.is_over (file c.args.file) now c.sectors-sectors.result fault settles count
+          (c.in_err-admit.ensures.refused still sure fault (ap Err told)),
     ))
 
 pub returns-in_err-into_blank_disk-clause-refused : goal.returns-in_err-into_blank_disk-clause-refused
 returns-in_err-into_blank_disk-clause-refused g c =
-    let p = err_from_is_err_and c.from_residual-in_err-into_blank_disk.result c.from_residual-in_err-into_blank_disk.ensures.1 in
+    let p = err_from_is_err_and c.from_residual-in_err-into_blank_disk.result
+    c.from_residual-in_err-into_blank_disk.ensures.1 in
     rw p.1 (inl (c.in_err-into_blank_disk.field-0.0, p.2))

@@ -13,11 +13,14 @@ returns-clause-formats g c =
     let disk = c.in_ok-disk.disk in
     record {
       blank = disk;
-      free = subst (λ f. Behaves (file f) → IsFree c.args.how.is_over (file f)) (sym c.in_ok-disk.ensures.given) c.in_ok-disk.ensures.free;
-      made = subst (λ f. Behaves (file f) → IsBlank (file f) (file disk.file) c.args.how.layout (disk_in_file file disk))
+      free = subst (λ f. Behaves (file f) → IsFree c.args.how.is_over (file f)) (sym c.in_ok-disk.ensures.given)
+          c.in_ok-disk.ensures.free;
+      made =
+          subst (λ f. Behaves (file f) → IsBlank (file f) (file disk.file) c.args.how.layout (disk_in_file file disk))
           (sym c.in_ok-disk.ensures.given) c.in_ok-disk.ensures.blank;
       new = c.format.new.disk;
-      formats = subst (λ result. IsFormat (disk_in_file file) disk c.args.identity.now result c.format.new.disk) c.in_ok-format.was c.format.ensures;
+      formats = subst (λ result. IsFormat (disk_in_file file) disk c.args.identity.now result c.format.new.disk)
+          c.in_ok-format.was c.format.ensures;
     }
 
 pub returns-in_err-file-clause-refused : goal.returns-in_err-file-clause-refused
@@ -45,5 +48,6 @@ returns-in_err-format-clause-refused g c =
       c.format.new.disk,
       c.in_err-format.field-0.0,
       p.2,
-      subst (λ result. IsFormat (disk_in_file file) disk c.args.identity.now result c.format.new.disk) c.in_err-format.was c.format.ensures,
+      subst (λ result. IsFormat (disk_in_file file) disk c.args.identity.now result c.format.new.disk)
+          c.in_err-format.was c.format.ensures,
     )))

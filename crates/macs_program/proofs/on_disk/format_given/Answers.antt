@@ -5,13 +5,15 @@ use Rattle.macs_program.proofs.on_disk.format_given.Goals as goal
 pub returns-in_err-format_disk : goal.returns-in_err-format_disk
 returns-in_err-format_disk g c =
     let p = err_from_is_err_and c.from_residual.result c.from_residual.ensures.1 in
-    not-made _ _ _ _ _ _ _ c.in_err-format_disk.field-0.0 p.0 c.from_residual.result p.1 p.2 c.in_err-format_disk.ensures.refused
+    not-made _ _ _ _ _ _ _ c.in_err-format_disk.field-0.0 p.0 c.from_residual.result p.1 p.2
+    c.in_err-format_disk.ensures.refused
     c.in_err-format_disk.ensures.failed
 
 pub returns-in_err-print : goal.returns-in_err-print
 returns-in_err-print g c =
     let p = err_from_is_err_and c.from_residual-in_err-print.result c.from_residual-in_err-print.ensures.1 in
-    not-told _ _ _ _ _ _ _ _ c.in_err-print.field-0.0 p.0 c.from_residual-in_err-print.result p.1 p.2 c.in_err-print.ensures.failed
+    not-told _ _ _ _ _ _ _ _ c.in_err-print.field-0.0 p.0 c.from_residual-in_err-print.result p.1 p.2
+    c.in_err-print.ensures.failed
     c.in_err-print.ensures.broken
 
 pub returns : goal.returns

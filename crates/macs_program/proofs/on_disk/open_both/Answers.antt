@@ -11,7 +11,8 @@ returns-in_err-source-clause-front g c =
 pub returns-in_err-sink-clause-front : goal.returns-in_err-sink-clause-front
 returns-in_err-sink-clause-front g c =
     let p = err_from_is_err_and c.from_residual-in_err-sink.result c.from_residual-in_err-sink.ensures.1 in
-    rw p.1 (inr (asked-both _ (g.C.Captures.asked c.open.new.self) _ _ _ c.in_ok-source.ensures.opened c.in_err-sink.ensures.refused))
+    rw p.1 (inr (asked-both _ (g.C.Captures.asked c.open.new.self) _ _ _ c.in_ok-source.ensures.opened
+    c.in_err-sink.ensures.refused))
 
 pub returns-clause-order : goal.returns-clause-order
 returns-clause-order g c =

@@ -19,4 +19,5 @@ returns-clause-asks g c = both _ _ _ _ c.pass_frames.result c.in_ok-source.ensur
 pub returns-clause-passes : goal.returns-clause-passes
 returns-clause-passes g c =
     let said = c.pass_frames.ensures in
-    frames-passed _ _ _ c.args.side c.args.is_all _ _ _ _ _ _ _ _ c.pass_frames.result said.printed said.ended said.failed said.silent said.broken
+    frames-passed _ _ _ c.args.side c.args.is_all _ _ _ _ _ _ _ _ c.pass_frames.result said.printed said.ended
+    said.failed said.silent said.broken

@@ -7,8 +7,10 @@ pub returns-in_err-addresses : goal.returns-in_err-addresses
 returns-in_err-addresses g c =
     let p = err_from_is_err_and c.from_residual.result c.from_residual.ensures.1 in
     let all =
-    refused-in g.T.File.DiskFile.file g.W.Stream.contents g.W.Stream.failed c.args.controlled c.args.common (course_of c.args.running) c.args.out.now
-    c.addresses_of.result c.addresses_of.ensures.fault c.in_err-addresses.field-0.0 p.0 c.from_residual.result c.in_err-addresses.was p.1 p.2 in
+    refused-in g.T.File.DiskFile.file g.W.Stream.contents g.W.Stream.failed c.args.controlled c.args.common
+    (course_of c.args.running) c.args.out.now
+    c.addresses_of.result c.addresses_of.ensures.fault c.in_err-addresses.field-0.0 p.0 c.from_residual.result
+    c.in_err-addresses.was p.1 p.2 in
     record {
       printed = all.printed;
       address = all.address;
@@ -23,9 +25,11 @@ pub returns : goal.returns
 returns g c =
     let words = c.in_ok-addresses in
     let all =
-    relayed-in g.T.File.DiskFile.file g.W.Stream.contents g.W.Stream.failed c.args.controlled c.args.common (course_of c.args.running) c.args.out.now
+    relayed-in g.T.File.DiskFile.file g.W.Stream.contents g.W.Stream.failed c.args.controlled c.args.common
+    (course_of c.args.running) c.args.out.now
     c.addresses_of.result c.addresses_of.ensures.fault words.addresses c.with_file.new.out c.with_file.result words.was
-    (words.addresses.controlled, words.addresses.common, words.ensures.controlled, words.ensures.common) c.with_file.ensures in
+    (words.addresses.controlled, words.addresses.common, words.ensures.controlled, words.ensures.common)
+    c.with_file.ensures in
     record {
       printed = all.printed;
       address = all.address;

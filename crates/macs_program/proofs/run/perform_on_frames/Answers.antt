@@ -2,7 +2,8 @@ use Rattle.macs_program.proofs.Performed.{judges, protects, relays, validates, v
 use Rattle.macs_program.proofs.run.perform_on_frames.Goals as goal
 
 pub returns-in-Protect : goal.returns-in-Protect
-returns-in-Protect g c = λ input. rw c.in-Protect.is (protects _ _ _ input _ _ _ _ _ _ _ c.pass.ensures.printed c.pass.ensures.failed c.pass.ensures.silent c.pass.ensures.ended c.pass.ensures.broken)
+returns-in-Protect g c = λ input. rw c.in-Protect.is (protects _ _ _ input _ _ _ _ _ _ _ c.pass.ensures.printed
+    c.pass.ensures.failed c.pass.ensures.silent c.pass.ensures.ended c.pass.ensures.broken)
 
 pub returns-then-is_each : goal.returns-then-is_each
 returns-then-is_each g c = λ input.
@@ -17,4 +18,5 @@ returns-else-is_each g c = λ input.
     c.pass-else-is_each.ensures.silent c.pass-else-is_each.ensures.ended c.pass-else-is_each.ensures.broken))
 
 pub returns-in-Relay : goal.returns-in-Relay
-returns-in-Relay g c = λ input. rw c.in-Relay.is (relays _ _ _ input _ _ _ _ _ _ _ c.relay.ensures.printed c.relay.ensures.usage c.relay.ensures.silent c.relay.ensures.ended c.relay.ensures.broken)
+returns-in-Relay g c = λ input. rw c.in-Relay.is (relays _ _ _ input _ _ _ _ _ _ _ c.relay.ensures.printed
+    c.relay.ensures.usage c.relay.ensures.silent c.relay.ensures.ended c.relay.ensures.broken)

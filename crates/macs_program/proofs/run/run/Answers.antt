@@ -4,19 +4,29 @@ use Rattle.macs_program.specs.Failing.{failure_status}
 use Rattle.macs_program.proofs.run.run.Goals as goal
 
 pub returns-in-Err-clause-usage : goal.returns-in-Err-clause-usage
-returns-in-Err-clause-usage g c = λ code. c.in-Err.ensures.usage (code-usage (failure_status c.in-Err.failure) (sym c.report.ensures.status ∙ code))
+returns-in-Err-clause-usage g c =
+    λ code. c.in-Err.ensures.usage (code-usage (failure_status c.in-Err.failure) (sym c.report.ensures.status ∙ code))
 
 pub returns-in-Err-clause-disk : goal.returns-in-Err-clause-disk
-returns-in-Err-clause-disk g c = λ code. c.in-Err.ensures.disk (code-disk (failure_status c.in-Err.failure) (sym c.report.ensures.status ∙ code))
+returns-in-Err-clause-disk g c =
+    λ code. c.in-Err.ensures.disk (code-disk (failure_status c.in-Err.failure) (sym c.report.ensures.status ∙ code))
 
 pub returns-in-Err-clause-help : goal.returns-in-Err-clause-help
-returns-in-Err-clause-help g c = λ code. c.in-Err.ensures.help (code-usage (failure_status c.in-Err.failure) (sym c.report.ensures.status ∙ code))
+returns-in-Err-clause-help g c =
+    λ code. c.in-Err.ensures.help (code-usage (failure_status c.in-Err.failure) (sym c.report.ensures.status ∙ code))
 
 pub returns-in-Ok-clause-reported : goal.returns-in-Ok-clause-reported
 returns-in-Ok-clause-reported g c = not-failed c.in-Ok.status c.code.result c.in-Ok.ensures.status c.code.ensures
 
 pub returns-in-Err-clause-reported : goal.returns-in-Err-clause-reported
-returns-in-Err-clause-reported g c = λ done refused. (c.in-Err.failure, c.report.ensures.status, c.report.ensures.printed, c.in-Err.ensures.fails, c.in-Err.ensures.before, c.in-Err.ensures.broken)
+returns-in-Err-clause-reported g c = λ done refused. (
+  c.in-Err.failure,
+  c.report.ensures.status,
+  c.report.ensures.printed,
+  c.in-Err.ensures.fails,
+  c.in-Err.ensures.before,
+  c.in-Err.ensures.broken,
+)
 
 pub returns-in-Err-clause-replied : goal.returns-in-Err-clause-replied
 returns-in-Err-clause-replied g c = no-success c.in-Err.failure c.report.result c.report.ensures.status

@@ -17,4 +17,9 @@ pub returns-in_ok-copy-in-Ok-clause-ended : goal.returns-in_ok-copy-in-Ok-clause
 returns-in_ok-copy-in-Ok-clause-ended g c =
     let said = c.in_ok-copy-in-Ok.ensures in
     IfErr-weaker c.try_on.result _ _
-    (λ failure ends. inr (inr (c.in-Ok.file, c.in_ok-copy-in-Ok.copy, (λ behaves. (said.whole behaves, said.enough behaves, said.copied behaves)), ends))) c.try_on.ensures.ended
+    (λ failure ends. inr (inr (
+      c.in-Ok.file,
+      c.in_ok-copy-in-Ok.copy,
+      (λ behaves. (said.whole behaves, said.enough behaves, said.copied behaves)),
+      ends,
+    ))) c.try_on.ensures.ended

@@ -14,7 +14,8 @@ returns-in-Ok-clause-tried c = λ copy opening.
 
 pub returns-in-Ok-clause-ended : goal.returns-in-Ok-clause-ended
 returns-in-Ok-clause-ended c = λ copy opening.
-    IfErr-weaker c.try_commands.result _ _ (λ failure ends. inr (c.in-Ok.endpoint, rw c.in-Ok.is at opening, ends)) c.try_commands.ensures.ended
+    IfErr-weaker c.try_commands.result _ _ (λ failure ends. inr (c.in-Ok.endpoint, rw c.in-Ok.is at opening, ends))
+    c.try_commands.ensures.ended
 
 pub returns-clause-ended : goal.returns-clause-ended
 returns-clause-ended c = λ copy opening.

@@ -13,7 +13,8 @@ pub returns-then-is_zero : goal.returns-then-is_zero
 returns-then-is_zero c =
     let size : length c.new-reader.result ≡ 512 = rw c.new-reader.ensures (search rules) in
     subst (λ (s : List ℕ). (head : Head) → (Some c.in_ok-head.head ≡ Some head) ↔ IsHeadOf head s) c.new-reader.ensures
-    (decoded c.new-reader.result c.read_head.new.from c.in_ok-head.head size c.in_ok-head.ensures.some c.in_ok-head.ensures.found
+    (decoded c.new-reader.result c.read_head.new.from c.in_ok-head.head size c.in_ok-head.ensures.some
+    c.in_ok-head.ensures.found
     (c.is_zero.ensures.0 c.if-is_zero.true))
 
 pub returns-else-is_zero : goal.returns-else-is_zero

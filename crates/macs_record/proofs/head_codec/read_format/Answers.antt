@@ -17,7 +17,8 @@ returns-in_err-version-clause-found c = λ format rest here.
 
 pub returns-then-eq-clause-some : goal.returns-then-eq-clause-some
 returns-then-eq-clause-some c =
-    let marked : c.in_ok-mark.mark ≡ head_mark = (bytes_eq-Decides c.in_ok-mark.mark head_mark).0 (sym c.eq.ensures ∙ c.if-eq.true) in
+    let marked : c.in_ok-mark.mark ≡ head_mark =
+    (bytes_eq-Decides c.in_ok-mark.mark head_mark).0 (sym c.eq.ensures ∙ c.if-eq.true) in
     version_read c.of.result c.in_ok-version.version _ _ c.of.ensures.some
     (c.in_ok-mark.ensures.some.1 ∙ ap (λ (front : List ℕ). front ++ c.octets.new.self) marked
     ∙ ap (λ (rest : List ℕ). head_mark ++ rest) c.in_ok-version.ensures.some.1)
@@ -34,4 +35,5 @@ returns-else-eq-clause-found c = λ format rest here.
     let first = c.in_ok-mark.ensures.found head_mark (to_be_bytes w32 (version_of format) ++ rest) refl here in
     let marks = first.0 in
     let marked : c.in_ok-mark.mark ≡ head_mark = cc in
-    let same = (bytes_eq-Decides c.in_ok-mark.mark head_mark).1 marked in let differ = c.if-eq.false in let is = c.eq.ensures in absurd cc
+    let same = (bytes_eq-Decides c.in_ok-mark.mark head_mark).1 marked in let differ = c.if-eq.false in
+    let is = c.eq.ensures in absurd cc

@@ -21,7 +21,8 @@ returns c = λ sci an key start offset told is.
     (decimal_lacks an (omega (arith, told.0.1))) in
     let d = cut_at second.rest.now third.word.now third.rest.now (key_digits key) after_key c.cut-third.ensures b.1
     (key_lacks key told.0.2 told.1) in
-    let e = cut_at third.rest.now fourth.word.now fourth.rest.now (decimal start) (decimal offset) c.cut-fourth.ensures d.1
+    let e =
+    cut_at third.rest.now fourth.word.now fourth.rest.now (decimal start) (decimal offset) c.cut-fourth.ensures d.1
     (decimal_lacks start (omega (arith, told.0.3))) in
     let sci_is = c.sci.ensures sci told.0.0 a.0 in
     let an_is = c.an.ensures an told.0.1 b.0 in

@@ -7,7 +7,8 @@ use Rattle.macs_requests.proofs.commands_of_lines.set_replay.Goals as goal
 pub returns : goal.returns
 returns c = λ on window told is.
     let first = c.cut-first.result in
-    let one_cut = cut_at c.args.text.now first.word.now first.rest.now (replay_word on) (decimal window) c.cut-first.ensures is
+    let one_cut =
+    cut_at c.args.text.now first.word.now first.rest.now (replay_word on) (decimal window) c.cut-first.ensures is
     (replay_lacks on) in
     let flag = c.eq.ensures ∙ on_said on first.word.now one_cut.0 in
     let size = c.number.ensures window told.0 one_cut.1 in cc

@@ -9,7 +9,8 @@ use Rattle.macs_requests.proofs.commands_of_lines.taken_for.Goals as goal
 pub returns-in-Some : goal.returns-in-Some
 returns-in-Some c = λ command told is.
     let first = c.cut-first.result in
-    let a = cut_at c.args.line.now first.word.now first.rest.now (word_of command) (fields_of command) c.cut-first.ensures is
+    let a = cut_at c.args.line.now first.word.now first.rest.now (word_of command) (fields_of command)
+    c.cut-first.ensures is
     (word_lacks command) in
     let same = some_same c.in-Some.word (command_word_of command)
     (c.in-Some.ensures ∙ ap (λ (w : List ℕ). word_read w) a.0 ∙ named command) in
@@ -18,7 +19,9 @@ returns-in-Some c = λ command told is.
 pub returns-in-None : goal.returns-in-None
 returns-in-None c = λ command told is.
     let first = c.cut-first.result in
-    let a = cut_at c.args.line.now first.word.now first.rest.now (word_of command) (fields_of command) c.cut-first.ensures is
+    let a = cut_at c.args.line.now first.word.now first.rest.now (word_of command) (fields_of command)
+    c.cut-first.ensures is
     (word_lacks command) in
-    let never : None ≡ Some (command_word_of command) = c.in-None.ensures ∙ ap (λ (w : List ℕ). word_read w) a.0 ∙ named command in
+    let never : None ≡ Some (command_word_of command) = c.in-None.ensures ∙ ap (λ (w : List ℕ). word_read w) a.0
+    ∙ named command in
     absurd cc

@@ -23,4 +23,5 @@ returns-clause-read c = λ status small is.
     (lacks 32 (codes "end") refl) in
     let wrote = c.as_str.ensures.value ∙ c.in_ok-text.ensures
     ∙ ap (λ (n : ℕ). end_line n) (c.octet-status.ensures status small a.1) in
-    absurd (other_line c.as_str.result.now c.args.line.now (end_line status) c.eq.result c.eq.ensures c.if-eq.false wrote is)
+    absurd (other_line c.as_str.result.now c.args.line.now (end_line status) c.eq.result c.eq.ensures
+    c.if-eq.false wrote is)

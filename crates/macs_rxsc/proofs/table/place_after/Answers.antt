@@ -7,9 +7,11 @@ use Rattle.macs_rxsc.specs.Value.{scis_of}
 use Rattle.macs_rxsc.proofs.table.place_after.Goals as goal
 use Rattle.macs_rxsc.proofs.table.place_after.Goals.{After-lt}
 
-tested : (c : After-lt) → c.lt.result ≡ comes_before c.args.sci (get_or (scis_of c.args.channels.now) c.loop-place.place [])
+tested : (c : After-lt)
+    → c.lt.result ≡ comes_before c.args.sci (get_or (scis_of c.args.channels.now) c.loop-place.place [])
 tested c =
-    let there = sci-at sci_of c.args.channels.now c.args.channels.now c.loop-place.place refl c.loop-place-test.true c.index-channels-place.result c.index-channels-place.is in
+    let there = sci-at sci_of c.args.channels.now c.args.channels.now c.loop-place.place refl c.loop-place-test.true
+    c.index-channels-place.result c.index-channels-place.is in
     c.lt.ensures ∙ before_by c.get.result c.get-in-loop-place.result
     ∙ ap (λ sci. comes_before sci c.get-in-loop-place.result) c.get.ensures
     ∙ ap (comes_before c.args.sci) (c.get-in-loop-place.ensures ∙ sym there)

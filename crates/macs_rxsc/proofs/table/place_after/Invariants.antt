@@ -4,4 +4,5 @@ use Rattle.macs_rxsc.specs.Value.{scis_of}
 use Rattle.macs_rxsc.proofs.table.place_after.Given as goal
 
 abbrev pub invariant-loop-place : goal.invariant-loop-place
-invariant-loop-place l = put_among l.sci (scis_of l.channels) ≡ take l.place (scis_of l.channels) ++ put_among l.sci (drop l.place (scis_of l.channels))
+invariant-loop-place l = put_among l.sci (scis_of l.channels)
+    ≡ take l.place (scis_of l.channels) ++ put_among l.sci (drop l.place (scis_of l.channels))

@@ -5,5 +5,6 @@ use Rattle.macs_rxsc.proofs.table.slide_all.Goals as goal
 
 pub loop-channel-preserved : goal.loop-channel-preserved
 loop-channel-preserved c =
-    mapped_more (channel_under c.args.window) c.args.channels.now c.loop-channel.channels c.loop-channel.channel-index c.channel-item.result c.slide.new.self
+    mapped_more (channel_under c.args.window) c.args.channels.now c.loop-channel.channels c.loop-channel.channel-index
+    c.channel-item.result c.slide.new.self
     (omega arith) c.loop-channel.invariant c.slide.ensures

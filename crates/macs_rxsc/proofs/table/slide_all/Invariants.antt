@@ -4,4 +4,5 @@ use Rattle.macs_rxsc.proofs.table.slide_all.Given as goal
 
 abbrev pub invariant-loop-channel : goal.invariant-loop-channel
 invariant-loop-channel l =
-    l.channels ≡ map (channel_under l.window) (take l.channel-index l.initial.channels) ++ drop l.channel-index l.initial.channels
+    l.channels ≡ map (channel_under l.window) (take l.channel-index l.initial.channels)
+    ++ drop l.channel-index l.initial.channels

@@ -7,11 +7,13 @@ loop-sci-preserved c =
     let few = c.loop-sci.invariant.few in
     let one = c.pass.ensures.one in
     record {
-      walked = past-channel c.args.scis.now c.args.walk.now c.loop-sci.sci-index c.sci-item.result c.loop-sci.walk c.pass.new.self
+      walked = past-channel c.args.scis.now c.args.walk.now c.loop-sci.sci-index c.sci-item.result c.loop-sci.walk
+          c.pass.new.self
           c.loop-sci-test.true c.sci-item.is c.loop-sci.invariant.walked c.pass.ensures.walked;
       few = omega (arith, few, one);
     }
 
 pub returns-clause-walked : goal.returns-clause-walked
 returns-clause-walked c =
-    past-channels c.args.scis.now c.args.walk.now c.loop-sci.sci-index c.loop-sci.walk c.loop-sci-test.false c.loop-sci.invariant.walked
+    past-channels c.args.scis.now c.args.walk.now c.loop-sci.sci-index c.loop-sci.walk c.loop-sci-test.false
+    c.loop-sci.invariant.walked

@@ -17,4 +17,5 @@ returns-in-Some-clause-walked c =
 
 pub returns-in_default-clause-walked : goal.returns-in_default-clause-walked
 returns-in_default-clause-walked c =
-    ap (λ (fingerprints : List (List ℕ)). walk_past_all c.args.walk.now (record_if_any c.args.role fingerprints)) (sym c.in_default.ensures.none)
+    ap (λ (fingerprints : List (List ℕ)). walk_past_all c.args.walk.now (record_if_any c.args.role fingerprints))
+    (sym c.in_default.ensures.none)

@@ -10,10 +10,12 @@ use Rattle.macs_store.proofs.snapshot.pass_over_fingerprints.Goals as goal
 
 pub returns-then-has_fingerprints-clause-walked : goal.returns-then-has_fingerprints-clause-walked
 returns-then-has_fingerprints-clause-walked c =
-    let fingerprints : List (List ℕ) = fingerprints_at (spent_of c.args.role (config_of c.args.config.now)) c.args.place in
+    let fingerprints : List (List ℕ) =
+    fingerprints_at (spent_of c.args.role (config_of c.args.config.now)) c.args.place in
     c.pass_over.ensures.walked (Spent c.args.role fingerprints)
     ∙ ap (λ (rs : List Record). walk_past_all c.args.walk.now rs)
-    (some-record c.args.role fingerprints fingerprints refl (c.has_fingerprints.ensures.some c.if-has_fingerprints.true))
+    (some-record c.args.role fingerprints fingerprints refl
+    (c.has_fingerprints.ensures.some c.if-has_fingerprints.true))
 
 pub returns-else-has_fingerprints-clause-walked : goal.returns-else-has_fingerprints-clause-walked
 returns-else-has_fingerprints-clause-walked c =

@@ -12,8 +12,10 @@ loop-sci-preserved c =
     let few = c.loop-sci.invariant.few in
     let more = c.pass_rx_of.ensures.few in
     record {
-      walked = past-more (rx_records_of (config_of c.args.config.now) (table_ceilings c.args.ceilings.now)) c.args.scis.now c.args.walk.now
-          c.loop-sci.sci-index c.sci-item.result c.sci-item.result c.loop-sci.walk c.pass_rx_of.new.walk c.loop-sci-test.true c.sci-item.is
+      walked = past-more (rx_records_of (config_of c.args.config.now) (table_ceilings c.args.ceilings.now))
+          c.args.scis.now c.args.walk.now
+          c.loop-sci.sci-index c.sci-item.result c.sci-item.result c.loop-sci.walk c.pass_rx_of.new.walk
+          c.loop-sci-test.true c.sci-item.is
           c.loop-sci.invariant.walked c.pass_rx_of.ensures.walked;
       few = omega (arith, few, more);
     }
@@ -21,7 +23,9 @@ loop-sci-preserved c =
 pub returns-clause-walked : goal.returns-clause-walked
 unfolding rx_records
 returns-clause-walked c =
-    past-all (rx_records_of (config_of c.args.config.now) (table_ceilings c.args.ceilings.now)) c.args.scis.now c.args.walk.now
+    past-all (rx_records_of (config_of c.args.config.now) (table_ceilings c.args.ceilings.now)) c.args.scis.now
+    c.args.walk.now
     c.loop-sci.sci-index c.loop-sci.walk c.loop-sci-test.false c.loop-sci.invariant.walked
     ∙ ap (λ (scis : List (List ℕ)). walk_past_all c.args.walk.now
-    (flat_map (rx_records_of (config_of c.args.config.now) (table_ceilings c.args.ceilings.now)) scis)) c.requires.channels
+    (flat_map (rx_records_of (config_of c.args.config.now) (table_ceilings c.args.ceilings.now)) scis))
+    c.requires.channels

@@ -12,9 +12,11 @@ loop-an-preserved c =
     let more = c.pass_rx_at.ensures.few in
     let an : ℕ = get_or c.all-an-items.result c.loop-an.an-index c.an-item.result in
     record {
-      walked = past-more (rx_records_at (config_of c.args.config.now) (table_ceilings c.args.ceilings.now) c.args.sci) every_an c.args.walk.now
+      walked = past-more (rx_records_at (config_of c.args.config.now) (table_ceilings c.args.ceilings.now) c.args.sci)
+          every_an c.args.walk.now
           c.loop-an.an-index an c.an-item.result c.loop-an.walk c.pass_rx_at.new.walk c.loop-an-test.true
-          (ap (λ (ns : List ℕ). get_or ns c.loop-an.an-index c.an-item.result) c.all-an-items.ensures) c.loop-an.invariant.walked
+          (ap (λ (ns : List ℕ). get_or ns c.loop-an.an-index c.an-item.result) c.all-an-items.ensures)
+          c.loop-an.invariant.walked
           c.pass_rx_at.ensures.walked;
       few = omega (arith, few, more);
     }
@@ -22,5 +24,6 @@ loop-an-preserved c =
 pub returns-clause-walked : goal.returns-clause-walked
 unfolding rx_records_of
 returns-clause-walked c =
-    past-all (rx_records_at (config_of c.args.config.now) (table_ceilings c.args.ceilings.now) c.args.sci) every_an c.args.walk.now
+    past-all (rx_records_at (config_of c.args.config.now) (table_ceilings c.args.ceilings.now) c.args.sci) every_an
+    c.args.walk.now
     c.loop-an.an-index c.loop-an.walk c.loop-an-test.false c.loop-an.invariant.walked

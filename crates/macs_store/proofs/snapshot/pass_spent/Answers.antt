@@ -13,9 +13,11 @@ loop-place-preserved c =
     let few = c.loop-place.invariant.few in
     let more = c.pass_spent_at.ensures.few in
     record {
-      walked = past-more (spent_records_at c.args.role (spent_of c.args.role (config_of c.args.config.now))) (range_with_len 0 35)
+      walked = past-more (spent_records_at c.args.role (spent_of c.args.role (config_of c.args.config.now)))
+          (range_with_len 0 35)
           c.args.walk.now place place place c.loop-place.walk c.pass_spent_at.new.walk c.loop-place-test.true
-          (number-at 35 place place c.loop-place-test.true) c.loop-place.invariant.walked c.pass_spent_at.ensures.walked;
+          (number-at 35 place place c.loop-place-test.true) c.loop-place.invariant.walked
+          c.pass_spent_at.ensures.walked;
       few = omega (arith, few, more);
     }
 

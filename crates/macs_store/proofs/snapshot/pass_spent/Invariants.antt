@@ -10,6 +10,7 @@ use Rattle.macs_store.proofs.snapshot.pass_spent.Given as goal
 abbrev pub invariant-loop-place : goal.invariant-loop-place
 invariant-loop-place l = record {
   walked : l.walk ≡ walk_past_all l.initial.walk
-      (flat_map (spent_records_at l.role (spent_of l.role (config_of l.config))) (take l.place (range_with_len 0 most_spent_records)));
+      (flat_map (spent_records_at l.role (spent_of l.role (config_of l.config)))
+      (take l.place (range_with_len 0 most_spent_records)));
   few : l.walk.passed ≤ l.initial.walk.passed + l.place;
 }

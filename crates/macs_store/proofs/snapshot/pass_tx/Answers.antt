@@ -12,9 +12,11 @@ loop-an-preserved c =
     let more = c.pass_tx_at.ensures.few in
     let an : ℕ = get_or c.all-an-items.result c.loop-an.an-index c.an-item.result in
     record {
-      walked = past-more (tx_records_at (config_of c.args.config.now) (table_ceilings c.args.ceilings.now)) every_an c.args.walk.now
+      walked = past-more (tx_records_at (config_of c.args.config.now) (table_ceilings c.args.ceilings.now)) every_an
+          c.args.walk.now
           c.loop-an.an-index an c.an-item.result c.loop-an.walk c.pass_tx_at.new.walk c.loop-an-test.true
-          (ap (λ (ns : List ℕ). get_or ns c.loop-an.an-index c.an-item.result) c.all-an-items.ensures) c.loop-an.invariant.walked
+          (ap (λ (ns : List ℕ). get_or ns c.loop-an.an-index c.an-item.result) c.all-an-items.ensures)
+          c.loop-an.invariant.walked
           c.pass_tx_at.ensures.walked;
       few = omega (arith, few, more);
     }

@@ -9,6 +9,7 @@ use Rattle.macs_store.proofs.snapshot.pass_tx.Given as goal
 
 abbrev pub invariant-loop-an : goal.invariant-loop-an
 invariant-loop-an l = record {
-  walked : l.walk ≡ walk_past_all l.initial.walk (flat_map (tx_records_at (config_of l.config) (table_ceilings l.ceilings)) (take l.an-index every_an));
+  walked : l.walk ≡ walk_past_all l.initial.walk
+      (flat_map (tx_records_at (config_of l.config) (table_ceilings l.ceilings)) (take l.an-index every_an));
   few : l.walk.passed ≤ l.initial.walk.passed + l.an-index;
 }

@@ -6,7 +6,9 @@ use Rattle.macs_texts.proofs.counting.channels_lines.Goals as goal
 
 pub loop-sci-preserved : goal.loop-sci-preserved
 loop-sci-preserved g c =
-    shown-more (channel_text (channel_counters_of c.args.endpoint.now.rx)) c.deref-sci-items.result.now _ c.loop-sci.sci-index _ _ []
-    (string_bytes c.loop-sci.text) (string_bytes c.push_str.new.self) c.as_str.result.now (string_bytes c.in_ok-channel_lines.field-0)
+    shown-more (channel_text (channel_counters_of c.args.endpoint.now.rx)) c.deref-sci-items.result.now _
+    c.loop-sci.sci-index _ _ []
+    (string_bytes c.loop-sci.text) (string_bytes c.push_str.new.self) c.as_str.result.now
+    (string_bytes c.in_ok-channel_lines.field-0)
     refl c.loop-sci-test.true c.sci-item.is c.loop-sci.invariant c.in_ok-push_str.ensures.bytes c.as_str.ensures.value
     c.in_ok-channel_lines.ensures

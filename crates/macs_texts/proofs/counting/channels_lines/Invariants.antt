@@ -5,4 +5,5 @@ use Rattle.macs_texts.specs.Counting.{channel_text}
 use Rattle.macs_texts.proofs.counting.channels_lines.Given as goal
 
 abbrev pub invariant-loop-sci : goal.invariant-loop-sci
-invariant-loop-sci g l = string_bytes l.text ≡ [] ++ concat (map (channel_text (channel_counters_of l.endpoint.rx)) (take l.sci-index l.sci-items))
+invariant-loop-sci g l = string_bytes l.text
+    ≡ [] ++ concat (map (channel_text (channel_counters_of l.endpoint.rx)) (take l.sci-index l.sci-items))

@@ -8,6 +8,8 @@ use Rattle.macs_texts.proofs.counting.left_lines.Goals as goal
 pub loop-an-preserved : goal.loop-an-preserved
 loop-an-preserved g c =
     shown-more (left_line (state_of c.args.endpoint.now no_logs)) c.all-an-items.result 4 c.loop-an.an-index _ _ []
-    (string_bytes c.loop-an.text) (string_bytes c.push_str.new.self) c.as_str.result.now (string_bytes c.in_ok-left_line.field-0)
-    (ap (λ (ns : List ℕ). length ns) c.all-an-items.ensures) c.loop-an-test.true refl c.loop-an.invariant c.in_ok-push_str.ensures.bytes c.as_str.ensures.value
+    (string_bytes c.loop-an.text) (string_bytes c.push_str.new.self) c.as_str.result.now
+    (string_bytes c.in_ok-left_line.field-0)
+    (ap (λ (ns : List ℕ). length ns) c.all-an-items.ensures) c.loop-an-test.true refl c.loop-an.invariant
+    c.in_ok-push_str.ensures.bytes c.as_str.ensures.value
     c.in_ok-left_line.ensures

@@ -6,4 +6,5 @@ use Rattle.macs_texts.specs.Counting.{left_line}
 use Rattle.macs_texts.proofs.counting.left_lines.Given as goal
 
 abbrev pub invariant-loop-an : goal.invariant-loop-an
-invariant-loop-an g l = string_bytes l.text ≡ [] ++ concat (map (left_line (state_of l.endpoint no_logs)) (take l.an-index l.an-items))
+invariant-loop-an g l =
+    string_bytes l.text ≡ [] ++ concat (map (left_line (state_of l.endpoint no_logs)) (take l.an-index l.an-items))

@@ -5,4 +5,5 @@ use Rattle.macs_texts.specs.Counting.{rx_line}
 use Rattle.macs_texts.proofs.counting.rx_lines.Given as goal
 
 abbrev pub invariant-loop-verdict : goal.invariant-loop-verdict
-invariant-loop-verdict g l = string_bytes l.text ≡ [] ++ concat (map (rx_line (counters_of l.endpoint.rx)) (take l.verdict-index l.verdict-items))
+invariant-loop-verdict g l = string_bytes l.text
+    ≡ [] ++ concat (map (rx_line (counters_of l.endpoint.rx)) (take l.verdict-index l.verdict-items))

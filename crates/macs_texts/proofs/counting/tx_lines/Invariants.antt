@@ -7,5 +7,6 @@ use Rattle.macs_texts.specs.Lines.{count_line}
 use Rattle.macs_texts.proofs.counting.tx_lines.Given as goal
 
 abbrev pub invariant-loop-fault : goal.invariant-loop-fault
-invariant-loop-fault g l = string_bytes l.text ≡ count_line (codes "tx") (codes "protected") (counters_of l.endpoint.tx).protected
+invariant-loop-fault g l =
+    string_bytes l.text ≡ count_line (codes "tx") (codes "protected") (counters_of l.endpoint.tx).protected
     ++ concat (map (tx_line (counters_of l.endpoint.tx)) (take l.fault-index l.fault-items))

@@ -6,4 +6,5 @@ use Rattle.macs_texts.specs.Showing.{channel_line, rx_text}
 use Rattle.macs_texts.proofs.showing.channel_text.Given as goal
 
 abbrev pub invariant-loop-an : goal.invariant-loop-an
-invariant-loop-an g l = string_bytes l.text ≡ channel_line l.sci ++ concat (map (rx_text (state_of l.endpoint no_logs) l.sci) (take l.an-index l.an-items))
+invariant-loop-an g l = string_bytes l.text
+    ≡ channel_line l.sci ++ concat (map (rx_text (state_of l.endpoint no_logs) l.sci) (take l.an-index l.an-items))

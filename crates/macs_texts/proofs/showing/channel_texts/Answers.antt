@@ -8,6 +8,8 @@ use Rattle.macs_texts.proofs.showing.channel_texts.Goals as goal
 pub loop-sci-preserved : goal.loop-sci-preserved
 loop-sci-preserved g c =
     let s : State = state_of c.args.endpoint.now no_logs in
-    shown-more (channel_text s) c.deref-sci-items.result.now _ c.loop-sci.sci-index _ c.sci-item.result [] (string_bytes c.loop-sci.text)
-    (string_bytes c.push_str.new.self) c.as_str.result.now (string_bytes c.in_ok-channel_text.field-0) refl c.loop-sci-test.true c.sci-item.is
+    shown-more (channel_text s) c.deref-sci-items.result.now _ c.loop-sci.sci-index _ c.sci-item.result []
+    (string_bytes c.loop-sci.text)
+    (string_bytes c.push_str.new.self) c.as_str.result.now (string_bytes c.in_ok-channel_text.field-0) refl
+    c.loop-sci-test.true c.sci-item.is
     c.loop-sci.invariant c.in_ok-push_str.ensures.bytes c.as_str.ensures.value c.in_ok-channel_text.ensures

@@ -13,5 +13,6 @@ returns g c =
     let with-2 = c.joined-text-2.ensures _ _ with-1 c.tx_texts.ensures in
     let with-3 = c.joined-text-3.ensures _ _ with-2 c.channel_texts.ensures in
     let with-4 = c.joined.ensures _ _ with-3 c.spent_line.ensures in
-    IfOk-weaker c.joined.result _ _ (λ text whole. shown-parts s c.identity.result (config_of c.config-config.result.now) (string_bytes text)
+    IfOk-weaker c.joined.result _ _
+    (λ text whole. shown-parts s c.identity.result (config_of c.config-config.result.now) (string_bytes text)
     c.identity.ensures c.config-config.ensures.config whole) with-4

@@ -1,7 +1,8 @@
 use Rattle.std.proofs.Common.{◌≡◌, ◌∙◌, IfOk, List, Option, inl, inr, ap, subst, sym}
 use Rattle.std.proofs.lemmas.Result.{IfErr-weaker, IfOk-weaker}
 use Rattle.clap.proofs.BuiltLemmas.{on_ok_always}
-use Rattle.clap.specs.Words.{App, Row, Text, fault_of, is_simple, is_simple_and_free, subcommand_of, subcommand_rows_of, takes}
+use Rattle.clap.specs.Words.{App, Row, Text, fault_of, is_simple, is_simple_and_free, subcommand_of, subcommand_rows_of}
+use Rattle.clap.specs.Words.{takes}
 use Rattle.macs_words.specs.declared.action.Action.{Action}
 use Rattle.macs_words.specs.Words.{Names, NamesNothing, NamesNoAction, macsecd, texts}
 use Rattle.macs_words.proofs.Subcommands.{free, named, simple, wants_memory}
@@ -12,7 +13,8 @@ returns-in-Ok-clause-read c =
     let words = texts c.args.words.now in
     let known = c.in_ok-known_words.ensures in
     let read = (c.in-Ok.ensures.matches (ap is_simple known ∙ simple)).1 in
-    let found : subcommand_rows_of c.in-Ok.matches ≡ subcommand_of macsecd words = read ∙ ap (λ (app : App). subcommand_of app words) known in
+    let found : subcommand_rows_of c.in-Ok.matches ≡ subcommand_of macsecd words = read
+    ∙ ap (λ (app : App). subcommand_of app words) known in
     subst (λ (o : Option (Text × List Row)). IfOk c.action_read.result (Names o)) found c.action_read.ensures.read
 
 pub returns-in-Ok-clause-refused : goal.returns-in-Ok-clause-refused
@@ -27,7 +29,8 @@ returns-in-Ok-clause-taken c = λ taken.
     let words = texts c.args.words.now in
     let known = c.in_ok-known_words.ensures in
     let read = (c.in-Ok.ensures.matches (ap is_simple known ∙ simple)).1 in
-    let found : subcommand_rows_of c.in-Ok.matches ≡ subcommand_of macsecd words = read ∙ ap (λ (app : App). subcommand_of app words) known in
+    let found : subcommand_rows_of c.in-Ok.matches ≡ subcommand_of macsecd words = read
+    ∙ ap (λ (app : App). subcommand_of app words) known in
     IfErr-weaker c.action_read.result _ _ (λ fault none. elim (named words taken) [
       | inl lacks ↦ inr lacks
       | inr (action, names, fits) ↦
@@ -39,4 +42,5 @@ returns-in_ok-usage_fault_of-in-Err-clause-taken c = λ taken.
     let words = texts c.args.words.now in
     let known = c.in_ok-known_words.ensures in
     let memory = c.in-Err.ensures.passes (ap (λ (app : App). takes app words) known ∙ taken) in
-    inl (wants_memory c.in-Err.error c.in_ok-usage_fault_of-in-Err.field-0 c.in_ok-usage_fault_of-in-Err.ensures.kind memory)
+    inl (wants_memory c.in-Err.error c.in_ok-usage_fault_of-in-Err.field-0
+    c.in_ok-usage_fault_of-in-Err.ensures.kind memory)

@@ -3,4 +3,5 @@ use Rattle.macs_words.proofs.action.file_words.Goals as goal
 
 pub returns : goal.returns
 returns c =
-    c.with_value.ensures _ _ (no_values c.new.result c.args.name.now c.new.ensures.app c.new.ensures.local) c.value.ensures.rule c.value.ensures.local
+    c.with_value.ensures _ _ (no_values c.new.result c.args.name.now c.new.ensures.app c.new.ensures.local)
+    c.value.ensures.rule c.value.ensures.local

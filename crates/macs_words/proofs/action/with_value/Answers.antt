@@ -6,4 +6,5 @@ use Rattle.macs_words.proofs.action.with_value.Goals as goal
 pub returns : goal.returns
 returns c = λ app rule known is local.
     let its = IfOk-at_ok (λ command. IsClapCommand command app) c.in_ok-words.was known in
-    IfOk-weaker c.arg.result _ _ (λ command added. one_value _ command c.args.value app rule its is local added) c.arg.ensures
+    IfOk-weaker c.arg.result _ _ (λ command added. one_value _ command c.args.value app rule its is local added)
+    c.arg.ensures

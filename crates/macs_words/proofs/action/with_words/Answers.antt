@@ -9,4 +9,5 @@ pub returns : goal.returns
 returns c = λ app its known is.
     let old = IfOk-at_ok (λ command. app_of command ≡ app) c.in_ok-words.was known in
     let sub = IfOk-at_ok (λ command. IsClapCommand command its) c.in_ok-subcommand.was is in
-    IfOk-weaker c.subcommand.result _ _ (λ command added. one_more _ _ command app its old sub added) c.subcommand.ensures
+    IfOk-weaker c.subcommand.result _ _ (λ command added. one_more _ _ command app its old sub added)
+    c.subcommand.ensures

@@ -9,8 +9,10 @@ use Rattle.macs_words.proofs.plain_text.printable.Goals as goal
 
 pub returns-clause-each : goal.returns-clause-each
 returns-clause-each c =
-    let written : IfOk c.collect.result (λ shown. string_bytes shown ≡ encode_utf8_all (map printable_char (chars c.args.text.now))) =
-    text_from_collect _ c.collect.ensures.ran (YieldsList-from_map _ printable_char (YieldsList-from_chars c.args.text.now c.utf8.text cc) c.map.ensures.closure (λ x r q k. search (rules, tests))) in
+    let written : IfOk c.collect.result
+    (λ shown. string_bytes shown ≡ encode_utf8_all (map printable_char (chars c.args.text.now))) =
+    text_from_collect _ c.collect.ensures.ran (YieldsList-from_map _ printable_char (YieldsList-from_chars
+    c.args.text.now c.utf8.text cc) c.map.ensures.closure (λ x r q k. search (rules, tests))) in
     IfOk-weaker c.collect.result _ _ (λ shown is. chars-printable _ _ c.utf8.text is) written
 
 pub returns-clause-printable : goal.returns-clause-printable

@@ -15,8 +15,8 @@ use std::test::Fail;
 /// The frames of a relay, spelled in hex.
 #[derive(Clone, Copy)]
 pub struct Frames {
-    /// What the peer of the first wire sends, and what comes to that of the second for it: nothing where they have
-    /// no digits.
+    /// What the peer of the first wire sends, and what comes to that of the second for it: nothing
+    /// where they have no digits.
     pub plain: &'static str,
     pub protected: &'static str,
     /// What the peer of the second wire sends, and what comes to that of the first for it.

@@ -1,4 +1,5 @@
-//! Runs over a file that fails or is claimed, over an output that fails, and beside files that stay as they are.
+//! Runs over a file that fails or is claimed, over an output that fails, and beside files that stay
+//! as they are.
 
 use super::super::stand_in::{Broken, StandIn};
 use super::super::{Outcome, expect, expect_over, status_of};

@@ -13,5 +13,6 @@ invariant_of-result c =
     let octets = octets_of_key c.args.key.now in (
       c.as_slice.ensures.size,
       λ i within. round_key-take c.by_columns.result (key_words octets) (rounds_of octets) i
-          (ap (take (4 * (rounds_of octets + 1))) c.by_columns.ensures ∙ expanded c.as_slice.result.now octets c.expand.result c.as_slice.ensures.octets c.expand.ensures) within,
+          (ap (take (4 * (rounds_of octets + 1))) c.by_columns.ensures ∙ expanded c.as_slice.result.now octets
+          c.expand.result c.as_slice.ensures.octets c.expand.ensures) within,
     )

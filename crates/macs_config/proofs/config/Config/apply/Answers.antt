@@ -10,13 +10,16 @@ use Rattle.macs_config.proofs.config.Config.apply.Goals.{After-apply_checked}
 
 pub apply_checked-requires : goal.apply_checked-requires
 apply_checked-requires c =
-    ap (λ (command : Command). refusal_of this_edition c.args.self.now.identity (config_of c.args.self.now) command) c.in_ok-checked.ensures.checked
+    ap (λ (command : Command). refusal_of this_edition c.args.self.now.identity (config_of c.args.self.now) command)
+    c.in_ok-checked.ensures.checked
     ∙ c.in_ok-checked.ensures.fits
 
-applied : (c : After-apply_checked) → apply this_edition c.args.self.now.identity (config_of c.args.self.now) c.args.command.now
+applied : (c : After-apply_checked)
+    → apply this_edition c.args.self.now.identity (config_of c.args.self.now) c.args.command.now
     ≡ Ok (config_of c.apply_checked.new.self)
 applied c =
-    ap (λ (command : Command). apply this_edition c.args.self.now.identity (config_of c.args.self.now) command) (sym c.in_ok-checked.ensures.checked)
+    ap (λ (command : Command). apply this_edition c.args.self.now.identity (config_of c.args.self.now) command)
+    (sym c.in_ok-checked.ensures.checked)
     ∙ c.apply_checked.ensures.applied
 
 pub returns-clause-applied : goal.returns-clause-applied
@@ -33,5 +36,6 @@ returns-in_err-checked-clause-refused c =
     let old = c.args.self.now in
     let refusal = c.in_err-checked.field-0.0 in
     let risen = err_from_is_err_and c.from_residual.result c.from_residual.ensures.1 in
-    handed_on (refusal_of this_edition old.identity (config_of old) c.args.command.now) (config_after (config_of old) c.args.command.now) c.from_residual.result refusal
+    handed_on (refusal_of this_edition old.identity (config_of old) c.args.command.now)
+    (config_after (config_of old) c.args.command.now) c.from_residual.result refusal
     ((c.check.ensures.refused refusal).0 c.in_err-checked.was) (risen.1 ∙ ap Err risen.2)

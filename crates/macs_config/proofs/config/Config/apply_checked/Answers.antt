@@ -12,8 +12,10 @@ use Rattle.macs_config.proofs.config.Config.apply_checked.Goals.{After-change}
 pub change-requires : goal.change-requires
 change-requires c = (
   c.self.inside.identity,
-  ap (λ (command : Command). refusal_of this_edition c.self.inside.identity (config_in c.self.inside.contents) command) c.judged.ensures.asked
-      ∙ ap (λ (s : ConfigValue). refusal_of this_edition s.identity (config_of s) c.args.checked.now) c.self.view_is ∙ c.requires,
+  ap (λ (command : Command). refusal_of this_edition c.self.inside.identity (config_in c.self.inside.contents) command)
+      c.judged.ensures.asked
+      ∙ ap (λ (s : ConfigValue). refusal_of this_edition s.identity (config_of s) c.args.checked.now) c.self.view_is
+      ∙ c.requires,
 )
 
 new_is : (c : After-change) → apply this_edition c.args.self.now.identity (config_of c.args.self.now) c.args.checked.now
@@ -21,7 +23,8 @@ new_is : (c : After-change) → apply this_edition c.args.self.now.identity (con
 new_is c =
     let old = c.args.self.now in
     let inside : ConfigValue = record { identity = c.self.inside.identity; contents = c.self.inside.contents } in
-    taken_by (refusal_of this_edition old.identity (config_of old) c.args.checked.now) (config_after (config_of old) c.args.checked.now) c.requires
+    taken_by (refusal_of this_edition old.identity (config_of old) c.args.checked.now)
+    (config_after (config_of old) c.args.checked.now) c.requires
     ∙ ap (λ (new : Config). Ok new)
     (ap (λ (s : ConfigValue). config_after (config_of s) c.args.checked.now) (sym c.self.view_is)
     ∙ ap (λ (command : Command). config_after (config_of inside) command) (sym c.judged.ensures.asked)
@@ -31,9 +34,11 @@ new_is c =
 pub invariant_of-self : goal.invariant_of-self
 invariant_of-self c =
     let new : ConfigValue = record { identity = c.self.inside.identity; contents = c.change.new.contents } in
-    let is = subst (λ (s : ConfigValue). IsConfig this_edition s.identity (config_of s)) c.self.view_is c.self.invariant in
+    let is =
+    subst (λ (s : ConfigValue). IsConfig this_edition s.identity (config_of s)) c.self.view_is c.self.invariant in
     subst (λ (s : ConfigValue). IsConfig this_edition s.identity (config_of new)) (sym c.self.view_is)
-    (apply-keeps this_edition c.args.self.now.identity (config_of c.args.self.now) (config_of new) c.args.checked.now is (new_is (goal.at.invariant_of-self c).After-change))
+    (apply-keeps this_edition c.args.self.now.identity (config_of c.args.self.now) (config_of new) c.args.checked.now is
+    (new_is (goal.at.invariant_of-self c).After-change))
 
 pub returns-clause-applied : goal.returns-clause-applied
 returns-clause-applied c = new_is (goal.at.returns-clause-applied c).After-change

@@ -12,7 +12,8 @@ first c = refusal_of this_edition c.args.self.now.identity (config_of c.args.sel
 checked : (c : After-check) → with_reason c.check.result ≡ answer_or_refusal (first c) c.args.command.now
 checked c =
     c.check.ensures
-    ∙ ap (λ (s : ConfigValue). answer_or_refusal (refusal_of this_edition s.identity (config_of s) c.args.command.now) c.args.command.now) c.self.view_is
+    ∙ ap (λ (s : ConfigValue). answer_or_refusal (refusal_of this_edition s.identity (config_of s) c.args.command.now)
+    c.args.command.now) c.self.view_is
 
 pub returns-clause-refused : goal.returns-clause-refused
 returns-clause-refused c =

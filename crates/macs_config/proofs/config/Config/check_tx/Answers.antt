@@ -9,4 +9,5 @@ pub returns : goal.returns
 returns c =
     let asked = tx_install c.args.an c.args.sa c.args.start in
     c.check_tx.ensures c.self.inside.identity
-    ∙ ap (λ (s : ConfigValue). answer_or_refusal (refusal_of this_edition s.identity (config_of s) asked) asked) c.self.view_is
+    ∙ ap (λ (s : ConfigValue). answer_or_refusal (refusal_of this_edition s.identity (config_of s) asked) asked)
+    c.self.view_is

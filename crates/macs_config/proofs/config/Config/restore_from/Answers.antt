@@ -9,5 +9,6 @@ invariant_of-self g c = subst (IsConfig this_edition c.self.inside.identity) (sy
 
 pub invariant_of-self-else-not-is_restored : goal.invariant_of-self-else-not-is_restored
 invariant_of-self-else-not-is_restored g c =
-    listed-is-config this_edition c.self.inside.identity (g.P.PartSource.listed c.args.parts.now) (config_in c.restore-is_restored.new.contents)
+    listed-is-config this_edition c.self.inside.identity (g.P.PartSource.listed c.args.parts.now)
+    (config_in c.restore-is_restored.new.contents)
     c.if-not-is_restored.ensures

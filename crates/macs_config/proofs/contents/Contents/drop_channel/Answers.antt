@@ -9,4 +9,5 @@ returns c =
     let kept : c.retain.new.self.items ≡ filter (is_other sci_of c.args.sci) c.args.self.now.channels.items =
     filter-from_retain _ _ _ (λ x b f' y called. search rules) _ _ c.retain.ensures.filtered in
     rw kept (read-channels c.args.self.now _ _ _
-    (scis-filter sci_of c.args.self.now.channels.items c.args.sci) (rx_at-filter c.args.self.now.channels.items c.args.sci))
+    (scis-filter sci_of c.args.self.now.channels.items c.args.sci)
+    (rx_at-filter c.args.self.now.channels.items c.args.sci))

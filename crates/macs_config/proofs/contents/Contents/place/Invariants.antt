@@ -4,4 +4,5 @@ use Rattle.macs_config.specs.declared.contents.Channel.{Channel}
 use Rattle.macs_config.proofs.contents.Contents.place.Given as goal
 
 abbrev pub invariant-loop-place : goal.invariant-loop-place
-invariant-loop-place l = is_among (take l.place (map (λ (channel : Channel). channel.sci) l.self.channels.items)) l.sci ≡ false
+invariant-loop-place l =
+    is_among (take l.place (map (λ (channel : Channel). channel.sci) l.self.channels.items)) l.sci ≡ false

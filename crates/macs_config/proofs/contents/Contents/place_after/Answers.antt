@@ -6,7 +6,8 @@ use Rattle.macs_config.proofs.StoredChannels.{sci_of, scis_of}
 use Rattle.macs_config.proofs.contents.Contents.place_after.Goals as goal
 use Rattle.macs_config.proofs.contents.Contents.place_after.Goals.{After-lt}
 
-tested : (c : After-lt) → c.lt.result ≡ comes_before c.args.sci (get_or (scis_of c.args.self.now.channels.items) c.loop-place.place [])
+tested : (c : After-lt)
+    → c.lt.result ≡ comes_before c.args.sci (get_or (scis_of c.args.self.now.channels.items) c.loop-place.place [])
 tested c =
     let there = sci-at sci_of c.args.self.now.channels.items c.deref-channel-items.result.now c.loop-place.place
     c.deref-channel-items.ensures.0 c.loop-place-test.true c.channel-item.result c.channel-item.is in
@@ -17,11 +18,13 @@ tested c =
 pub returns-then-lt-clause-between : goal.returns-then-lt-clause-between
 returns-then-lt-clause-between c =
     put_among-front c.args.sci (scis_of c.args.self.now.channels.items) c.loop-place.place
-    (within-scis sci_of c.args.self.now.channels.items c.deref-channel-items.result.now c.loop-place.place c.deref-channel-items.ensures.0 c.loop-place-test.true)
+    (within-scis sci_of c.args.self.now.channels.items c.deref-channel-items.result.now c.loop-place.place
+    c.deref-channel-items.ensures.0 c.loop-place-test.true)
     (sym (tested (goal.at.returns-then-lt-clause-between c).After-lt) ∙ c.if-lt.true) c.loop-place.invariant
 
 pub loop-place-preserved : goal.loop-place-preserved
 loop-place-preserved c =
     put_among-behind c.args.sci (scis_of c.args.self.now.channels.items) c.loop-place.place
-    (within-scis sci_of c.args.self.now.channels.items c.deref-channel-items.result.now c.loop-place.place c.deref-channel-items.ensures.0 c.loop-place-test.true)
+    (within-scis sci_of c.args.self.now.channels.items c.deref-channel-items.result.now c.loop-place.place
+    c.deref-channel-items.ensures.0 c.loop-place-test.true)
     (sym (tested (goal.at.loop-place-preserved c).After-lt) ∙ c.if-lt.false) c.loop-place.invariant

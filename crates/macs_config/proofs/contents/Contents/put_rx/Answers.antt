@@ -14,11 +14,14 @@ returns-in-Some c =
     let p = c.in-Some.ensures.stands in
     let items = c.deref_mut.ensures.value in
     let is : old ≡ get_or channels place old = rw items at c.index-deref_mut-place.is in
-    let same : c.put.new.self.sci ≡ old.sci = c.put.ensures.sci ∙ ap (λ (x : Channel). x.sci) (sym c.index-deref_mut-place.is) in
+    let same : c.put.new.self.sci ≡ old.sci = c.put.ensures.sci
+    ∙ ap (λ (x : Channel). x.sci) (sym c.index-deref_mut-place.is) in
     let kept : length (set c.deref_mut.result.now place c.put.new.self) ≡ length channels =
     length-set c.deref_mut.result.now place c.put.new.self ∙ ap length items in
     rw (items-with_items c.args.self.now.channels (set c.deref_mut.result.now place c.put.new.self) kept, items)
     (read-channels c.args.self.now _ _ _
-    (scis-set sci_of channels place c.put.new.self c.args.sci p (same ∙ ap sci_of is ∙ place-there sci_of channels c.args.sci place old p))
+    (scis-set sci_of channels place c.put.new.self c.args.sci p
+    (same ∙ ap sci_of is ∙ place-there sci_of channels c.args.sci place old p))
     (lookup-put rx_lookup channels place old c.put.new.self c.args.sci c.args.an c.args.sa p is same
-    (λ n. c.put.ensures.association n ∙ ap (λ (x : Channel). cond (n == c.args.an) c.args.sa (get_or x.associations n None)) (sym c.index-deref_mut-place.is))))
+    (λ n. c.put.ensures.association n ∙ ap (λ (x : Channel).
+    cond (n == c.args.an) c.args.sa (get_or x.associations n None)) (sym c.index-deref_mut-place.is))))

@@ -11,7 +11,9 @@ returns c =
     c.at.ensures
     ∙ ap (λ (other : Channel). get_or other.associations c.args.an None)
     (c.index-deref-place.is ∙ ap (λ (entries : List Channel). get_or entries place entry) c.deref.ensures.0)
-    ∙ sym (lookup-place (rx_lookup c.args.an) c.args.self.now.channels.items c.args.sci place entry c.in_ok-place.ensures.stands)
+    ∙ sym (lookup-place (rx_lookup c.args.an) c.args.self.now.channels.items c.args.sci place entry
+    c.in_ok-place.ensures.stands)
 
 pub returns-in_err-place : goal.returns-in_err-place
-returns-in_err-place c = c.from_residual.ensures ∙ sym (lookup-none (rx_lookup c.args.an) c.args.self.now.channels.items c.args.sci c.in_err-place.ensures.none)
+returns-in_err-place c = c.from_residual.ensures
+    ∙ sym (lookup-none (rx_lookup c.args.an) c.args.self.now.channels.items c.args.sci c.in_err-place.ensures.none)

@@ -5,5 +5,6 @@ use Rattle.macs_control.proofs.asking.Asker.answer.Given as goal
 
 abbrev pub invariant-loop-line : goal.invariant-loop-line
 invariant-loop-line g l =
-    BeginsWith (unread (held_by (seat_of l.fn.self)) (g.S.Connection.link (connection_of (seat_of l.fn.self)))) l.text.items
+    BeginsWith (unread (held_by (seat_of l.fn.self)) (g.S.Connection.link (connection_of (seat_of l.fn.self))))
+    l.text.items
     (unread (held_by (seat_of l.self)) (g.S.Connection.link (connection_of (seat_of l.self))))

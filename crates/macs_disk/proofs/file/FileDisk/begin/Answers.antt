@@ -9,4 +9,5 @@ pub returns-then-self-2-clause-refused : goal.returns-then-self-2-clause-refused
 returns-then-self-2-clause-refused g c =
     let fits : c.args.self.now.clock < 2 ^ 64 = search rules in
     let other = c.if-self.false in
-    refused-failed g.F.DiskFile.file c.args.self.now _ (omega (arith, fits, other)) (search rules) refl refl refl refl refl c.if-self-2.true
+    refused-failed g.F.DiskFile.file c.args.self.now _ (omega (arith, fits, other)) (search rules) refl refl refl refl
+    refl c.if-self-2.true

@@ -19,13 +19,18 @@ returns-clause-call g c =
     let back = c.read_sector-answer.new.file in
     let went : lent ≡ old.shown.value = c.begin.ensures.file ∙ sym (old.current c.in_ok-begin.ensures.live.0) in
     let came : new.shown.value ≡ back = ap (λ (s : Snapshot _). s.value) c.count.ensures.shown ∙ c.of.ensures in
-    let fit = keeps-same old.layout (file lent) (file back) c.read_sector-answer.ensures.steady c.read_sector-answer.ensures.same in
+    let fit = keeps-same old.layout (file lent) (file back) c.read_sector-answer.ensures.steady
+    c.read_sector-answer.ensures.same in
     let lay = c.count.ensures.layout ∙ c.begin.ensures.layout in
-    file-call file old.layout new.layout old.past.items new.past.items old.shown new.shown old.sectors new.sectors old.clock new.clock old.failures new.failures c.count.result
-    old.kept lay (c.count.ensures.past ∙ c.in_ok-begin.ensures.past) c.in_ok-begin.ensures.ok.0 (c.count.ensures.clock ∙ c.in_ok-begin.ensures.ok.1)
+    file-call file old.layout new.layout old.past.items new.past.items old.shown new.shown old.sectors new.sectors
+    old.clock new.clock old.failures new.failures c.count.result
+    old.kept lay (c.count.ensures.past ∙ c.in_ok-begin.ensures.past) c.in_ok-begin.ensures.ok.0
+    (c.count.ensures.clock ∙ c.in_ok-begin.ensures.ok.1)
     (c.count.ensures.sectors ∙ c.begin.ensures.sectors)
-    (same-count c.count.result new.failures c.begin.new.self.failures old.failures c.count.ensures.ok c.in_ok-begin.ensures.steady)
-    (one-more c.count.result new.failures c.begin.new.self.failures old.failures c.count.ensures.err c.in_ok-begin.ensures.steady)
+    (same-count c.count.result new.failures c.begin.new.self.failures old.failures c.count.ensures.ok
+    c.in_ok-begin.ensures.steady)
+    (one-more c.count.result new.failures c.begin.new.self.failures old.failures c.count.ensures.err
+    c.in_ok-begin.ensures.steady)
     (fit-through file old.layout lent back old.shown new.shown went came fit)
 
 pub returns-clause-effect : goal.returns-clause-effect
@@ -37,15 +42,19 @@ returns-clause-effect g c honest =
     let back = c.read_sector-answer.new.file in
     let went : lent ≡ old.shown.value = c.begin.ensures.file ∙ sym (old.current c.in_ok-begin.ensures.live.0) in
     let came : new.shown.value ≡ back = ap (λ (s : Snapshot _). s.value) c.count.ensures.shown ∙ c.of.ensures in
-    let fit = keeps-same old.layout (file lent) (file back) c.read_sector-answer.ensures.steady c.read_sector-answer.ensures.same in
+    let fit = keeps-same old.layout (file lent) (file back) c.read_sector-answer.ensures.steady
+    c.read_sector-answer.ensures.same in
     let lay = c.count.ensures.layout ∙ c.begin.ensures.layout in
     let into = c.read_sector-answer.new.into in
     let before = fit-before file old.layout new.layout lent back new.shown _ lay came fit honest in
-    let octets = subst (λ (l : Layout). OnOk c.read_sector-answer.result (into ≡ values_from (file lent).seen (place l c.args.at) 512)) c.begin.ensures.layout
+    let octets = subst (λ (l : Layout). OnOk c.read_sector-answer.result
+    (into ≡ values_from (file lent).seen (place l c.args.at) 512)) c.begin.ensures.layout
     (c.read_sector-answer.ensures.octets before.behaves before.sure) in
-    effect file (λ s t. Reads s t c.args.at into c.count.result) old.layout new.layout old.past.items new.past.items old.shown new.shown old.clock new.clock old.kept new.kept lay
+    effect file (λ s t. Reads s t c.args.at into c.count.result) old.layout new.layout old.past.items new.past.items
+    old.shown new.shown old.clock new.clock old.kept new.kept lay
     (through file (λ s t. Reads s t c.args.at into c.count.result) old.layout lent back old.shown new.shown went came
-    (reads-sector old.layout (file lent) (file back) c.args.at into c.count.result (c.read_sector-answer.ensures.same before.behaves)
+    (reads-sector old.layout (file lent) (file back) c.args.at into c.count.result
+    (c.read_sector-answer.ensures.same before.behaves)
     (on-ok c.read_sector-answer.result c.count.result _ c.count.ensures.alike octets)))
 
 pub returns-clause-again : goal.returns-clause-again
@@ -56,8 +65,10 @@ returns-clause-again g c found =
     let lent = c.begin.new.self.file in
     let back = c.read_sector-answer.new.file in
     let same = c.read_sector-answer.ensures.same in
-    found-next file old.layout new.layout old.sectors new.sectors old.file lent back new.file old.is_failed new.is_failed (c.count.ensures.layout ∙ c.begin.ensures.layout)
-    (c.count.ensures.sectors ∙ c.begin.ensures.sectors) c.begin.ensures.file c.count.ensures.file c.in_ok-begin.ensures.live.0 c.read_sector-answer.ensures.steady
+    found-next file old.layout new.layout old.sectors new.sectors old.file lent back new.file old.is_failed
+    new.is_failed (c.count.ensures.layout ∙ c.begin.ensures.layout)
+    (c.count.ensures.sectors ∙ c.begin.ensures.sectors) c.begin.ensures.file c.count.ensures.file
+    c.in_ok-begin.ensures.live.0 c.read_sector-answer.ensures.steady
     (λ behaves sure is. (
       subst (IsFoundAs old.layout old.sectors) (sym (same behaves)) is,
       λ _. ap (λ (f : FileState). f.is_sure) (same behaves) ∙ sure,

@@ -8,15 +8,21 @@ use Rattle.macs_disk.proofs.memory.MemDiskSectorDisk.write.Goals as goal
 pub invariant_of-self : goal.invariant_of-self
 invariant_of-self g c =
     let m = c.args.self.now in
-    record { chosen = m.chosen; kept = kept-on _ _ _ _ _ _ m.calls.stamped m.kept _ _ c.in_err-keep.ensures.dropped c.keep.ensures.later }
+    record {
+      chosen = m.chosen;
+      kept =
+          kept-on _ _ _ _ _ _ m.calls.stamped m.kept _ _ c.in_err-keep.ensures.dropped c.keep.ensures.later;
+    }
 
 pub invariant_of-self-2 : goal.invariant_of-self-2
 invariant_of-self-2 g c =
     let m = c.args.self.now in
     let e : Entry = record { clock = m.calls.clock + 1; call = Write c.args.at c.args.from.now } in
     record {
-      chosen = choices-write m.seen.items m.pending.items m.choices.items c.args.at c.args.from.now (omega (arith, c.requires, m.kept.as_pending)) m.chosen;
-      kept = kept-write _ _ _ _ _ _ m.calls.stamped m.kept c.args.at c.args.from.now e c.requires (record { size = c.told-from; octets = c.fits-from }) refl refl
+      chosen = choices-write m.seen.items m.pending.items m.choices.items c.args.at c.args.from.now
+          (omega (arith, c.requires, m.kept.as_pending)) m.chosen;
+      kept = kept-write _ _ _ _ _ _ m.calls.stamped m.kept c.args.at c.args.from.now e c.requires
+          (record { size = c.told-from; octets = c.fits-from }) refl refl
           _ _ c.in_ok-keep.ensures.kept c.in_ok-keep.ensures.ok.1;
     }
 
@@ -24,4 +30,5 @@ pub returns-clause-call : goal.returns-clause-call
 returns-clause-call g c =
     let m = c.args.self.now in
     let e : Entry = record { clock = m.calls.clock + 1; call = Write c.args.at c.args.from.now } in
-    kept-call _ _ _ _ _ _ _ _ _ _ e (length-set _ _ _) refl c.in_ok-keep.ensures.kept c.in_ok-keep.ensures.ok.0 c.in_ok-keep.ensures.ok.1 c.in_ok-keep.ensures.steady
+    kept-call _ _ _ _ _ _ _ _ _ _ e (length-set _ _ _) refl c.in_ok-keep.ensures.kept c.in_ok-keep.ensures.ok.0
+    c.in_ok-keep.ensures.ok.1 c.in_ok-keep.ensures.steady

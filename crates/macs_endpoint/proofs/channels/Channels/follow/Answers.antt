@@ -14,5 +14,6 @@ follow_judged-requires g c = (
 
 pub returns : goal.returns
 returns g c =
-    subst (λ (command : Command). Follows command (standing_in c.args.store.now) c.args.self.now.tx c.args.self.now.rx c.follow_judged.new.self.tx c.follow_judged.new.self.rx)
+    subst (λ (command : Command). Follows command (standing_in c.args.store.now) c.args.self.now.tx c.args.self.now.rx
+    c.follow_judged.new.self.tx c.follow_judged.new.self.rx)
     c.judged.ensures.asked c.follow_judged.ensures

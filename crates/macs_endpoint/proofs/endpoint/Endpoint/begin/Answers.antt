@@ -6,4 +6,5 @@ use Rattle.macs_endpoint.proofs.endpoint.Endpoint.begin.Goals as goal
 
 pub returns-in-None : goal.returns-in-None
 returns-in-None g c =
-    idle-call g.D.SectorDisk.disk c.args.self.now c.requires.running c.requires.idle (sym c.next_piece.ensures ∙ ap (option_map piece_of) c.in-None.is)
+    idle-call g.D.SectorDisk.disk c.args.self.now c.requires.running c.requires.idle
+    (sym c.next_piece.ensures ∙ ap (option_map piece_of) c.in-None.is)

@@ -14,7 +14,8 @@ use Rattle.macs_endpoint.proofs.endpoint.Endpoint.begin_command.Goals as goal
 starts : (g : Over) (c : After-start_first g) (result : Result (Unit {0}) CommitFault) → c.start_first.result ≡ result
     → StartsFirst g.D.SectorDisk.disk c.args.self.now c.args.first result c.start_first.new.self
 starts g c result is =
-    subst (λ (r : Result (Unit {0}) CommitFault). StartsFirst g.D.SectorDisk.disk c.args.self.now c.args.first r c.start_first.new.self) is c.start_first.ensures
+    subst (λ (r : Result (Unit {0}) CommitFault).
+    StartsFirst g.D.SectorDisk.disk c.args.self.now c.args.first r c.start_first.new.self) is c.start_first.ensures
 
 pub returns-in-Err : goal.returns-in-Err
 returns-in-Err g c =
@@ -27,8 +28,10 @@ returns-in-Err g c =
     let others = c.pop.new.self.waiting in
     let popped = front-is e.waiting c.pop.result c.args.first others
     (ap (λ (x : EndpointValue g.row.D.Denot). x.waiting) (sym same) ∙ c.pop.ensures.waiting) waits in
-    refused-ends d e (subst (λ (x : EndpointValue g.row.D.Denot). IsSoundEndpoint x) same c.self.invariant) c.requires.running c.requires.idle
-    c.args.first c.command_in_range.ensures waits others popped c.in-Err.fault c.start_first.new.self.store refused.starts c.requires.next
+    refused-ends d e (subst (λ (x : EndpointValue g.row.D.Denot). IsSoundEndpoint x) same c.self.invariant)
+    c.requires.running c.requires.idle
+    c.args.first c.command_in_range.ensures waits others popped c.in-Err.fault c.start_first.new.self.store
+    refused.starts c.requires.next
     c.from.result c.from.ensures _ same c.pop.new.self.given c.pop.ensures.given
 
 pub returns : goal.returns
@@ -37,6 +40,9 @@ returns g c =
     let e = c.args.self.now in
     let made = starts g at (Ok tt) c.in_default.is in
     let has = made.starts.in_hand in
-    keep-begins g.D.SectorDisk.disk e made.sound c.requires.running c.requires.idle c.args.first c.command_in_range.ensures
-    (takes-first e.turn (raise_in e) (first_waiting e.waiting) c.args.first c.requires.next) c.start_first.new.self.store has.0 has.1 has.2
-    c.start_first.new.self c.go_on_keeping.new.self c.go_on_keeping.result made.taken c.requires.next c.go_on_keeping.ensures
+    keep-begins g.D.SectorDisk.disk e made.sound c.requires.running c.requires.idle c.args.first
+    c.command_in_range.ensures
+    (takes-first e.turn (raise_in e) (first_waiting e.waiting) c.args.first c.requires.next)
+    c.start_first.new.self.store has.0 has.1 has.2
+    c.start_first.new.self c.go_on_keeping.new.self c.go_on_keeping.result made.taken c.requires.next
+    c.go_on_keeping.ensures

@@ -19,20 +19,27 @@ pub returns-then-is_err : goal.returns-then-is_err
 returns-then-is_err g c =
     let d = g.D.SectorDisk.disk in
     let e = c.args.self.now in
-    let refused = on-err c.start_raise.result (sym c.is_err.ensures.value ∙ c.if-is_err.true) c.start_raise.ensures.refused in
-    subst (λ (x : EndpointValue g.row.D.Denot). IsCall d e Advances (Advanced (Err step.GenerationsSpent)) (record x { turn = turn.Command })) (sym c.self.view_is)
-    (subst (λ (x : EndpointValue g.row.D.Denot). IsCall d e Advances (Advanced (Err step.GenerationsSpent)) (record x { turn = turn.Command })) (sym refused.1)
+    let refused =
+    on-err c.start_raise.result (sym c.is_err.ensures.value ∙ c.if-is_err.true) c.start_raise.ensures.refused in
+    subst (λ (x : EndpointValue g.row.D.Denot). IsCall d e Advances (Advanced (Err step.GenerationsSpent))
+    (record x { turn = turn.Command })) (sym c.self.view_is)
+    (subst (λ (x : EndpointValue g.row.D.Denot).
+    IsCall d e Advances (Advanced (Err step.GenerationsSpent)) (record x { turn = turn.Command })) (sym refused.1)
     (spent-call d e c.requires.running c.requires.idle (raise_of c.args.raise) c.requires.next refused.2))
 
 pub go_on_reserving-requires : goal.go_on_reserving-requires
-go_on_reserving-requires g c = on-ok c.start_raise.result (sym c.is_err.ensures.value ∙ c.if-is_err.false) c.start_raise.ensures.reserving
+go_on_reserving-requires g c =
+    on-ok c.start_raise.result (sym c.is_err.ensures.value ∙ c.if-is_err.false) c.start_raise.ensures.reserving
 
 pub returns : goal.returns
 returns g c =
     let e = c.args.self.now in
     let ok = sym c.is_err.ensures.value ∙ c.if-is_err.false in
     let starts = c.start_raise.ensures in
-    raise-begins g.D.SectorDisk.disk e (on-ok c.start_raise.result ok starts.sound) c.requires.running c.requires.idle (raise_of c.args.raise)
-    (raises-first e.turn (raise_in e) (first_waiting e.waiting) (raise_of c.args.raise) c.requires.next) c.requires.next c.start_raise.new.self.store
-    (on-ok c.start_raise.result ok starts.in_hand) c.start_raise.new.self c.go_on_reserving.new.self c.go_on_reserving.result
+    raise-begins g.D.SectorDisk.disk e (on-ok c.start_raise.result ok starts.sound) c.requires.running c.requires.idle
+    (raise_of c.args.raise)
+    (raises-first e.turn (raise_in e) (first_waiting e.waiting) (raise_of c.args.raise) c.requires.next) c.requires.next
+    c.start_raise.new.self.store
+    (on-ok c.start_raise.result ok starts.in_hand) c.start_raise.new.self c.go_on_reserving.new.self
+    c.go_on_reserving.result
     (on-ok c.start_raise.result ok starts.taken) c.go_on_reserving.ensures

@@ -1,4 +1,5 @@
-use Rattle.std.proofs.Common.{◌≡◌, ◌≤◌, ℕ, List, length, inl, Option, Some, None, Result, Ok, IfOk, refl, sym, ◌∙◌, ap, subst, arith, rules}
+use Rattle.std.proofs.Common.{◌≡◌, ◌≤◌, ℕ, List, length, inl, Option, Some, None, Result, Ok, IfOk, refl, sym, ◌∙◌, ap}
+use Rattle.std.proofs.Common.{subst, arith, rules}
 use Rattle.std.specs.Option.{option_map}
 use Rattle.macs_config.specs.Config.{Config}
 use Rattle.macs_config.specs.Identity.{Identity, IsIdentity}
@@ -25,17 +26,20 @@ use Rattle.macs_endpoint.proofs.endpoint.Endpoint.begun.Goals as goal
 
 -- ---- numbers begin at their ceilings
 
-tx_begins : (block : ℕ) (next ceiling : Option ℕ) → next ≡ ceiling → InOrder next ceiling → IsTxWithin block next ceiling
+tx_begins : (block : ℕ) (next ceiling : Option ℕ) → next ≡ ceiling → InOrder next ceiling
+    → IsTxWithin block next ceiling
 tx_begins block None None same ordered = tt
 tx_begins block None (Some c) same ordered = absurd ordered
 tx_begins block (Some n) None same ordered = absurd ordered
-tx_begins block (Some n) (Some c) same ordered = let is : n ≡ c = cc in (ordered.0, ordered.1, omega (arith, is), ordered.2)
+tx_begins block (Some n) (Some c) same ordered = let is : n ≡ c = cc in
+    (ordered.0, ordered.1, omega (arith, is), ordered.2)
 
 rx_started : (block : ℕ) (ceiling : Option ℕ) → IsRxWithin block (option_map first_numbers ceiling) ceiling
 rx_started block None = tt
 rx_started block (Some c) = (omega arith, omega arith)
 
-rx_begins : (block : ℕ) (numbers : Option Numbers) (ceiling : Option ℕ) → numbers ≡ option_map first_numbers ceiling → IsRxWithin block numbers ceiling
+rx_begins : (block : ℕ) (numbers : Option Numbers) (ceiling : Option ℕ) → numbers ≡ option_map first_numbers ceiling
+    → IsRxWithin block numbers ceiling
 rx_begins block numbers ceiling same =
     subst (λ (n : Option Numbers). IsRxWithin block n ceiling) (sym same) (rx_started block ceiling)
 
@@ -91,7 +95,8 @@ module _ (g : Over) (c : After-new-3 g) where
 
   rests : IsAtRest opened
   rests = record {
-    store = subst (λ (o : Result (StoreValue g.row.D.Denot) (RecoverRefused g.row.D.Denot)). IfOk o IsIdle) c.in-Ok.is c.requires;
+    store = subst (λ (o : Result (StoreValue g.row.D.Denot) (RecoverRefused g.row.D.Denot)). IfOk o IsIdle)
+        c.in-Ok.is c.requires;
     reserving = refl;
     in_hand = λ running. refl;
   }
@@ -110,11 +115,13 @@ module _ (g : Over) (c : After-new-3 g) where
         within = record {
           tx_within = λ an. tx_begins s.identity.tx_block ((txsc.tx_side_of tx).next an) (txsc.ceilings_of tx an)
               (λ i. (next ∙ sym made.tx_ceilings) i an) (c.facts.ensures an).0;
-          rx_within = λ sci an. rx_begins s.identity.rx_block ((rxsc.rx_side_of rx).numbers sci an) (rxsc.ceilings_of rx sci an)
+          rx_within =
+              λ sci an. rx_begins s.identity.rx_block ((rxsc.rx_side_of rx).numbers sci an) (rxsc.ceilings_of rx sci an)
               ((λ i. numbers i sci an) ∙ (λ i. option_map first_numbers (sym made.rx_ceilings i sci an)));
           few = λ sci an over. unnumbered (association_in (channel_at rx.channels sci) an)
               ((λ i. (made.rx i).rx sci an)
-              ∙ subst (λ (k : Config). k.rx sci an ≡ None) c.config.ensures.config (c.facts-2.ensures.rx_numbers sci an over));
+              ∙ subst (λ (k : Config). k.rx sci an ≡ None) c.config.ensures.config
+              (c.facts-2.ensures.rx_numbers sci an over));
         };
         few = subst (λ (w : List Waiting). length w ≤ queue_length) (sym c.new-3.ensures.waiting) (omega arith);
         tickets = subst (λ (n : ℕ). n ≤ last_ticket) (sym c.new-3.ensures.given) (omega arith);
@@ -127,7 +134,8 @@ invariant_of-result g c = kept g (goal.at.invariant_of-result g c).After-new-3
 pub returns : goal.returns
 returns g c =
     let at = (goal.at.returns g c).After-new-3 in
-    subst (λ (o : Result (StoreValue g.row.D.Denot) (RecoverRefused g.row.D.Denot)). BeginsOpened o (Ok (opened g at))) (sym c.in-Ok.is)
+    subst (λ (o : Result (StoreValue g.row.D.Denot) (RecoverRefused g.row.D.Denot)). BeginsOpened o (Ok (opened g at)))
+    (sym c.in-Ok.is)
     (record {
       from = refl;
       sound = kept g at;

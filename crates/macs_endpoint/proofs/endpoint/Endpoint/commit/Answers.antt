@@ -13,7 +13,8 @@ use Rattle.macs_endpoint.proofs.endpoint.Endpoint.commit.Goals as goal
 
 module _ (g : Over) (c : After-commit_checked g) where
   abbrev old : EndpointValue g.row.D.Denot
-  old = endpoint_of c.self.inside.store c.self.inside.channels c.self.inside.in_hand c.self.inside.reserving c.self.inside.queue c.self.inside.turn
+  old = endpoint_of c.self.inside.store c.self.inside.channels c.self.inside.in_hand c.self.inside.reserving
+      c.self.inside.queue c.self.inside.turn
 
   running : is_stopped old ≡ false
   running = rw (← c.self.view_is) at c.requires.running
@@ -25,52 +26,64 @@ module _ (g : Over) (c : After-commit_checked g) where
   none = rw (← c.self.view_is) at c.requires.none
 
   accepted : IsOk (accept (standing_in old.store) c.args.checked.now)
-  accepted = subst (λ (e : EndpointValue g.row.D.Denot). IsOk (accept (standing_in e.store) c.args.checked.now)) (sym c.self.view_is) c.requires.accepted
+  accepted = subst (λ (e : EndpointValue g.row.D.Denot). IsOk (accept (standing_in e.store) c.args.checked.now))
+      (sym c.self.view_is) c.requires.accepted
 
   commits : (result : Result (Unit {0}) CommitFault) → c.commit_checked.result ≡ result
       → Commits g.D.SectorDisk.disk c.self.inside.store c.args.checked.now result c.commit_checked.new.self
   commits result is =
-      subst (λ (r : Result (Unit {0}) CommitFault). Commits g.D.SectorDisk.disk c.self.inside.store c.args.checked.now r c.commit_checked.new.self) is c.commit_checked.ensures
+      subst (λ (r : Result (Unit {0}) CommitFault). Commits g.D.SectorDisk.disk c.self.inside.store c.args.checked.now r
+      c.commit_checked.new.self) is c.commit_checked.ensures
 
 pub commit_checked-requires-clause-running : goal.commit_checked-requires-clause-running
-commit_checked-requires-clause-running g c = ap (λ (e : EndpointValue g.row.D.Denot). is_stopped e) c.self.view_is ∙ c.requires.running
+commit_checked-requires-clause-running g c = ap (λ (e : EndpointValue g.row.D.Denot). is_stopped e) c.self.view_is
+    ∙ c.requires.running
 
 pub commit_checked-requires-clause-fits : goal.commit_checked-requires-clause-fits
 commit_checked-requires-clause-fits g c =
-    subst (λ (e : EndpointValue g.row.D.Denot). IsOk (accept (standing_in e.store) c.args.checked.now)) (sym c.self.view_is) c.requires.accepted
+    subst (λ (e : EndpointValue g.row.D.Denot). IsOk (accept (standing_in e.store) c.args.checked.now))
+    (sym c.self.view_is) c.requires.accepted
 
 pub invariant_of-self : goal.invariant_of-self
 invariant_of-self g c =
     let at = (goal.at.invariant_of-self g c).After-commit_checked in
     let followed = c.follow.ensures in
-    done-kept g.D.SectorDisk.disk (old g at) c.self.invariant c.args.checked.now c.requires.in_range (running g at) (idle g at) (none g at) (accepted g at)
-    c.commit_checked.new.self (commits g at (Ok tt) c.in-Ok.is) c.follow.new.self.tx c.follow.new.self.rx followed.channels followed.next followed.numbers
+    done-kept g.D.SectorDisk.disk (old g at) c.self.invariant c.args.checked.now c.requires.in_range (running g at)
+    (idle g at) (none g at) (accepted g at)
+    c.commit_checked.new.self (commits g at (Ok tt) c.in-Ok.is) c.follow.new.self.tx c.follow.new.self.rx
+    followed.channels followed.next followed.numbers
 
 pub invariant_of-self-in-Disk : goal.invariant_of-self-in-Disk
 invariant_of-self-in-Disk g c =
     let at = (goal.at.invariant_of-self-in-Disk g c).After-commit_checked in
-    cut-kept g.D.SectorDisk.disk (old g at) c.self.invariant c.args.checked.now c.requires.in_range (running g at) (idle g at) (none g at) (accepted g at)
+    cut-kept g.D.SectorDisk.disk (old g at) c.self.invariant c.args.checked.now c.requires.in_range (running g at)
+    (idle g at) (none g at) (accepted g at)
     c.commit_checked.new.self (commits g at (Err commit.Disk) (c.in-Err.is ∙ ap Err c.in-Disk.is))
 
 pub returns-in-Ok : goal.returns-in-Ok
 returns-in-Ok g c =
     let at = (goal.at.returns-in-Ok g c).After-commit_checked in
     let followed = c.follow.ensures in
-    rw (← c.self.view_is) (done-command g.D.SectorDisk.disk (old g at) c.self.invariant c.args.checked.now c.requires.in_range (running g at) (idle g at) (none g at) (accepted g at)
-    c.commit_checked.new.self (commits g at (Ok tt) c.in-Ok.is) c.follow.new.self.tx c.follow.new.self.rx followed.channels followed.next followed.numbers
+    rw (← c.self.view_is) (done-command g.D.SectorDisk.disk (old g at) c.self.invariant c.args.checked.now
+    c.requires.in_range (running g at) (idle g at) (none g at) (accepted g at)
+    c.commit_checked.new.self (commits g at (Ok tt) c.in-Ok.is) c.follow.new.self.tx c.follow.new.self.rx
+    followed.channels followed.next followed.numbers
     followed.tx_counters followed.rx_counters followed.channel_counters)
 
 pub returns-in-Disk : goal.returns-in-Disk
 returns-in-Disk g c =
     let at = (goal.at.returns-in-Disk g c).After-commit_checked in
-    rw (← c.self.view_is) (cut-command g.D.SectorDisk.disk (old g at) c.self.invariant c.args.checked.now c.requires.in_range (running g at) (idle g at) (none g at) (accepted g at)
+    rw (← c.self.view_is) (cut-command g.D.SectorDisk.disk (old g at) c.self.invariant c.args.checked.now
+    c.requires.in_range (running g at) (idle g at) (none g at) (accepted g at)
     c.commit_checked.new.self (commits g at (Err commit.Disk) (c.in-Err.is ∙ ap Err c.in-Disk.is)))
 
 pub returns-in_default : goal.returns-in_default
 returns-in_default g c =
     let at = (goal.at.returns-in_default g c).After-commit_checked in
     let d = g.D.SectorDisk.disk in
-    let only = spent_only d (old g at) c.self.invariant c.args.checked.now c.requires.in_range (running g at) (idle g at) (none g at) (accepted g at)
+    let only = spent_only d (old g at) c.self.invariant c.args.checked.now c.requires.in_range (running g at)
+    (idle g at) (none g at) (accepted g at)
     c.in-Err.fault c.commit_checked.new.self c.in_default.not-Disk (commits g at (Err c.in-Err.fault) c.in-Err.is) in
-    rw (← c.self.view_is) (spent-command d (old g at) c.self.invariant c.args.checked.now c.requires.in_range (running g at) (idle g at) (none g at) (accepted g at)
+    rw (← c.self.view_is) (spent-command d (old g at) c.self.invariant c.args.checked.now c.requires.in_range
+    (running g at) (idle g at) (none g at) (accepted g at)
     c.commit_checked.new.self (commits g at (Err commit.GenerationsSpent) (c.in-Err.is ∙ ap Err only)))

@@ -9,10 +9,12 @@ use Rattle.macs_endpoint.proofs.endpoint.Endpoint.finish_and_reserve.Goals.{Afte
 use Rattle.macs_endpoint.proofs.endpoint.Endpoint.finish_and_reserve.Goals as goal
 
 -- what is said of the reservation under way
-ends : (g : Over) (c : After-finish_reservation g) (result : Result (Unit {0}) RefillFault) → c.finish_reservation.result ≡ result
+ends : (g : Over) (c : After-finish_reservation g) (result : Result (Unit {0}) RefillFault)
+    → c.finish_reservation.result ≡ result
     → ReservationEnds g.D.SectorDisk.disk c.args.self.now result c.finish_reservation.new.self
 ends g c result is =
-    subst (λ (r : Result (Unit {0}) RefillFault). ReservationEnds g.D.SectorDisk.disk c.args.self.now r c.finish_reservation.new.self) is
+    subst (λ (r : Result (Unit {0}) RefillFault).
+    ReservationEnds g.D.SectorDisk.disk c.args.self.now r c.finish_reservation.new.self) is
     c.finish_reservation.ensures
 
 pub returns-in_err-finish_reservation : goal.returns-in_err-finish_reservation
@@ -20,7 +22,8 @@ returns-in_err-finish_reservation g c =
     let at = (goal.at.returns-in_err-finish_reservation g c).After-finish_reservation in
     let fault = c.in_err-finish_reservation.field-0.0 in
     let risen = err_from_is_err_and c.from_residual.result c.from_residual.ensures.1 in
-    rw (risen.1, risen.2) (cut-behind g.D.SectorDisk.disk c.args.self.now c.finish_reservation.new.self fault (ends g at (Err fault) c.in_err-finish_reservation.was))
+    rw (risen.1, risen.2) (cut-behind g.D.SectorDisk.disk c.args.self.now c.finish_reservation.new.self fault
+    (ends g at (Err fault) c.in_err-finish_reservation.was))
 
 pub reserve-requires-clause-running : goal.reserve-requires-clause-running
 reserve-requires-clause-running g c =

@@ -10,14 +10,16 @@ use Rattle.macs_endpoint.specs.Reserving.{ReservationEnds}
 use Rattle.macs_endpoint.specs.PrivateTypes.{raise_of}
 use Rattle.macs_endpoint.specs.Value.{EndpointValue, IsAtRest, IsReserving, IsSoundEndpoint, is_stopped}
 use Rattle.macs_endpoint.specs.declared.refilling.Raise.{Raise}
-use Rattle.macs_endpoint.proofs.Ended.{IsDone, faulted-ends, faulted-kept, finish-done, finished-ends, may-lift, none-ends, none-reserving, raised-kept, raised_to, which-reserving}
+use Rattle.macs_endpoint.proofs.Ended.{IsDone, faulted-ends, faulted-kept, finish-done, finished-ends, may-lift}
+use Rattle.macs_endpoint.proofs.Ended.{none-ends, none-reserving, raised-kept, raised_to, which-reserving}
 use Rattle.macs_endpoint.proofs.endpoint.Endpoint.finish_reservation.Given.{Over}
 use Rattle.macs_endpoint.proofs.endpoint.Endpoint.finish_reservation.Goals.{After-finish, After-take}
 use Rattle.macs_endpoint.proofs.endpoint.Endpoint.finish_reservation.Goals as goal
 
 module _ (g : Over) (c : After-take g) where
   abbrev old : EndpointValue g.row.D.Denot
-  old = endpoint_of c.self.inside.store c.self.inside.channels c.self.inside.in_hand c.self.inside.reserving c.self.inside.queue c.self.inside.turn
+  old = endpoint_of c.self.inside.store c.self.inside.channels c.self.inside.in_hand c.self.inside.reserving
+      c.self.inside.queue c.self.inside.turn
 
   running : is_stopped old ≡ false
   running = rw (← c.self.view_is) at c.requires.running
@@ -30,41 +32,51 @@ returns-in_default g c =
     let at = (goal.at.returns-in_default g c).After-take in
     let none : c.self.inside.reserving ≡ None = sym c.take.ensures.value ∙ c.in_default.is in
     let same : c.self.inside.reserving ≡ c.take.new.self = none ∙ sym c.take.ensures.after in
-    rw (← c.self.view_is) (subst (λ (o : Option Raise). ReservationEnds g.D.SectorDisk.disk (old g at) (Ok tt) (record (old g at) { reserving = option_map raise_of o })) same
+    rw (← c.self.view_is) (subst (λ (o : Option Raise). ReservationEnds g.D.SectorDisk.disk (old g at) (Ok tt)
+    (record (old g at) { reserving = option_map raise_of o })) same
     (none-ends g.D.SectorDisk.disk (old g at) c.self.invariant (ap (option_map raise_of) none)
     (none-reserving (old g at) (ap (option_map raise_of) none) (work g at))))
 
 module _ (g : Over) (c : After-finish g) where
   abbrev before : EndpointValue g.row.D.Denot
-  before = endpoint_of c.self.inside.store c.self.inside.channels c.self.inside.in_hand c.self.inside.reserving c.self.inside.queue c.self.inside.turn
+  before = endpoint_of c.self.inside.store c.self.inside.channels c.self.inside.in_hand c.self.inside.reserving
+      c.self.inside.queue c.self.inside.turn
 
   runs : is_stopped before ≡ false
   runs = rw (← c.self.view_is) at c.requires.running
 
   which : (w : IsReserving before) × (w.raise ≡ raise_of c.in-Some.raise)
-  which = which-reserving before (raise_of c.in-Some.raise) (ap (option_map raise_of) (sym c.take.ensures.value ∙ c.in-Some.is))
+  which = which-reserving before (raise_of c.in-Some.raise)
+      (ap (option_map raise_of) (sym c.take.ensures.value ∙ c.in-Some.is))
       (rw (← c.self.view_is) at c.requires.work)
 
-  finishes : (result : Result (Unit {0}) JournalFault) → c.finish.result ≡ result → Finishes g.D.SectorDisk.disk c.self.inside.store result c.finish.new.self
+  finishes : (result : Result (Unit {0}) JournalFault) → c.finish.result ≡ result
+      → Finishes g.D.SectorDisk.disk c.self.inside.store result c.finish.new.self
   finishes result is =
-      subst (λ (r : Result (Unit {0}) JournalFault). Finishes g.D.SectorDisk.disk c.self.inside.store r c.finish.new.self) is c.finish.ensures
+      subst (λ (r : Result (Unit {0}) JournalFault).
+      Finishes g.D.SectorDisk.disk c.self.inside.store r c.finish.new.self) is c.finish.ensures
 
-  done : c.finish.result ≡ Ok tt → IsDone g.D.SectorDisk.disk c.self.inside.store (raised_to g.D.SectorDisk.disk before c.self.invariant which.0) c.finish.new.self
+  done : c.finish.result ≡ Ok tt → IsDone g.D.SectorDisk.disk c.self.inside.store
+      (raised_to g.D.SectorDisk.disk before c.self.invariant which.0) c.finish.new.self
   done is =
-      finish-done g.D.SectorDisk.disk c.self.inside.store (raised_to g.D.SectorDisk.disk before c.self.invariant which.0) which.0.leads c.finish.new.self
+      finish-done g.D.SectorDisk.disk c.self.inside.store
+      (raised_to g.D.SectorDisk.disk before c.self.invariant which.0) which.0.leads c.finish.new.self
       runs (finishes (Ok tt) is)
 
 pub raise-requires : goal.raise-requires
 raise-requires g c =
     let at = (goal.at.raise-requires g c).After-finish in
-    may-lift (before g at) c.self.invariant (which g at).0 (raise_of c.in-Some.raise) (which g at).1 (standing_in c.finish.new.self)
+    may-lift (before g at) c.self.invariant (which g at).0 (raise_of c.in-Some.raise) (which g at).1
+    (standing_in c.finish.new.self)
     (done g at c.in_ok-finish.was).stands
 
 pub invariant_of-self-in_err-finish : goal.invariant_of-self-in_err-finish
 invariant_of-self-in_err-finish g c =
     let at = (goal.at.invariant_of-self-in_err-finish g c).After-finish in
-    subst (λ (o : Option Raise). IsSoundEndpoint (record (before g at) { store = c.finish.new.self; reserving = option_map raise_of o })) (sym c.take.ensures.after)
-    (faulted-kept g.D.SectorDisk.disk (before g at) c.self.invariant (runs g at) (which g at).0 c.finish.new.self c.in_err-finish.field-0.0
+    subst (λ (o : Option Raise). IsSoundEndpoint (record
+    (before g at) { store = c.finish.new.self; reserving = option_map raise_of o })) (sym c.take.ensures.after)
+    (faulted-kept g.D.SectorDisk.disk (before g at) c.self.invariant (runs g at) (which g at).0 c.finish.new.self
+    c.in_err-finish.field-0.0
     (finishes g at (Err c.in_err-finish.field-0.0) c.in_err-finish.was))
 
 pub returns-in_err-finish : goal.returns-in_err-finish
@@ -72,18 +84,27 @@ returns-in_err-finish g c =
     let at = (goal.at.returns-in_err-finish g c).After-finish in
     let risen = err_from_is_err_and c.from_residual.result c.from_residual.ensures.1 in
     rw (← c.self.view_is) (rw (risen.1, risen.2)
-    (subst (λ (o : Option Raise). ReservationEnds g.D.SectorDisk.disk (before g at) (Err (refill_fault_of c.in_err-finish.field-0.0))
+    (subst (λ (o : Option Raise).
+    ReservationEnds g.D.SectorDisk.disk (before g at) (Err (refill_fault_of c.in_err-finish.field-0.0))
     (record (before g at) { store = c.finish.new.self; reserving = option_map raise_of o })) (sym c.take.ensures.after)
-    (faulted-ends g.D.SectorDisk.disk (before g at) c.self.invariant (runs g at) (which g at).0 c.finish.new.self c.in_err-finish.field-0.0
+    (faulted-ends g.D.SectorDisk.disk (before g at) c.self.invariant (runs g at) (which g at).0 c.finish.new.self
+    c.in_err-finish.field-0.0
     (finishes g at (Err c.in_err-finish.field-0.0) c.in_err-finish.was))))
 
 pub invariant_of-self-2 : goal.invariant_of-self-2
 invariant_of-self-2 g c =
     let at = (goal.at.invariant_of-self-2 g c).After-finish in
     let lifted = c.raise.ensures in
-    subst (λ (o : Option Raise). IsSoundEndpoint (record (before g at) { store = c.finish.new.self; tx = c.raise.new.self.tx; rx = c.raise.new.self.rx; reserving = option_map raise_of o }))
+    subst (λ (o : Option Raise). IsSoundEndpoint (record (before g at) {
+      store = c.finish.new.self;
+      tx =
+          c.raise.new.self.tx;
+      rx = c.raise.new.self.rx;
+      reserving = option_map raise_of o;
+    }))
     (sym c.take.ensures.after)
-    (raised-kept g.D.SectorDisk.disk (before g at) c.self.invariant (which g at).0 c.finish.new.self (done g at c.in_ok-finish.was)
+    (raised-kept g.D.SectorDisk.disk (before g at) c.self.invariant (which g at).0 c.finish.new.self
+    (done g at c.in_ok-finish.was)
     c.raise.new.self.tx c.raise.new.self.rx (before g at).turn lifted.channels lifted.tx_side lifted.rx_side)
 
 pub returns : goal.returns
@@ -91,6 +112,14 @@ returns g c =
     let at = (goal.at.returns g c).After-finish in
     let lifted = c.raise.ensures in
     rw (← c.self.view_is) (subst (λ (o : Option Raise). ReservationEnds g.D.SectorDisk.disk (before g at) (Ok tt)
-    (record (before g at) { store = c.finish.new.self; tx = c.raise.new.self.tx; rx = c.raise.new.self.rx; reserving = option_map raise_of o })) (sym c.take.ensures.after)
-    (finished-ends g.D.SectorDisk.disk (before g at) c.self.invariant (runs g at) (which g at).0 c.finish.new.self (finishes g at (Ok tt) c.in_ok-finish.was)
-    c.raise.new.self.tx c.raise.new.self.rx lifted.channels lifted.tx_side lifted.rx_side lifted.tx_counters lifted.rx_counters lifted.channel_counters))
+    (record (before g at) {
+      store = c.finish.new.self;
+      tx = c.raise.new.self.tx;
+      rx = c.raise.new.self.rx;
+      reserving =
+          option_map raise_of o;
+    })) (sym c.take.ensures.after)
+    (finished-ends g.D.SectorDisk.disk (before g at) c.self.invariant (runs g at) (which g at).0 c.finish.new.self
+    (finishes g at (Ok tt) c.in_ok-finish.was)
+    c.raise.new.self.tx c.raise.new.self.rx lifted.channels lifted.tx_side lifted.rx_side lifted.tx_counters
+    lifted.rx_counters lifted.channel_counters))

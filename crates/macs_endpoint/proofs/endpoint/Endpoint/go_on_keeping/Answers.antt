@@ -1,4 +1,5 @@
-use Rattle.std.proofs.Common.{◌≡◌, ◌≤◌, ◌∙◌, ℕ, length, ◌∷◌, arith, inr, List, Option, Some, None, Result, Ok, Err, sym, ap, subst}
+use Rattle.std.proofs.Common.{◌≡◌, ◌≤◌, ◌∙◌, ℕ, length, ◌∷◌, arith, inr, List, Option, Some, None, Result, Ok, Err, sym}
+use Rattle.std.proofs.Common.{ap, subst}
 use Rattle.macs_config.specs.declared.command.Command.{Command}
 use Rattle.macs_journal.specs.declared.fault.JournalFault.{JournalFault}
 use Rattle.macs_journal.specs.declared.fault.JournalFault.TheVariants as fault
@@ -15,31 +16,39 @@ use Rattle.macs_endpoint.specs.Value.{EndpointValue, IsKeeping, IsSoundEndpoint}
 use Rattle.macs_endpoint.specs.declared.progress.Step.TheVariants.{Done}
 use Rattle.macs_endpoint.specs.declared.queue.Waiting.{Waiting}
 use Rattle.macs_endpoint.specs.declared.turn.Turn.TheVariants as turn
-use Rattle.macs_endpoint.proofs.Stepped.{cut_short-call, cut_short-kept, followed-call, followed-kept, follows, gone_on-call, gone_on-kept, step_fault, still_going}
+use Rattle.macs_endpoint.proofs.Stepped.{cut_short-call, cut_short-kept, followed-call, followed-kept, follows}
+use Rattle.macs_endpoint.proofs.Stepped.{gone_on-call, gone_on-kept, step_fault, still_going}
 use Rattle.macs_endpoint.proofs.endpoint.Endpoint.go_on_keeping.Given.{Over}
 use Rattle.macs_endpoint.proofs.endpoint.Endpoint.go_on_keeping.Goals.{After-follow, After-step, After-unwrap-checked}
 use Rattle.macs_endpoint.proofs.endpoint.Endpoint.go_on_keeping.Goals as goal
 
 module _ (g : Over) (c : After-step g) where
   abbrev old : EndpointValue g.row.D.Denot
-  old = endpoint_of c.self.inside.store c.self.inside.channels c.self.inside.in_hand c.self.inside.reserving c.self.inside.queue c.self.inside.turn
+  old = endpoint_of c.self.inside.store c.self.inside.channels c.self.inside.in_hand c.self.inside.reserving
+      c.self.inside.queue c.self.inside.turn
 
   work : IsKeeping old
   work = rw (← c.self.view_is) at c.requires
 
-  steps : (result : Result JournalStep JournalFault) → c.step.result ≡ result → Steps g.D.SectorDisk.disk c.self.inside.store result c.step.new.self
+  steps : (result : Result JournalStep JournalFault) → c.step.result ≡ result
+      → Steps g.D.SectorDisk.disk c.self.inside.store result c.step.new.self
   steps result is =
-      subst (λ (r : Result JournalStep JournalFault). Steps g.D.SectorDisk.disk c.self.inside.store r c.step.new.self) is c.step.ensures
+      subst (λ (r : Result JournalStep JournalFault). Steps g.D.SectorDisk.disk c.self.inside.store r c.step.new.self)
+      is c.step.ensures
 
   -- it goes on
-  going : (at : JournalStep) → c.step.result ≡ Ok at → (¬ (at ≡ Finished)) → Steps g.D.SectorDisk.disk c.self.inside.store (Ok Going) c.step.new.self
+  going : (at : JournalStep) → c.step.result ≡ Ok at → (¬ (at ≡ Finished))
+      → Steps g.D.SectorDisk.disk c.self.inside.store (Ok Going) c.step.new.self
   going at is other =
-      let same = still_going g.D.SectorDisk.disk c.self.inside.store work.busy at c.step.new.self other (steps (Ok at) is) in
+      let same =
+      still_going g.D.SectorDisk.disk c.self.inside.store work.busy at c.step.new.self other (steps (Ok at) is) in
       steps (Ok Going) (is ∙ ap Ok same)
 
   -- or a device call failed
-  failed : (at : JournalFault) → c.step.result ≡ Err at → Steps g.D.SectorDisk.disk c.self.inside.store (Err fault.Disk) c.step.new.self
-  failed at is = steps (Err fault.Disk) (is ∙ ap Err (step_fault g.D.SectorDisk.disk c.self.inside.store c.step.new.self at work.running (steps (Err at) is)))
+  failed : (at : JournalFault) → c.step.result ≡ Err at
+      → Steps g.D.SectorDisk.disk c.self.inside.store (Err fault.Disk) c.step.new.self
+  failed at is = steps (Err fault.Disk) (is
+      ∙ ap Err (step_fault g.D.SectorDisk.disk c.self.inside.store c.step.new.self at work.running (steps (Err at) is)))
 
 pub pop-done-requires : goal.pop-done-requires
 pop-done-requires g c =
@@ -48,20 +57,25 @@ pop-done-requires g c =
 
 -- what was judged is of the command that waited first
 checked_is : (g : Over) (c : After-unwrap-checked g)
-    → IsKeeping (endpoint_of c.self.inside.store c.self.inside.channels c.self.inside.in_hand c.self.inside.reserving c.self.inside.queue c.self.inside.turn)
+    → IsKeeping (endpoint_of c.self.inside.store c.self.inside.channels c.self.inside.in_hand c.self.inside.reserving
+    c.self.inside.queue c.self.inside.turn)
     → c.unwrap-checked.result ≡ c.pop-done.result.command
 checked_is g c held =
-    let front : held.first ∷ held.rest ≡ c.pop-done.result ∷ c.pop-done.new.self.waiting = sym held.waiting ∙ c.pop-done.ensures.waiting in
+    let front : held.first ∷ held.rest ≡ c.pop-done.result ∷ c.pop-done.new.self.waiting = sym held.waiting
+    ∙ c.pop-done.ensures.waiting in
     let same : held.first ≡ c.pop-done.result = cc in
-    let found : Some held.first.command ≡ Some c.unwrap-checked.result = sym held.in_hand ∙ sym c.take.ensures.value ∙ c.unwrap-checked.ensures in
+    let found : Some held.first.command ≡ Some c.unwrap-checked.result = sym held.in_hand ∙ sym c.take.ensures.value
+    ∙ c.unwrap-checked.ensures in
     let its : held.first.command ≡ c.unwrap-checked.result = cc in
     sym its ∙ ap (λ (w : Waiting). w.command) same
 
 -- the channels follow it
 follows_first : (g : Over) (c : After-follow g) → c.unwrap-checked.result ≡ c.pop-done.result.command
-    → Follows c.pop-done.result.command (standing_in c.step.new.self) c.self.inside.channels.tx c.self.inside.channels.rx c.follow.new.self.tx c.follow.new.self.rx
+    → Follows c.pop-done.result.command (standing_in c.step.new.self) c.self.inside.channels.tx
+    c.self.inside.channels.rx c.follow.new.self.tx c.follow.new.self.rx
 follows_first g c is =
-    subst (λ (command : Command). Follows command (standing_in c.step.new.self) c.self.inside.channels.tx c.self.inside.channels.rx
+    subst (λ (command : Command).
+    Follows command (standing_in c.step.new.self) c.self.inside.channels.tx c.self.inside.channels.rx
     c.follow.new.self.tx c.follow.new.self.rx) is c.follow.ensures
 
 pub follow-requires : goal.follow-requires
@@ -69,8 +83,10 @@ follow-requires g c =
     let at = (goal.at.follow-requires g c).After-step in (
       standing_in c.self.inside.store,
       c.self.invariant.channels,
-      ap (λ (command : Command). accept (standing_in c.self.inside.store) command) (checked_is g (goal.at.follow-requires g c).After-unwrap-checked (work g at))
-          ∙ follows g.D.SectorDisk.disk (old g at) c.self.invariant (work g at) c.pop-done.result c.pop-done.new.self.waiting c.pop-done.ensures.waiting c.step.new.self
+      ap (λ (command : Command). accept (standing_in c.self.inside.store) command)
+          (checked_is g (goal.at.follow-requires g c).After-unwrap-checked (work g at))
+          ∙ follows g.D.SectorDisk.disk (old g at) c.self.invariant (work g at) c.pop-done.result
+          c.pop-done.new.self.waiting c.pop-done.ensures.waiting c.step.new.self
           (steps g at (Ok Finished) (c.in-Ok.is ∙ ap Ok c.in-Finished.is)),
     )
 
@@ -79,11 +95,33 @@ invariant_of-self g c =
     let at = (goal.at.invariant_of-self g c).After-step in
     let followed = follows_first g (goal.at.invariant_of-self g c).After-follow
     (checked_is g (goal.at.invariant_of-self g c).After-unwrap-checked (work g at)) in
-    subst (λ (o : Option Command). IsSoundEndpoint (record (old g at) { store = c.step.new.self; tx = c.follow.new.self.tx; rx = c.follow.new.self.rx; in_hand = o; waiting = c.pop-done.new.self.waiting; tickets = c.pop-done.new.self.given; turn = turn.Reservation })) (sym c.take.ensures.after)
-    (subst (λ (n : ℕ). IsSoundEndpoint (record (old g at) { store = c.step.new.self; tx = c.follow.new.self.tx; rx = c.follow.new.self.rx; in_hand = None; waiting = c.pop-done.new.self.waiting; tickets = n; turn = turn.Reservation }))
+    subst (λ (o : Option Command). IsSoundEndpoint (record (old g at) {
+      store = c.step.new.self;
+      tx =
+          c.follow.new.self.tx;
+      rx = c.follow.new.self.rx;
+      in_hand = o;
+      waiting = c.pop-done.new.self.waiting;
+      tickets =
+          c.pop-done.new.self.given;
+      turn = turn.Reservation;
+    })) (sym c.take.ensures.after)
+    (subst (λ (n : ℕ). IsSoundEndpoint
+    (record (old g at) {
+      store = c.step.new.self;
+      tx = c.follow.new.self.tx;
+      rx = c.follow.new.self.rx;
+      in_hand =
+          None;
+      waiting = c.pop-done.new.self.waiting;
+      tickets = n;
+      turn = turn.Reservation;
+    }))
     (sym c.pop-done.ensures.given)
-    (followed-kept g.D.SectorDisk.disk (old g at) c.self.invariant (work g at) c.pop-done.result c.pop-done.new.self.waiting c.pop-done.ensures.waiting
-    c.step.new.self (steps g at (Ok Finished) (c.in-Ok.is ∙ ap Ok c.in-Finished.is)) c.follow.new.self.tx c.follow.new.self.rx
+    (followed-kept g.D.SectorDisk.disk (old g at) c.self.invariant (work g at) c.pop-done.result
+    c.pop-done.new.self.waiting c.pop-done.ensures.waiting
+    c.step.new.self (steps g at (Ok Finished) (c.in-Ok.is ∙ ap Ok c.in-Finished.is)) c.follow.new.self.tx
+    c.follow.new.self.rx
     followed.channels followed.next followed.numbers))
 
 pub invariant_of-self-in_default : goal.invariant_of-self-in_default
@@ -95,7 +133,8 @@ invariant_of-self-in_default g c =
 pub invariant_of-self-in-Err : goal.invariant_of-self-in-Err
 invariant_of-self-in-Err g c =
     let at = (goal.at.invariant_of-self-in-Err g c).After-step in
-    cut_short-kept g.D.SectorDisk.disk (old g at) c.self.invariant (work g at) c.step.new.self (failed g at c.in-Err.field-0 c.in-Err.is)
+    cut_short-kept g.D.SectorDisk.disk (old g at) c.self.invariant (work g at) c.step.new.self
+    (failed g at c.in-Err.field-0 c.in-Err.is)
 
 pub returns-in-Finished : goal.returns-in-Finished
 returns-in-Finished g c =
@@ -103,22 +142,46 @@ returns-in-Finished g c =
     let followed = follows_first g (goal.at.returns-in-Finished g c).After-follow
     (checked_is g (goal.at.returns-in-Finished g c).After-unwrap-checked (work g at)) in
     rw (← c.self.view_is)
-    (subst (λ (o : Option Command). IsCall g.D.SectorDisk.disk (old g at) Advances (Advanced (Ok (Done c.pop-done.result.ticket (Ok tt))))
-    (record (old g at) { store = c.step.new.self; tx = c.follow.new.self.tx; rx = c.follow.new.self.rx; in_hand = o; waiting = c.pop-done.new.self.waiting; tickets = c.pop-done.new.self.given; turn = turn.Reservation })) (sym c.take.ensures.after)
-    (subst (λ (n : ℕ). IsCall g.D.SectorDisk.disk (old g at) Advances (Advanced (Ok (Done c.pop-done.result.ticket (Ok tt))))
-    (record (old g at) { store = c.step.new.self; tx = c.follow.new.self.tx; rx = c.follow.new.self.rx; in_hand = None; waiting = c.pop-done.new.self.waiting; tickets = n; turn = turn.Reservation }))
+    (subst (λ (o : Option Command).
+    IsCall g.D.SectorDisk.disk (old g at) Advances (Advanced (Ok (Done c.pop-done.result.ticket (Ok tt))))
+    (record (old g at) {
+      store = c.step.new.self;
+      tx = c.follow.new.self.tx;
+      rx = c.follow.new.self.rx;
+      in_hand = o;
+      waiting = c.pop-done.new.self.waiting;
+      tickets = c.pop-done.new.self.given;
+      turn = turn.Reservation;
+    }))
+    (sym c.take.ensures.after)
+    (subst (λ (n : ℕ).
+    IsCall g.D.SectorDisk.disk (old g at) Advances (Advanced (Ok (Done c.pop-done.result.ticket (Ok tt))))
+    (record (old g at) {
+      store = c.step.new.self;
+      tx = c.follow.new.self.tx;
+      rx = c.follow.new.self.rx;
+      in_hand = None;
+      waiting = c.pop-done.new.self.waiting;
+      tickets = n;
+      turn = turn.Reservation;
+    }))
     (sym c.pop-done.ensures.given)
-    (followed-call g.D.SectorDisk.disk (old g at) c.self.invariant (work g at) c.pop-done.result c.pop-done.new.self.waiting c.pop-done.ensures.waiting
-    c.step.new.self (steps g at (Ok Finished) (c.in-Ok.is ∙ ap Ok c.in-Finished.is)) c.follow.new.self.tx c.follow.new.self.rx
-    followed.channels followed.next followed.numbers followed.tx_counters followed.rx_counters followed.channel_counters)))
+    (followed-call g.D.SectorDisk.disk (old g at) c.self.invariant (work g at) c.pop-done.result
+    c.pop-done.new.self.waiting c.pop-done.ensures.waiting
+    c.step.new.self (steps g at (Ok Finished) (c.in-Ok.is ∙ ap Ok c.in-Finished.is)) c.follow.new.self.tx
+    c.follow.new.self.rx
+    followed.channels followed.next followed.numbers followed.tx_counters followed.rx_counters
+    followed.channel_counters)))
 
 pub returns-in_default : goal.returns-in_default
 returns-in_default g c =
     let at = (goal.at.returns-in_default g c).After-step in
-    rw (← c.self.view_is) (gone_on-call g.D.SectorDisk.disk (old g at) c.self.invariant (work g at).running c.step.new.self
+    rw (← c.self.view_is)
+    (gone_on-call g.D.SectorDisk.disk (old g at) c.self.invariant (work g at).running c.step.new.self
     (going g at c.in-Ok.progress c.in-Ok.is c.in_default.not-Finished) (inr (work g at)) (work g at).busy)
 
 pub returns-in-Err : goal.returns-in-Err
 returns-in-Err g c =
     let at = (goal.at.returns-in-Err g c).After-step in
-    rw (← c.self.view_is) (cut_short-call g.D.SectorDisk.disk (old g at) c.self.invariant (work g at) c.step.new.self (failed g at c.in-Err.field-0 c.in-Err.is))
+    rw (← c.self.view_is) (cut_short-call g.D.SectorDisk.disk (old g at) c.self.invariant (work g at) c.step.new.self
+    (failed g at c.in-Err.field-0 c.in-Err.is))

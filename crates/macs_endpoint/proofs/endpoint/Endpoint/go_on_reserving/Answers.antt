@@ -16,35 +16,45 @@ use Rattle.macs_endpoint.specs.declared.progress.Step.TheVariants.{Reserved}
 use Rattle.macs_endpoint.specs.declared.turn.Turn.TheVariants as turn
 use Rattle.macs_endpoint.proofs.Ended.{IsDone, given_up-kept, may-lift, raised-kept, raised_to, step-cut, step-done}
 use Rattle.macs_endpoint.proofs.InHand.{some_is}
-use Rattle.macs_endpoint.proofs.Stepped.{given_up-call, gone_on-call, gone_on-kept, reserved-call, step_fault, still_going}
+use Rattle.macs_endpoint.proofs.Stepped.{given_up-call, gone_on-call, gone_on-kept, reserved-call, step_fault}
+use Rattle.macs_endpoint.proofs.Stepped.{still_going}
 use Rattle.macs_endpoint.proofs.endpoint.Endpoint.go_on_reserving.Given.{Over}
 use Rattle.macs_endpoint.proofs.endpoint.Endpoint.go_on_reserving.Goals.{After-step}
 use Rattle.macs_endpoint.proofs.endpoint.Endpoint.go_on_reserving.Goals as goal
 
 module _ (g : Over) (c : After-step g) where
   abbrev old : EndpointValue g.row.D.Denot
-  old = endpoint_of c.self.inside.store c.self.inside.channels c.self.inside.in_hand c.self.inside.reserving c.self.inside.queue c.self.inside.turn
+  old = endpoint_of c.self.inside.store c.self.inside.channels c.self.inside.in_hand c.self.inside.reserving
+      c.self.inside.queue c.self.inside.turn
 
   work : IsReserving old
   work = rw (← c.self.view_is) at c.requires
 
-  steps : (result : Result JournalStep JournalFault) → c.step.result ≡ result → Steps g.D.SectorDisk.disk c.self.inside.store result c.step.new.self
+  steps : (result : Result JournalStep JournalFault) → c.step.result ≡ result
+      → Steps g.D.SectorDisk.disk c.self.inside.store result c.step.new.self
   steps result is =
-      subst (λ (r : Result JournalStep JournalFault). Steps g.D.SectorDisk.disk c.self.inside.store r c.step.new.self) is c.step.ensures
+      subst (λ (r : Result JournalStep JournalFault). Steps g.D.SectorDisk.disk c.self.inside.store r c.step.new.self)
+      is c.step.ensures
 
   -- it goes on
-  going : (at : JournalStep) → c.step.result ≡ Ok at → (¬ (at ≡ Finished)) → Steps g.D.SectorDisk.disk c.self.inside.store (Ok Going) c.step.new.self
+  going : (at : JournalStep) → c.step.result ≡ Ok at → (¬ (at ≡ Finished))
+      → Steps g.D.SectorDisk.disk c.self.inside.store (Ok Going) c.step.new.self
   going at is other =
-      let same = still_going g.D.SectorDisk.disk c.self.inside.store work.busy at c.step.new.self other (steps (Ok at) is) in
+      let same =
+      still_going g.D.SectorDisk.disk c.self.inside.store work.busy at c.step.new.self other (steps (Ok at) is) in
       steps (Ok Going) (is ∙ ap Ok same)
 
   -- or a device call failed
-  failed : (at : JournalFault) → c.step.result ≡ Err at → Steps g.D.SectorDisk.disk c.self.inside.store (Err fault.Disk) c.step.new.self
-  failed at is = steps (Err fault.Disk) (is ∙ ap Err (step_fault g.D.SectorDisk.disk c.self.inside.store c.step.new.self at work.running (steps (Err at) is)))
+  failed : (at : JournalFault) → c.step.result ≡ Err at
+      → Steps g.D.SectorDisk.disk c.self.inside.store (Err fault.Disk) c.step.new.self
+  failed at is = steps (Err fault.Disk) (is
+      ∙ ap Err (step_fault g.D.SectorDisk.disk c.self.inside.store c.step.new.self at work.running (steps (Err at) is)))
 
-  done : c.step.result ≡ Ok Finished → IsDone g.D.SectorDisk.disk c.self.inside.store (raised_to g.D.SectorDisk.disk old c.self.invariant work) c.step.new.self
+  done : c.step.result ≡ Ok Finished → IsDone g.D.SectorDisk.disk c.self.inside.store
+      (raised_to g.D.SectorDisk.disk old c.self.invariant work) c.step.new.self
   done is =
-      step-done g.D.SectorDisk.disk c.self.inside.store (raised_to g.D.SectorDisk.disk old c.self.invariant work) work.leads c.step.new.self
+      step-done g.D.SectorDisk.disk c.self.inside.store (raised_to g.D.SectorDisk.disk old c.self.invariant work)
+      work.leads c.step.new.self
       (steps (Ok Finished) is)
 
 pub raise-requires : goal.raise-requires
@@ -59,9 +69,16 @@ pub invariant_of-self : goal.invariant_of-self
 invariant_of-self g c =
     let at = (goal.at.invariant_of-self g c).After-step in
     let lifted = c.raise.ensures in
-    subst (λ (o : Option Told). IsSoundEndpoint (record (old g at) { store = c.step.new.self; tx = c.raise.new.self.tx; rx = c.raise.new.self.rx; reserving = option_map raise_of o; turn = turn.Command }))
+    subst (λ (o : Option Told). IsSoundEndpoint (record (old g at) {
+      store = c.step.new.self;
+      tx = c.raise.new.self.tx;
+      rx = c.raise.new.self.rx;
+      reserving = option_map raise_of o;
+      turn = turn.Command;
+    }))
     (sym c.take.ensures.after)
-    (raised-kept g.D.SectorDisk.disk (old g at) c.self.invariant (work g at) c.step.new.self (done g at (c.in-Ok.is ∙ ap Ok c.in-Finished.is))
+    (raised-kept g.D.SectorDisk.disk (old g at) c.self.invariant (work g at) c.step.new.self
+    (done g at (c.in-Ok.is ∙ ap Ok c.in-Finished.is))
     c.raise.new.self.tx c.raise.new.self.rx turn.Command lifted.channels lifted.tx_side lifted.rx_side)
 
 pub invariant_of-self-in_default : goal.invariant_of-self-in_default
@@ -74,26 +91,39 @@ pub invariant_of-self-in-Err : goal.invariant_of-self-in-Err
 invariant_of-self-in-Err g c =
     let at = (goal.at.invariant_of-self-in-Err g c).After-step in
     given_up-kept g.D.SectorDisk.disk (old g at) c.self.invariant (work g at) c.step.new.self
-    (step-cut g.D.SectorDisk.disk c.self.inside.store (raised_to g.D.SectorDisk.disk (old g at) c.self.invariant (work g at)) (work g at).leads c.step.new.self
+    (step-cut g.D.SectorDisk.disk c.self.inside.store
+    (raised_to g.D.SectorDisk.disk (old g at) c.self.invariant (work g at)) (work g at).leads c.step.new.self
     (failed g at c.in-Err.field-0 c.in-Err.is))
 
 pub returns-in-Finished : goal.returns-in-Finished
 returns-in-Finished g c =
     let at = (goal.at.returns-in-Finished g c).After-step in
     let lifted = c.raise.ensures in
-    rw (← c.self.view_is) (subst (λ (o : Option Told). IsCall g.D.SectorDisk.disk (old g at) Advances (Advanced (Ok Reserved))
-    (record (old g at) { store = c.step.new.self; tx = c.raise.new.self.tx; rx = c.raise.new.self.rx; reserving = option_map raise_of o; turn = turn.Command }))
+    rw (← c.self.view_is)
+    (subst (λ (o : Option Told). IsCall g.D.SectorDisk.disk (old g at) Advances (Advanced (Ok Reserved))
+    (record (old g at) {
+      store = c.step.new.self;
+      tx = c.raise.new.self.tx;
+      rx = c.raise.new.self.rx;
+      reserving =
+          option_map raise_of o;
+      turn = turn.Command;
+    }))
     (sym c.take.ensures.after)
-    (reserved-call g.D.SectorDisk.disk (old g at) c.self.invariant (work g at) c.step.new.self (steps g at (Ok Finished) (c.in-Ok.is ∙ ap Ok c.in-Finished.is))
-    c.raise.new.self.tx c.raise.new.self.rx lifted.channels lifted.tx_side lifted.rx_side lifted.tx_counters lifted.rx_counters lifted.channel_counters))
+    (reserved-call g.D.SectorDisk.disk (old g at) c.self.invariant (work g at) c.step.new.self
+    (steps g at (Ok Finished) (c.in-Ok.is ∙ ap Ok c.in-Finished.is))
+    c.raise.new.self.tx c.raise.new.self.rx lifted.channels lifted.tx_side lifted.rx_side lifted.tx_counters
+    lifted.rx_counters lifted.channel_counters))
 
 pub returns-in_default : goal.returns-in_default
 returns-in_default g c =
     let at = (goal.at.returns-in_default g c).After-step in
-    rw (← c.self.view_is) (gone_on-call g.D.SectorDisk.disk (old g at) c.self.invariant (work g at).running c.step.new.self
+    rw (← c.self.view_is)
+    (gone_on-call g.D.SectorDisk.disk (old g at) c.self.invariant (work g at).running c.step.new.self
     (going g at c.in-Ok.progress c.in-Ok.is c.in_default.not-Finished) (inl (work g at)) (work g at).busy)
 
 pub returns-in-Err : goal.returns-in-Err
 returns-in-Err g c =
     let at = (goal.at.returns-in-Err g c).After-step in
-    rw (← c.self.view_is) (given_up-call g.D.SectorDisk.disk (old g at) c.self.invariant (work g at) c.step.new.self (failed g at c.in-Err.field-0 c.in-Err.is))
+    rw (← c.self.view_is) (given_up-call g.D.SectorDisk.disk (old g at) c.self.invariant (work g at) c.step.new.self
+    (failed g at c.in-Err.field-0 c.in-Err.is))

@@ -7,7 +7,8 @@ use Rattle.macs_endpoint.specs.declared.fault.RefillFault.{RefillFault}
 use Rattle.macs_endpoint.specs.declared.fault.RefillFault.TheVariants as refill
 use Rattle.macs_endpoint.specs.declared.turn.Turn.TheVariants.{Reservation}
 use Rattle.macs_endpoint.proofs.InHand.{none-kept}
-use Rattle.macs_endpoint.proofs.KeptBehind.{behind-accepted, behind-keeps, behind-none, behind-running, cut-before, cut-named, cut-short-kept, ended-well, stopped}
+use Rattle.macs_endpoint.proofs.KeptBehind.{behind-accepted, behind-keeps, behind-none, behind-running, cut-before}
+use Rattle.macs_endpoint.proofs.KeptBehind.{cut-named, cut-short-kept, ended-well, stopped}
 use Rattle.macs_endpoint.proofs.Work.{free-hand}
 use Rattle.macs_endpoint.proofs.endpoint.Endpoint.keep.Given.{Over}
 use Rattle.macs_endpoint.proofs.endpoint.Endpoint.keep.Goals.{After-finish_reservation}
@@ -22,17 +23,21 @@ module _ (g : Over) (c : After-finish_reservation g) where
   ends : (result : Result (Unit {0}) RefillFault) → c.finish_reservation.result ≡ result
       → ReservationEnds g.D.SectorDisk.disk c.args.self.now result c.finish_reservation.new.self
   ends result is =
-      subst (λ (r : Result (Unit {0}) RefillFault). ReservationEnds g.D.SectorDisk.disk c.args.self.now r c.finish_reservation.new.self) is
+      subst (λ (r : Result (Unit {0}) RefillFault).
+      ReservationEnds g.D.SectorDisk.disk c.args.self.now r c.finish_reservation.new.self) is
       c.finish_reservation.ensures
 
   cut : is_err c.finish_reservation.result ≡ true
       → ReservationEnds g.D.SectorDisk.disk c.args.self.now (Err refill.Disk) c.finish_reservation.new.self
   cut is =
       ends (Err refill.Disk)
-      (cut-named g.D.SectorDisk.disk c.args.self.now c.finish_reservation.new.self c.finish_reservation.result is c.finish_reservation.ensures)
+      (cut-named g.D.SectorDisk.disk c.args.self.now c.finish_reservation.new.self c.finish_reservation.result is
+      c.finish_reservation.ensures)
 
-  ended : is_err c.finish_reservation.result ≡ false → ReservationEnds g.D.SectorDisk.disk c.args.self.now (Ok tt) c.finish_reservation.new.self
-  ended is = ended-well g.D.SectorDisk.disk c.args.self.now c.finish_reservation.new.self c.finish_reservation.result is c.finish_reservation.ensures
+  ended : is_err c.finish_reservation.result ≡ false
+      → ReservationEnds g.D.SectorDisk.disk c.args.self.now (Ok tt) c.finish_reservation.new.self
+  ended is = ended-well g.D.SectorDisk.disk c.args.self.now c.finish_reservation.new.self c.finish_reservation.result is
+      c.finish_reservation.ensures
 
 pub finish_reservation-requires-clause-work : goal.finish_reservation-requires-clause-work
 finish_reservation-requires-clause-work g c = none-kept c.args.self.now c.facts.ensures c.requires.none
@@ -40,40 +45,49 @@ finish_reservation-requires-clause-work g c = none-kept c.args.self.now c.facts.
 pub invariant_of-self : goal.invariant_of-self
 invariant_of-self g c =
     let at = (goal.at.invariant_of-self g c).After-finish_reservation in
-    let halted = stopped g.D.SectorDisk.disk c.args.self.now c.args.checked.now c.requires.in_range c.requires.running c.requires.none (free g at) c.requires.accepted
+    let halted = stopped g.D.SectorDisk.disk c.args.self.now c.args.checked.now c.requires.in_range c.requires.running
+    c.requires.none (free g at) c.requires.accepted
     c.finish_reservation.new.self (cut g at (sym c.is_err.ensures.value ∙ c.if-is_err.true)) in
-    cut-short-kept _ c.args.checked.now c.self.invariant (ap (λ (e : EndpointValue g.row.D.Denot). is_stopped e) c.self.view_is ∙ halted)
+    cut-short-kept _ c.args.checked.now c.self.invariant
+    (ap (λ (e : EndpointValue g.row.D.Denot). is_stopped e) c.self.view_is ∙ halted)
 
 pub returns-then-is_err : goal.returns-then-is_err
 returns-then-is_err g c =
     let at = (goal.at.returns-then-is_err g c).After-finish_reservation in
     let d = g.D.SectorDisk.disk in
     let e = c.args.self.now in
-    subst (λ (x : EndpointValue g.row.D.Denot). KeepsCommand d e c.args.checked.now (Err Disk) (record x { in_hand = Some c.args.checked.now; turn = Reservation }))
+    subst (λ (x : EndpointValue g.row.D.Denot). KeepsCommand d e c.args.checked.now (Err Disk)
+    (record x { in_hand = Some c.args.checked.now; turn = Reservation }))
     (sym c.self.view_is)
-    (cut-before d e c.args.checked.now c.requires.in_range c.requires.running c.requires.none (free g at) c.requires.accepted
+    (cut-before d e c.args.checked.now c.requires.in_range c.requires.running c.requires.none (free g at)
+    c.requires.accepted
     c.finish_reservation.new.self (cut g at (sym c.is_err.ensures.value ∙ c.if-is_err.true)))
 
 pub commit-requires-clause-running : goal.commit-requires-clause-running
 commit-requires-clause-running g c =
     let at = (goal.at.commit-requires-clause-running g c).After-finish_reservation in
-    behind-running g.D.SectorDisk.disk c.args.self.now c.args.checked.now c.requires.in_range c.requires.running c.requires.none (free g at) c.requires.accepted
+    behind-running g.D.SectorDisk.disk c.args.self.now c.args.checked.now c.requires.in_range c.requires.running
+    c.requires.none (free g at) c.requires.accepted
     c.finish_reservation.new.self (ended g at (sym c.is_err.ensures.value ∙ c.if-is_err.false))
 
 pub commit-requires-clause-none : goal.commit-requires-clause-none
 commit-requires-clause-none g c =
     let at = (goal.at.commit-requires-clause-none g c).After-finish_reservation in
-    behind-none g.D.SectorDisk.disk c.args.self.now c.args.checked.now c.requires.in_range c.requires.running c.requires.none (free g at) c.requires.accepted
+    behind-none g.D.SectorDisk.disk c.args.self.now c.args.checked.now c.requires.in_range c.requires.running
+    c.requires.none (free g at) c.requires.accepted
     c.finish_reservation.new.self (ended g at (sym c.is_err.ensures.value ∙ c.if-is_err.false))
 
 pub commit-requires-clause-accepted : goal.commit-requires-clause-accepted
 commit-requires-clause-accepted g c =
     let at = (goal.at.commit-requires-clause-accepted g c).After-finish_reservation in
-    behind-accepted g.D.SectorDisk.disk c.args.self.now c.args.checked.now c.requires.in_range c.requires.running c.requires.none (free g at) c.requires.accepted
+    behind-accepted g.D.SectorDisk.disk c.args.self.now c.args.checked.now c.requires.in_range c.requires.running
+    c.requires.none (free g at) c.requires.accepted
     c.finish_reservation.new.self (ended g at (sym c.is_err.ensures.value ∙ c.if-is_err.false))
 
 pub returns : goal.returns
 returns g c =
     let at = (goal.at.returns g c).After-finish_reservation in
-    behind-keeps g.D.SectorDisk.disk c.args.self.now c.args.checked.now c.requires.in_range c.requires.running c.requires.none (free g at) c.requires.accepted
-    c.finish_reservation.new.self (ended g at (sym c.is_err.ensures.value ∙ c.if-is_err.false)) c.commit.result c.commit.new.self c.commit.ensures
+    behind-keeps g.D.SectorDisk.disk c.args.self.now c.args.checked.now c.requires.in_range c.requires.running
+    c.requires.none (free g at) c.requires.accepted
+    c.finish_reservation.new.self (ended g at (sym c.is_err.ensures.value ∙ c.if-is_err.false)) c.commit.result
+    c.commit.new.self c.commit.ensures

@@ -1,11 +1,14 @@
-use Rattle.std.proofs.Common.{◌≡◌, ◌≢◌, ◌≤◌, ◌⊎◌, inl, inr, ℕ, [], false, None, Result, Ok, Err, IfOk, refl, sym, ◌∙◌, subst}
+use Rattle.std.proofs.Common.{◌≡◌, ◌≢◌, ◌≤◌, ◌⊎◌, inl, inr, ℕ, [], false, None, Result, Ok, Err, IfOk, refl, sym, ◌∙◌}
+use Rattle.std.proofs.Common.{subst}
 use Rattle.std.specs.Option.{option_map}
 use Rattle.macs_config.specs.Config.{this_edition}
 use Rattle.macs_disk.specs.Disk.{Disk, IsHonest, now}
 use Rattle.macs_disk.specs.States.{Image, IsSound}
 use Rattle.macs_journal.specs.Areas.{least_sectors}
 use Rattle.macs_journal.specs.declared.fault.JournalFault.{JournalFault}
-use Rattle.macs_journal.specs.declared.fault.JournalFault.TheVariants.{Stopped, TooSmall, Disk as Failed, AlreadyFormatted, NotFormatted, BadJournal, GenerationsSpent}
+use Rattle.macs_journal.specs.declared.fault.JournalFault.TheVariants.{Stopped, TooSmall, Disk as Failed}
+use Rattle.macs_journal.specs.declared.fault.JournalFault.TheVariants.{AlreadyFormatted, NotFormatted, BadJournal}
+use Rattle.macs_journal.specs.declared.fault.JournalFault.TheVariants.{GenerationsSpent}
 use Rattle.macs_txsc.specs.Value as txsc
 use Rattle.macs_rxsc.specs.Receive.{first_numbers}
 use Rattle.macs_rxsc.specs.Value as rxsc
@@ -24,24 +27,29 @@ use Rattle.macs_endpoint.proofs.endpoint.Endpoint.open.Goals as goal
 
 -- ---- a disk that fits a state is refused for the device, or for its last generation
 
-not_found : (sectors : ℕ) (image : Image) (fault : JournalFault) → StandingIs this_edition sectors image (Err fault) → (s : State) × Fits this_edition sectors image s → ⊥
+not_found : (sectors : ℕ) (image : Image) (fault : JournalFault) → StandingIs this_edition sectors image (Err fault)
+    → (s : State) × Fits this_edition sectors image s → ⊥
 not_found sectors image fault is fits =
     let same : ◌≡◌ {A = Result Standing JournalFault} (Err fault) (Ok fits.1.found) =
     one_standing this_edition sectors image (Err fault) (Ok fits.1.found) is fits.1.is_found in cc
 
-by_device : (sectors : ℕ) (image : Image) (fault : JournalFault) → (fault ≢ Failed → IsUnfitTo this_edition sectors image fault) → (s : State) × Fits this_edition sectors image s
+by_device : (sectors : ℕ) (image : Image) (fault : JournalFault)
+    → (fault ≢ Failed → IsUnfitTo this_edition sectors image fault) → (s : State) × Fits this_edition sectors image s
     → (fault ≡ Failed) ⊎ (fault ≡ GenerationsSpent)
 by_device sectors image Failed found fits = inl refl
 by_device sectors image Stopped found fits = absurd (not_found sectors image Stopped (found (λ is. cc)) fits)
 by_device sectors image TooSmall found fits = absurd (not_found sectors image TooSmall (found (λ is. cc)) fits)
-by_device sectors image AlreadyFormatted found fits = absurd (not_found sectors image AlreadyFormatted (found (λ is. cc)) fits)
+by_device sectors image AlreadyFormatted found fits =
+    absurd (not_found sectors image AlreadyFormatted (found (λ is. cc)) fits)
 by_device sectors image NotFormatted found fits = absurd (not_found sectors image NotFormatted (found (λ is. cc)) fits)
 by_device sectors image BadJournal found fits = absurd (not_found sectors image BadJournal (found (λ is. cc)) fits)
 by_device sectors image GenerationsSpent found fits = inr refl
 
-begins : {D : Type 0} (e : EndpointValue D) (logs : Logs) → (txsc.tx_side_of e.tx).next ≡ (standing_in e.store).ceilings.tx
+begins : {D : Type 0} (e : EndpointValue D) (logs : Logs)
+    → (txsc.tx_side_of e.tx).next ≡ (standing_in e.store).ceilings.tx
     → (rxsc.rx_side_of e.rx).numbers ≡ (λ sci an. option_map first_numbers ((standing_in e.store).ceilings.rx sci an))
-    → is_stopped e ≡ false → e.in_hand ≡ None → e.waiting ≡ [] → e.tickets ≡ 0 → state_of e logs ≡ opened_state (standing_in e.store) logs
+    → is_stopped e ≡ false → e.in_hand ≡ None → e.waiting ≡ [] → e.tickets ≡ 0
+    → state_of e logs ≡ opened_state (standing_in e.store) logs
 begins e logs next numbers running idle none zero = λ i. record {
   edition = this_edition;
   identity = (standing_in e.store).identity;
@@ -57,8 +65,10 @@ begins e logs next numbers running idle none zero = λ i. record {
 
 -- ---- a store that was opened, or a refusal
 
-module _ {D : Type 0} (disk_of : D → Disk) (disk : D) (sound : IsHonest (disk_of disk) → IsSound (now (disk_of disk))) where
-  opened : (store : StoreValue D) (e : EndpointValue D) → OpensStore disk_of disk store → Begins store e → Opens disk_of disk e
+module _ {D : Type 0} (disk_of : D → Disk) (disk : D) (sound : IsHonest (disk_of disk)
+    → IsSound (now (disk_of disk))) where
+  opened : (store : StoreValue D) (e : EndpointValue D) → OpensStore disk_of disk store → Begins store e
+      → Opens disk_of disk e
   opened store e found begun =
       let from = sym begun.from in
       let is = subst (λ (s : StoreValue D). Begins s e) from begun in
@@ -69,7 +79,8 @@ module _ {D : Type 0} (disk_of : D → Disk) (disk : D) (sound : IsHonest (disk_
         idle = is.idle.0;
         turn = is.turn;
         found = there.found;
-        backed = λ honest. kept-backed e is.sound disk_of (subst (λ (n : ℕ). least_sectors ≤ n) (sym there.device.works.sectors) there.device.large) (there.stored honest);
+        backed = λ honest. kept-backed e is.sound disk_of (subst (λ (n : ℕ). least_sectors ≤ n)
+            (sym there.device.works.sectors) there.device.large) (there.stored honest);
         tx_counters = is.tx_counters;
         rx_counters = is.rx_counters;
         channel_counters = is.channel_counters;
@@ -79,7 +90,8 @@ module _ {D : Type 0} (disk_of : D → Disk) (disk : D) (sound : IsHonest (disk_
       → RefusesOpening disk_of disk refused.disk refused.fault
   refuses refused is = record {
     refused = is;
-    opens = λ honest fits. by_device (disk_of disk).sectors (now (disk_of disk)).seen refused.fault (λ other. is.found other honest)
+    opens = λ honest fits.
+        by_device (disk_of disk).sectors (now (disk_of disk)).seen refused.fault (λ other. is.found other honest)
         (fits (now (disk_of disk)).seen (sound (sym is.works.honest ∙ honest)).fit);
   }
 
@@ -98,7 +110,9 @@ module _ {D : Type 0} (disk_of : D → Disk) (disk : D) (sound : IsHonest (disk_
 pub returns : goal.returns
 returns g c =
     let d = g.D.SectorDisk.disk in
-    goes_on d c.args.disk (g.met.D.SectorDisk.sound c.args.disk) c.open.result c.begun.result c.open.ensures c.begun.ensures
+    goes_on d c.args.disk (g.met.D.SectorDisk.sound c.args.disk) c.open.result c.begun.result c.open.ensures
+    c.begun.ensures
 
 pub begun-requires : goal.begun-requires
-begun-requires g c = idle_if g.D.SectorDisk.disk c.args.disk (g.met.D.SectorDisk.sound c.args.disk) c.open.result c.open.ensures
+begun-requires g c =
+    idle_if g.D.SectorDisk.disk c.args.disk (g.met.D.SectorDisk.sound c.args.disk) c.open.result c.open.ensures

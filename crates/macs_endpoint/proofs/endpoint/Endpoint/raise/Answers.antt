@@ -15,10 +15,12 @@ use Rattle.macs_endpoint.proofs.endpoint.Endpoint.raise.Goals as goal
 starts : (g : Over) (c : After-start_raise g) (result : Result (Unit {0}) JournalFault) → c.start_raise.result ≡ result
     → StartsRaise g.D.SectorDisk.disk c.args.self.now (raise_of c.args.raise) result c.start_raise.new.self
 starts g c result is =
-    subst (λ (r : Result (Unit {0}) JournalFault). StartsRaise g.D.SectorDisk.disk c.args.self.now (raise_of c.args.raise) r c.start_raise.new.self) is
+    subst (λ (r : Result (Unit {0}) JournalFault).
+    StartsRaise g.D.SectorDisk.disk c.args.self.now (raise_of c.args.raise) r c.start_raise.new.self) is
     c.start_raise.ensures
 
-spent_is : (at : JournalFault) → IsErrOf {T = Unit {0}} (Err at) journal.GenerationsSpent → at ≡ journal.GenerationsSpent
+spent_is : (at : JournalFault) → IsErrOf {T = Unit {0}} (Err at) journal.GenerationsSpent
+    → at ≡ journal.GenerationsSpent
 spent_is at is = cc
 
 pub returns-in_err-start_raise : goal.returns-in_err-start_raise
@@ -28,10 +30,13 @@ returns-in_err-start_raise g c =
     let refused = (starts g at (Err fault) c.in_err-start_raise.was).refused in
     let risen = err_from_is_err_and c.from_residual.result c.from_residual.ensures.1 in
     rw (risen.1, risen.2)
-    (subst (λ (f : JournalFault). Raised g.D.SectorDisk.disk c.args.self.now (raise_of c.args.raise) (Err (refill_fault_of f)) c.start_raise.new.self)
+    (subst (λ (f : JournalFault). Raised g.D.SectorDisk.disk c.args.self.now (raise_of c.args.raise)
+    (Err (refill_fault_of f)) c.start_raise.new.self)
     (sym (spent_is fault refused.0))
-    (subst (λ (e : EndpointValue g.row.D.Denot). Raised g.D.SectorDisk.disk c.args.self.now (raise_of c.args.raise) (Err (refill_fault_of journal.GenerationsSpent)) e)
-    (sym refused.1) (spent-raised g.D.SectorDisk.disk c.args.self.now (raise_of c.args.raise) c.requires.idle refused.2)))
+    (subst (λ (e : EndpointValue g.row.D.Denot). Raised g.D.SectorDisk.disk c.args.self.now (raise_of c.args.raise)
+    (Err (refill_fault_of journal.GenerationsSpent)) e)
+    (sym refused.1)
+    (spent-raised g.D.SectorDisk.disk c.args.self.now (raise_of c.args.raise) c.requires.idle refused.2)))
 
 pub finish_reservation-requires-clause-running : goal.finish_reservation-requires-clause-running
 finish_reservation-requires-clause-running g c =
@@ -47,6 +52,8 @@ pub returns : goal.returns
 returns g c =
     let at = (goal.at.returns g c).After-start_raise in
     let made = starts g at (Ok tt) c.in_ok-start_raise.was in
-    begun-raised g.D.SectorDisk.disk c.args.self.now made.sound c.requires.running c.requires.idle (raise_of c.args.raise) c.requires.first
-    c.start_raise.new.self.store made.in_hand c.start_raise.new.self c.finish_reservation.new.self c.finish_reservation.result made.taken
+    begun-raised g.D.SectorDisk.disk c.args.self.now made.sound c.requires.running c.requires.idle
+    (raise_of c.args.raise) c.requires.first
+    c.start_raise.new.self.store made.in_hand c.start_raise.new.self c.finish_reservation.new.self
+    c.finish_reservation.result made.taken
     made.room c.finish_reservation.ensures

@@ -7,7 +7,8 @@ use Rattle.macs_endpoint.specs.State.{no_logs}
 use Rattle.macs_endpoint.specs.PrivateTypes.{raise_of}
 use Rattle.macs_endpoint.specs.declared.fault.RefillFault.{RefillFault}
 use Rattle.macs_endpoint.proofs.InHand.{at-rest}
-use Rattle.macs_endpoint.proofs.RefillCall.{cut-refill, done-refill, reserves-none, reserves-on, turn-less, turn-moves, turn-raised}
+use Rattle.macs_endpoint.proofs.RefillCall.{cut-refill, done-refill, reserves-none, reserves-on, turn-less, turn-moves}
+use Rattle.macs_endpoint.proofs.RefillCall.{turn-raised}
 use Rattle.macs_endpoint.proofs.RefillCosts.{raised-none}
 use Rattle.macs_endpoint.proofs.endpoint.Endpoint.reserve.Given.{Over}
 use Rattle.macs_endpoint.proofs.endpoint.Endpoint.reserve.Goals.{After-facts, After-raise}
@@ -23,13 +24,15 @@ module _ (g : Over) (c : After-raise g) where
   step : (result : Result (Unit {0}) RefillFault) → c.raise.result ≡ result
       → Raised g.D.SectorDisk.disk c.loop-raise.self (raise_of c.in-Some.raise) result c.raise.new.self
   step result is =
-      subst (λ (r : Result (Unit {0}) RefillFault). Raised g.D.SectorDisk.disk c.loop-raise.self (raise_of c.in-Some.raise) r c.raise.new.self) is c.raise.ensures
+      subst (λ (r : Result (Unit {0}) RefillFault).
+      Raised g.D.SectorDisk.disk c.loop-raise.self (raise_of c.in-Some.raise) r c.raise.new.self) is c.raise.ensures
 
 pub loop-raise-init : goal.loop-raise-init
 loop-raise-init g c = record {
   running = c.requires.running;
   reserves = reserves-none g.D.SectorDisk.disk c.args.self.now c.requires.idle;
-  raised = raised-none g.D.SectorDisk.disk c.args.self.now (none g (goal.at.loop-raise-init g c).After-facts) c.requires.idle;
+  raised = raised-none g.D.SectorDisk.disk c.args.self.now (none g (goal.at.loop-raise-init g c).After-facts)
+      c.requires.idle;
   still = λ free. refl;
 }
 
@@ -44,7 +47,8 @@ loop-raise-smaller g c =
     let at = goal.at.loop-raise-smaller g c in
     let i = c.loop-raise.invariant in
     let made = step g at.After-raise (Ok tt) c.in_ok-raise.was in
-    turn-less g.D.SectorDisk.disk c.args.self.now c.loop-raise.self c.raise.new.self i.reserves (none g at.After-facts) i.raised c.facts.ensures
+    turn-less g.D.SectorDisk.disk c.args.self.now c.loop-raise.self c.raise.new.self i.reserves (none g at.After-facts)
+    i.raised c.facts.ensures
     (raise_of c.in-Some.raise) (first g at.After-raise) made.reserves made.done
 
 pub loop-raise-preserved : goal.loop-raise-preserved
@@ -57,8 +61,10 @@ loop-raise-preserved g c =
     record {
       running = ap (λ s. s.stopped) (made.reserves.step no_logs) ∙ i.running;
       reserves = reserves-on d c.args.self.now c.loop-raise.self c.raise.new.self (Ok tt) i.reserves made.reserves;
-      raised = turn-raised d c.args.self.now c.loop-raise.self c.raise.new.self i.reserves (none g at.After-facts) i.raised raise (first g at.After-raise) made;
-      still = λ free. absurd (turn-moves d c.args.self.now c.loop-raise.self c.raise.new.self i.reserves (none g at.After-facts) i.raised free i.still raise
+      raised = turn-raised d c.args.self.now c.loop-raise.self c.raise.new.self i.reserves (none g at.After-facts)
+          i.raised raise (first g at.After-raise) made;
+      still = λ free. absurd (turn-moves d c.args.self.now c.loop-raise.self c.raise.new.self i.reserves
+          (none g at.After-facts) i.raised free i.still raise
           (first g at.After-raise) made);
     }
 
@@ -69,7 +75,8 @@ returns-in_err-raise g c =
     let fault = c.in_err-raise.field-0.0 in
     let made = step g at.After-raise (Err fault) c.in_err-raise.was in
     let risen = err_from_is_err_and c.from_residual.result c.from_residual.ensures.1 in
-    rw (risen.1, risen.2) (cut-refill g.D.SectorDisk.disk c.args.self.now c.loop-raise.self c.raise.new.self i.reserves (none g at.After-facts) i.raised i.still fault
+    rw (risen.1, risen.2) (cut-refill g.D.SectorDisk.disk c.args.self.now c.loop-raise.self c.raise.new.self i.reserves
+    (none g at.After-facts) i.raised i.still fault
     (raise_of c.in-Some.raise) (first g at.After-raise) made)
 
 pub returns : goal.returns

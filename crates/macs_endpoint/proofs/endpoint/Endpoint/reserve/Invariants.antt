@@ -18,4 +18,5 @@ invariant-loop-raise g l = record {
 }
 
 abbrev pub decreases-loop-raise : goal.decreases-loop-raise
-decreases-loop-raise g l = left (tx_side (state_of l.self no_logs)) (rx_side (state_of l.self no_logs)) (standing_in l.self.store)
+decreases-loop-raise g l =
+    left (tx_side (state_of l.self no_logs)) (rx_side (state_of l.self no_logs)) (standing_in l.self.store)

@@ -22,24 +22,31 @@ loop-init g c = record {
 
 pub returns-in_default : goal.returns-in_default
 returns-in_default g c =
-    let served = served-ended g.D.SectorDisk.disk c.args.self.now (tells g c.args.source.now c.args.sink.now) c.loop.counter c.loop.self
-    (tells g c.loop.source c.loop.sink) c.loop.invariant.serving c.args.turns (tells g c.next_event.new.self c.loop.sink) c.loop-test.true
+    let served = served-ended g.D.SectorDisk.disk c.args.self.now (tells g c.args.source.now c.args.sink.now)
+    c.loop.counter c.loop.self
+    (tells g c.loop.source c.loop.sink) c.loop.invariant.serving c.args.turns
+    (tells g c.next_event.new.self c.loop.sink) c.loop-test.true
     (c.in_default.ensures.taken, c.in_default.ensures.telling) refl refl in
     record { served = served; lives = (served.turns, served.lives) }
 
 pub returns-then-is_halt : goal.returns-then-is_halt
 returns-then-is_halt g c =
-    let served = served-halted g.D.SectorDisk.disk c.args.self.now (tells g c.args.source.now c.args.sink.now) c.loop.counter c.loop.self
-    (tells g c.loop.source c.loop.sink) c.loop.invariant.serving c.in-Some.event c.answer-answer.result c.answer-answer.new.self
+    let served = served-halted g.D.SectorDisk.disk c.args.self.now (tells g c.args.source.now c.args.sink.now)
+    c.loop.counter c.loop.self
+    (tells g c.loop.source c.loop.sink) c.loop.invariant.serving c.in-Some.event c.answer-answer.result
+    c.answer-answer.new.self
     (tells g c.next_event.new.self c.put.new.self) c.answer-answer.ensures c.facts.ensures
-    (c.in-Some.ensures.taken, c.in-Some.ensures.telling) (c.put.ensures.given, c.put.ensures.telling) c.args.turns c.loop-test.true
+    (c.in-Some.ensures.taken, c.in-Some.ensures.telling) (c.put.ensures.given, c.put.ensures.telling) c.args.turns
+    c.loop-test.true
     (sym c.is_halt-is_halt.ensures ∙ c.if-is_halt.true) in
     record { served = served; lives = (served.turns, served.lives) }
 
 pub loop-preserved : goal.loop-preserved
 loop-preserved g c = record {
-  serving = serving-more g.D.SectorDisk.disk c.args.self.now (tells g c.args.source.now c.args.sink.now) c.loop.counter c.loop.self
-      (tells g c.loop.source c.loop.sink) c.loop.invariant.serving c.in-Some.event c.answer-answer.result c.answer-answer.new.self
+  serving = serving-more g.D.SectorDisk.disk c.args.self.now (tells g c.args.source.now c.args.sink.now)
+      c.loop.counter c.loop.self
+      (tells g c.loop.source c.loop.sink) c.loop.invariant.serving c.in-Some.event c.answer-answer.result
+      c.answer-answer.new.self
       (tells g c.next_event.new.self c.put.new.self) c.answer-answer.ensures c.facts.ensures
       (c.in-Some.ensures.taken, c.in-Some.ensures.telling) (c.put.ensures.given, c.put.ensures.telling)
       (sym c.is_halt-is_halt.ensures ∙ c.if-is_halt.false);
@@ -50,6 +57,8 @@ pub returns : goal.returns
 returns g c =
     let all : c.loop.counter ≡ c.args.turns = omega (arith, c.loop.invariant.within, c.loop-test.false) in
     let told = tells g c.args.source.now c.args.sink.now in
-    let served = subst (λ (n : ℕ). IsServed g.D.SectorDisk.disk n c.args.self.now told TurnsSpent c.loop.self (tells g c.loop.source c.loop.sink)) all
-    (served-spent g.D.SectorDisk.disk c.args.self.now told c.loop.counter c.loop.self (tells g c.loop.source c.loop.sink) c.loop.invariant.serving) in
+    let served = subst (λ (n : ℕ). IsServed g.D.SectorDisk.disk n c.args.self.now told TurnsSpent c.loop.self
+    (tells g c.loop.source c.loop.sink)) all
+    (served-spent g.D.SectorDisk.disk c.args.self.now told c.loop.counter c.loop.self
+    (tells g c.loop.source c.loop.sink) c.loop.invariant.serving) in
     record { served = served; lives = (served.turns, served.lives) }

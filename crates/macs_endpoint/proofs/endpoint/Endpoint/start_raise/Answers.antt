@@ -16,7 +16,8 @@ use Rattle.macs_endpoint.proofs.endpoint.Endpoint.start_raise.Goals as goal
 
 module _ (g : Over) (c : After-self g) where
   abbrev old : EndpointValue g.row.D.Denot
-  old = endpoint_of c.self.inside.store c.self.inside.channels c.self.inside.in_hand c.self.inside.reserving c.self.inside.queue c.self.inside.turn
+  old = endpoint_of c.self.inside.store c.self.inside.channels c.self.inside.in_hand c.self.inside.reserving
+      c.self.inside.queue c.self.inside.turn
 
   running : is_stopped old ≡ false
   running = rw (← c.self.view_is) at c.requires.running
@@ -25,28 +26,35 @@ module _ (g : Over) (c : After-self g) where
   idle = rw (← c.self.view_is) at c.requires.idle
 
   first : raise_in old ≡ Some (raise_of c.args.raise)
-  first = subst (λ (e : EndpointValue g.row.D.Denot). raise_in e ≡ Some (raise_of c.args.raise)) (sym c.self.view_is) c.requires.first
+  first = subst (λ (e : EndpointValue g.row.D.Denot). raise_in e ≡ Some (raise_of c.args.raise)) (sym c.self.view_is)
+      c.requires.first
 
 pub start_ceiling-requires-clause-rises : goal.start_ceiling-requires-clause-rises
 start_ceiling-requires-clause-rises g c =
     let at = (goal.at.start_ceiling-requires-clause-rises g c).After-self in
-    first-rises (standing_in c.self.inside.store) (tx_side (state_of (old g at) no_logs)) (rx_side (state_of (old g at) no_logs)) (raise_of c.args.raise) (first g at)
+    first-rises (standing_in c.self.inside.store) (tx_side (state_of (old g at) no_logs))
+    (rx_side (state_of (old g at) no_logs)) (raise_of c.args.raise) (first g at)
 
 -- what the store says of it
-starts : (g : Over) (c : After-start_ceiling g) (result : Result (Unit {0}) JournalFault) → c.start_ceiling.result ≡ result
-    → Starts g.D.SectorDisk.disk c.self.inside.store (standing_with_raise (standing_in c.self.inside.store) (raise_of c.args.raise)) result c.start_ceiling.new.store
+starts : (g : Over) (c : After-start_ceiling g) (result : Result (Unit {0}) JournalFault)
+    → c.start_ceiling.result ≡ result
+    → Starts g.D.SectorDisk.disk c.self.inside.store
+    (standing_with_raise (standing_in c.self.inside.store) (raise_of c.args.raise)) result c.start_ceiling.new.store
 starts g c result is =
     subst (λ (r : Result (Unit {0}) JournalFault). Starts g.D.SectorDisk.disk c.self.inside.store
-    (standing_with_raise (standing_in c.self.inside.store) (raise_of c.args.raise)) r c.start_ceiling.new.store) is c.start_ceiling.ensures
+    (standing_with_raise (standing_in c.self.inside.store) (raise_of c.args.raise)) r c.start_ceiling.new.store) is
+    c.start_ceiling.ensures
 
 taken : (g : Over) (c : After-start_ceiling g) → c.start_ceiling.result ≡ Ok tt
-    → HasInHand g.D.SectorDisk.disk c.self.inside.store (standing_with_raise (standing_in c.self.inside.store) (raise_of c.args.raise)) c.start_ceiling.new.store
+    → HasInHand g.D.SectorDisk.disk c.self.inside.store
+    (standing_with_raise (standing_in c.self.inside.store) (raise_of c.args.raise)) c.start_ceiling.new.store
 taken g c is = (starts g c (Ok tt) is).in_hand
 
 pub invariant_of-self-2 : goal.invariant_of-self-2
 invariant_of-self-2 g c =
     let at = goal.at.invariant_of-self-2 g c in
-    begun-kept g.D.SectorDisk.disk (old g at.After-self) c.self.invariant (running g at.After-self) (idle g at.After-self) (raise_of c.args.raise)
+    begun-kept g.D.SectorDisk.disk (old g at.After-self) c.self.invariant (running g at.After-self)
+    (idle g at.After-self) (raise_of c.args.raise)
     (first g at.After-self) c.start_ceiling.new.store (taken g at.After-start_ceiling c.in_ok-start_ceiling.was)
 
 pub returns : goal.returns
@@ -58,7 +66,8 @@ returns g c =
       room = λ is. let no = (starts g at.After-start_ceiling (Ok tt) c.in_ok-start_ceiling.was).spent.1 is in cc;
       in_hand = has;
       taken = refl;
-      reserving = begun-reserving g.D.SectorDisk.disk (old g at.After-self) c.self.invariant (running g at.After-self) (idle g at.After-self)
+      reserving = begun-reserving g.D.SectorDisk.disk (old g at.After-self) c.self.invariant (running g at.After-self)
+          (idle g at.After-self)
           (raise_of c.args.raise) (first g at.After-self) c.start_ceiling.new.store has;
       sound = c.self.invariant;
     })

@@ -6,4 +6,5 @@ pub returns : goal.returns
 returns c =
     let s = c.self.inside in
     let held = c.self.invariant in
-    c.hashed.ensures s.key held.0.small held.1 ∙ ap (λ (h : ℕ). ghash h (blocks_of (hash_input c.args.aad.now c.args.text.now))) c.self.view_is
+    c.hashed.ensures s.key held.0.small held.1
+    ∙ ap (λ (h : ℕ). ghash h (blocks_of (hash_input c.args.aad.now c.args.text.now))) c.self.view_is

@@ -11,7 +11,8 @@ use Rattle.macs_journal.specs.Stepping.{AtNextCall, IsCompactHand}
 use Rattle.macs_journal.specs.declared.hand.Hand.{Hand}
 use Rattle.macs_journal.specs.declared.hand.Hand.TheVariants.{Empty}
 use Rattle.macs_journal.specs.declared.place.Place.{Place}
-use Rattle.macs_journal.proofs.Compacting.{at-begun, broken-compacts, done-compacts, fails-later, head-begun, head-next, idle-then, lent-begun, not-begun, not-idle, place-moved, some-left-compact}
+use Rattle.macs_journal.proofs.Compacting.{at-begun, broken-compacts, done-compacts, fails-later, head-begun, head-next}
+use Rattle.macs_journal.proofs.Compacting.{idle-then, lent-begun, not-begun, not-idle, place-moved, some-left-compact}
 use Rattle.macs_journal.proofs.journal.Journal.finish_compact.Given.{Over}
 use Rattle.macs_journal.proofs.journal.Journal.finish_compact.Goals.{After-step_compact}
 use Rattle.macs_journal.proofs.journal.Journal.finish_compact.Goals as goal
@@ -44,20 +45,28 @@ module _ (g : Over) (c : After-step_compact g) where
   busy = c.is_compacting.ensures.0 c.loop-self-test.true
 
   module _ (honest : IsHonest (g.D.SectorDisk.disk c.step_compact.new.self.disk)) where
-    at-call : AtNextCall (g.D.SectorDisk.disk c.args.self.now.disk) (g.D.SectorDisk.disk c.loop-self.self.disk) (other_area c.loop-self.self.place.area)
-        (next_head c.args.self.now.place.head (length (listed g c.args.records.now))) (listed g c.args.records.now) c.loop-self.self.hand
+    at-call : AtNextCall (g.D.SectorDisk.disk c.args.self.now.disk) (g.D.SectorDisk.disk c.loop-self.self.disk)
+        (other_area c.loop-self.self.place.area)
+        (next_head c.args.self.now.place.head (length (listed g c.args.records.now))) (listed g c.args.records.now)
+        c.loop-self.self.hand
     at-call =
-        subst (λ (p : Place). AtNextCall (g.D.SectorDisk.disk c.args.self.now.disk) (g.D.SectorDisk.disk c.loop-self.self.disk) (other_area p.area)
-        (next_head c.args.self.now.place.head (length (listed g c.args.records.now))) (listed g c.args.records.now) c.loop-self.self.hand)
-        (sym (c.loop-self.invariant.place busy)) (c.loop-self.invariant.at (sym c.step_compact.ensures.advances.work.works.honest ∙ honest))
+        subst (λ (p : Place). AtNextCall (g.D.SectorDisk.disk c.args.self.now.disk)
+        (g.D.SectorDisk.disk c.loop-self.self.disk) (other_area p.area)
+        (next_head c.args.self.now.place.head (length (listed g c.args.records.now))) (listed g c.args.records.now)
+        c.loop-self.self.hand)
+        (sym (c.loop-self.invariant.place busy))
+        (c.loop-self.invariant.at (sym c.step_compact.ensures.advances.work.works.honest ∙ honest))
 
-    under-way : IsUnderWay (g.D.SectorDisk.disk c.args.self.now.disk) (g.D.SectorDisk.disk c.step_compact.new.self.disk) (other_area c.args.self.now.place.area)
+    under-way : IsUnderWay (g.D.SectorDisk.disk c.args.self.now.disk) (g.D.SectorDisk.disk c.step_compact.new.self.disk)
+        (other_area c.args.self.now.place.area)
         (next_head c.args.self.now.place.head (length (listed g c.args.records.now))) (listed g c.args.records.now)
     under-way =
-        subst (λ (p : Place). IsUnderWay (g.D.SectorDisk.disk c.args.self.now.disk) (g.D.SectorDisk.disk c.step_compact.new.self.disk) (other_area p.area)
+        subst (λ (p : Place). IsUnderWay (g.D.SectorDisk.disk c.args.self.now.disk)
+        (g.D.SectorDisk.disk c.step_compact.new.self.disk) (other_area p.area)
         (next_head c.args.self.now.place.head (length (listed g c.args.records.now))) (listed g c.args.records.now))
         (c.loop-self.invariant.place busy)
-        (c.step_compact.ensures.under_way honest (g.D.SectorDisk.disk c.args.self.now.disk) (next_head c.args.self.now.place.head (length (listed g c.args.records.now))) at-call)
+        (c.step_compact.ensures.under_way honest (g.D.SectorDisk.disk c.args.self.now.disk)
+        (next_head c.args.self.now.place.head (length (listed g c.args.records.now))) at-call)
 
 pub loop-self-preserved : goal.loop-self-preserved
 loop-self-preserved g c =
@@ -79,10 +88,12 @@ loop-self-preserved g c =
       works = Works-on _ _ _ i.works done.work.works;
       steady = done.work.fails ∙ i.steady;
       place = λ still. done.place (not-idle new.hand still) ∙ i.place has_work;
-      moved = λ idle. done.moved idle ∙ place-moved start.place mid.place records mid.hand has_work i.renews (i.place has_work);
+      moved = λ idle. done.moved idle
+          ∙ place-moved start.place mid.place records mid.hand has_work i.renews (i.place has_work);
       most = (let so_far = i.most in let one = done.call in let left = done.left in omega (arith, so_far, one, left));
       at = λ honest.
-          subst (λ (p : Place). AtNextCall (d start.disk) (d new.disk) (other_area p.area) head records new.hand) (i.place has_work)
+          subst (λ (p : Place). AtNextCall (d start.disk) (d new.disk) (other_area p.area) head records new.hand)
+          (i.place has_work)
           (step.next honest (d start.disk) head (at-call g path honest));
     }
 
@@ -94,18 +105,28 @@ returns-in_err-step_compact g c =
     let done = c.in_err-step_compact.ensures.advances in
     let risen = err_from_is_err_and c.from_residual.result c.from_residual.ensures.1 in
     rw (risen.1, risen.2)
-    (broken-compacts g.D.SectorDisk.disk c.args.self.now c.step_compact.new.self (listed g c.args.records.now) c.requires
-    (let so_far = i.most in let one = done.one in let some = some-left-compact c.loop-self.self.hand (busy g path) in omega (arith, so_far, one, some))
+    (broken-compacts g.D.SectorDisk.disk c.args.self.now c.step_compact.new.self
+    (listed g c.args.records.now) c.requires
+    (let so_far = i.most in let one = done.one in let some = some-left-compact c.loop-self.self.hand (busy g path) in
+    omega (arith, so_far, one, some))
     c.in_err-step_compact.field-0.0 done.names done.after done.idle (done.at_fault ∙ i.place (busy g path))
-    (record { works = Works-on _ _ _ i.works done.work.works; fails = fails-later (d c.args.self.now.disk) (d c.loop-self.self.disk) (d c.step_compact.new.self.disk) (Err c.in_err-step_compact.field-0.0) done.names i.steady done.work.fails })
+    (record {
+      works = Works-on _ _ _ i.works done.work.works;
+      fails =
+          fails-later (d c.args.self.now.disk) (d c.loop-self.self.disk) (d c.step_compact.new.self.disk)
+          (Err c.in_err-step_compact.field-0.0) done.names i.steady done.work.fails;
+    })
     (under-way g path))
 
 pub returns : goal.returns
 returns g c =
     let records = listed g c.args.records.now in
     let i = c.loop-self.invariant in
-    let idle : c.loop-self.self.hand ≡ Empty = idle-then _ c.loop-self.self.hand i.renews (λ is. (let yes = c.is_compacting.ensures.1 is in cc)) in
+    let idle : c.loop-self.self.hand ≡ Empty =
+    idle-then _ c.loop-self.self.hand i.renews (λ is. (let yes = c.is_compacting.ensures.1 is in cc)) in
     done-compacts g.D.SectorDisk.disk c.args.self.now c.loop-self.self records c.requires
-    (let most = i.most in omega (arith, most)) i.running idle (i.moved idle) (record { works = i.works; fails = i.steady })
-    (λ honest. subst (λ (h : Hand). AtNextCall (g.D.SectorDisk.disk c.args.self.now.disk) (g.D.SectorDisk.disk c.loop-self.self.disk) (other_area c.args.self.now.place.area)
+    (let most = i.most in
+    omega (arith, most)) i.running idle (i.moved idle) (record { works = i.works; fails = i.steady })
+    (λ honest. subst (λ (h : Hand). AtNextCall (g.D.SectorDisk.disk c.args.self.now.disk)
+    (g.D.SectorDisk.disk c.loop-self.self.disk) (other_area c.args.self.now.place.area)
     (next_head c.args.self.now.place.head (length records)) records h) idle (i.at honest))

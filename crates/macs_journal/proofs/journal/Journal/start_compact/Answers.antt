@@ -23,6 +23,7 @@ returns g c =
       hand = search (rules, head);
       left = (let counts = ap (λ (h : Head). h.count) head in search (rules, counts));
       holds = λ before holds.
-          anew-in_hand _ c.self.inside.place c.self.inside.hand (record { head = c.in-Some.next; stage = ReadGate 0 }) before records
+          anew-in_hand _ c.self.inside.place c.self.inside.hand (record { head = c.in-Some.next; stage = ReadGate 0 })
+          before records
           head refl few (rw (← c.self.view_is) at holds);
     }

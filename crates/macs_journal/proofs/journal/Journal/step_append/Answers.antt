@@ -7,7 +7,8 @@ returns-in-Ok-Some g c =
     let runs : c.self.inside.stopped ≡ false = rw (← c.self.view_is) at c.requires.running in
     rw (← c.self.view_is, c.in-Append.is, runs, c.go_on.ensures c.in-Append.work c.in-Append.is)
     (append-goes_on g.D.SectorDisk.disk c.self.inside.disk c.perform.new.disk c.self.inside.place c.in-Append.work
-    c.in-Ok-Some.ensures.others c.in-Ok-Some.ensures.images c.in-Ok-Some.field-0 c.in-Ok-Some.ensures.call c.in-Ok-Some.ensures.next c.in-Ok-Some.ensures.left
+    c.in-Ok-Some.ensures.others c.in-Ok-Some.ensures.images c.in-Ok-Some.field-0 c.in-Ok-Some.ensures.call
+    c.in-Ok-Some.ensures.next c.in-Ok-Some.ensures.left
     c.in-Ok-Some.stage c.in-Ok-Some.field-0-is)
 
 pub returns-in-Ok-None : goal.returns-in-Ok-None
@@ -15,7 +16,8 @@ returns-in-Ok-None g c =
     let runs : c.self.inside.stopped ≡ false = rw (← c.self.view_is) at c.requires.running in
     rw (← c.self.view_is, c.in-Append.is, runs)
     (append-ends g.D.SectorDisk.disk c.self.inside.disk c.perform.new.disk c.self.inside.place c.in-Append.work
-    c.in-Ok-None.ensures.others c.in-Ok-None.ensures.images c.in-Ok-None.field-0 c.in-Ok-None.ensures.call c.in-Ok-None.ensures.next c.in-Ok-None.ensures.left
+    c.in-Ok-None.ensures.others c.in-Ok-None.ensures.images c.in-Ok-None.field-0 c.in-Ok-None.ensures.call
+    c.in-Ok-None.ensures.next c.in-Ok-None.ensures.left
     c.in-Ok-None.field-0-is)
 
 pub returns-in-Err : goal.returns-in-Err

@@ -20,21 +20,32 @@ pub returns-in-Ok-Some : goal.returns-in-Ok-Some
 returns-in-Ok-Some g c =
     let runs : c.self.inside.stopped ≡ false = rw (← c.self.view_is) at c.requires.running in
     rw (← c.self.view_is, c.in-Compact.is, runs, c.compact_on.ensures c.in-Compact.work c.in-Compact.is)
-    (compact-goes_on g.D.SectorDisk.disk c.self.inside.disk c.perform.new.disk c.self.inside.place c.in-Compact.work (listed g c.args.snapshot.now)
-    c.other-other.result c.other-other.ensures c.in-Ok-Some.ensures.under_way c.in-Ok-Some.field-0 c.in-Ok-Some.ensures.call c.in-Ok-Some.ensures.next
-    c.in-Ok-Some.stage c.in-Ok-Some.field-0-is (are-lent g (goal.at.returns-in-Ok-Some g c).In-Compact) c.in-Ok-Some.ensures.room c.in-Ok-Some.ensures.left)
+    (compact-goes_on g.D.SectorDisk.disk c.self.inside.disk c.perform.new.disk c.self.inside.place c.in-Compact.work
+    (listed g c.args.snapshot.now)
+    c.other-other.result c.other-other.ensures c.in-Ok-Some.ensures.under_way c.in-Ok-Some.field-0
+    c.in-Ok-Some.ensures.call c.in-Ok-Some.ensures.next
+    c.in-Ok-Some.stage c.in-Ok-Some.field-0-is (are-lent g (goal.at.returns-in-Ok-Some g c).In-Compact)
+    c.in-Ok-Some.ensures.room c.in-Ok-Some.ensures.left)
 
 pub returns-in-Ok-None : goal.returns-in-Ok-None
 returns-in-Ok-None g c =
     let runs : c.self.inside.stopped ≡ false = rw (← c.self.view_is) at c.requires.running in
-    rw (c.new_place-done.ensures c.in-Compact.work (rw (← c.self.view_is) c.in-Compact.is), ← c.self.view_is, c.in-Compact.is, runs)
-    (compact-ends g.D.SectorDisk.disk c.self.inside.disk c.perform.new.disk c.self.inside.place c.in-Compact.work (listed g c.args.snapshot.now)
-    c.other-other.result c.other-other.ensures c.in-Ok-None.ensures.under_way c.in-Ok-None.field-0 c.in-Ok-None.ensures.call c.in-Ok-None.ensures.next
+    rw (
+      c.new_place-done.ensures c.in-Compact.work (rw (← c.self.view_is) c.in-Compact.is),
+      ← c.self.view_is,
+      c.in-Compact.is,
+      runs,
+    )
+    (compact-ends g.D.SectorDisk.disk c.self.inside.disk c.perform.new.disk c.self.inside.place c.in-Compact.work
+    (listed g c.args.snapshot.now)
+    c.other-other.result c.other-other.ensures c.in-Ok-None.ensures.under_way c.in-Ok-None.field-0
+    c.in-Ok-None.ensures.call c.in-Ok-None.ensures.next
     c.in-Ok-None.field-0-is)
 
 pub returns-in-Err : goal.returns-in-Err
 returns-in-Err g c =
     let runs : c.self.inside.stopped ≡ false = rw (← c.self.view_is) at c.requires.running in
     rw (← c.self.view_is, c.in-Compact.is, runs)
-    (compact-stops g.D.SectorDisk.disk c.self.inside.disk c.perform.new.disk c.self.inside.place c.in-Compact.work (listed g c.args.snapshot.now)
+    (compact-stops g.D.SectorDisk.disk c.self.inside.disk c.perform.new.disk c.self.inside.place c.in-Compact.work
+    (listed g c.args.snapshot.now)
     c.other-other.result c.other-other.ensures c.in-Err.ensures.under_way c.in-Err.field-0 c.in-Err.ensures.call)

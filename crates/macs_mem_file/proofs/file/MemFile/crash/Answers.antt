@@ -8,7 +8,8 @@ pub returns-clause-image : goal.returns-clause-image
 returns-clause-image g c =
     let m = c.args.self.now in
     subst (λ (octets : ℕ → ℕ). IsFileImage (file_of m) octets) (sym (ap (λ (f : FileState). f.durable) c.boot.ensures))
-    (image_kept m.block m.size m.durable_size m.cache.items m.durable.items c.spoil.new.durable.items m.pending.items m.is_clean m.is_sure m.is_claimed (search rules) (search rules))
+    (image_kept m.block m.size m.durable_size m.cache.items m.durable.items c.spoil.new.durable.items m.pending.items
+    m.is_clean m.is_sure m.is_claimed (search rules) (search rules))
 
 pub returns-clause-nothing_new : goal.returns-clause-nothing_new
 returns-clause-nothing_new g c =
@@ -20,14 +21,17 @@ pub returns-clause-left : goal.returns-clause-left
 returns-clause-left g c p =
     let m = c.args.self.now in
     ap (λ (f : FileState). f.durable p) c.boot.ensures
-    ∙ loss_leaves m.block m.size m.durable_size m.cache.items m.device.items m.durable.items m.dirty.items m.pending.items m.is_clean m.is_sure m.is_claimed c.args.left
+    ∙ loss_leaves m.block m.size m.durable_size m.cache.items m.device.items m.durable.items m.dirty.items
+    m.pending.items m.is_clean m.is_sure m.is_claimed c.args.left
     c.copy_blocks.new.to.items c.spoil.new.durable.items (search rules) (search rules) (search rules) (search rules) p
 
 pub returns-clause-sure : goal.returns-clause-sure
 returns-clause-sure g c sure p =
     let m = c.args.self.now in
     ap (λ (f : FileState). f.durable p) c.boot.ensures
-    ∙ loss_leaves m.block m.size m.durable_size m.cache.items m.device.items m.durable.items m.dirty.items m.pending.items m.is_clean m.is_sure m.is_claimed c.args.left
+    ∙ loss_leaves m.block m.size m.durable_size m.cache.items m.device.items m.durable.items m.dirty.items
+    m.pending.items m.is_clean m.is_sure m.is_claimed c.args.left
     c.copy_blocks.new.to.items c.spoil.new.durable.items (search rules) (search rules) (search rules) (search rules) p
-    ∙ left_of_seen m.block m.size m.durable_size m.cache.items m.device.items m.durable.items m.dirty.items m.pending.items m.is_clean m.is_sure m.is_claimed c.args.left
+    ∙ left_of_seen m.block m.size m.durable_size m.cache.items m.device.items m.durable.items m.dirty.items
+    m.pending.items m.is_clean m.is_sure m.is_claimed c.args.left
     m.kept sure p

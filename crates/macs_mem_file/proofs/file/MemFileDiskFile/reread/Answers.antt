@@ -8,11 +8,14 @@ pub invariant_of-self-2-clause-kept : goal.invariant_of-self-2-clause-kept
 invariant_of-self-2-clause-kept g c =
     let m = c.press.new.self in
     let same = c.press.ensures.same in
-    kept_reread m.block m.cache.items m.device.items m.durable.items m.dirty.items m.pending.items m.is_clean m.is_sure m.kept
-    (λ is p. c.press.ensures.clean (sym (ap (λ (f : FileState). f.is_clean) same) ∙ is) p ∙ sym (ap (λ (f : FileState). f.durable p) same))
+    kept_reread m.block m.cache.items m.device.items m.durable.items m.dirty.items m.pending.items m.is_clean
+    m.is_sure m.kept
+    (λ is p. c.press.ensures.clean (sym (ap (λ (f : FileState). f.is_clean) same) ∙ is) p
+    ∙ sym (ap (λ (f : FileState). f.durable p) same))
 
 pub returns-clause-effect : goal.returns-clause-effect
 returns-clause-effect g c _ = record {
-  ok = λ is _. pressed_reread (file_of c.args.self.now) (file_of c.press.new.self) is c.press.ensures.same (c.press.ensures.clean is);
+  ok = λ is _. pressed_reread (file_of c.args.self.now) (file_of c.press.new.self) is c.press.ensures.same
+      (c.press.ensures.clean is);
   err = tt;
 }

@@ -10,9 +10,12 @@ pub returns : goal.returns
 returns c =
     let rows = c.self.inside.rows in
     let t : ℕ = c.args.turns in
-    ap (map (turned t)) (across_step_at LANES (mixed_block t) (λ g j. mixed_octet (g j) (g (row_below t 1 j)) (g (row_below t 2 j)) (g (row_below t 3 j))) c.mixed-rows.result rows refl (mixed_block_is t c.requires)
+    ap (map (turned t)) (across_step_at LANES (mixed_block t) (λ g j. mixed_octet (g j) (g (row_below t 1 j))
+    (g (row_below t 2 j)) (g (row_below t 3 j))) c.mixed-rows.result rows refl (mixed_block_is t c.requires)
     (λ n j h k within bit. c.mixed-rows.ensures (16 * (n / 8) + j) (n % 8) within bit
-    ∙ ap₂ (λ (q r : ℕ). mixed_octet (octet_at rows (16 * (n / 8) + j) (n % 8)) (octet_at rows (16 * q + row_below t 1 r) (n % 8)) (octet_at rows (16 * q + row_below t 2 r) (n % 8)) (octet_at rows (16 * q + row_below t 3 r) (n % 8)))
+    ∙ ap₂ (λ (q r : ℕ).
+    mixed_octet (octet_at rows (16 * (n / 8) + j) (n % 8)) (octet_at rows (16 * q + row_below t 1 r) (n % 8))
+    (octet_at rows (16 * q + row_below t 2 r) (n % 8)) (octet_at rows (16 * q + row_below t 3 r) (n % 8)))
     (sixteen_of_block n j k) (place_of_block n j k)))
     ∙ blocks_mixed t c.requires (blocks_across LANES rows)
     ∙ ap (λ b. map mix_columns (map (turned t) b)) c.self.view_is

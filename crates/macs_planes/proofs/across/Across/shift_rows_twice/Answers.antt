@@ -15,5 +15,6 @@ returns c =
     let rows = c.self.inside.rows in
     across_step_at LANES (turned 2) (λ g j. g (shifted (shifted j))) c.moved_each-rows.result rows refl turned_twice_is
     (λ n j h k within bit. c.moved_each-rows.ensures (16 * (n / 8) + j) (n % 8) within bit
-    ∙ ap₂ (λ (q p : ℕ). octet_at rows (16 * q + p) (n % 8)) (sixteen_of_block n j k) (twice_place (16 * (n / 8) + j) (omega (arith, within)) ∙ ap (λ (r : ℕ). shifted (shifted r)) (place_of_block n j k)))
+    ∙ ap₂ (λ (q p : ℕ). octet_at rows (16 * q + p) (n % 8)) (sixteen_of_block n j k) (twice_place (16 * (n / 8) + j)
+    (omega (arith, within)) ∙ ap (λ (r : ℕ). shifted (shifted r)) (place_of_block n j k)))
     ∙ ap (map (turned 2)) c.self.view_is

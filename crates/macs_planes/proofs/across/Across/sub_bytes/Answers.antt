@@ -10,5 +10,6 @@ pub returns : goal.returns
 returns c =
     let rows = c.self.inside.rows in
     across_step_at LANES sub_bytes (λ g j. s_box (g j)) c.s_boxes-rows.result rows refl sub_bytes_is
-    (λ n j h k within bit. c.s_boxes-rows.ensures ((16 * (n / 8) + j) / 2) (8 * ((16 * (n / 8) + j) % 2) + n % 8) (lane_within LANES (16 * (n / 8) + j) within) (bit_within (16 * (n / 8) + j) (n % 8) bit))
+    (λ n j h k within bit. c.s_boxes-rows.ensures ((16 * (n / 8) + j) / 2) (8 * ((16 * (n / 8) + j) % 2) + n % 8)
+    (lane_within LANES (16 * (n / 8) + j) within) (bit_within (16 * (n / 8) + j) (n % 8) bit))
     ∙ ap (map sub_bytes) c.self.view_is

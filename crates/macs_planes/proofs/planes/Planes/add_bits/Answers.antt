@@ -9,5 +9,6 @@ use Rattle.macs_planes.proofs.planes.Planes.add_bits.Goals as goal
 pub returns : goal.returns
 returns g c =
     let words = c.args.key.now in
-    each_block g.row.N (λ s. xor_tables s (octets_in_words words)) (λ f j. bit_xor (f j) (octet_in_words words j)) c.xor.result c.args.self.now c.are_blocks-2.ensures c.are_blocks.ensures (xor_words_is words)
+    each_block g.row.N (λ s. xor_tables s (octets_in_words words)) (λ f j. bit_xor (f j) (octet_in_words words j))
+    c.xor.result c.args.self.now c.are_blocks-2.ensures c.are_blocks.ensures (xor_words_is words)
     (λ i j h k. c.xor.ensures i j h k ∙ ap (bit_xor (octet c.args.self.now i j)) (c.key_planes.ensures i j h k))

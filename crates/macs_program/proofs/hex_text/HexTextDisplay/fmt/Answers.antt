@@ -9,4 +9,6 @@ unfolding encode_with
 loop-octet-init g c = search rules
 
 pub loop-octet-preserved : goal.loop-octet-preserved
-loop-octet-preserved g c = λ p. has_written_of_eq _ _ _ _ _ (sym (encode_lower-more c.args.self.now.0.now c.loop-octet.octet-index (omega arith) (search rules))) (has_written_append _ _ _ _ _ _ (c.loop-octet.invariant p) (search rules))
+loop-octet-preserved g c = λ p. has_written_of_eq _ _ _ _ _
+    (sym (encode_lower-more c.args.self.now.0.now c.loop-octet.octet-index (omega arith) (search rules)))
+    (has_written_append _ _ _ _ _ _ (c.loop-octet.invariant p) (search rules))

@@ -10,7 +10,9 @@ returns-in_err-text g c =
 pub returns-in_err-print : goal.returns-in_err-print
 returns-in_err-print g c =
     let p = err_from_is_err_and c.from_residual-in_err-print.result c.from_residual-in_err-print.ensures.1 in
-    not-shown _ _ _ _ _ c.in_err-print.field-0.0 p.0 c.from_residual-in_err-print.result p.1 p.2 c.in_err-print.ensures.failed c.in_err-print.ensures.broken
+    not-shown _ _ _ _ _ c.in_err-print.field-0.0 p.0 c.from_residual-in_err-print.result p.1 p.2
+    c.in_err-print.ensures.failed c.in_err-print.ensures.broken
 
 pub returns : goal.returns
-returns g c = text-shown _ _ _ _ _ _ c.as_str.result.now c.as_str.ensures.value c.in_ok-text.ensures c.in_ok-print.ensures.printed
+returns g c =
+    text-shown _ _ _ _ _ _ c.as_str.result.now c.as_str.ensures.value c.in_ok-text.ensures c.in_ok-print.ensures.printed

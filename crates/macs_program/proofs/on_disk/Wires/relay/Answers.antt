@@ -4,4 +4,5 @@ use Rattle.macs_program.proofs.on_disk.Wires.relay.Goals as goal
 pub returns : goal.returns
 returns g c =
     let said = c.relay_frames.ensures in
-    frames-relayed _ _ _ _ _ _ _ _ _ _ _ _ c.relay_frames.result c.requires.controlled c.requires.common said.printed said.ended said.silent said.broken
+    frames-relayed _ _ _ _ _ _ _ _ _ _ _ _ c.relay_frames.result c.requires.controlled c.requires.common said.printed
+    said.ended said.silent said.broken

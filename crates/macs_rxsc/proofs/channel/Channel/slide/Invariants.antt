@@ -5,4 +5,5 @@ use Rattle.macs_rxsc.proofs.channel.Channel.slide.Given as goal
 
 abbrev pub invariant-loop-association : goal.invariant-loop-association
 invariant-loop-association l =
-    l.association-items ≡ map (option_map (association_under l.window)) (take l.association-index l.fn.self.associations) ++ drop l.association-index l.fn.self.associations
+    l.association-items ≡ map (option_map (association_under l.window))
+    (take l.association-index l.fn.self.associations) ++ drop l.association-index l.fn.self.associations

@@ -12,7 +12,8 @@ invariant_of-self c =
     let side = rx_side_in c.self.inside.policy.validate c.self.inside.policy.replay items in
     kept_as c.args.validate (record { on = c.args.on; window = c.args.window }) _ c.self.inside.counters _ _
     (ap (rx_side_in c.args.validate (record { on = c.args.on; window = c.args.window })) c.slide.ensures
-    ∙ shown-slid items c.args.window c.args.validate (record { on = c.args.on; window = c.args.window }) c.self.inside.policy.validate c.self.inside.policy.replay)
+    ∙ shown-slid items c.args.window c.args.validate (record { on = c.args.on; window = c.args.window })
+    c.self.inside.policy.validate c.self.inside.policy.replay)
     (ap ceilings_among c.slide.ensures ∙ ceilings-slid items c.args.window)
     c.self.invariant.ascending
     (ordered-windowed side (ceilings_among items) c.self.invariant.ordered c.args.validate c.args.on c.args.window)
@@ -21,10 +22,13 @@ pub returns-clause-side : goal.returns-clause-side
 returns-clause-side c =
     rw (← c.self.view_is)
     (ap (rx_side_in c.args.validate (record { on = c.args.on; window = c.args.window })) c.slide.ensures
-    ∙ shown-slid c.self.inside.table.channels.items c.args.window c.args.validate (record { on = c.args.on; window = c.args.window }) c.self.inside.policy.validate c.self.inside.policy.replay)
+    ∙ shown-slid c.self.inside.table.channels.items c.args.window c.args.validate
+    (record { on = c.args.on; window = c.args.window }) c.self.inside.policy.validate c.self.inside.policy.replay)
 
 pub returns-clause-ceilings : goal.returns-clause-ceilings
-returns-clause-ceilings c = rw (← c.self.view_is) (ap ceilings_among c.slide.ensures ∙ ceilings-slid c.self.inside.table.channels.items c.args.window)
+returns-clause-ceilings c = rw (← c.self.view_is)
+    (ap ceilings_among c.slide.ensures ∙ ceilings-slid c.self.inside.table.channels.items c.args.window)
 
 pub returns-clause-channel_counters : goal.returns-clause-channel_counters
-returns-clause-channel_counters c = rw (← c.self.view_is) (ap counters_among c.slide.ensures ∙ counters-slid c.self.inside.table.channels.items c.args.window)
+returns-clause-channel_counters c = rw (← c.self.view_is)
+    (ap counters_among c.slide.ensures ∙ counters-slid c.self.inside.table.channels.items c.args.window)

@@ -13,10 +13,13 @@ kept c = filter-from_retain _ _ _ (λ x b f' y called. search rules) _ _ c.retai
 
 pub returns-clause-side : goal.returns-clause-side
 returns-clause-side c = λ validate replay.
-    ap (rx_side_in validate replay) (kept (goal.at.returns-clause-side c).After-retain) ∙ shown-gone c.args.self.now.channels.items c.args.sci validate replay
+    ap (rx_side_in validate replay) (kept (goal.at.returns-clause-side c).After-retain)
+    ∙ shown-gone c.args.self.now.channels.items c.args.sci validate replay
 
 pub returns-clause-ceilings : goal.returns-clause-ceilings
-returns-clause-ceilings c = ap ceilings_among (kept (goal.at.returns-clause-ceilings c).After-retain) ∙ ceilings-gone c.args.self.now.channels.items c.args.sci
+returns-clause-ceilings c = ap ceilings_among (kept (goal.at.returns-clause-ceilings c).After-retain)
+    ∙ ceilings-gone c.args.self.now.channels.items c.args.sci
 
 pub returns-clause-counters : goal.returns-clause-counters
-returns-clause-counters c = ap counters_among (kept (goal.at.returns-clause-counters c).After-retain) ∙ counters-gone c.args.self.now.channels.items c.args.sci
+returns-clause-counters c = ap counters_among (kept (goal.at.returns-clause-counters c).After-retain)
+    ∙ counters-gone c.args.self.now.channels.items c.args.sci

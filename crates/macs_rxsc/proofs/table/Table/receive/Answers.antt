@@ -24,7 +24,8 @@ returns-in-Err c =
           _ _ _ verdict (c.refuse.ensures.given ∙ ap (given_at c.args.frame.now) verdict) refl;
       side = refl;
       ceilings = refl;
-      counters = sym (uncounted (channel_of side c.args.frame.now) c.refuse.result (counters_among c.args.self.now.channels.items)
+      counters = sym (uncounted (channel_of side c.args.frame.now) c.refuse.result
+          (counters_among c.args.self.now.channels.items)
           (λ (k : ChannelCounters). ap (λ (v : Verdict). channel_counters_after_verdict v k) verdict
           ∙ tag_uncounted side c.args.frame.now c.in-Err.fault c.args.policy.validate refl k));
     }

@@ -12,6 +12,8 @@ loop-sci-preserved c =
           ∙ kept_scis c.args.scis.now c.loop-sci.sci-index c.loop-sci.channels.items new c.loop-sci-test.true
           c.loop-sci.invariant.scis c.sci-item.is;
       rx = λ s an. ap (λ (xs : List ChannelCeilings). ceiling_at xs s an) c.push.ensures.items
-          ∙ kept_more (ceiling_at c.args.self.now.channels.items) c.args.scis.now c.loop-sci.sci-index c.loop-sci.channels.items new
-          c.loop-sci-test.true c.loop-sci.invariant.scis c.loop-sci.invariant.rx c.sci-item.is c.of_channel.ensures s an;
+          ∙ kept_more (ceiling_at c.args.self.now.channels.items) c.args.scis.now c.loop-sci.sci-index
+          c.loop-sci.channels.items new
+          c.loop-sci-test.true c.loop-sci.invariant.scis c.loop-sci.invariant.rx c.sci-item.is
+          c.of_channel.ensures s an;
     }

@@ -13,7 +13,8 @@ old c = get_or c.deref_mut.result.now c.in-Some.place c.index-deref_mut-place.re
 
 stands : (c : After-put) → IsPlace (scis_among c.args.self.now.channels.items) c.args.sci c.in-Some.place
 stands c =
-    found-place sci_of c.args.self.now.channels.items c.as_slice.result.now c.args.sci c.as_slice.ensures.value c.in-Some.place c.in-Some.ensures
+    found-place sci_of c.args.self.now.channels.items c.as_slice.result.now c.args.sci c.as_slice.ensures.value
+    c.in-Some.place c.in-Some.ensures
 
 was : (c : After-put) → old c ≡ get_or c.args.self.now.channels.items c.in-Some.place (old c)
 was c =
@@ -25,7 +26,8 @@ returns-in-Some-clause-put c =
     let p = (goal.at.returns-in-Some-clause-put c).After-put in
     read-lent c.args.self.now c.deref_mut.result.now c.in-Some.place c.put.new.self c.deref_mut.ensures.value
     ∙ read-channels c.args.self.now _ _
-    (lookup-put ceiling_lookup c.args.self.now.channels.items c.in-Some.place (old p) c.put.new.self c.args.sci c.args.an c.args.ceiling
+    (lookup-put ceiling_lookup c.args.self.now.channels.items c.in-Some.place (old p) c.put.new.self c.args.sci
+    c.args.an c.args.ceiling
     (stands p) (was p) c.put.ensures.sci c.put.ensures.ceiling)
 
 pub returns-in-Some-clause-channels : goal.returns-in-Some-clause-channels
@@ -38,6 +40,7 @@ returns-in-Some-clause-channels c =
 
 pub returns-in_default-clause-put : goal.returns-in_default-clause-put
 returns-in_default-clause-put c =
-    let absent = found-none sci_of c.args.self.now.channels.items c.as_slice.result.now c.args.sci c.as_slice.ensures.value c.in_default.ensures in
+    let absent = found-none sci_of c.args.self.now.channels.items c.as_slice.result.now c.args.sci
+    c.as_slice.ensures.value c.in_default.ensures in
     let stands = c.requires in
     absurd (cc)

@@ -18,34 +18,42 @@ pub returns-in-TxInstall-clause-fits : goal.returns-in-TxInstall-clause-fits
 returns-in-TxInstall-clause-fits c =
     let asked = tx_install c.in-TxInstall.an c.in-TxInstall.sa c.in-TxInstall.start in
     judged-fits (standing_of c.args.self.now) c.args.value.now asked (ap command_of c.in-TxInstall.is) c.ok.result
-    (c.ok.ensures.value ∙ ok-with_reason c.check_tx.result ∙ ap result_ok (c.check_tx.ensures ∙ ap (λ (h : StandingValue). answer h asked) c.self.view_is))
+    (c.ok.ensures.value ∙ ok-with_reason c.check_tx.result
+    ∙ ap result_ok (c.check_tx.ensures ∙ ap (λ (h : StandingValue). answer h asked) c.self.view_is))
 
 pub returns-in-TxInstall-clause-refused : goal.returns-in-TxInstall-clause-refused
 returns-in-TxInstall-clause-refused c =
     let asked = tx_install c.in-TxInstall.an c.in-TxInstall.sa c.in-TxInstall.start in
     judged-refused (standing_of c.args.self.now) c.args.value.now asked (ap command_of c.in-TxInstall.is) c.ok.result
-    (c.ok.ensures.value ∙ ok-with_reason c.check_tx.result ∙ ap result_ok (c.check_tx.ensures ∙ ap (λ (h : StandingValue). answer h asked) c.self.view_is))
+    (c.ok.ensures.value ∙ ok-with_reason c.check_tx.result
+    ∙ ap result_ok (c.check_tx.ensures ∙ ap (λ (h : StandingValue). answer h asked) c.self.view_is))
 
 pub returns-in-RxInstall-clause-fits : goal.returns-in-RxInstall-clause-fits
 returns-in-RxInstall-clause-fits c =
     let asked = rx_install c.in-RxInstall.sci c.in-RxInstall.an c.in-RxInstall.sa c.in-RxInstall.start in
-    judged-fits (standing_of c.args.self.now) c.args.value.now asked (ap command_of c.in-RxInstall.is) c.ok-in-RxInstall.result
-    (c.ok-in-RxInstall.ensures.value ∙ ok-with_reason c.check_rx.result ∙ ap result_ok (c.check_rx.ensures ∙ ap (λ (h : StandingValue). answer h asked) c.self.view_is))
+    judged-fits (standing_of c.args.self.now) c.args.value.now asked (ap command_of c.in-RxInstall.is)
+    c.ok-in-RxInstall.result
+    (c.ok-in-RxInstall.ensures.value ∙ ok-with_reason c.check_rx.result
+    ∙ ap result_ok (c.check_rx.ensures ∙ ap (λ (h : StandingValue). answer h asked) c.self.view_is))
 
 pub returns-in-RxInstall-clause-refused : goal.returns-in-RxInstall-clause-refused
 returns-in-RxInstall-clause-refused c =
     let asked = rx_install c.in-RxInstall.sci c.in-RxInstall.an c.in-RxInstall.sa c.in-RxInstall.start in
-    judged-refused (standing_of c.args.self.now) c.args.value.now asked (ap command_of c.in-RxInstall.is) c.ok-in-RxInstall.result
-    (c.ok-in-RxInstall.ensures.value ∙ ok-with_reason c.check_rx.result ∙ ap result_ok (c.check_rx.ensures ∙ ap (λ (h : StandingValue). answer h asked) c.self.view_is))
+    judged-refused (standing_of c.args.self.now) c.args.value.now asked (ap command_of c.in-RxInstall.is)
+    c.ok-in-RxInstall.result
+    (c.ok-in-RxInstall.ensures.value ∙ ok-with_reason c.check_rx.result
+    ∙ ap result_ok (c.check_rx.ensures ∙ ap (λ (h : StandingValue). answer h asked) c.self.view_is))
 
 pub returns-in_ok-plain_command_of-in_default : goal.returns-in_ok-plain_command_of-in_default
 returns-in_ok-plain_command_of-in_default c =
     let asked = c.in_ok-plain_command_of-in_default.field-0 in
-    let is = plain-is c.args.value.now asked (sym c.in_ok-plain_command_of-in_default.was ∙ c.plain_command_of.ensures) in
+    let is =
+    plain-is c.args.value.now asked (sym c.in_ok-plain_command_of-in_default.was ∙ c.plain_command_of.ensures) in
     let first = refusal_of this_edition c.self.inside.config.identity (config_of c.self.inside.config) asked in
     let judged = c.ok-in_default.ensures.value
     ∙ ok-with_reason c.check.result
-    ∙ ap result_ok (answered-by first asked c.check.result c.check.ensures.refused c.check.ensures.fits c.check.ensures.checked
+    ∙ ap result_ok
+    (answered-by first asked c.check.result c.check.ensures.refused c.check.ensures.fits c.check.ensures.checked
     ∙ ap (λ (h : StandingValue). answer h asked) c.self.view_is) in
     record {
       fits = judged-fits (standing_of c.args.self.now) c.args.value.now asked is c.ok-in_default.result judged;

@@ -26,4 +26,5 @@ returns-in-Some c =
 
 pub returns-in-None : goal.returns-in-None
 returns-in-None c =
-    must-follow c.replay_record.result _ (standing_of c.replay_record.new.self) c.requires.follows c.replay_record.ensures.fits c.replay_record.ensures.refused
+    must-follow c.replay_record.result _ (standing_of c.replay_record.new.self) c.requires.follows
+    c.replay_record.ensures.fits c.replay_record.ensures.refused

@@ -7,6 +7,7 @@ use Rattle.macs_store.proofs.standing.Standing.new.Goals as goal
 
 pub invariant_of-result : goal.invariant_of-result
 invariant_of-result c = (
-  default-stands this_edition c.new.result.identity (config_of c.new.result) (table_ceilings c.new-2.result) c.new.ensures.default c.new-2.ensures.none,
+  default-stands this_edition c.new.result.identity (config_of c.new.result) (table_ceilings c.new-2.result)
+      c.new.ensures.default c.new-2.ensures.none,
   c.new-2.ensures.channels ∙ sym (ap (λ (k : Config). k.channels) c.new.ensures.default),
 )

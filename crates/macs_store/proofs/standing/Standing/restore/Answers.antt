@@ -10,7 +10,8 @@ use Rattle.macs_store.proofs.standing.Standing.restore.Goals as goal
 pub invariant_of-self : goal.invariant_of-self
 invariant_of-self c =
     let is = c.restore_from.ensures.refused c.if-not-restore_from.true in (
-      default-stands this_edition c.restore_from.new.self.identity (config_of c.restore_from.new.self) (table_ceilings c.new-self-inside.result) is
+      default-stands this_edition c.restore_from.new.self.identity (config_of c.restore_from.new.self)
+          (table_ceilings c.new-self-inside.result) is
           c.new-self-inside.ensures.none,
       c.new-self-inside.ensures.channels ∙ sym (ap (λ (k : Config). k.channels) is),
     )
@@ -19,8 +20,10 @@ pub invariant_of-self-2 : goal.invariant_of-self-2
 invariant_of-self-2 c =
     let records = c.args.records.now in
     let config = c.restore_from.new.self in
-    let made = listed-made this_edition c.self.inside.config.identity (map part_of records) (config_of config) c.if-not-restore_from.ensures.restored in (
-      restored-stands this_edition c.self.inside.config.identity records made.0 (config_of config) made.1 made.2 config.identity
+    let made = listed-made this_edition c.self.inside.config.identity (map part_of records) (config_of config)
+    c.if-not-restore_from.ensures.restored in (
+      restored-stands this_edition c.self.inside.config.identity records made.0 (config_of config) made.1 made.2
+          config.identity
           (table_ceilings c.ceilings_in-self-inside.result) c.ceilings_in-self-inside.ensures.ceilings,
       c.ceilings_in-self-inside.ensures.channels,
     )

@@ -10,10 +10,12 @@ returns-in_err-start_commit g c =
 
 pub returns-in-Ok : goal.returns-in-Ok
 returns-in-Ok g c =
-    kept-commits g.D.SectorDisk.disk c.args.self.now c.requires.idle c.args.command.now c.start_commit.new.self c.in_ok-start_commit.ensures
+    kept-commits g.D.SectorDisk.disk c.args.self.now c.requires.idle c.args.command.now c.start_commit.new.self
+    c.in_ok-start_commit.ensures
     c.finish.new.self c.in-Ok.ensures
 
 pub returns-in-Err : goal.returns-in-Err
 returns-in-Err g c =
-    failed-commits g.D.SectorDisk.disk c.args.self.now c.requires.idle c.args.command.now c.start_commit.new.self c.in_ok-start_commit.ensures
+    failed-commits g.D.SectorDisk.disk c.args.self.now c.requires.idle c.args.command.now c.start_commit.new.self
+    c.in_ok-start_commit.ensures
     c.in-Err.field-0 c.finish.new.self c.in-Err.ensures

@@ -10,10 +10,12 @@ returns-in_err-start_checked g c =
 
 pub returns-in-Ok : goal.returns-in-Ok
 returns-in-Ok g c =
-    kept-commits g.D.SectorDisk.disk c.args.self.now c.requires.idle c.args.checked.now c.start_checked.new.self c.in_ok-start_checked.ensures
+    kept-commits g.D.SectorDisk.disk c.args.self.now c.requires.idle c.args.checked.now c.start_checked.new.self
+    c.in_ok-start_checked.ensures
     c.finish.new.self c.in-Ok.ensures
 
 pub returns-in-Err : goal.returns-in-Err
 returns-in-Err g c =
-    failed-commits g.D.SectorDisk.disk c.args.self.now c.requires.idle c.args.checked.now c.start_checked.new.self c.in_ok-start_checked.ensures
+    failed-commits g.D.SectorDisk.disk c.args.self.now c.requires.idle c.args.checked.now c.start_checked.new.self
+    c.in_ok-start_checked.ensures
     c.in-Err.field-0 c.finish.new.self c.in-Err.ensures

@@ -17,7 +17,8 @@ pub returns-in_err-found : goal.returns-in_err-found
 returns-in_err-found g c =
     let left = c.in_err-found.field-0.0 in
     let risen = err_from_is_err_and c.from_residual.result c.from_residual.ensures.1 in
-    rw (risen.1, risen.2) (recovery-refused g.D.SectorDisk.disk c.args.disk (g.met.D.SectorDisk.sound c.args.disk) left.disk left.fault
+    rw (risen.1, risen.2)
+    (recovery-refused g.D.SectorDisk.disk c.args.disk (g.met.D.SectorDisk.sound c.args.disk) left.disk left.fault
     c.in_err-found.ensures.opening)
 
 -- ---- the records were read
@@ -36,7 +37,8 @@ module _ (g : Over) (c : After-read-is_read g) where
       let found = c.in_ok-found.found in
       let is = c.in_ok-found.ensures.opening in
       let whose = ap (λ (s : Standing). s.identity) c.new.ensures ∙ is.whose in
-      recovered-meaning this_edition (content_of found.journal records) found.format (standing_of c.new.result).identity found.count records
+      recovered-meaning this_edition (content_of found.journal records) found.format (standing_of c.new.result).identity
+      found.count records
       is.form whose is.counted refl ∙ c.read-is_read.ensures
 
 pub take_up-requires-clause-running : goal.take_up-requires-clause-running
@@ -46,13 +48,16 @@ pub returns-in-Ok : goal.returns-in-Ok
 returns-in-Ok g c =
     let path = (goal.at.returns-in-Ok g c).After-read-is_read in
     let found = c.in_ok-found.found in
-    taken-up g.D.SectorDisk.disk c.args.disk (g.met.D.SectorDisk.sound c.args.disk) (store g path) found.format found.identity found.count (records g path)
+    taken-up g.D.SectorDisk.disk c.args.disk (g.met.D.SectorDisk.sound c.args.disk) (store g path) found.format
+    found.identity found.count (records g path)
     c.in_ok-found.ensures.opening refl c.read-is_read.result (meaning g path) c.take_up.new.self c.in-Ok.ensures
 
 pub returns-in-Err : goal.returns-in-Err
 returns-in-Err g c =
     let path = (goal.at.returns-in-Err g c).After-read-is_read in
     let found = c.in_ok-found.found in
-    not-taken-up g.D.SectorDisk.disk c.args.disk (g.met.D.SectorDisk.sound c.args.disk) (store g path) found.format found.identity found.count (records g path)
-    c.in_ok-found.ensures.opening refl c.read-is_read.result (meaning g path) c.take_up.new.self c.in-Err.fault c.in-Err.ensures
+    not-taken-up g.D.SectorDisk.disk c.args.disk (g.met.D.SectorDisk.sound c.args.disk) (store g path) found.format
+    found.identity found.count (records g path)
+    c.in_ok-found.ensures.opening refl c.read-is_read.result (meaning g path) c.take_up.new.self c.in-Err.fault
+    c.in-Err.ensures
     c.into_disk.result c.into_disk.ensures

@@ -16,14 +16,16 @@ pub returns-in_ok-start_renewal : goal.returns-in_ok-start_renewal
 returns-in_ok-start_renewal g c =
     let at = (goal.at.returns-in_ok-start_renewal g c).After-is_full in
     rw (← c.self.view_is)
-    (renewal-started g.D.SectorDisk.disk (old g at) (idle g at) c.args.value (c.is_full.ensures.full.0 c.if-is_full.true) c.facts.ensures.stands
+    (renewal-started g.D.SectorDisk.disk (old g at) (idle g at) c.args.value
+    (c.is_full.ensures.full.0 c.if-is_full.true) c.facts.ensures.stands
     c.start_renewal.new.journal c.in_ok-start_renewal.ensures)
 
 pub returns-in_ok-start_append : goal.returns-in_ok-start_append
 returns-in_ok-start_append g c =
     let at = (goal.at.returns-in_ok-start_append g c).After-is_full in
     rw (← c.self.view_is)
-    (append-started g.D.SectorDisk.disk (old g at) (idle g at) c.args.value (c.is_full.ensures.room c.if-is_full.false) c.start_append.new.self c.in_ok-start_append.ensures)
+    (append-started g.D.SectorDisk.disk (old g at) (idle g at) c.args.value (c.is_full.ensures.room c.if-is_full.false)
+    c.start_append.new.self c.in_ok-start_append.ensures)
 
 pub returns-in_err-start_renewal : goal.returns-in_err-start_renewal
 returns-in_err-start_renewal g c =
@@ -31,13 +33,15 @@ returns-in_err-start_renewal g c =
     let risen = err_from_is_err_and c.from_residual.result c.from_residual.ensures.1 in
     rw (risen.1, risen.2)
     (rw (← c.self.view_is)
-    (renewal-refused g.D.SectorDisk.disk (old g at) (idle g at) c.args.value (c.is_full.ensures.full.0 c.if-is_full.true) c.facts.ensures.stands
+    (renewal-refused g.D.SectorDisk.disk (old g at) (idle g at) c.args.value
+    (c.is_full.ensures.full.0 c.if-is_full.true) c.facts.ensures.stands
     c.in_err-start_renewal.field-0.0 c.start_renewal.new.journal c.in_err-start_renewal.ensures))
 
 pub returns-in_err-start_append : goal.returns-in_err-start_append
 returns-in_err-start_append g c =
     let at = (goal.at.returns-in_err-start_append g c).After-is_full in
-    let risen = err_from_is_err_and c.from_residual-in_err-start_append.result c.from_residual-in_err-start_append.ensures.1 in
+    let risen =
+    err_from_is_err_and c.from_residual-in_err-start_append.result c.from_residual-in_err-start_append.ensures.1 in
     rw (risen.1, risen.2)
     (rw (← c.self.view_is)
     (append-refused g.D.SectorDisk.disk (old g at) (idle g at) c.args.value (c.is_full.ensures.room c.if-is_full.false)

@@ -13,7 +13,8 @@ module _ (g : Over) (c : After-of-value g) where
 pub start-requires-clause-follows : goal.start-requires-clause-follows
 start-requires-clause-follows g c =
     let at = (goal.at.start-requires-clause-follows g c).After-of-value in
-    accepted-record_follows (standing_in c.args.self.now) c.args.checked.now c.of-value.result (has g at) c.requires.fits
+    accepted-record_follows (standing_in c.args.self.now) c.args.checked.now c.of-value.result (has g at)
+    c.requires.fits
 
 pub start-requires-clause-checked : goal.start-requires-clause-checked
 start-requires-clause-checked g c = has g (goal.at.start-requires-clause-checked g c).After-of-value
@@ -21,10 +22,12 @@ start-requires-clause-checked g c = has g (goal.at.start-requires-clause-checked
 pub returns-in-Ok : goal.returns-in-Ok
 returns-in-Ok g c =
     let at = (goal.at.returns-in-Ok g c).After-of-value in
-    commit-started g.D.SectorDisk.disk c.args.self.now c.args.checked.now c.of-value.result c.start.new.self (has g at) c.requires.fits c.requires.running c.in-Ok.ensures
+    commit-started g.D.SectorDisk.disk c.args.self.now c.args.checked.now c.of-value.result c.start.new.self (has g at)
+    c.requires.fits c.requires.running c.in-Ok.ensures
 
 pub returns-in-Err : goal.returns-in-Err
 returns-in-Err g c =
     let at = (goal.at.returns-in-Err g c).After-of-value in
-    commit-spent g.D.SectorDisk.disk c.args.self.now c.args.checked.now c.of-value.result c.start.new.self (has g at) c.requires.fits c.requires.running
+    commit-spent g.D.SectorDisk.disk c.args.self.now c.args.checked.now c.of-value.result c.start.new.self (has g at)
+    c.requires.fits c.requires.running
     c.in-Err.field-0 c.in-Err.ensures

@@ -20,13 +20,15 @@ module _ (g : Over) (c : After-ahead-ceiling g) where
   follows : standing_after_record (standing_in c.args.self.now) (RxCeiling c.args.sci c.args.an c.ahead-ceiling.result)
       ≡ Some (standing_with_rx_raised (standing_in c.args.self.now) c.args.sci c.args.an c.args.pn)
   follows =
-      rx-follows (standing_in c.args.self.now) c.args.sci c.args.an c.args.pn c.rx_block.result c.ahead-ceiling.result same ahead_is
+      rx-follows (standing_in c.args.self.now) c.args.sci c.args.an c.args.pn c.rx_block.result c.ahead-ceiling.result
+      same ahead_is
       c.requires.stands c.requires.raised
 
 pub start-requires-clause-follows : goal.start-requires-clause-follows
 start-requires-clause-follows g c =
     let at = (goal.at.start-requires-clause-follows g c).After-ahead-ceiling in
-    some-follows (standing_after_record (standing_in c.args.self.now) (RxCeiling c.args.sci c.args.an c.ahead-ceiling.result))
+    some-follows
+    (standing_after_record (standing_in c.args.self.now) (RxCeiling c.args.sci c.args.an c.ahead-ceiling.result))
     (standing_with_rx_raised (standing_in c.args.self.now) c.args.sci c.args.an c.args.pn) (follows g at)
 
 pub returns : goal.returns

@@ -20,9 +20,11 @@ module _ (g : Over) (c : After-ahead-ceiling g) where
   ahead_is : c.ahead-ceiling.result ≡ block_beyond c.unwrap-old.result c.tx_block.result
   ahead_is = c.ahead-ceiling.ensures ∙ ap (λ n. block_beyond n c.tx_block.result) c.get.ensures.value
 
-  follows : standing_after_record (standing_in c.args.self.now) (TxCeiling c.args.an c.ahead-ceiling.result) ≡ Some (standing_with_tx_raised (standing_in c.args.self.now) c.args.an)
+  follows : standing_after_record (standing_in c.args.self.now) (TxCeiling c.args.an c.ahead-ceiling.result)
+      ≡ Some (standing_with_tx_raised (standing_in c.args.self.now) c.args.an)
   follows =
-      tx-follows (standing_in c.args.self.now) c.args.an c.unwrap-old.result c.tx_block.result c.ahead-ceiling.result is same ahead_is
+      tx-follows (standing_in c.args.self.now) c.args.an c.unwrap-old.result c.tx_block.result c.ahead-ceiling.result is
+      same ahead_is
       (rw is at c.requires.raised) c.tx_block.ensures.range.0
 
 pub start-requires-clause-follows : goal.start-requires-clause-follows
@@ -34,5 +36,6 @@ start-requires-clause-follows g c =
 pub returns : goal.returns
 returns g c =
     let at = (goal.at.returns g c).After-ahead-ceiling in
-    raise-started g.D.SectorDisk.disk c.args.self.now (TxCeiling c.args.an c.ahead-ceiling.result) (standing_with_tx_raised (standing_in c.args.self.now) c.args.an)
+    raise-started g.D.SectorDisk.disk c.args.self.now (TxCeiling c.args.an c.ahead-ceiling.result)
+    (standing_with_tx_raised (standing_in c.args.self.now) c.args.an)
     c.start.result c.start.new.self (follows g at) c.start.ensures

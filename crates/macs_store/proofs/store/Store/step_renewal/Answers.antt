@@ -33,9 +33,11 @@ module _ (g : Over) (c : In-Renewing g) where
   its : FitsChange c.self.inside.journal (standing_of c.self.inside.standing) (Renewing c.in-Renewing.value)
   its = fits-renewal g.D.SectorDisk.disk was c.self.invariant.0 c.in-Renewing.value hand_is
 
-  last : journal.Steps g.D.SectorDisk.disk c.self.inside.journal (snapshot (standing_of c.self.inside.standing)) (Ok Finished) c.step_with_snapshot.new.journal
+  last : journal.Steps g.D.SectorDisk.disk c.self.inside.journal (snapshot (standing_of c.self.inside.standing))
+      (Ok Finished) c.step_with_snapshot.new.journal
   last =
-      subst (λ (step : JournalStep). journal.Steps g.D.SectorDisk.disk c.self.inside.journal (snapshot (standing_of c.self.inside.standing)) (Ok step) c.step_with_snapshot.new.journal)
+      subst (λ (step : JournalStep). journal.Steps g.D.SectorDisk.disk c.self.inside.journal
+      (snapshot (standing_of c.self.inside.standing)) (Ok step) c.step_with_snapshot.new.journal)
       c.in-Finished.is c.in-Ok.ensures
 
 pub start_append-requires-clause-room : goal.start_append-requires-clause-room
@@ -51,14 +53,17 @@ returns-in-Renewing g c =
     let at = (goal.at.returns-in-Renewing g c).In-Renewing in
     rw (← c.self.view_is)
     (renewal-finished g.D.SectorDisk.disk (was g at) (its g at).0 c.in-Renewing.value (hand_is g at) (its g at).2
-    c.step_with_snapshot.new.journal (last g at) c.start_append.new.self (rw c.unwrap.ensures at c.start_append.ensures))
+    c.step_with_snapshot.new.journal (last g at) c.start_append.new.self
+    (rw c.unwrap.ensures at c.start_append.ensures))
 
 pub returns-in_default : goal.returns-in_default
 returns-in_default g c =
     let at = (goal.at.returns-in_default g c).After-step_with_snapshot in
-    rw (← c.self.view_is) (renewal-on g.D.SectorDisk.disk (old g at) (fits g at) (is g at) c.in-Ok.step c.step_with_snapshot.new.journal c.in_default.not-Finished c.in-Ok.ensures)
+    rw (← c.self.view_is) (renewal-on g.D.SectorDisk.disk (old g at) (fits g at) (is g at) c.in-Ok.step
+    c.step_with_snapshot.new.journal c.in_default.not-Finished c.in-Ok.ensures)
 
 pub returns-in-Err : goal.returns-in-Err
 returns-in-Err g c =
     let at = (goal.at.returns-in-Err g c).After-step_with_snapshot in
-    rw (← c.self.view_is) (renewal-failed g.D.SectorDisk.disk (old g at) (fits g at) (is g at) c.in-Err.fault c.step_with_snapshot.new.journal c.in-Err.ensures)
+    rw (← c.self.view_is) (renewal-failed g.D.SectorDisk.disk (old g at) (fits g at) (is g at) c.in-Err.fault
+    c.step_with_snapshot.new.journal c.in-Err.ensures)

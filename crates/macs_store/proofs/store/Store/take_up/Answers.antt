@@ -7,14 +7,17 @@ use Rattle.macs_store.proofs.store.Store.take_up.Goals as goal
 
 pub returns-then-not-is_read : goal.returns-then-not-is_read
 returns-then-not-is_read g c =
-    taken-unread g.D.SectorDisk.disk c.args.self.now c.args.self.now done c.args.is_read (migrates this_edition c.args.format) c.if-not-is_read.true
+    taken-unread g.D.SectorDisk.disk c.args.self.now c.args.self.now done c.args.is_read
+    (migrates this_edition c.args.format) c.if-not-is_read.true
 
 pub returns-in-One : goal.returns-in-One
 returns-in-One g c =
-    taken-anew g.D.SectorDisk.disk c.args.self.now c.begin_anew.new.self c.begin_anew.result c.args.is_read (migrates this_edition c.args.format)
+    taken-anew g.D.SectorDisk.disk c.args.self.now c.begin_anew.new.self c.begin_anew.result c.args.is_read
+    (migrates this_edition c.args.format)
     c.if-not-is_read.false (ap (λ (f : Format). migrates this_edition f) c.in-One.is) c.begin_anew.ensures
 
 pub returns-in-Two : goal.returns-in-Two
 returns-in-Two g c =
-    taken-as-found g.D.SectorDisk.disk c.args.self.now c.args.self.now done c.args.is_read (migrates this_edition c.args.format)
+    taken-as-found g.D.SectorDisk.disk c.args.self.now c.args.self.now done c.args.is_read
+    (migrates this_edition c.args.format)
     c.if-not-is_read.false (ap (λ (f : Format). migrates this_edition f) c.in-Two.is)

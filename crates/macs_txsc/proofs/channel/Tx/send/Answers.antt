@@ -9,62 +9,80 @@ use Rattle.macs_txsc.specs.Value.{ceilings_of, sa_of, tx_side_of}
 
 pub returns-in-Some-clause-fault : goal.returns-in-Some-clause-fault
 returns-in-Some-clause-fault c =
-    in_frame (tx_side_of c.args.self.now) (ceilings_of c.args.self.now) c.args.plain.now c.in-Some.fault (sym c.frame_fault.ensures ∙ c.in-Some.is)
+    in_frame (tx_side_of c.args.self.now) (ceilings_of c.args.self.now) c.args.plain.now c.in-Some.fault
+    (sym c.frame_fault.ensures ∙ c.in-Some.is)
 
 pub returns-in_default-encoding-clause-fault : goal.returns-in_default-encoding-clause-fault
 returns-in_default-encoding-clause-fault c =
-    behind (tx_side_of c.args.self.now) (ceilings_of c.args.self.now) c.args.plain.now None (sym c.frame_fault.ensures ∙ c.in_default.is)
+    behind (tx_side_of c.args.self.now) (ceilings_of c.args.self.now) c.args.plain.now None
+    (sym c.frame_fault.ensures ∙ c.in_default.is)
     (unset c.args.self.now c.in_default-encoding.is)
 
 pub returns-in_default-associations-clause-fault : goal.returns-in_default-associations-clause-fault
 returns-in_default-associations-clause-fault c =
     let within : c.get.result < length c.args.self.now.associations = search rules in
-    let free = is_free c.args.self.now.associations c.get.result c.index-self-get.result within c.in_default-associations.is in
-    behind (tx_side_of c.args.self.now) (ceilings_of c.args.self.now) c.args.plain.now None (sym c.frame_fault.ensures ∙ c.in_default.is)
+    let free =
+    is_free c.args.self.now.associations c.get.result c.index-self-get.result within c.in_default-associations.is in
+    behind (tx_side_of c.args.self.now) (ceilings_of c.args.self.now) c.args.plain.now None
+    (sym c.frame_fault.ensures ∙ c.in_default.is)
     (vacant c.args.self.now c.get.result (c.in-Some-encoding.is ∙ ap Some (sym c.get.ensures.value)) free)
 
 pub returns-in_err-pn-clause-fault : goal.returns-in_err-pn-clause-fault
 returns-in_err-pn-clause-fault c =
     let within : c.get.result < length c.args.self.now.associations = search rules in
-    let here = stands c.args.self.now.associations c.get.result c.index-self-get.result c.in-Some-associations.association within c.in-Some-associations.is in
-    let numbers = in_numbers c.args.self.now c.args.plain.now c.get.result c.in-Some-associations.association (sym c.frame_fault.ensures ∙ c.in_default.is)
+    let here = stands c.args.self.now.associations c.get.result c.index-self-get.result
+    c.in-Some-associations.association within c.in-Some-associations.is in
+    let numbers = in_numbers c.args.self.now c.args.plain.now c.get.result c.in-Some-associations.association
+    (sym c.frame_fault.ensures ∙ c.in_default.is)
     (c.in-Some-encoding.is ∙ ap Some (sym c.get.ensures.value)) here in
     subst (λ found. IfErr c.from_residual.result (λ fault. found ≡ Some fault)) (sym numbers) (search rules)
 
 pub returns-clause-none : goal.returns-clause-none
 returns-clause-none c =
     let within : c.get.result < length c.args.self.now.associations = search rules in
-    let here = stands c.args.self.now.associations c.get.result c.index-self-get.result c.in-Some-associations.association within c.in-Some-associations.is in
-    in_numbers c.args.self.now c.args.plain.now c.get.result c.in-Some-associations.association (sym c.frame_fault.ensures ∙ c.in_default.is)
+    let here = stands c.args.self.now.associations c.get.result c.index-self-get.result
+    c.in-Some-associations.association within c.in-Some-associations.is in
+    in_numbers c.args.self.now c.args.plain.now c.get.result c.in-Some-associations.association
+    (sym c.frame_fault.ensures ∙ c.in_default.is)
     (c.in-Some-encoding.is ∙ ap Some (sym c.get.ensures.value)) here ∙ c.in_ok-pn.ensures.none
 
 pub returns-clause-number : goal.returns-clause-number
 returns-clause-number c =
     let within : c.get.result < length c.args.self.now.associations = search rules in
-    let here = stands c.args.self.now.associations c.get.result c.index-self-get.result c.in-Some-associations.association within c.in-Some-associations.is in
-    ap (option_map (λ (o : Outgoing). o.pn)) (chosen c.args.self.now c.get.result c.in-Some-associations.association (c.in-Some-encoding.is ∙ ap Some (sym c.get.ensures.value)) here)
+    let here = stands c.args.self.now.associations c.get.result c.index-self-get.result
+    c.in-Some-associations.association within c.in-Some-associations.is in
+    ap (option_map (λ (o : Outgoing). o.pn)) (chosen c.args.self.now c.get.result c.in-Some-associations.association
+    (c.in-Some-encoding.is ∙ ap Some (sym c.get.ensures.value)) here)
     ∙ ap Some (sym c.in_ok-pn.ensures.value)
 
 pub returns-clause-frame : goal.returns-clause-frame
 returns-clause-frame c =
     let within : c.get.result < length c.args.self.now.associations = search rules in
-    let here = stands c.args.self.now.associations c.get.result c.index-self-get.result c.in-Some-associations.association within c.in-Some-associations.is in
-    let there = subst (λ an. get_or c.args.self.now.associations an None ≡ Some c.in-Some-associations.association) c.get.ensures.value here in
-    goes_out c.args.self.now c.in-Some-encoding.an c.in-Some-associations.association c.in_ok-pn.pn c.name-name.result c.args.plain.now c.seal.new.out.items
+    let here = stands c.args.self.now.associations c.get.result c.index-self-get.result
+    c.in-Some-associations.association within c.in-Some-associations.is in
+    let there = subst (λ an. get_or c.args.self.now.associations an None ≡ Some c.in-Some-associations.association)
+    c.get.ensures.value here in
+    goes_out c.args.self.now c.in-Some-encoding.an c.in-Some-associations.association c.in_ok-pn.pn c.name-name.result
+    c.args.plain.now c.seal.new.out.items
     c.in-Some-encoding.is there c.in_ok-pn.ensures.value c.name-name.ensures c.seal.ensures.frame
 
 pub returns-clause-sent : goal.returns-clause-sent
 returns-clause-sent c =
-    let same : sa_of c.seal.new.self ≡ sa_of c.in-Some-associations.association = rw (c.seal.ensures.key, c.seal.ensures.protection) refl in
+    let same : sa_of c.seal.new.self ≡ sa_of c.in-Some-associations.association =
+    rw (c.seal.ensures.key, c.seal.ensures.protection) refl in
     let within : c.get.result < length c.args.self.now.associations = search rules in
-    let here = stands c.args.self.now.associations c.get.result c.index-self-get.result c.in-Some-associations.association within c.in-Some-associations.is in
-    sent c.args.self.now c.get.result c.in-Some-associations.association c.seal.new.self (search rules) within here same c.seal.ensures.next
+    let here = stands c.args.self.now.associations c.get.result c.index-self-get.result
+    c.in-Some-associations.association within c.in-Some-associations.is in
+    sent c.args.self.now c.get.result c.in-Some-associations.association c.seal.new.self (search rules) within here same
+    c.seal.ensures.next
 
 pub returns-clause-ceilings : goal.returns-clause-ceilings
 returns-clause-ceilings c =
     let within : c.get.result < length c.args.self.now.associations = search rules in
-    let here = stands c.args.self.now.associations c.get.result c.index-self-get.result c.in-Some-associations.association within c.in-Some-associations.is in
-    kept _ c.args.self.now.associations c.get.result c.in-Some-associations.association c.seal.new.self within here c.seal.ensures.ceiling
+    let here = stands c.args.self.now.associations c.get.result c.index-self-get.result
+    c.in-Some-associations.association within c.in-Some-associations.is in
+    kept _ c.args.self.now.associations c.get.result c.in-Some-associations.association c.seal.new.self within here
+    c.seal.ensures.ceiling
 
 pub seal-requires-clause-long_enough : goal.seal-requires-clause-long_enough
 seal-requires-clause-long_enough c = (has_length _ _ _ (sym c.frame_fault.ensures ∙ c.in_default.is)).0

@@ -3,4 +3,11 @@ use Rattle.macs_disk_tests.proofs.tests.tearing.TearingSectorDisk.write.Goals as
 
 pub returns-clause-effect : goal.returns-clause-effect
 returns-clause-effect g c honest =
-    record { ok = tt; err = inr (c.args.from.now, record { size = c.told-from; octets = c.fits-from }, (c.in_ok-write.ensures.effect honest).ok) }
+    record {
+      ok = tt;
+      err = inr (
+        c.args.from.now,
+        record { size = c.told-from; octets = c.fits-from },
+        (c.in_ok-write.ensures.effect honest).ok,
+      );
+    }
