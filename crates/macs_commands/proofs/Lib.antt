@@ -1,5 +1,5 @@
 mod Counted
-mod Reading
+pub mod Reading
 mod CommandWords
 mod TakenWords
 mod OtherWords

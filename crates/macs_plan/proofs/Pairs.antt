@@ -1,17 +1,17 @@
 -- Pairs of keys read one by one.
 use Rattle.std.proofs.Common.{◌≡◌, ◌<◌, ◌≤◌, ◌+◌, ℕ, List, [], ◌∷◌, ◌++◌, length, drop, get_or, refl, ap, sym, ◌∙◌}
 use Rattle.std.proofs.Common.{append_assoc, append-nil, subst, IfErr, Result, Ok, Err, Some, None, false}
-use Rattle.std.proofs.Common.{drop_of_length-le, suc, String, ◌==◌}
+use Rattle.std.proofs.Common.{suc, String, ◌==◌}
 use Rattle.macs_plan.specs.declared.plan_fault.PlanFault.TheVariants.{Memory, Shape}
-use Rattle.toml.specs.Data.{Data, string, integer, float, boolean, datetime, array, table, Items, no_items, item}
+use Rattle.toml.specs.Data.{Data, string, integer, float, boolean, datetime, array, table, Items, item}
 use Rattle.toml.specs.Data.{Members, as_table}
 use Rattle.toml.specs.declared.value.Value.{Value}
 use Rattle.toml.specs.View.{items_view, members_view, view}
 use Rattle.std.specs.declared.alloc.Global.{Global}
-use Rattle.toml.proofs.Views.{items_view-drop}
 use Rattle.macs_plan.specs.declared.link.KeyPair.{KeyPair}
 use Rattle.macs_plan.specs.declared.plan_fault.PlanFault.{PlanFault}
 use Rattle.macs_commands.specs.CommandFiles.{are_tables, count}
+use Rattle.macs_commands.proofs.Reading.{none_left, one_left, other_left}
 use Rattle.macs_plan.specs.Reading.{followed, is_keys, key_pair, key_pairs}
 use Rattle.std.proofs.lemmas.Bool.{true≢false}
 
@@ -41,30 +41,6 @@ shape at (float x) ds e = refl
 shape at (boolean b) ds e = refl
 shape at (datetime dt) ds e = refl
 shape at (array xs) ds e = refl
-
-pub not_all : (d : Data) (ds : Items) → as_table d ≡ None → are_tables (item d ds) ≡ false
-not_all (table xs) ds e = cc
-not_all (string s) ds e = refl
-not_all (integer z) ds e = refl
-not_all (float x) ds e = refl
-not_all (boolean b) ds e = refl
-not_all (datetime dt) ds e = refl
-not_all (array xs) ds e = refl
-
--- the value in hand is the first of those that are left
-pub one_left : (vs : List Value) (i : ℕ) (value : Value) (ms : Members) → i < length vs → value ≡ get_or vs i value
-    → as_table (view value) ≡ Some ms → items_view (drop i vs) ≡ item (table ms) (items_view (drop (i + 1) vs))
-one_left vs i value ms within same e =
-    items_view-drop vs i value within ∙ ap (λ v. item (view v) (items_view (drop (i + 1) vs))) (sym same)
-    ∙ ap (λ x. item x (items_view (drop (i + 1) vs))) (is_table_of (view value) ms e)
-
-pub other_left : (vs : List Value) (i : ℕ) (value : Value) → i < length vs → value ≡ get_or vs i value
-    → items_view (drop i vs) ≡ item (view value) (items_view (drop (i + 1) vs))
-other_left vs i value within same = items_view-drop vs i value within
-    ∙ ap (λ v. item (view v) (items_view (drop (i + 1) vs))) (sym same)
-
-pub none_left : (vs : List Value) (i : ℕ) → length vs ≤ i → items_view (drop i vs) ≡ no_items
-none_left vs i past = ap items_view (drop_of_length-le vs past)
 
 -- ---- one value more
 
