@@ -44,8 +44,9 @@ class Subcommand:
         return self.forms[0].operands
 
     def choices_at(self, place):
-        """The words that the help has at a place among the operands, counted from 0, where it has words there and no names."""
-        return tuple(dict.fromkeys(it.operands[place] for it in self.forms if len(it.operands) > place and it.operands[place].islower()))
+        """The words that the help has at a place among the operands, counted from 0, where it has words there and no names. `left|right` are two."""
+        words = (it for form in self.forms if len(form.operands) > place for it in form.operands[place].split("|"))
+        return tuple(dict.fromkeys(it for it in words if it.islower()))
 
     @property
     def options(self):

@@ -133,6 +133,7 @@ def slips():
         yield ["examine", name], None, None, None
         yield ["inspect", name], None, None, None
         yield ["check", name], None, None, None
+        yield ["plan", name, "left", "first"], None, None, None
         yield ["check", COMMANDS, name], None, None, None
         for direction in ("protect", "validate"):
             yield [direction, name, CAPTURE, "out"], None, name, None

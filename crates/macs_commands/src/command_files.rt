@@ -56,14 +56,14 @@ pub fn commands_of<A: Allocator>(alloc: A, file: &Table) -> Result<Vec<Command, 
 }
 
 /// How many keys a table has.
-fn keys(table: &Table) -> usize
+pub fn keys(table: &Table) -> usize
     ensures { result ≡ count (table_view table.now) }
 {
     table.len()
 }
 
 /// Whether each value is a table.
-fn are_tables(values: &[Value]) -> bool
+pub fn are_tables(values: &[Value]) -> bool
     ensures { result ≡ are_tables (items_view values.now) }
 {
     for i in 0..values.len() {

@@ -19,7 +19,7 @@ use macs_fields::{An, Sci};
 use toml::{Table, Value};
 
 /// The value at a key.
-pub(crate) fn value<'a>(table: &'a Table, key: &str) -> Option<&'a Value>
+pub fn value<'a>(table: &'a Table, key: &str) -> Option<&'a Value>
     ensures { option_map (λ v. view v.now) result ≡ get_member key.now (table_view table.now) }
 {
     table.get(key)
@@ -59,7 +59,7 @@ fn flag(table: &Table, key: &str) -> Option<bool>
 }
 
 /// The text at a key.
-fn text<'a>(table: &'a Table, key: &str) -> Option<&'a str>
+pub fn text<'a>(table: &'a Table, key: &str) -> Option<&'a str>
     ensures { option_map (λ s. s.now) result ≡ text_at key.now (table_view table.now) }
 {
     match value(table, key) {
@@ -69,7 +69,7 @@ fn text<'a>(table: &'a Table, key: &str) -> Option<&'a str>
 }
 
 /// Octets, from a text of twice as many hex digits.
-fn octets<const N: usize>(text: &str) -> Option<[u8; N]>
+pub fn octets<const N: usize>(text: &str) -> Option<[u8; N]>
     ensures { result ≡ octets_of N text.now }
 {
     let mut octets = [0; N];
@@ -126,7 +126,7 @@ pub(crate) fn key(table: &Table) -> Result<Key, KeyName>
 }
 
 /// A key, from a text of 32 hex digits or of 64.
-fn key_of(text: &str) -> Option<Key>
+pub fn key_of(text: &str) -> Option<Key>
     ensures { result ≡ key_of text.now }
 {
     match octets(text) {

@@ -1,4 +1,5 @@
-//! Command files: the commands of an operator, in TOML.
+//! Command files: the commands of an operator, in TOML. What reads a table of them reads a table of
+//! a link too.
 #![tactic(auto)]
 
 mod command_files;
@@ -9,5 +10,6 @@ mod lines;
 mod modes;
 mod word;
 
-pub use command_files::commands_of;
+pub use command_files::{are_tables, commands_of, keys};
 pub use config_fault::{ConfigFault, KeyName};
+pub use fields::{key_of, octets, text, value};

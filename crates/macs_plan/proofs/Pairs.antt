@@ -1,16 +1,15 @@
 -- Pairs of keys read one by one.
 use Rattle.std.proofs.Common.{◌≡◌, ◌<◌, ◌≤◌, ◌+◌, ℕ, List, [], ◌∷◌, ◌++◌, length, drop, get_or, refl, ap, sym, ◌∙◌}
 use Rattle.std.proofs.Common.{append_assoc, append-nil, subst, IfErr, Result, Ok, Err, Some, None, false}
-use Rattle.std.proofs.Common.{suc, String, ◌==◌}
+use Rattle.std.proofs.Common.{◌==◌}
 use Rattle.macs_plan.specs.declared.plan_fault.PlanFault.TheVariants.{Memory, Shape}
 use Rattle.toml.specs.Data.{Data, string, integer, float, boolean, datetime, array, table, Items, item}
 use Rattle.toml.specs.Data.{Members, as_table}
 use Rattle.toml.specs.declared.value.Value.{Value}
-use Rattle.toml.specs.View.{items_view, members_view, view}
-use Rattle.std.specs.declared.alloc.Global.{Global}
+use Rattle.toml.specs.View.{items_view, view}
 use Rattle.macs_plan.specs.declared.link.KeyPair.{KeyPair}
 use Rattle.macs_plan.specs.declared.plan_fault.PlanFault.{PlanFault}
-use Rattle.macs_commands.specs.CommandFiles.{are_tables, count}
+use Rattle.macs_commands.specs.CommandFiles.{are_tables}
 use Rattle.macs_commands.proofs.Reading.{none_left, one_left, other_left}
 use Rattle.macs_plan.specs.Reading.{followed, is_keys, key_pair, key_pairs}
 use Rattle.std.proofs.lemmas.Bool.{true≢false}
@@ -84,11 +83,6 @@ pub answered : (T : Type 0) (result : Result T PlanFault) (fault : PlanFault) (a
     → IfErr result (λ f. ¬ (f ≡ Memory) → all ≡ Err f)
 answered T result fault all is same =
     subst (λ (r : Result T PlanFault). IfErr r (λ f. ¬ (f ≡ Memory) → all ≡ Err f)) (sym is) (λ other. same)
-
--- a table has as many members as its map has entries
-pub counted : (es : List (String Global × Value)) → length es ≡ count (members_view es)
-counted [] = refl
-counted (e ∷ es) = ap (λ n. suc n) (counted es)
 
 -- some values
 pub some_tables : (values : List Value) → (length values == 0) ≡ false

@@ -1,30 +1,15 @@
-//! What stands at a key of a table of a link's file.
+//! What is at a key of a table of a link's file.
 
-ghost use Rattle.std.specs.Prelude.{◌≡◌, Some, option_map, codes};
-ghost use Rattle.toml.specs.Data.{get_member};
+ghost use Rattle.std.specs.Prelude.{◌≡◌, option_map};
 ghost use Rattle.toml.specs.View.{array_view, table_view, view};
-ghost use Rattle.macs_commands.specs.CommandFiles.{count};
-ghost use Rattle.macs_commands.specs.Fields.{an_in, key_of, number_to, octets_of, sci_in, text_at};
+ghost use Rattle.macs_commands.specs.Fields.{an_in, number_to, sci_in};
 ghost use Rattle.macs_plan.specs.Reading.{items_at, key_at, table_at};
 
 use macs_aes::Key;
+use macs_commands::{key_of, octets, text, value};
 use macs_fields::{An, Sci};
 use toml::value::Array;
 use toml::{Table, Value};
-
-/// How many keys a table has.
-pub(crate) fn keys(table: &Table) -> usize
-    ensures { result ≡ count (table_view table.now) }
-{
-    table.len()
-}
-
-/// The value at a key.
-fn value<'a>(table: &'a Table, key: &str) -> Option<&'a Value>
-    ensures { option_map (λ v. view v.now) result ≡ get_member key.now (table_view table.now) }
-{
-    table.get(key)
-}
 
 /// The table at a key.
 pub(crate) fn table<'a>(table: &'a Table, key: &str) -> Option<&'a Table>
@@ -43,27 +28,6 @@ pub(crate) fn array<'a>(table: &'a Table, key: &str) -> Option<&'a Array>
     match value(table, key) {
         Some(value) => value.as_array(),
         None => None,
-    }
-}
-
-/// The text at a key.
-fn text<'a>(table: &'a Table, key: &str) -> Option<&'a str>
-    ensures { option_map (λ s. s.now) result ≡ text_at key.now (table_view table.now) }
-{
-    match value(table, key) {
-        Some(value) => value.as_str(),
-        None => None,
-    }
-}
-
-/// Octets, from a text of twice as many hex digits.
-fn octets<const N: usize>(text: &str) -> Option<[u8; N]>
-    ensures { result ≡ octets_of N text.now }
-{
-    let mut octets = [0; N];
-    match hex::decode_to_slice(text, &mut octets) {
-        Ok(()) => Some(octets),
-        Err(_) => None,
     }
 }
 
@@ -100,19 +64,6 @@ pub(crate) fn sci(table: &Table) -> Option<Sci>
             None => None,
         },
         None => None,
-    }
-}
-
-/// A key, from a text of 32 hex digits or of 64.
-fn key_of(text: &str) -> Option<Key>
-    ensures { result ≡ key_of text.now }
-{
-    match octets(text) {
-        Some(short) => Some(Key::Short(short)),
-        None => match octets(text) {
-            Some(long) => Some(Key::Long(long)),
-            None => None,
-        },
     }
 }
 

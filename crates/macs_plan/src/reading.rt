@@ -2,15 +2,15 @@
 
 ghost use Rattle.std.specs.Prelude.{◌≡◌, ◌≢◌, ◌<◌, ◌^◌, length, IfOk, IfErr, Ok, Err};
 ghost use Rattle.toml.specs.View.{items_view, table_view};
-ghost use Rattle.macs_commands.specs.CommandFiles.{are_tables};
 ghost use Rattle.macs_plan.specs.Reading.{end_sci, file_link, is_keys, key_pair, key_pairs};
 ghost use Rattle.macs_plan.specs.Reading.{tables_link};
 ghost use Rattle.macs_plan.specs.declared.plan_fault.PlanFault.TheVariants.{Memory};
 
-use crate::fields::{an, array, key, keys, sci, table};
+use crate::fields::{an, array, key, sci, table};
 use crate::link::{KeyPair, Link};
 use crate::plan_fault::{Place, PlanFault, ValueName};
 use crate::soundness::sound_link;
+use macs_commands::{are_tables, keys};
 use macs_fields::Sci;
 use std::alloc::Allocator;
 use toml::{Table, Value};
@@ -45,18 +45,6 @@ fn is_keys(values: &[Value]) -> bool
     ensures { result ≡ is_keys (items_view values.now) }
 {
     !values.is_empty() && are_tables(values)
-}
-
-/// Whether each value is a table.
-fn are_tables(values: &[Value]) -> bool
-    ensures { result ≡ are_tables (items_view values.now) }
-{
-    for i in 0..values.len() {
-        if !values[i].is_table() {
-            return false;
-        }
-    }
-    true
 }
 
 /// The link that these tables say.

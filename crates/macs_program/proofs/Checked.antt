@@ -18,7 +18,7 @@ complains-weaker P Q failure weaker (inr (text, is, holds)) = inr (text, is, wea
 
 -- ---- what was read, and the whole file
 
-short-whole : (input octets : List ℕ) → input ≡ take 1048577 octets → length input ≤ longest_file → input ≡ octets
+pub short-whole : (input octets : List ℕ) → input ≡ take 1048577 octets → length input ≤ longest_file → input ≡ octets
 short-whole input octets read short =
     let count = length-take 1048577 octets in
     read ∙ take_all 1048577 octets (omega (arith, short, count, ap length read))

@@ -57,7 +57,7 @@ use Rattle.macs_program.specs.declared.open_input.OpenInput.{OpenInput}
 use Rattle.macs_program.proofs.TextLines.{lines-ended, lines-last, lines-nil, trimmed-other, trimmed-return}
 use Rattle.macs_words.specs.declared.action.Action.{Action}
 use Rattle.macs_words.specs.declared.action.Action.TheVariants.{About, Apply, Check, Examine, Format, Key, Open}
-use Rattle.macs_words.specs.declared.action.Action.TheVariants.{Protect, Relay, Show, Validate}
+use Rattle.macs_words.specs.declared.action.Action.TheVariants.{Plan, Protect, Relay, Show, Validate}
 
 -- ---- one answer
 
@@ -275,13 +275,13 @@ says_once octets a b x y =
     cc
 
 fault_of : (fault : DiskFault) (answer : CommandFault) → commit_fault fault answer
-    → ((answer ≡ ran.Stopped) × (fault ≡ disk.Journal journal.Stopped)) ⊎ ((answer ≡ ran.Busy) × (fault ≡ disk.Busy))
+    → ((answer ≡ ran.Stopped) × (fault ≡ disk.Journal journal.Stopped))
     ⊎ ((answer ≡ ran.GenerationsSpent) × (fault ≡ disk.Journal journal.GenerationsSpent)) ⊎ ((answer ≡ ran.Disk)
     × (fault ≡ disk.Journal journal.Disk))
 fault_of fault ran.Stopped is = inl (refl, is)
-fault_of fault ran.Busy is = inr (inl (refl, is))
-fault_of fault ran.GenerationsSpent is = inr (inr (inl (refl, is)))
-fault_of fault ran.Disk is = inr (inr (inr (refl, is)))
+fault_of fault ran.Busy is = absurd is
+fault_of fault ran.GenerationsSpent is = inr (inl (refl, is))
+fault_of fault ran.Disk is = inr (inr (refl, is))
 fault_of fault (ran.Refused at) is = absurd is
 
 pub apply-words : {D : Type 0} (disk_of : D → Disk) → ApplyWords disk_of
@@ -373,6 +373,7 @@ nothing_printed (Validate disk from to is_all false) before after printed is = p
 nothing_printed (Relay disk controlled common running) before after printed is = printed
 nothing_printed (Key is_long) before after printed is = printed
 nothing_printed (Check file disk) before after printed is = printed
+nothing_printed (Plan file end stage) before after printed is = printed
 nothing_printed (Examine disk) before after printed is = printed
 nothing_printed About before after printed is = printed
 nothing_printed action before after printed is = absurd (cc)
@@ -421,7 +422,7 @@ line-words = record {
   no_input = no_input;
   nothing = nothing_printed;
   commands = commands_printed;
-  silent = λ path sci from to tx_block rx_block block disk is controlled common running. refl;
+  silent = λ path sci from to tx_block rx_block block disk is controlled common running end stage. refl;
   prints_lines = λ path from. refl;
   complained = λ before after failed text is. is;
   complaint = λ failure. refl;

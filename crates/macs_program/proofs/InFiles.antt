@@ -17,6 +17,7 @@ use Rattle.macs_endpoint.specs.Opening.{IsOpening}
 use Rattle.macs_endpoint.specs.Value.{EndpointValue}
 use Rattle.macs_journal.specs.declared.recovery.RecoverRefused.{RecoverRefused}
 use Rattle.macs_pcap.specs.States.{SinkState, SourceState}
+use Rattle.macs_program.proofs.NoneWaits.{opened-none}
 use Rattle.macs_program.proofs.Failures.{MemoryOr, capture-no-output, capture-no-usage, commands-no-output}
 use Rattle.macs_program.proofs.Failures.{commands-no-usage, disk-no-output, disk-no-usage, of-opening, output-no-usage}
 use Rattle.macs_program.specs.Applying.{AppliesAll, AppliesSome, EndsRun, SaysCommands, outcome_lines}
@@ -37,6 +38,15 @@ pub opening-in : {F : Type 0} (file : F → FileState) (disk : FileDisk F)
     (opened : Result (EndpointValue (FileDisk F)) (RecoverRefused (FileDisk F)))
     → IsDiskIn file disk → IsOpening (disk_in_file file) disk opened → IsOpeningIn file opened
 opening-in file disk opened there opening = record { disk = disk; is_disk = there; opening = opening }
+
+-- no command of an endpoint that was opened waits
+pub none-waits : {F : Type 0} (file : F → FileState) (old : EndpointValue (FileDisk F))
+    (opened : Result (EndpointValue (FileDisk F)) (RecoverRefused (FileDisk F)))
+    → opened ≡ Ok old → IsOpeningIn file opened → old.waiting ≡ []
+none-waits {F} file old opened is there =
+    opened-none (disk_in_file file) there.disk old
+    (subst (λ (r : Result (EndpointValue (FileDisk F)) (RecoverRefused (FileDisk F))).
+    IsOpening (disk_in_file file) there.disk r) is there.opening)
 
 module _ {F W : Type 0} (file : F → FileState) (done : Doing (FileDisk F) W) (before : W) where
   -- there is no disk in the file

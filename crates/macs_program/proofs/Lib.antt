@@ -20,8 +20,10 @@ mod Laid
 pub mod Examined
 pub mod Looks
 pub mod Made
+pub mod NoneWaits
 pub mod OpenedFrames
 pub mod Performed
+pub mod Planned
 pub mod Printing
 pub mod Relayed
 pub mod SpelledWires
@@ -31,6 +33,7 @@ pub mod Told
 pub mod Tried
 mod WrittenOver
 mod ExamineDrawn
+mod PlanDrawn
 mod ContentDrawn
 mod Drawn
 mod RelayDrawn

@@ -17,8 +17,11 @@ use Rattle.macs_program.specs.Inputs.{InputRead}
 use Rattle.macs_program.specs.Inspecting.{InspectFails, Inspects, IsOfInspecting, PrintsFrames}
 use Rattle.macs_program.specs.Judging.{PrintsVerdicts}
 use Rattle.macs_program.specs.Keys.{GivesKey, IsOfKey}
+use Rattle.macs_program.specs.Plans.{PlanFails, PrintsPlan, end_of, stage_of}
 use Rattle.macs_program.specs.Run.{Does, FailsAs, Performs, Prints, WrongValues}
 use Rattle.macs_edge.specs.declared.capture_runs.Summary.{Summary}
+use Rattle.macs_plan.specs.declared.link.End.{End}
+use Rattle.macs_plan.specs.declared.planning.Stage.{Stage}
 use Rattle.macs_program.specs.Summing.{pass_status}
 use Rattle.macs_program.specs.declared.failure.Failure.{Failure}
 use Rattle.macs_program.specs.declared.failure.Failure.TheVariants as failures
@@ -27,8 +30,10 @@ use Rattle.macs_program.specs.declared.status.Status.{Status}
 use Rattle.macs_program.specs.declared.status.Status.TheVariants as ends
 use Rattle.macs_words.specs.declared.action.Action.{Action}
 use Rattle.macs_words.specs.declared.action.Action.TheVariants.{Open, Format, Apply, Show, Protect, Validate, Relay}
-use Rattle.macs_words.specs.declared.action.Action.TheVariants.{Ask, Key, Inspect, Check, Examine, About}
+use Rattle.macs_words.specs.declared.action.Action.TheVariants.{Ask, Key, Inspect, Check, Plan, Examine, About}
 use Rattle.macs_words.specs.declared.action.WireEnds.{WireEnds}
+use Rattle.macs_words.specs.declared.plan_words.PlanEnd.{PlanEnd}
+use Rattle.macs_words.specs.declared.plan_words.PlanStage.{PlanStage}
 use Rattle.macs_words.specs.declared.action.Question.{Question}
 use Rattle.macs_words.specs.declared.action.Question.TheVariants as question
 use Rattle.macs_words.specs.declared.pace.Running.{Running}
@@ -101,6 +106,15 @@ checking-no-usage failure (inr (inr (octets, inl is))) =
     ((λ e. let f = sym e ∙ ap failure_status is in cc), (λ e. let f = sym e ∙ ap failure_status is in cc))
 checking-no-usage failure (inr (inr (octets, inr (text, is, said)))) =
     ((λ e. let f = sym e ∙ ap failure_status is in cc), (λ e. let f = sym e ∙ ap failure_status is in cc))
+
+-- a failure of `plan` is no wrong usage
+planning-no-usage : (end : End) (stage : Stage) (failure : Failure) → PlanFails end stage failure
+    → failure_status failure ≢ ends.Usage
+planning-no-usage end stage failure (inl is) = λ e. let f = sym e ∙ ap failure_status is in cc
+planning-no-usage end stage failure (inr (inl is)) = λ e. let f = sym e ∙ ap failure_status is in cc
+planning-no-usage end stage failure (inr (inr (octets, inl is))) = λ e. let f = sym e ∙ ap failure_status is in cc
+planning-no-usage end stage failure (inr (inr (octets, inr (text, is, said)))) =
+    λ e. let f = sym e ∙ ap failure_status is in cc
 
 done-or-refused : (refused : Bool) → ((if refused then ends.Refused else ends.Done) ≡ ends.Done)
     ⊎ ((if refused then ends.Refused else ends.Done) ≡ ends.Refused)
@@ -356,6 +370,21 @@ module _ {F W : Type 0} (state_of : F → FileState) (contents : W → Option (L
     does = done;
     status = IfOk-weaker result _ _ (check-status disk) done;
     usage = IfErr-weaker result _ _ (λ failure is usage. absurd (check-no-usage disk failure is usage)) fails;
+    disk = IfErr-weaker result _ _ (λ failure same disk. ((λ is. absurd cc), same disk)) (kept silent);
+    before = before silent;
+    fails = fails;
+    broken = broken;
+  }
+
+  pub plans : (file : Bor (List ℕ)) (end : PlanEnd) (stage : PlanStage) → IfOk result
+      (λ status. PrintsPlan (end_of end) (stage_of stage) (contents old) (contents new) × (status ≡ ends.Done))
+      → IfErr result (PlanFails (end_of end) (stage_of stage)) → Silent → Broken
+      → Performs state_of contents failed (Plan file end stage) input old result new
+  plans file end stage done fails silent broken = record {
+    does = done;
+    status = IfOk-weaker result _ _ (λ status all. inl all.1) done;
+    usage = IfErr-weaker result _ _
+        (λ failure is usage. absurd (planning-no-usage (end_of end) (stage_of stage) failure is usage)) fails;
     disk = IfErr-weaker result _ _ (λ failure same disk. ((λ is. absurd cc), same disk)) (kept silent);
     before = before silent;
     fails = fails;

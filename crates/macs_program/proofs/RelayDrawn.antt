@@ -1,5 +1,5 @@
 -- All that is to be drawn from words on relays of the program.
-use Rattle.std.proofs.Common.{◌≡◌, ◌⊎◌, inl, inr, ℕ, Bool, true, false, Option, Some, None, Result, Ok, Err, refl}
+use Rattle.std.proofs.Common.{◌≡◌, ◌≢◌, ◌⊎◌, inl, inr, ℕ, Bool, true, false, Option, Some, None, Result, Ok, Err, refl}
 use Rattle.std.specs.Prelude.{◌||◌, is_some}
 use Rattle.macs_disk.specs.FileDisks.{disk_in_file}
 use Rattle.macs_disk.specs.Files.{FileState}
@@ -9,9 +9,11 @@ use Rattle.macs_edge.specs.Wires.{WireState}
 use Rattle.macs_edge.specs.declared.relaying.RelaySummary.{RelaySummary}
 use Rattle.macs_endpoint.specs.Value.{EndpointValue}
 use Rattle.macs_endpoint.specs.declared.fault.RefillFault.{RefillFault}
+use Rattle.macs_endpoint.specs.declared.fault.RefillFault.TheVariants as refill
+use Rattle.macs_program.proofs.NoneWaits.{attended-not-busy, relay-not-busy}
 use Rattle.macs_program.specs.Failing.{failure_of_refill}
 use Rattle.macs_program.specs.Relaying.{Course, IsRunBy, RelayEnds, RelayEndsIn, new_wire}
-use Rattle.macs_program.specs.RelayDrawn.{RelayWords, RunsAs}
+use Rattle.macs_program.specs.RelayDrawn.{RelayWords, RunsAs, fresh_wire}
 use Rattle.macs_program.specs.declared.failure.Failure.{Failure}
 use Rattle.macs_program.specs.declared.failure.Failure.TheVariants as failures
 
@@ -33,6 +35,16 @@ module _ {F : Type 0} (file : F → FileState) where
       → RunsAs file (record { attended = attended; turns = turns }) old result new controlled common
   runs false turns old new result controlled common is = inl (refl, is)
   runs true turns old new result controlled common is = inr (refl, is.0, is.1)
+
+  never-busy : (course : Course) (old new : EndpointValue (FileDisk F)) (fault : RefillFault)
+      (controlled common : WireState)
+      → RunsAs file course old (Err fault) new controlled common → fault ≢ refill.Busy
+  never-busy course old new fault controlled common (inl (nobody, relayed)) =
+      relay-not-busy (disk_in_file file) course.turns (relay_of old fresh_wire fresh_wire empty_lane empty_lane) fault
+      new controlled common relayed
+  never-busy course old new fault controlled common (inr (somebody, events, attended)) =
+      attended-not-busy (disk_in_file file) course.turns (relay_of old fresh_wire fresh_wire empty_lane empty_lane)
+      events fault new controlled common attended
 
   ended : (course : Course) (failure : Failure) (is : RelayEndsIn file course failure)
       → RelayEnds (disk_in_file file) course is.old failure is.new
@@ -77,7 +89,7 @@ module _ {F : Type 0} (file : F → FileState) where
     );
     ends = λ course failure is. (is.old, is.new, is.endpoint, ended course failure is is.ends);
     stopped = refl;
-    busy_still = refl;
+    never_busy = never-busy;
     spent = refl;
     device = refl;
     asked = λ socket. refl;

@@ -35,6 +35,9 @@ use Rattle.macs_program.specs.Endpoints.{IsEndpointIn, PassEnds, PassesIn}
 use Rattle.macs_program.specs.Inspecting.{AreLinesOf, InspectsCapture}
 use Rattle.macs_program.specs.Judging.{EndsEach, JudgesCapture, JudgesIn, JudgingEnds, verdict_lines}
 use Rattle.macs_program.specs.Keys.{IsOfKey}
+use Rattle.macs_plan.specs.declared.link.End.{End}
+use Rattle.macs_plan.specs.declared.planning.Stage.{Stage}
+use Rattle.macs_program.specs.Plans.{IsSaidOfLink, PlanFails, end_of, stage_of}
 use Rattle.macs_program.specs.Run.{WrongValues}
 use Rattle.macs_program.specs.RunWords.{BeforeWords, FailWords, ReplyWords}
 use Rattle.macs_program.specs.Summing.{pass_status, summary_line}
@@ -213,6 +216,9 @@ reply-words file = record {
   );
   about = λ input before after status is. is;
   checked = λ from input before after status is. counted before after status is;
+  planned = λ from end stage input before after status ((octets, text, is, printed), done).
+      let (commands, planned, says) = is.planned in
+      (octets, text, is.members, is.parsed, commands, planned, says.read, says.taken, printed, done);
   prints = λ is_long octets before after is. (is.count, is.printed);
   lengths = (refl, refl);
   inspects = λ old new before after is. inspects old new before after is;
@@ -261,6 +267,15 @@ of_check failure (inl unread) = inl unread
 of_check failure (inr (inl unprinted)) = inr (inl unprinted)
 of_check failure (inr (inr (octets, inl memory))) = inr (inr (inl memory))
 of_check failure (inr (inr (octets, inr (said, is, holds)))) = inr (inr (inr (octets, said, is, holds)))
+
+of_plan : (end : End) (stage : Stage) (failure : Failure) → PlanFails end stage failure
+    → (failure ≡ failures.Commands) ⊎ (failure ≡ failures.Output) ⊎ (failure ≡ failures.Memory)
+    ⊎ ((octets : List ℕ) × (said : _) × (failure ≡ failures.CommandFile said)
+    × IsSaidOfLink end stage octets (string_bytes said))
+of_plan end stage failure (inl unread) = inl unread
+of_plan end stage failure (inr (inl unprinted)) = inr (inl unprinted)
+of_plan end stage failure (inr (inr (octets, inl memory))) = inr (inr (inl memory))
+of_plan end stage failure (inr (inr (octets, inr (said, is, holds)))) = inr (inr (inr (octets, said, is, holds)))
 
 passing : {D : Type 0} (disk_of : D → Disk) (side : Side) (old : EndpointValue D) (failure : Failure)
     (new : EndpointValue D)
@@ -317,6 +332,7 @@ fail-words file = record {
   ];
   of_about = λ input before after failure is. is;
   of_check = λ from input before after failure is. of_check failure is;
+  of_plan = λ from end stage input before after failure is. of_plan (end_of end) (stage_of stage) failure is;
   of_trial = λ from path input before after failure is. is;
   copying = λ disk_file failure is. is;
   trying = λ copy commands failure is. elim is [

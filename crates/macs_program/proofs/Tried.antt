@@ -98,7 +98,6 @@ status-next outcomes i d outcome status new refused within next is new_is so_far
 in-memory : (fault : DiskFault) (failure : Failure) → failure ≡ failure_in_memory fault → IsOfDisk failure
 in-memory disk.File failure is = inr (disk.File, is)
 in-memory disk.Length failure is = inr (disk.Length, is)
-in-memory disk.Busy failure is = inr (disk.Busy, is)
 in-memory (disk.Journal journal.Stopped) failure is = inr (disk.Journal journal.Stopped, is)
 in-memory (disk.Journal journal.TooSmall) failure is = inr (disk.Journal journal.TooSmall, is)
 in-memory (disk.Journal journal.Disk) failure is = inl is

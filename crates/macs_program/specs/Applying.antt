@@ -77,10 +77,14 @@ Applies {D} disk_of old (command ∷ more) outcomes new =
     × (outcomes ≡ outcome ∷ rest) × IsCall disk_of old (Commands command) (Ran (answer_of outcome)) between
     × Applies disk_of between more rest new
 
--- the fault that a command meets in place of being kept or refused
+-- a command is not refused for another one that waits
+abbrev pub IsNotBusyCommand : CommandFault → Type 0
+IsNotBusyCommand fault = fault ≢ ran.Busy
+
+-- the fault that a command meets in place of being kept or refused: never that another one waits
 abbrev pub commit_fault : DiskFault → CommandFault → Type 0
 commit_fault fault ran.Stopped = fault ≡ disk.Journal journal.Stopped
-commit_fault fault ran.Busy = fault ≡ disk.Busy
+commit_fault fault ran.Busy = ⊥
 commit_fault fault ran.GenerationsSpent = fault ≡ disk.Journal journal.GenerationsSpent
 commit_fault fault ran.Disk = fault ≡ disk.Journal journal.Disk
 commit_fault fault (ran.Refused refusal) = ⊥

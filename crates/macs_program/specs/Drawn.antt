@@ -76,8 +76,10 @@ use Rattle.macs_program.specs.declared.status.Status.TheVariants as ends
 use Rattle.macs_words.specs.declared.action.WireEnds.{WireEnds}
 use Rattle.macs_words.specs.declared.action.Action.{Action}
 use Rattle.macs_words.specs.declared.action.Action.TheVariants.{About, Apply, Check, Examine, Format, Key, Open}
-use Rattle.macs_words.specs.declared.action.Action.TheVariants.{Protect}
+use Rattle.macs_words.specs.declared.action.Action.TheVariants.{Plan, Protect}
 use Rattle.macs_words.specs.declared.action.Action.TheVariants.{Relay, Show, Validate}
+use Rattle.macs_words.specs.declared.plan_words.PlanEnd.{PlanEnd}
+use Rattle.macs_words.specs.declared.plan_words.PlanStage.{PlanStage}
 use Rattle.macs_words.specs.declared.pace.Running.{Running}
 
 -- ---- `open`
@@ -168,7 +170,7 @@ pub record ApplyWords {D : Type 0} (disk_of : D → Disk) : Type 0 where
       ⊎ ((failure ≡ failures.Output) × ((IsCall disk_of old (Commands command) (Ran (Ok tt)) new)
       ⊎ ((at : Refusal) × IsCall disk_of old (Commands command) (Ran (Err (ran.Refused at))) new)))
   pub fault_of : (fault : DiskFault) (answer : CommandFault) → commit_fault fault answer
-      → ((answer ≡ ran.Stopped) × (fault ≡ disk.Journal journal.Stopped)) ⊎ ((answer ≡ ran.Busy) × (fault ≡ disk.Busy))
+      → ((answer ≡ ran.Stopped) × (fault ≡ disk.Journal journal.Stopped))
       ⊎ ((answer ≡ ran.GenerationsSpent) × (fault ≡ disk.Journal journal.GenerationsSpent)) ⊎ ((answer ≡ ran.Disk)
       × (fault ≡ disk.Journal journal.Disk))
   pub some : (old new : EndpointValue D) (commands : List Command) (before after : Option (List ℕ)) (failure : Failure)
@@ -285,6 +287,7 @@ is_silent (Validate disk from to is_all false) = true
 is_silent (Relay disk controlled common running) = true
 is_silent (Key is_long) = true
 is_silent (Check file disk) = true
+is_silent (Plan file end stage) = true
 is_silent (Examine disk) = true
 is_silent About = true
 is_silent action = false
@@ -306,10 +309,10 @@ pub record LineWords : Type 0 where
       → is_apply action ≡ true
       → (outcomes : List (Option Refusal)) × Appends before after (outcome_lines 1 outcomes)
   pub silent : (path sci from to : Bor Text) (tx_block rx_block : ℕ) (block disk : Option (Bor Text)) (is : Bool)
-      (controlled common : WireEnds) (running : Running)
+      (controlled common : WireEnds) (running : Running) (end : PlanEnd) (stage : PlanStage)
       → map is_silent (Open ∷ Format path sci tx_block rx_block block is ∷ Show path ∷ Protect path from to is
-      ∷ Validate path from to is false ∷ Relay path controlled common running ∷ Key is ∷ Check from disk ∷ Examine path
-      ∷ About ∷ []) ≡ replicate 10 true
+      ∷ Validate path from to is false ∷ Relay path controlled common running ∷ Key is ∷ Check from disk
+      ∷ Plan from end stage ∷ Examine path ∷ About ∷ []) ≡ replicate 11 true
   pub prints_lines : (path from : Bor Text) → is_apply (Apply path from) ≡ true
   pub complained : (before after : Option (List ℕ)) (failed : Bool) (text : List ℕ)
       → PrintsUnlessFailed before after failed text

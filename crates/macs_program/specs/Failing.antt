@@ -1,5 +1,5 @@
 -- What ends a run before its answer: what the program says of it, and its status.
-use Rattle.std.specs.Prelude.{ℕ, List, codes, string_bytes}
+use Rattle.std.specs.Prelude.{◌≢◌, ℕ, List, codes, string_bytes}
 use Rattle.macs_disk.specs.declared.file_fault.FileFault.{FileFault}
 use Rattle.macs_disk.specs.declared.file_fault.FileFault.TheVariants as file
 use Rattle.macs_commands.specs.declared.config_fault.ConfigFault.{ConfigFault}
@@ -56,17 +56,24 @@ abbrev pub failure_of_commands : ConfigFault → Failure
 failure_of_commands config.Memory = failure.Memory
 failure_of_commands fault = failure.Commands
 
--- packet numbers that are not reserved
+-- a refill is not refused for a command that waits
+abbrev pub IsNotBusy : RefillFault → Type 0
+IsNotBusy fault = fault ≢ refill.Busy
+
+-- packet numbers that are not reserved: Stopped, GenerationsSpent or Disk and no other
 abbrev pub failure_of_refill : RefillFault → Failure
 failure_of_refill refill.Stopped = failure_of_journal journal.Stopped
-failure_of_refill refill.Busy = failure.Disk disk.Busy
 failure_of_refill refill.GenerationsSpent = failure_of_journal journal.GenerationsSpent
-failure_of_refill refill.Disk = failure_of_journal journal.Disk
+failure_of_refill fault = failure_of_journal journal.Disk
 
 -- a capture that is wrong, or want of memory
 abbrev pub failure_of_capture : PcapFault → Failure
 failure_of_capture pcap.Memory = failure.Memory
 failure_of_capture fault = failure.Capture
+
+-- a run over a capture does not end with a refill that is refused so
+abbrev pub IsNotBusyRun : RunFault → Type 0
+IsNotBusyRun fault = fault ≢ Device refill.Busy
 
 -- a capture that is wrong, want of memory, or a fault of the disk
 abbrev pub failure_of_run : RunFault → Failure
@@ -109,7 +116,6 @@ address_fault_text address.Peer2 = codes "PEER2 is not an address and a port"
 abbrev pub disk_fault_text : DiskFault → List ℕ
 disk_fault_text disk.File = codes "disk file"
 disk_fault_text disk.Length = codes "disk length"
-disk_fault_text disk.Busy = codes "busy"
 disk_fault_text (disk.Journal journal.Stopped) = codes "stopped"
 disk_fault_text (disk.Journal journal.TooSmall) = codes "too small"
 disk_fault_text (disk.Journal journal.Disk) = codes "disk"

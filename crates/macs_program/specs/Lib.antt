@@ -26,6 +26,7 @@ pub mod FirstFault
 pub mod Examining
 pub mod About
 pub mod Checking
+pub mod Plans
 pub mod Run
 pub mod Drawn
 pub mod RelayDrawn
@@ -33,4 +34,5 @@ pub mod RunWords
 pub mod TextWords
 pub mod ShowTexts
 pub mod ExamineTexts
+pub mod PlanTexts
 pub mod CaptureOctets

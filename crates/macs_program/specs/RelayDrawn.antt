@@ -1,6 +1,6 @@
 -- What is to be drawn from words on relays of the program: how many turns one takes, who attends it, what it comes to
 -- and how it ends, of words that macs_edge has laws of.
-use Rattle.std.specs.Prelude.{◌≡◌, ◌⊎◌, ◌-◌, ◌^◌, ℕ, ℤ, pos, true, false, List, None, Some, Result, Ok, Err}
+use Rattle.std.specs.Prelude.{◌≡◌, ◌≢◌, ◌⊎◌, ◌-◌, ◌^◌, ℕ, ℤ, pos, true, false, List, None, Some, Result, Ok, Err}
 use Rattle.macs_disk.specs.FileDisks.{disk_in_file}
 use Rattle.macs_disk.specs.Files.{FileState}
 use Rattle.macs_disk.specs.declared.file.FileDisk.{FileDisk}
@@ -44,7 +44,8 @@ RunsAs file course old result new controlled common =
 -- neither a control socket nor a file of counters. What it comes to, an endpoint that was opened on a disk in a file
 -- came to, in such a relay. While it waits the system is asked whether a wire can be read (POLLIN is 1). Where it ends
 -- otherwise, nothing was done with the endpoint, since a wire or a socket is not bound, or there is no memory; or a
--- step was answered with a fault, which has its name; or it came to its summary, and that is not written.
+-- step was answered with a fault, which has its name and is not Busy; or it came to its summary, and that is not
+-- written.
 pub record RelayWords {F : Type 0} (file : F → FileState) : Type 0 where
   pub sleepless : (turns : ℕ) → turns_of (Sleepless turns) ≡ turns
   pub waiting : (limit : Milliseconds) (turns : ℕ) → turns_of (Waiting limit (Some turns)) ≡ turns
@@ -67,7 +68,9 @@ pub record RelayWords {F : Type 0} (file : F → FileState) : Type 0 where
       ⊎ ((controlled : WireState) × (common : WireState) × (summary : RelaySummary) × (failure ≡ failures.Output)
       × RunsAs file course old (Ok summary) new controlled common))
   pub stopped : failure_of_refill refill.Stopped ≡ failures.Disk (disk.Journal journal.Stopped)
-  pub busy_still : failure_of_refill refill.Busy ≡ failures.Disk disk.Busy
+  pub never_busy : (course : Course) (old new : EndpointValue (FileDisk F)) (fault : RefillFault)
+      (controlled common : WireState)
+      → RunsAs file course old (Err fault) new controlled common → fault ≢ refill.Busy
   pub spent : failure_of_refill refill.GenerationsSpent ≡ failures.Disk (disk.Journal journal.GenerationsSpent)
   pub device : failure_of_refill refill.Disk ≡ failures.Disk (disk.Journal journal.Disk)
   pub asked : (socket : ℤ) → asks socket ≡ record { fd = socket; events = pos 1; revents = pos 0 }

@@ -24,6 +24,7 @@ use Rattle.macs_program.specs.Failing.{failure_of_words, failure_status, failure
 use Rattle.macs_program.specs.Inspecting.{InspectFails, Inspects, PrintsFrames}
 use Rattle.macs_program.specs.Judging.{JudgesIn, JudgingEndsIn, PrintsVerdicts, verdict_lines}
 use Rattle.macs_program.specs.Keys.{GivesKey, IsOfKey}
+use Rattle.macs_program.specs.Plans.{PlanFails, PrintsPlan, end_of, stage_of}
 use Rattle.macs_words.specs.Help.{topic_text}
 use Rattle.macs_program.specs.Inputs.{InputRead, read_of}
 use Rattle.macs_program.specs.NewDisks.{FormatFails, Formats}
@@ -35,7 +36,7 @@ use Rattle.macs_program.specs.Values.{SpellsIdentity, SpellsLayout, ValueFaultHo
 use Rattle.macs_words.specs.Words.{AreRefused, AsksFor, AsksForNothing, Names, macsecd}
 use Rattle.macs_words.specs.declared.action.Action.{Action}
 use Rattle.macs_words.specs.declared.action.Action.TheVariants.{Open, Format, Apply, Show, Protect, Validate, Relay}
-use Rattle.macs_words.specs.declared.action.Action.TheVariants.{Ask, Key, Inspect, Check, Examine, About}
+use Rattle.macs_words.specs.declared.action.Action.TheVariants.{Ask, Key, Inspect, Check, Plan, Examine, About}
 use Rattle.macs_program.specs.declared.addresses.AddressFault.{AddressFault}
 use Rattle.macs_program.specs.declared.opened.Opened.{Opened}
 use Rattle.macs_program.specs.declared.failure.Failure.{Failure}
@@ -85,6 +86,8 @@ Does state_of (Ask path asked) input before after status = PrintsAnswer asked be
 Does state_of (Key is_long) input before after status = GivesKey is_long before after × (status ≡ ends.Done)
 Does state_of (Inspect from) input before after status = Inspects before after × (status ≡ ends.Done)
 Does state_of (Check file disk) input before after status = Checks state_of disk before after status
+Does state_of (Plan file end stage) input before after status =
+    PrintsPlan (end_of end) (stage_of stage) before after × (status ≡ ends.Done)
 Does state_of (Examine disk) input before after status = PrintsExamined state_of before after status
 Does state_of About input before after status = Appends before after about_text × (status ≡ ends.Done)
 
@@ -151,6 +154,7 @@ FailsAs state_of (Ask path asked) octets before after failure = IsOfAsking failu
 FailsAs state_of (Key is_long) octets before after failure = IsOfKey failure
 FailsAs state_of (Inspect from) octets before after failure = InspectFails before after failure
 FailsAs state_of (Check file disk) octets before after failure = CheckEnds state_of disk failure
+FailsAs state_of (Plan file end stage) octets before after failure = PlanFails (end_of end) (stage_of stage) failure
 FailsAs state_of (Examine disk) octets before after failure = ExamineFails state_of failure
 FailsAs state_of About octets before after failure = (failure ≡ Memory) ⊎ (failure ≡ Output)
 

@@ -8,6 +8,9 @@ use Rattle.std.specs.Io.KnownBytes.{Appends}
 use Rattle.std.specs.declared.alloc.Global.{Global}
 use Rattle.clap.specs.Words.{Text, subcommand_of, takes}
 use Rattle.hex.specs.Hex.{encode_lower}
+use Rattle.toml.specs.Data.{Members}
+use Rattle.toml.specs.Parse.{parse_document}
+use Rattle.macs_commands.specs.CommandFiles.{file_commands}
 use Rattle.macs_config.specs.Config.{this_edition}
 use Rattle.macs_config.specs.Identity.{Identity}
 use Rattle.macs_config.specs.declared.command.Command.{Command}
@@ -43,6 +46,8 @@ use Rattle.macs_pcap.specs.Records.{CaptureRecord}
 use Rattle.macs_pcap.specs.States.{SinkState, SourceState}
 use Rattle.macs_pcap.specs.declared.fault.PcapFault.{PcapFault}
 use Rattle.macs_pcap.specs.declared.header.Header.{Header}
+use Rattle.macs_plan.specs.Planning.{file_planned}
+use Rattle.macs_plan.specs.Writing.{file_of}
 use Rattle.macs_rxsc.specs.declared.verdict.Verdict.{Verdict}
 use Rattle.macs_store.specs.Found.{IsUnfitTo}
 use Rattle.macs_store.specs.Replay.{meaning_of}
@@ -52,8 +57,10 @@ use Rattle.macs_words.specs.Help.{topic_text}
 use Rattle.macs_words.specs.Words.{AsksFor, Names, macsecd}
 use Rattle.macs_words.specs.declared.action.Action.{Action}
 use Rattle.macs_words.specs.declared.action.Action.TheVariants.{About, Apply, Ask, Check, Examine, Format, Inspect, Key}
-use Rattle.macs_words.specs.declared.action.Action.TheVariants.{Open, Protect}
+use Rattle.macs_words.specs.declared.action.Action.TheVariants.{Open, Plan, Protect}
 use Rattle.macs_words.specs.declared.action.Action.TheVariants.{Relay, Show, Validate}
+use Rattle.macs_words.specs.declared.plan_words.PlanEnd.{PlanEnd}
+use Rattle.macs_words.specs.declared.plan_words.PlanStage.{PlanStage}
 use Rattle.macs_words.specs.declared.action.Question.{Question}
 use Rattle.macs_words.specs.declared.action.Question.TheVariants as question
 use Rattle.macs_words.specs.declared.action.UsageFault.{UsageFault}
@@ -76,6 +83,7 @@ use Rattle.macs_program.specs.Inspecting.{AreLinesOf, InspectsCapture, RunsCaptu
 use Rattle.macs_program.specs.Judging.{EndsEach, JudgesCapture, JudgingEndsIn, verdict_lines}
 use Rattle.macs_program.specs.Keys.{PrintsKey, key_octets}
 use Rattle.macs_program.specs.NewDisks.{FormatFails, Permits}
+use Rattle.macs_program.specs.Plans.{IsSaidOfLink, end_of, stage_of}
 use Rattle.macs_program.specs.Relaying.{ComesTo, RelayEndsIn, course_of}
 use Rattle.macs_program.specs.OpenInput.{InputFaultHolds, input_faults}
 use Rattle.macs_program.specs.Run.{Does, FailsAs, FailsFor, HasPrinted, HasWrongValues, PrintedBefore, Replies}
@@ -105,7 +113,9 @@ use Rattle.macs_program.specs.declared.values.ValueFault.{ValueFault}
 -- `ask` prints lines of outcomes, or a text; `key` prints as many octets as it is to, in hex; `inspect` prints a line
 -- for each record of a capture, up to its end; `about` prints one text; `check` prints how many commands some octets
 -- say, or, with a disk, a line for each: what the endpoint on a copy of the disk in a file answers to it, where each
--- sector of the copy is that of the disk. Of a capture that is given, and a key that is given, it is this one.
+-- sector of the copy is that of the disk; `plan` prints a text that is read as just the commands that are planned, for
+-- the end and the stage of its words, of a link that some octets say. Of a capture that is given, and a key that is
+-- given, it is this one.
 pub record ReplyWords {F : Type 0} (file : F → FileState) : Type 0 where
   pub replied : (words : List Text) (input : InputRead) (before after : Option (List ℕ)) (status : Status)
       → Replies file words input before after status
@@ -206,6 +216,12 @@ pub record ReplyWords {F : Type 0} (file : F → FileState) : Type 0 where
   pub checked : (from : Bor Text) (input : InputRead) (before after : Option (List ℕ)) (status : Status)
       → Does file (Check from None) input before after status → (octets : List ℕ) × (commands : List Command)
       × SaysCommands octets commands × Appends before after (count_line (length commands)) × (status ≡ ends.Done)
+  pub planned : (from : Bor Text) (end : PlanEnd) (stage : PlanStage) (input : InputRead)
+      (before after : Option (List ℕ)) (status : Status) → Does file (Plan from end stage) input before after status
+      → (octets : List ℕ) × (text : List ℕ) × (members : Members) × (parse_document octets ≡ Some members)
+      × (commands : List Command) × (file_planned members (end_of end) (stage_of stage) ≡ Ok commands)
+      × (parse_document text ≡ Some (file_of commands)) × (file_commands (file_of commands) ≡ Ok commands)
+      × Appends before after text × (status ≡ ends.Done)
   pub prints : (is_long : Bool) (octets : List ℕ) (before after : Option (List ℕ))
       → PrintsKey is_long octets before after
       → (length octets ≡ key_octets is_long) × Appends before after (encode_lower octets ++ 10 ∷ [])
@@ -235,11 +251,11 @@ pub record ReplyWords {F : Type 0} (file : F → FileState) : Type 0 where
 -- A run that fails has words that are refused, or cannot print help, or the words name the action that fails so. Each
 -- action fails for this: `open` for a read that failed, for the first fault of its input, for memory or its output;
 -- `format` for the first fault of its values, for the file, or for its output; those with an endpoint for its opening,
--- or as what is done with it ends; `relay` also for the first fault of its addresses; `ask`, `key`, `inspect`, `about`
--- and `check` for what is named here, and for nothing else. `examine` fails for its output, for a file that is not
--- opened or of which there is no copy, for memory, or for a fault that is of no sector, for which no endpoint is opened
--- on the copy. `check` with a disk fails as without one; or the file is not opened, or there is no copy of its disk; or
--- no endpoint is opened on that, there is no memory, or a command ends the run.
+-- or as what is done with it ends; `relay` also for the first fault of its addresses; `ask`, `key`, `inspect`, `about`,
+-- `plan` and `check` for what is named here, and for nothing else. `examine` fails for its output, for a file that is
+-- not opened or of which there is no copy, for memory, or for a fault that is of no sector, for which no endpoint is
+-- opened on the copy. `check` with a disk fails as without one; or the file is not opened, or there is no copy of its
+-- disk; or no endpoint is opened on that, there is no memory, or a command ends the run.
 pub record FailWords {F : Type 0} (file : F → FileState) : Type 0 where
   pub failed : (words : List Text) (input : InputRead) (before after : Option (List ℕ)) (failure : Failure)
       → FailsFor file words input before after failure
@@ -332,6 +348,12 @@ pub record FailWords {F : Type 0} (file : F → FileState) : Type 0 where
       → (failure ≡ failures.Commands) ⊎ (failure ≡ failures.Output) ⊎ (failure ≡ failures.Memory)
       ⊎ ((octets : List ℕ) × (said : _) × (failure ≡ failures.CommandFile said)
       × IsSaidOfFile octets (string_bytes said))
+  pub of_plan : (from : Bor Text) (end : PlanEnd) (stage : PlanStage) (input : InputRead)
+      (before after : Option (List ℕ)) (failure : Failure)
+      → FailsAs file (Plan from end stage) input before after failure
+      → (failure ≡ failures.Commands) ⊎ (failure ≡ failures.Output) ⊎ (failure ≡ failures.Memory)
+      ⊎ ((octets : List ℕ) × (said : _) × (failure ≡ failures.CommandFile said)
+      × IsSaidOfLink (end_of end) (stage_of stage) octets (string_bytes said))
   pub of_trial : (from path : Bor Text) (input : InputRead) (before after : Option (List ℕ)) (failure : Failure)
       → FailsAs file (Check from (Some path)) input before after failure
       → FailsAs file (Check from None) input before after failure

@@ -136,11 +136,11 @@ pub record FailureTexts : Type 0 where
   pub addresses : map address_fault_text (Own1 ∷ Peer1 ∷ Own2 ∷ Peer2 ∷ [])
       ≡ codes "OWN1 is not an address and a port" ∷ codes "PEER1 is not an address and a port"
       ∷ codes "OWN2 is not an address and a port" ∷ codes "PEER2 is not an address and a port" ∷ []
-  pub disks : map disk_fault_text (disk.File ∷ disk.Length ∷ disk.Busy ∷ disk.Journal journal.Stopped
+  pub disks : map disk_fault_text (disk.File ∷ disk.Length ∷ disk.Journal journal.Stopped
       ∷ disk.Journal journal.TooSmall ∷ disk.Journal journal.Disk ∷ disk.Journal journal.AlreadyFormatted
       ∷ disk.Journal journal.NotFormatted ∷ disk.Journal journal.BadJournal ∷ disk.Journal journal.GenerationsSpent
       ∷ [])
-      ≡ codes "disk file" ∷ codes "disk length" ∷ codes "busy" ∷ codes "stopped" ∷ codes "too small" ∷ codes "disk"
+      ≡ codes "disk file" ∷ codes "disk length" ∷ codes "stopped" ∷ codes "too small" ∷ codes "disk"
       ∷ codes "already formatted" ∷ codes "not formatted" ∷ codes "bad journal" ∷ codes "generations spent" ∷ []
   pub inputs : map input_fault_text (input.Input ∷ input.Key ∷ input.Sci ∷ input.Offset ∷ input.Frame ∷ [])
       ≡ codes "input" ∷ codes "key" ∷ codes "sci" ∷ codes "offset" ∷ codes "frame" ∷ []
@@ -172,9 +172,9 @@ pub record FailureTexts : Type 0 where
       ∷ run.Pcap pcap.BadVersion ∷ run.Pcap pcap.NotEthernet ∷ run.Pcap pcap.CutFile ∷ run.Pcap pcap.CutRecord
       ∷ run.Pcap pcap.RecordTooLong ∷ run.Pcap pcap.Write ∷ run.Pcap pcap.TooManyRecords ∷ [])
       ≡ failures.Memory ∷ replicate 9 failures.Capture
-  pub run_devices : map failure_of_run (run.Device refill.Stopped ∷ run.Device refill.Busy
-      ∷ run.Device refill.GenerationsSpent ∷ run.Device refill.Disk ∷ [])
-      ≡ failures.Disk (disk.Journal journal.Stopped) ∷ failures.Disk disk.Busy
+  pub run_devices : map failure_of_run (run.Device refill.Stopped ∷ run.Device refill.GenerationsSpent
+      ∷ run.Device refill.Disk ∷ [])
+      ≡ failures.Disk (disk.Journal journal.Stopped)
       ∷ failures.Disk (disk.Journal journal.GenerationsSpent) ∷ failures.Disk (disk.Journal journal.Disk) ∷ []
   pub of_words : (cause : _) → (failure_of_words (usage.Usage cause) ≡ failures.Usage cause)
       × (failure_of_words usage.Memory ≡ failures.Memory)
@@ -184,11 +184,11 @@ pub record FailureTexts : Type 0 where
   pub wires : (failure_of_bind bind.Memory ≡ failures.Memory) × (failure_of_bind bind.Bind ≡ failures.Wire)
       × (failure_of_control control.Memory ≡ failures.Memory) × (failure_of_control control.Bind ≡ failures.Control)
       × (failure_of_asking asking.Memory ≡ failures.Memory) × (failure_of_asking asking.Gone ≡ failures.Control)
-  pub in_memory : map failure_in_memory (disk.File ∷ disk.Length ∷ disk.Busy ∷ disk.Journal journal.Stopped
+  pub in_memory : map failure_in_memory (disk.File ∷ disk.Length ∷ disk.Journal journal.Stopped
       ∷ disk.Journal journal.TooSmall ∷ disk.Journal journal.Disk ∷ disk.Journal journal.AlreadyFormatted
       ∷ disk.Journal journal.NotFormatted ∷ disk.Journal journal.BadJournal ∷ disk.Journal journal.GenerationsSpent
       ∷ [])
-      ≡ failures.Disk disk.File ∷ failures.Disk disk.Length ∷ failures.Disk disk.Busy
+      ≡ failures.Disk disk.File ∷ failures.Disk disk.Length
       ∷ failures.Disk (disk.Journal journal.Stopped) ∷ failures.Disk (disk.Journal journal.TooSmall)
       ∷ failures.Memory ∷ failures.Disk (disk.Journal journal.AlreadyFormatted)
       ∷ failures.Disk (disk.Journal journal.NotFormatted) ∷ failures.Disk (disk.Journal journal.BadJournal)

@@ -1,6 +1,7 @@
 //! `apply`: the commands of a file, one after another.
 
-ghost use Rattle.std.specs.Prelude.{◌≡◌, ◌≢◌, ◌+◌, ◌⊎◌, List, Option, is_some, if◌then◌else◌, true};
+ghost use Rattle.std.specs.Prelude.{◌≡◌, ◌≢◌, ◌+◌, ◌⊎◌, List, [], Option, is_some, true};
+ghost use Rattle.std.specs.Prelude.{if◌then◌else◌};
 ghost use Rattle.std.specs.Prelude.{IfErr, IfOk, OnOk, Ok, Err};
 ghost use Rattle.std.specs.Io.KnownBytes.{Appends};
 ghost use Rattle.toml.specs.Data.{Members};
@@ -13,7 +14,7 @@ ghost use Rattle.macs_endpoint.specs.Calls.{IsCall};
 ghost use Rattle.macs_endpoint.specs.State.{Commands, Ran};
 ghost use Rattle.macs_endpoint.specs.declared.fault.CommandFault.{CommandFault};
 ghost use Rattle.macs_program.specs.Applying.{AppliesAll, AppliesSome, EndsRun, SaysCommands};
-ghost use Rattle.macs_program.specs.Applying.{answer_of, commit_fault};
+ghost use Rattle.macs_program.specs.Applying.{IsNotBusyCommand, answer_of, commit_fault};
 ghost use Rattle.macs_program.specs.Applying.{outcome_line};
 
 use crate::failure::{DiskFault, Failure};
@@ -96,25 +97,28 @@ pub fn outcome_line(at: usize, outcome: Option<Refusal>) -> Line
     line
 }
 
-/// What a command comes to that is not kept: it is refused, or the run ends.
+/// What a command comes to that is not kept: it is refused, or the run ends. The fault is not
+/// `Busy`.
 fn outcome_of(fault: CommandFault) -> Result<Option<Refusal>, DiskFault>
+    requires { IsNotBusyCommand fault }
     ensures refused { IfOk result (λ outcome. answer_of outcome ≡ Err fault) }
     ensures failed { IfErr result (λ ends. commit_fault ends fault) }
 {
     match fault {
         CommandFault::Refused(refusal) => Ok(Some(refusal)),
         CommandFault::Stopped => Err(DiskFault::Journal(JournalFault::Stopped)),
-        CommandFault::Busy => Err(DiskFault::Busy), // Never: no command is submitted.
         CommandFault::GenerationsSpent => Err(DiskFault::Journal(JournalFault::GenerationsSpent)),
         CommandFault::Disk => Err(DiskFault::Journal(JournalFault::Disk)),
+        CommandFault::Busy => unreachable!(),
     }
 }
 
-/// Gives a command to the endpoint, which keeps or refuses it.
+/// Gives a command to the endpoint, which keeps or refuses it. No other one waits.
 pub fn give<D: SectorDisk>(
     endpoint: &mut Endpoint<D>,
     command: Command,
 ) -> Result<Option<Refusal>, DiskFault>
+    requires { endpoint.old.waiting ≡ [] }
     ensures settled { IfOk result (λ outcome.
         IsCall D.disk endpoint.old (Commands command) (Ran (answer_of outcome)) endpoint.new) }
     ensures failed { IfErr result (λ fault. (answer : CommandFault) × commit_fault fault answer
@@ -133,6 +137,7 @@ fn apply_command<D: SectorDisk, W: Stream>(
     command: Command,
     out: &mut W,
 ) -> Result<bool, Failure>
+    requires { endpoint.old.waiting ≡ [] }
     ensures applied { IfOk result
         (λ refused. (outcome : Option Refusal) × (refused ≡ is_some outcome)
         × IsCall D.disk endpoint.old (Commands command) (Ran (answer_of outcome)) endpoint.new
@@ -165,6 +170,7 @@ pub fn apply_commands<D: SectorDisk, W: Stream>(
     commands: &[Command],
     out: &mut W,
 ) -> Result<Status, Failure>
+    requires { endpoint.old.waiting ≡ [] }
     ensures applied { IfOk result (λ status. AppliesAll D.disk endpoint.old commands.now
         (W.contents out.old) (W.contents out.new) status endpoint.new) }
     ensures ended { IfErr result (λ failure. AppliesSome D.disk endpoint.old commands.now

@@ -1,15 +1,15 @@
 //! `protect` and `validate`: a capture through an endpoint.
 
-ghost use Rattle.std.specs.Prelude.{◌≡◌, ◌≢◌, ◌⊎◌, true, IfErr, IfOk, Ok};
+ghost use Rattle.std.specs.Prelude.{◌≡◌, ◌≢◌, ◌⊎◌, true, [], IfErr, IfOk, Ok, Err};
 ghost use Rattle.std.specs.Io.KnownBytes.{Appends};
 ghost use Rattle.macs_edge.specs.CaptureRuns.{RunsOver, run_of};
 ghost use Rattle.macs_edge.specs.declared.capture_runs.RunFault.{RunFault};
 ghost use Rattle.macs_edge.specs.declared.capture_runs.Summary.{Summary};
 ghost use Rattle.macs_program.specs.Capturing.{EndsFlushed, EndsPass, PassesCapture};
-ghost use Rattle.macs_program.specs.Failing.{failure_of_run, failure_status};
+ghost use Rattle.macs_program.specs.Failing.{IsNotBusyRun, failure_of_run, failure_status};
 ghost use Rattle.macs_program.specs.Summing.{pass_status, summary_line};
 
-use crate::failure::Failure;
+use crate::failure::{Failure, failure_of_run};
 use crate::output::{Line, append_count, print_octets};
 use crate::status::Status;
 use crate::stream::Stream;
@@ -67,26 +67,41 @@ fn run_side<D: SectorDisk, R: Source, W: Sink>(
     }
 }
 
+/// The summary of a run with this answer, or the failure that its fault is.
+fn failing_as(answer: Result<Summary, RunFault>) -> Result<Summary, Failure>
+    requires { IfErr answer IsNotBusyRun }
+    ensures done { IfOk result (λ summary. answer ≡ Ok summary) }
+    ensures failed { IfErr result
+        (λ failure. (fault : RunFault) × (answer ≡ Err fault)
+        × (failure ≡ failure_of_run fault)) }
+{
+    match answer {
+        Ok(summary) => Ok(summary),
+        Err(fault) => Err(failure_of_run(fault)),
+    }
+}
+
 /// Hands on all that was written in a run with this answer, where a fault ended it too.
 pub(crate) fn handed_on<W: Sink>(
     answer: Result<Summary, RunFault>,
     sink: &mut W,
 ) -> Result<Summary, Failure>
+    requires { IfErr answer IsNotBusyRun }
     ensures ended { EndsFlushed answer result (W.state sink.old) (W.state sink.new) }
     ensures failed { IfErr result
         (λ failure. ((fault : RunFault) × (failure ≡ failure_of_run fault))
         ⊎ (failure ≡ Failure.Capture)) }
 {
     let flushed = sink.flush();
-    let summary = answer?;
+    let summary = failing_as(answer)?;
     match flushed {
         Ok(()) => Ok(summary),
         Err(_) => Err(Failure::Capture),
     }
 }
 
-/// Takes a whole capture through an endpoint, and hands on all that was written, where a fault
-/// ended the run too.
+/// Takes a whole capture through an endpoint, of which no command waits, and hands on all that was
+/// written, where a fault ended the run too.
 fn run_capture<D: SectorDisk, R: Source, W: Sink>(
     alloc: Global,
     endpoint: &mut Endpoint<D>,
@@ -94,6 +109,7 @@ fn run_capture<D: SectorDisk, R: Source, W: Sink>(
     source: &mut R,
     sink: &mut W,
 ) -> Result<Summary, Failure>
+    requires { endpoint.old.waiting ≡ [] }
     ensures runs { PassesCapture D.disk side
         (run_of endpoint.old (R.state source.old) (W.state sink.old)) result
         (run_of endpoint.new (R.state source.new) (W.state sink.new)) }
@@ -109,7 +125,7 @@ fn run_capture<D: SectorDisk, R: Source, W: Sink>(
 /// of its frames. It fails with the first fault of the run: as `Capture` or `Memory` at the header
 /// or a record, as `Disk` at a reservation; without one, as `Capture` where what was written cannot
 /// be handed on. Nothing is printed then. Else it fails as `Output` where the line cannot be
-/// written.
+/// written. No command waits.
 pub fn pass_frames<D: SectorDisk, R: Source, S: Sink, W: Stream>(
     alloc: Global,
     endpoint: &mut Endpoint<D>,
@@ -119,6 +135,7 @@ pub fn pass_frames<D: SectorDisk, R: Source, S: Sink, W: Stream>(
     sink: &mut S,
     out: &mut W,
 ) -> Result<Status, Failure>
+    requires { endpoint.old.waiting ≡ [] }
     ensures printed { IfOk result (λ status. (summary : Summary) × PassesCapture D.disk side
         (run_of endpoint.old (R.state source.old) (S.state sink.old)) (Ok summary)
         (run_of endpoint.new (R.state source.new) (S.state sink.new))

@@ -88,8 +88,8 @@ fn fault_text(alloc: Global, fault: ConfigFault) -> Result<String, AllocError>
     }
 }
 
-/// The failure that says this of a command file, unless there is no memory for it.
-fn failure_saying(text: Result<String, AllocError>) -> Failure
+/// The failure that says this of a command file or of a link's, unless there is no memory for it.
+pub fn failure_saying(text: Result<String, AllocError>) -> Failure
     ensures { (said : List ℕ) → IfOk text (λ t. string_bytes t ≡ said)
         → Complains (λ t. t ≡ said) result }
 {

@@ -1,5 +1,9 @@
 //! What ends a run before its answer.
 
+ghost use Rattle.std.specs.Prelude.{◌≡◌};
+ghost use Rattle.macs_program.specs.Failing.{IsNotBusy, IsNotBusyRun, failure_of_refill};
+ghost use Rattle.macs_program.specs.Failing.{failure_of_run};
+
 use crate::addresses::AddressFault;
 use crate::open_input::InputFault;
 use crate::status::Status;
@@ -21,9 +25,6 @@ pub enum DiskFault {
     File,
     /// It is not a whole number of sectors of 512 octets.
     Length,
-    /// A submitted command waits: never, since none that is under way is in the way of a
-    /// reservation.
-    Busy,
     /// Something on it failed, or what is on it is no journal.
     Journal(JournalFault),
 }
@@ -41,7 +42,7 @@ pub enum Failure {
     Disk(DiskFault),
     /// A capture cannot be opened, read or written.
     Capture,
-    /// A command file cannot be read, or spells no commands.
+    /// A command file cannot be read, or spells no commands; or a link's file cannot be read.
     Commands,
     /// A wire cannot be bound.
     Wire,
@@ -49,7 +50,7 @@ pub enum Failure {
     Control,
     /// The system's random source gives nothing.
     Random,
-    /// A command file has a fault, of which this is said.
+    /// A command file or a link's file has a fault, of which this is said.
     CommandFile(String),
     /// Out of memory.
     Memory,
@@ -70,7 +71,6 @@ impl DiskFault {
         match self {
             DiskFault::File => "disk file",
             DiskFault::Length => "disk length",
-            DiskFault::Busy => "busy",
             DiskFault::Journal(JournalFault::Stopped) => "stopped",
             DiskFault::Journal(JournalFault::TooSmall) => "too small",
             DiskFault::Journal(JournalFault::Disk) => "disk",
@@ -279,23 +279,6 @@ impl From<AskFault> for Failure {
     }
 }
 
-impl From<RefillFault> for Failure {
-    ghost use Rattle.std.specs.Prelude.{◌≡◌};
-    ghost use Rattle.macs_program.specs.Failing.{failure_of_refill};
-
-    ghost from_gives = { λ fault failure. failure ≡ failure_of_refill fault };
-
-    fn from(fault: RefillFault) -> Failure {
-        match fault {
-            RefillFault::Stopped => JournalFault::Stopped.into(),
-            // Never: a turn makes a step, and no whole reservation.
-            RefillFault::Busy => Failure::Disk(DiskFault::Busy),
-            RefillFault::GenerationsSpent => JournalFault::GenerationsSpent.into(),
-            RefillFault::Disk => JournalFault::Disk.into(),
-        }
-    }
-}
-
 impl From<PcapFault> for Failure {
     ghost use Rattle.std.specs.Prelude.{◌≡◌};
     ghost use Rattle.macs_program.specs.Failing.{failure_of_capture};
@@ -310,17 +293,28 @@ impl From<PcapFault> for Failure {
     }
 }
 
-impl From<RunFault> for Failure {
-    ghost use Rattle.std.specs.Prelude.{◌≡◌};
-    ghost use Rattle.macs_program.specs.Failing.{failure_of_run};
+/// The failure where packet numbers are not reserved. The fault is not `Busy`: no command waits, or
+/// a step is made and no refill.
+pub(crate) fn failure_of_refill(fault: RefillFault) -> Failure
+    requires { IsNotBusy fault }
+    ensures { result ≡ failure_of_refill fault }
+{
+    match fault {
+        RefillFault::Stopped => JournalFault::Stopped.into(),
+        RefillFault::GenerationsSpent => JournalFault::GenerationsSpent.into(),
+        RefillFault::Disk => JournalFault::Disk.into(),
+        RefillFault::Busy => unreachable!(),
+    }
+}
 
-    ghost from_gives = { λ fault failure. failure ≡ failure_of_run fault };
-
-    fn from(fault: RunFault) -> Failure {
-        match fault {
-            RunFault::Pcap(PcapFault::Memory) => Failure::Memory,
-            RunFault::Pcap(_) => Failure::Capture,
-            RunFault::Device(fault) => fault.into(),
-        }
+/// The failure of a run over a capture. The fault is not `Busy`: no command waits.
+pub(crate) fn failure_of_run(fault: RunFault) -> Failure
+    requires { IsNotBusyRun fault }
+    ensures { result ≡ failure_of_run fault }
+{
+    match fault {
+        RunFault::Pcap(PcapFault::Memory) => Failure::Memory,
+        RunFault::Pcap(_) => Failure::Capture,
+        RunFault::Device(device) => failure_of_refill(device),
     }
 }

@@ -1,6 +1,6 @@
 //! `validate --each`: a capture through an endpoint, with a line for the verdict on each frame.
 
-ghost use Rattle.std.specs.Prelude.{◌≡◌, ◌≤◌, length, IfErr, List};
+ghost use Rattle.std.specs.Prelude.{◌≡◌, ◌≤◌, length, IfErr, List, []};
 ghost use Rattle.macs_edge.specs.CaptureRuns.{run_of};
 ghost use Rattle.macs_edge.specs.Telling.{TellsAll, telling_of};
 ghost use Rattle.macs_program.specs.Judging.{IsOfRun, JudgesCapture, PrintsEach, TellsLine};
@@ -67,7 +67,7 @@ impl<W: Stream> Verdicts<W> for VerdictLines {
 }
 
 /// Validates a whole capture, prints the line of each verdict, and hands on all that was written,
-/// where a fault ended the run too.
+/// where a fault ended the run too. No command waits.
 fn run_judging<D: SectorDisk, R: Source, S: Sink, W: Stream>(
     alloc: Global,
     endpoint: &mut Endpoint<D>,
@@ -76,6 +76,7 @@ fn run_judging<D: SectorDisk, R: Source, S: Sink, W: Stream>(
     lines: &mut VerdictLines,
     out: &mut W,
 ) -> Result<Summary, Failure>
+    requires { endpoint.old.waiting ≡ [] }
     ensures judged { (verdicts : List Verdict) × JudgesCapture D.disk
         (run_of endpoint.old (R.state source.old) (S.state sink.old)) result verdicts
         (run_of endpoint.new (R.state source.new) (S.state sink.new))
@@ -95,6 +96,7 @@ fn print_each<D: SectorDisk, R: Source, S: Sink, W: Stream>(
     sink: &mut S,
     out: &mut W,
 ) -> Result<Summary, Failure>
+    requires { endpoint.old.waiting ≡ [] }
     ensures { PrintsEach D.disk W.contents W.failed
         (run_of endpoint.old (R.state source.old) (S.state sink.old)) out.old result
         (run_of endpoint.new (R.state source.new) (S.state sink.new)) out.new }
@@ -116,7 +118,7 @@ fn print_each<D: SectorDisk, R: Source, S: Sink, W: Stream>(
 /// does not end the run, which fails as `Output` then. Else it fails with the first fault of the
 /// run: as `Capture` or `Memory` at the header or a record, as `Disk` at a reservation; without
 /// one, as `Capture` where what was written cannot be handed on. The lines of all verdicts before
-/// were printed then.
+/// were printed then. No command waits.
 pub fn judge_frames<D: SectorDisk, R: Source, S: Sink, W: Stream>(
     alloc: Global,
     endpoint: &mut Endpoint<D>,
@@ -125,6 +127,7 @@ pub fn judge_frames<D: SectorDisk, R: Source, S: Sink, W: Stream>(
     sink: &mut S,
     out: &mut W,
 ) -> Result<Status, Failure>
+    requires { endpoint.old.waiting ≡ [] }
     ensures { ValidatesEach D.disk W.contents W.failed is_all
         (run_of endpoint.old (R.state source.old) (S.state sink.old)) out.old result
         (run_of endpoint.new (R.state source.new) (S.state sink.new)) out.new }

@@ -14,6 +14,7 @@ ghost use Rattle.macs_program.specs.Drawn.{ValueWords};
 ghost use Rattle.macs_program.specs.ExamineTexts.{AboutTexts, ExamineTexts};
 ghost use Rattle.macs_program.specs.Inputs.{read_of};
 ghost use Rattle.macs_program.specs.NewDisks.{Formats, Permits};
+ghost use Rattle.macs_program.specs.PlanTexts.{PlanTexts};
 ghost use Rattle.macs_program.specs.RelayDrawn.{RelayWords};
 ghost use Rattle.macs_program.specs.RunWords.{BeforeWords, FailWords, ReplyWords};
 ghost use Rattle.macs_program.specs.ShowTexts.{ShowTexts};
@@ -110,6 +111,8 @@ pub fn texts()
     ensures frames { FrameTexts }
     // What `check` says of a file.
     ensures checks { CheckTexts }
+    // What `plan` says of a link's file.
+    ensures plans { PlanTexts }
     // What `show` prints of an endpoint.
     ensures shown { ShowTexts }
     // What `examine` prints of a journal.

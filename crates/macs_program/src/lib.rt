@@ -30,6 +30,7 @@ mod on_disk;
 mod open_input;
 mod opened;
 mod output;
+mod plan;
 mod relaying;
 pub mod run;
 mod status;

@@ -133,8 +133,9 @@ trait Task<D: SectorDisk, W: Stream> {
     /// What it answers, and what it leaves of the endpoint and of the stream.
     ghost does: { Self → Doing D W };
 
-    /// Does it.
+    /// Does it. No command of the endpoint waits.
     fn run(&self, endpoint: &mut Endpoint<D>, out: &mut W) -> Result<Status, Failure>
+        requires { endpoint.old.waiting ≡ [] }
         ensures { does self.now endpoint.old out.old result endpoint.new out.new };
 }
 
@@ -300,6 +301,7 @@ fn pass_between<C: Captures, D: SectorDisk, W: Stream>(
     to: &str,
     out: &mut W,
 ) -> Result<Status, Failure>
+    requires { endpoint.old.waiting ≡ [] }
     ensures asks { AsksInOrder from.now to.now (C.asked captures.old)
         (C.asked captures.new) result }
     ensures passes { DoesPass D.disk W.contents W.failed side is_all endpoint.old out.old result
@@ -388,6 +390,7 @@ fn judge_between<C: Captures, D: SectorDisk, W: Stream>(
     to: &str,
     out: &mut W,
 ) -> Result<Status, Failure>
+    requires { endpoint.old.waiting ≡ [] }
     ensures asks { AsksInOrder from.now to.now (C.asked captures.old)
         (C.asked captures.new) result }
     ensures judges { DoesJudge D.disk W.contents W.failed is_all endpoint.old out.old result

@@ -14,7 +14,7 @@ ghost use Rattle.macs_program.specs.Relaying.{EndsRelay, attended, new_wire, una
 ghost use Rattle.macs_program.specs.Summing.{relay_line};
 
 use crate::addresses::WireAddresses;
-use crate::failure::Failure;
+use crate::failure::{Failure, failure_of_refill};
 use crate::output::{Line, append_count, print_octets};
 use crate::status::Status;
 use crate::stream::Stream;
@@ -86,8 +86,10 @@ pub fn relay_frames<D: SectorDisk, P: Wire, C: Wire, W: Stream>(
     ensures silent { IfErr result (λ failure. failure ≢ Failure.Output → out.new ≡ out.old) }
     ensures broken { IfErr result (λ failure. failure ≡ Failure.Output → W.failed out.new ≡ true) }
 {
-    let summary = relay(endpoint, controlled, common, turns)?;
-    print_summary(summary, out)
+    match relay(endpoint, controlled, common, turns) {
+        Ok(summary) => print_summary(summary, out),
+        Err(fault) => Err(failure_of_refill(fault)),
+    }
 }
 
 /// Relays frames as `relay_frames` does, and sleeps after each turn in which there was nothing to
@@ -119,8 +121,10 @@ pub fn relay_frames_resting<D: SectorDisk, P: Wire, C: Wire, I: Idle, W: Stream>
     ensures silent { IfErr result (λ failure. failure ≢ Failure.Output → out.new ≡ out.old) }
     ensures broken { IfErr result (λ failure. failure ≡ Failure.Output → W.failed out.new ≡ true) }
 {
-    let summary = relay_resting(endpoint, controlled, common, idle, turns)?;
-    print_summary(summary, out)
+    match relay_resting(endpoint, controlled, common, idle, turns) {
+        Ok(summary) => print_summary(summary, out),
+        Err(fault) => Err(failure_of_refill(fault)),
+    }
 }
 
 /// Relays frames as `relay_frames` does, attended by a desk, which may hand in commands and end the
@@ -153,6 +157,8 @@ pub fn relay_frames_attended<D: SectorDisk, P: Wire, C: Wire, K: Desk<D, P, C>, 
     ensures silent { IfErr result (λ failure. failure ≢ Failure.Output → out.new ≡ out.old) }
     ensures broken { IfErr result (λ failure. failure ≡ Failure.Output → W.failed out.new ≡ true) }
 {
-    let summary = attend(endpoint, controlled, common, desk, turns)?;
-    print_summary(summary, out)
+    match attend(endpoint, controlled, common, desk, turns) {
+        Ok(summary) => print_summary(summary, out),
+        Err(fault) => Err(failure_of_refill(fault)),
+    }
 }

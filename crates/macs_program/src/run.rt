@@ -29,6 +29,7 @@ use crate::on_disk::{apply, format, judge, pass, relay, show};
 use crate::open_input::InputFault;
 use crate::opened::{Opened, answer_of};
 use crate::output::print;
+use crate::plan::plan;
 use crate::status::Status;
 use crate::stream::{PrintFailed, Stream};
 use macs_edge::Side;
@@ -114,6 +115,7 @@ where
         Action::Key { is_long } => key(rt, is_long, out),
         Action::Inspect { input: from } => inspect(rt, alloc, from, out),
         Action::Check { file, disk } => check(rt, alloc, file, disk, out),
+        Action::Plan { file, end, stage } => plan(rt, alloc, file, end, stage, out),
         Action::Examine { disk } => examine(rt, alloc, disk, out),
         Action::About => about(alloc, out),
     }

@@ -1,6 +1,6 @@
 //! `check FILE DISK`: what each command would be answered.
 
-ghost use Rattle.std.specs.Prelude.{◌≡◌, IfErr, IfOk, string_bytes};
+ghost use Rattle.std.specs.Prelude.{◌≡◌, [], IfErr, IfOk, string_bytes};
 ghost use Rattle.std.specs.declared.alloc.Global.{Global};
 ghost use Rattle.macs_disk.specs.MemDisks.{disk_of};
 ghost use Rattle.macs_disk.specs.declared.memory.MemDisk.{MemDisk};
@@ -41,6 +41,7 @@ fn try_command<D: SectorDisk>(
     endpoint: &mut Endpoint<D>,
     command: Command,
 ) -> Result<Option<Refusal>, Failure>
+    requires { endpoint.old.waiting ≡ [] }
     ensures tried { IfOk result (λ outcome.
         IsCall D.disk endpoint.old (Commands command) (Ran (answer_of outcome)) endpoint.new) }
     ensures ended { IfErr result (λ failure. EndsTrial D.disk endpoint.old command failure) }
@@ -58,6 +59,7 @@ fn try_commands<D: SectorDisk>(
     endpoint: &mut Endpoint<D>,
     commands: &[Command],
 ) -> Result<Vec<Option<Refusal>>, Failure>
+    requires { endpoint.old.waiting ≡ [] }
     ensures tried { IfOk result
         (λ outcomes. Applies D.disk endpoint.old commands.now outcomes.items endpoint.new) }
     ensures ended { IfErr result (TrialEnds D.disk endpoint.old commands.now) }
@@ -72,13 +74,14 @@ fn try_commands<D: SectorDisk>(
     Ok(outcomes)
 }
 
-/// Gives these commands to an endpoint in memory, if it was opened.
+/// Gives these commands to an endpoint in memory, if it was opened. No command of it waits.
 #[inline(never)]
 fn try_opened(
     alloc: Global,
     mut opened: Result<Endpoint<MemDisk>, OpenRefused<MemDisk>>,
     commands: &[Command],
 ) -> Result<Vec<Option<Refusal>>, Failure>
+    requires { IfOk opened (λ endpoint. endpoint.waiting ≡ []) }
     ensures tried { (copy : MemDisk Global) → IsOpening disk_of copy opened
         → IfOk result (λ outcomes. TriesOn disk_of copy commands.now outcomes.items) }
     ensures ended { (copy : MemDisk Global) → IsOpening disk_of copy opened

@@ -3,9 +3,10 @@
 use crate::passing::tell_verdict;
 use macs_endpoint::Counters;
 use macs_frame::Sci;
-use macs_rxsc::{Kind, Reason, Verdict};
+use macs_rxsc::Verdict;
 use macs_story_disk::sci_of;
 use macs_story_text::{Answer, Words, whole};
+use macs_texts::RX_VERDICTS;
 use macs_txsc::TxFault;
 
 const TX_FAULTS: [TxFault; 6] = [
@@ -15,25 +16,6 @@ const TX_FAULTS: [TxFault; 6] = [
     TxFault::NoEncodingSa,
     TxFault::Exhausted,
     TxFault::NoNumber,
-];
-
-const VERDICTS: [Verdict; 16] = [
-    Verdict::Delivered(Kind::Ok),
-    Verdict::Delivered(Kind::Delayed),
-    Verdict::Delivered(Kind::Invalid),
-    Verdict::Delivered(Kind::Untagged),
-    Verdict::Delivered(Kind::UnknownSci),
-    Verdict::Delivered(Kind::UnusedSa),
-    Verdict::Discarded(Reason::Runt),
-    Verdict::Discarded(Reason::Oversize),
-    Verdict::Discarded(Reason::NoTag),
-    Verdict::Discarded(Reason::BadTag),
-    Verdict::Discarded(Reason::ForKay),
-    Verdict::Discarded(Reason::NoSci),
-    Verdict::Discarded(Reason::NotUsingSa),
-    Verdict::Discarded(Reason::Late),
-    Verdict::Discarded(Reason::NotValid),
-    Verdict::HeldBack,
 ];
 
 /// How many frames went out, and each fault that came.
@@ -63,24 +45,41 @@ fn tell_none(answer: &mut Answer) {
 
 /// How often each verdict was given; `none` where none was.
 fn tell_received(counters: Counters<'_>, answer: &mut Answer) {
-    for verdict in VERDICTS {
+    for verdict in RX_VERDICTS {
         tell_count(verdict, counters.verdict(verdict), answer);
     }
+    let held_back = Verdict::HeldBack;
+    tell_count(held_back, counters.verdict(held_back), answer);
     tell_none(answer);
 }
 
-/// The same on the frames of a channel; `absent` where it does not exist.
-fn tell_received_of(counters: Counters<'_>, sci: Sci, answer: &mut Answer) {
-    for verdict in VERDICTS {
-        match counters.channel(sci, verdict) {
-            Some(count) => tell_count(verdict, count, answer),
-            None => {
-                answer.word("absent");
-                return;
-            }
-        }
+/// How often a verdict was given on the frames of a channel; `None` where it does not exist.
+fn tell_count_of(
+    counters: Counters<'_>,
+    sci: Sci,
+    verdict: Verdict,
+    answer: &mut Answer,
+) -> Option<()> {
+    let count = counters.channel(sci, verdict)?;
+    tell_count(verdict, count, answer);
+    Some(())
+}
+
+/// The same of each verdict.
+fn tell_counts_of(counters: Counters<'_>, sci: Sci, answer: &mut Answer) -> Option<()> {
+    for verdict in RX_VERDICTS {
+        tell_count_of(counters, sci, verdict, answer)?;
     }
-    tell_none(answer);
+    tell_count_of(counters, sci, Verdict::HeldBack, answer)
+}
+
+/// How often each verdict was given on the frames of a channel, `none` where none was; `absent`
+/// where it does not exist.
+fn tell_received_of(counters: Counters<'_>, sci: Sci, answer: &mut Answer) {
+    match tell_counts_of(counters, sci, answer) {
+        Some(()) => tell_none(answer),
+        None => answer.word("absent"),
+    }
 }
 
 /// Answers a question about counters; `None` where there is none.

@@ -33,8 +33,8 @@ pub(crate) const TX_FAULTS: [TxFault; 6] = [
     TxFault::NoNumber,
 ];
 
-/// The verdicts that are counted.
-pub(crate) const RX_VERDICTS: [Verdict; 15] = [
+/// The verdicts whose counts are reported: each but `HeldBack`.
+pub const RX_VERDICTS: [Verdict; 15] = [
     Verdict::Delivered(Kind::Ok),
     Verdict::Delivered(Kind::Delayed),
     Verdict::Delivered(Kind::Invalid),

@@ -10,7 +10,7 @@ mod samples;
 mod showing;
 mod words;
 
-pub use counting::counter_lines;
+pub use counting::{RX_VERDICTS, counter_lines};
 pub use lines::{ended, joined};
 pub use measuring::metric_lines;
 pub use refusals::refusal_name;

@@ -3,7 +3,9 @@ use Rattle.std.proofs.Common.{◌≡◌, ◌≢◌, ◌⊎◌, inl, inr, Bool, t
 use Rattle.std.specs.Prelude.{codes}
 use Rattle.clap.specs.Words.{Row, Text, first_of, subcommand_of, takes}
 use Rattle.macs_words.specs.ActionWords.{ActionWords, HelpWords}
-use Rattle.macs_words.specs.Words.{AreRefused, HasQuestion, LacksPace, LacksQuestion, macsecd}
+use Rattle.macs_words.specs.Words.{AreRefused, HasPlan, HasQuestion, LacksPace, LacksPlan, LacksQuestion, macsecd}
+use Rattle.macs_words.specs.declared.plan_words.PlanEnd.{PlanEnd}
+use Rattle.macs_words.specs.declared.plan_words.PlanStage.{PlanStage}
 use Rattle.macs_words.specs.declared.action.Question.{Question}
 
 lacking : (found : Option (Text × List Row)) → LacksPace found
@@ -18,14 +20,23 @@ unasked : (found : Option (Text × List Row)) → LacksQuestion found
 unasked None lacks = absurd lacks
 unasked (Some found) lacks = (found.1, ap (λ (name : Text). Some (name, found.1)) lacks.0, lacks.1)
 
+unplanned : (found : Option (Text × List Row)) → LacksPlan found
+    → (values : List Row) × (found ≡ Some (codes "plan", values))
+    × ((end : PlanEnd) (stage : PlanStage) → ¬ HasPlan values end stage)
+unplanned None lacks = absurd lacks
+unplanned (Some found) lacks = (found.1, ap (λ (name : Text). Some (name, found.1)) lacks.0, lacks.1)
+
 refused_so : (words : List Text) → AreRefused words → (takes macsecd words ≢ true)
     ⊎ ((values : List Row) × (subcommand_of macsecd words ≡ Some (codes "relay", values))
     × (first_of (codes "turns") values ≡ None) × (first_of (codes "wait") values ≡ None))
     ⊎ ((values : List Row) × (subcommand_of macsecd words ≡ Some (codes "ask", values))
     × ((asked : Question) → ¬ HasQuestion values asked))
+    ⊎ ((values : List Row) × (subcommand_of macsecd words ≡ Some (codes "plan", values))
+    × ((end : PlanEnd) (stage : PlanStage) → ¬ HasPlan values end stage))
 refused_so words (inl other) = inl other
 refused_so words (inr (inl lacks)) = inr (inl (lacking (subcommand_of macsecd words) lacks))
-refused_so words (inr (inr lacks)) = inr (inr (unasked (subcommand_of macsecd words) lacks))
+refused_so words (inr (inr (inl lacks))) = inr (inr (inl (unasked (subcommand_of macsecd words) lacks)))
+refused_so words (inr (inr (inr lacks))) = inr (inr (inr (unplanned (subcommand_of macsecd words) lacks)))
 
 pub action-words : ActionWords
 action-words = record {
@@ -48,6 +59,13 @@ action-words = record {
   key = λ name values is_long is. is;
   inspect = λ name values input is. is;
   check = λ name values file disk is. (is.0, is.1, sym is.2);
+  plan = λ name values file end stage is. is;
+  left = λ values stage is. is.0;
+  right = λ values stage is. is.0;
+  first = λ values end is. is.1;
+  receive = λ values end is. is.1;
+  send = λ values end is. is.1;
+  remove = λ values end is. is.1;
   examine = λ name values disk is. is;
   about = λ name values is. is;
   number = λ values name n is. is;

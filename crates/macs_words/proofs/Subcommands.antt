@@ -27,7 +27,7 @@ use Rattle.clap.proofs.OnLiterals.{clap_on_literals}
 use Rattle.clap.proofs.ValueTestLemmas.{accepts-Accepts}
 use Rattle.macs_words.specs.declared.action.Action.{Action}
 use Rattle.macs_words.specs.declared.action.Action.TheVariants.{Open, Format, Apply, Show, Protect, Validate, Relay}
-use Rattle.macs_words.specs.declared.action.Action.TheVariants.{Ask, Key, Inspect, Check, Examine, About}
+use Rattle.macs_words.specs.declared.action.Action.TheVariants.{Ask, Key, Inspect, Check, Plan, Examine, About}
 use Rattle.macs_words.specs.declared.action.Question.{Question}
 use Rattle.macs_words.specs.declared.action.Question.TheVariants as question
 use Rattle.macs_words.specs.declared.pace.Pace.{Pace}
@@ -40,6 +40,7 @@ use Rattle.macs_words.specs.Words.{IsFlagged, MayHaveRoom, Names, NamesNothing}
 use Rattle.macs_words.specs.Words.{bare_app, count_rule, flag_rule, last_rule, macsecd, number_rule, option_rule}
 use Rattle.macs_words.specs.Words.{room_rule, value_rule, wait_rule}
 use Rattle.macs_words.proofs.Given.{AreValueRules, IsValueRule, given, passes_where_given}
+use Rattle.macs_words.proofs.PlannedWords.{plans}
 use Rattle.macs_words.proofs.Taken.{is_bare_app, taken}
 
 -- ---- the words as they are built
@@ -101,6 +102,7 @@ blocks rows (Ask path asked) named fits = absurd (omega (arith, ap (λ (t : Text
 blocks rows (Key is_long) named fits = absurd (omega (arith, ap (λ (t : Text). slice_index t 0) named.0))
 blocks rows (Inspect input) named fits = absurd (omega (arith, ap (λ (t : Text). slice_index t 0) named.0))
 blocks rows (Check file disk) named fits = absurd (omega (arith, ap (λ (t : Text). slice_index t 0) named.0))
+blocks rows (Plan file end stage) named fits = absurd (omega (arith, ap (λ (t : Text). slice_index t 0) named.0))
 blocks rows (Examine disk) named fits = absurd (omega (arith, ap (λ (t : Text). slice_index t 0) named.0))
 blocks rows About named fits = absurd (omega (arith, ap (λ (t : Text). slice_index t 0) named))
 
@@ -123,6 +125,7 @@ pace_of rows (Ask path asked) named fits = absurd (omega (arith, ap (λ (t : Tex
 pace_of rows (Key is_long) named fits = absurd (omega (arith, ap (λ (t : Text). slice_index t 0) named.0))
 pace_of rows (Inspect input) named fits = absurd (omega (arith, ap (λ (t : Text). slice_index t 0) named.0))
 pace_of rows (Check file disk) named fits = absurd (omega (arith, ap (λ (t : Text). slice_index t 0) named.0))
+pace_of rows (Plan file end stage) named fits = absurd (omega (arith, ap (λ (t : Text). slice_index t 0) named.0))
 pace_of rows (Examine disk) named fits = absurd (omega (arith, ap (λ (t : Text). slice_index t 0) named.0))
 pace_of rows About named fits = absurd (omega (arith, ap (λ (t : Text). slice_index t 0) named))
 
@@ -146,6 +149,7 @@ question_of rows (Ask path asked) named = (asked, named.2)
 question_of rows (Key is_long) named = absurd (omega (arith, ap (λ (t : Text). slice_index t 0) named.0))
 question_of rows (Inspect input) named = absurd (omega (arith, ap (λ (t : Text). slice_index t 0) named.0))
 question_of rows (Check file disk) named = absurd (omega (arith, ap (λ (t : Text). slice_index t 0) named.0))
+question_of rows (Plan file end stage) named = absurd (omega (arith, ap (λ (t : Text). slice_index t 0) named.0))
 question_of rows (Examine disk) named = absurd (omega (arith, ap (λ (t : Text). slice_index t 0) named.0))
 question_of rows About named = absurd (omega (arith, ap (λ (t : Text). slice_index t 1) named))
 
@@ -531,7 +535,7 @@ ask-named words passes =
     let rows = rows_after (shape_at 7).rules [] words in
     elim (asks rows word.0 word.1) [
       | inl (asked, has) ↦ inr (Ask (text_of path.0) asked, (refl, path.1, has), tt)
-      | inr none ↦ inl (inr (refl, none))
+      | inr none ↦ inl (inr (inl (refl, none)))
     ]
 
 key-named : IsNamed (shape_at 8)
@@ -566,18 +570,37 @@ check-named words passes =
       tt,
     )
 
-examine-named : IsNamed (shape_at 11)
+plan-named : IsNamed (shape_at 11)
+unfolding clap_on_literals
+plan-named words passes =
+    let rules : AreValueRules (shape_at 11).rules = record {
+      each = (value-is 1 (codes "FILE"), (value-is 2 (codes "END"), (value-is 3 (codes "STAGE"), tt)));
+      own = (refl, (refl, (refl, tt)));
+    } in
+    let file =
+    given (shape_at 11) words (with_index 1 (filled (value_rule (codes "FILE")))) rules refl passes refl refl in
+    let end =
+    given (shape_at 11) words (with_index 2 (filled (value_rule (codes "END")))) rules refl passes refl refl in
+    let stage =
+    given (shape_at 11) words (with_index 3 (filled (value_rule (codes "STAGE")))) rules refl passes refl refl in
+    let rows = rows_after (shape_at 11).rules [] words in
+    elim (plans rows end.0 stage.0 end.1 stage.1) [
+      | inl (side, stage_is, has) ↦ inr (Plan (text_of file.0) side stage_is, (refl, file.1, has), tt)
+      | inr none ↦ inl (inr (inr (refl, none)))
+    ]
+
+examine-named : IsNamed (shape_at 12)
 unfolding clap_on_literals
 examine-named words passes =
-    let rules : AreValueRules (shape_at 11).rules = record {
+    let rules : AreValueRules (shape_at 12).rules = record {
       each = (value-is 1 (codes "DISK"), tt);
       own = (refl, tt);
     } in
     let disk =
-    given (shape_at 11) words (with_index 1 (filled (value_rule (codes "DISK")))) rules refl passes refl refl in
+    given (shape_at 12) words (with_index 1 (filled (value_rule (codes "DISK")))) rules refl passes refl refl in
     inr (Examine (text_of disk.0), (refl, disk.1), tt)
 
-about-named : IsNamed (shape_at 12)
+about-named : IsNamed (shape_at 13)
 about-named words passes = inr (About, refl, tt)
 
 -- ---- the words of a whole command line
@@ -611,8 +634,9 @@ first-of-three true false d is = cc
 first-of-three false b d is = cc
 
 -- those that change no endpoint
-lone-named : AllByRecursion IsNamed (shape_at 8 ∷ shape_at 9 ∷ shape_at 10 ∷ shape_at 11 ∷ shape_at 12 ∷ [])
-lone-named = (key-named, (inspect-named, (check-named, (examine-named, (about-named, tt)))))
+lone-named : AllByRecursion IsNamed
+    (shape_at 8 ∷ shape_at 9 ∷ shape_at 10 ∷ shape_at 11 ∷ shape_at 12 ∷ shape_at 13 ∷ [])
+lone-named = (key-named, (inspect-named, (check-named, (plan-named, (examine-named, (about-named, tt))))))
 
 all-named : AllByRecursion IsNamed (built macsecd).subs
 all-named = (

@@ -3,7 +3,9 @@ use Rattle.std.proofs.Common.{◌≡◌, inl, inr, Bool, List, Option, Some, Non
 use Rattle.std.specs.Prelude.{codes}
 use Rattle.clap.specs.Words.{Row, Text, first_of, subcommand_of}
 use Rattle.macs_words.specs.TakenWords.{KnownWords, PlainWords, TakenWords}
-use Rattle.macs_words.specs.Words.{AreRefused, HasQuestion, LacksPace, LacksQuestion, macsecd}
+use Rattle.macs_words.specs.Words.{AreRefused, HasPlan, HasQuestion, LacksPace, LacksPlan, LacksQuestion, macsecd}
+use Rattle.macs_words.specs.declared.plan_words.PlanEnd.{PlanEnd}
+use Rattle.macs_words.specs.declared.plan_words.PlanStage.{PlanStage}
 use Rattle.macs_words.specs.declared.action.Question.{Question}
 
 pub known-words : KnownWords
@@ -24,7 +26,12 @@ no_pace words values is turns wait =
 no_question : (words : List Text) (values : List Row) → subcommand_of macsecd words ≡ Some (codes "ask", values)
     → ((asked : Question) → ¬ HasQuestion values asked) → AreRefused words
 no_question words values is none =
-    inr (inr (subst (λ (found : Option (Text × List Row)). LacksQuestion found) (sym is) (refl, none)))
+    inr (inr (inl (subst (λ (found : Option (Text × List Row)). LacksQuestion found) (sym is) (refl, none))))
+
+no_plan : (words : List Text) (values : List Row) → subcommand_of macsecd words ≡ Some (codes "plan", values)
+    → ((end : PlanEnd) (stage : PlanStage) → ¬ HasPlan values end stage) → AreRefused words
+no_plan words values is none =
+    inr (inr (inr (subst (λ (found : Option (Text × List Row)). LacksPlan found) (sym is) (refl, none))))
 
 pub taken-words : TakenWords
 taken-words = record {
@@ -44,6 +51,11 @@ taken-words = record {
   key = λ values is_long long. (refl, long);
   inspect = λ values input has. (refl, has);
   check = λ values file disk has has_disk. (refl, has, has_disk);
+  plan = λ values file end stage has plan. (refl, has, plan);
+  first_left = λ values end stage. (end, stage);
+  receive_right = λ values end stage. (end, stage);
+  send_left = λ values end stage. (end, stage);
+  remove_right = λ values end stage. (end, stage);
   examine = λ values disk has. (refl, has);
   about = λ values. refl;
   busy = λ values turns has none. (has, none);
@@ -57,6 +69,7 @@ taken-words = record {
   refused = λ words other. inl other;
   no_pace = no_pace;
   no_question = no_question;
+  no_plan = no_plan;
 }
 
 pub plain-words : PlainWords

@@ -4,13 +4,17 @@ use Rattle.std.specs.Prelude.{option_map}
 use Rattle.std.specs.Str.Parse.{IsNumeral, digits_value, without_leading_plus}
 use Rattle.std.specs.Borrow.{Bor}
 use Rattle.clap.specs.Words.{Row, Text, first_of, subcommand_of, takes}
-use Rattle.macs_words.specs.Words.{AreRefused, AsksFor, HasNumber, HasPace, HasQuestion, MayHaveRoom, Names, macsecd}
-use Rattle.macs_words.specs.Words.{name_of}
+use Rattle.macs_words.specs.Words.{AreRefused, AsksFor, HasNumber, HasPace, HasPlan, HasQuestion, MayHaveRoom, Names}
+use Rattle.macs_words.specs.Words.{macsecd, name_of}
 use Rattle.macs_words.specs.Help.{topic_text}
 use Rattle.macs_words.specs.declared.action.Action.{Action}
 use Rattle.macs_words.specs.declared.action.Action.TheVariants.{Open, Format, Apply, Show, Protect, Validate, Relay}
 use Rattle.macs_words.specs.declared.action.Action.TheVariants.{Ask}
-use Rattle.macs_words.specs.declared.action.Action.TheVariants.{Key, Inspect, Check, Examine, About}
+use Rattle.macs_words.specs.declared.action.Action.TheVariants.{Key, Inspect, Check, Plan, Examine, About}
+use Rattle.macs_words.specs.declared.plan_words.PlanEnd.{PlanEnd}
+use Rattle.macs_words.specs.declared.plan_words.PlanEnd.TheVariants as plan_end
+use Rattle.macs_words.specs.declared.plan_words.PlanStage.{PlanStage}
+use Rattle.macs_words.specs.declared.plan_words.PlanStage.TheVariants as plan_stage
 use Rattle.macs_words.specs.declared.action.Question.{Question}
 use Rattle.macs_words.specs.declared.action.Question.TheVariants as question
 use Rattle.macs_words.specs.declared.action.WireEnds.{WireEnds}
@@ -18,7 +22,7 @@ use Rattle.macs_words.specs.declared.help.Subcommand.{Subcommand}
 use Rattle.macs_words.specs.declared.help.Subcommand.TheVariants as subcommand
 use Rattle.macs_words.specs.declared.help.Topic.TheVariants.{Help, HelpOn, Version}
 use Rattle.macs_words.specs.declared.help_texts.TheConstants.{APPLY, ASK, CHECK, FORMAT, HELP, INSPECT, KEY, OPEN}
-use Rattle.macs_words.specs.declared.help_texts.TheConstants.{PROTECT}
+use Rattle.macs_words.specs.declared.help_texts.TheConstants.{PLAN, PROTECT}
 use Rattle.macs_words.specs.declared.help_texts.TheConstants.{ABOUT, EXAMINE, RELAY, SHOW, VALIDATE, VERSION}
 use Rattle.macs_words.specs.declared.pace.Milliseconds.{Milliseconds}
 use Rattle.macs_words.specs.declared.pace.Pace.{Pace}
@@ -30,9 +34,10 @@ use Rattle.macs_words.specs.declared.pace.Running.{Running}
 -- the device exactly where `--block` is. A number is its digits, in decimal. A relay that is given turns alone is
 -- sleepless;
 -- one that is given a wait, any of 1 to 60,000 ms, waits so long at most. A running relay is asked one of four words,
--- and of these `apply` alone with a file. An option without a value is on exactly where it is used. Words that the
--- program does not take are refused, and so are a relay without turns and without a wait, and an `ask` of anything
--- else; no others.
+-- and of these `apply` alone with a file. A link is planned for one of two ends and in one of four stages, each by its
+-- word. An option without a value is on exactly where it is used. Words that the program does not take are refused,
+-- and so are a relay without turns and without a wait, an `ask` of anything else, and a `plan` for another end or in
+-- another stage; no others.
 pub record ActionWords : Type 0 where
   pub none : (action : Action) → Names None action → action ≡ Open
   pub opening : (name : Text) (values : List Row) → Names (Some (name, values)) Open → name ≡ codes "open"
@@ -92,6 +97,21 @@ pub record ActionWords : Type 0 where
       → Names (Some (name, values)) (Check file disk)
       → (name ≡ codes "check") × (first_of (codes "FILE") values ≡ Some file.now)
       × (first_of (codes "DISK") values ≡ option_map (λ t. t.now) disk)
+  pub plan : (name : Text) (values : List Row) (file : Bor Text) (end : PlanEnd) (stage : PlanStage)
+      → Names (Some (name, values)) (Plan file end stage)
+      → (name ≡ codes "plan") × (first_of (codes "FILE") values ≡ Some file.now) × HasPlan values end stage
+  pub left : (values : List Row) (stage : PlanStage) → HasPlan values plan_end.Left stage
+      → first_of (codes "END") values ≡ Some (codes "left")
+  pub right : (values : List Row) (stage : PlanStage) → HasPlan values plan_end.Right stage
+      → first_of (codes "END") values ≡ Some (codes "right")
+  pub first : (values : List Row) (end : PlanEnd) → HasPlan values end plan_stage.First
+      → first_of (codes "STAGE") values ≡ Some (codes "first")
+  pub receive : (values : List Row) (end : PlanEnd) → HasPlan values end plan_stage.Receive
+      → first_of (codes "STAGE") values ≡ Some (codes "receive")
+  pub send : (values : List Row) (end : PlanEnd) → HasPlan values end plan_stage.Send
+      → first_of (codes "STAGE") values ≡ Some (codes "send")
+  pub remove : (values : List Row) (end : PlanEnd) → HasPlan values end plan_stage.Remove
+      → first_of (codes "STAGE") values ≡ Some (codes "remove")
   pub examine : (name : Text) (values : List Row) (disk : Bor Text) → Names (Some (name, values)) (Examine disk)
       → (name ≡ codes "examine") × (first_of (codes "DISK") values ≡ Some disk.now)
   pub about : (name : Text) (values : List Row) → Names (Some (name, values)) About → name ≡ codes "about"
@@ -113,6 +133,8 @@ pub record ActionWords : Type 0 where
       × (first_of (codes "turns") values ≡ None) × (first_of (codes "wait") values ≡ None))
       ⊎ ((values : List Row) × (subcommand_of macsecd words ≡ Some (codes "ask", values))
       × ((asked : Question) → ¬ HasQuestion values asked))
+      ⊎ ((values : List Row) × (subcommand_of macsecd words ≡ Some (codes "plan", values))
+      × ((end : PlanEnd) (stage : PlanStage) → ¬ HasPlan values end stage))
 
 -- `--help` and `-h` ask for help, alone, and after the name of a subcommand for help on it; `--version` alone asks
 -- which program it is. Each is answered with its own text.
@@ -123,13 +145,13 @@ pub record HelpWords : Type 0 where
   pub version : (word : Text) → AsksFor (word ∷ []) Version ↔ (word ≡ codes "--version")
   pub names : map name_of (subcommand.Open ∷ subcommand.Format ∷ subcommand.Apply ∷ subcommand.Show
       ∷ subcommand.Protect ∷ subcommand.Validate ∷ subcommand.Relay ∷ subcommand.Ask ∷ subcommand.Key
-      ∷ subcommand.Inspect ∷ subcommand.Check ∷ subcommand.Examine ∷ subcommand.About ∷ [])
+      ∷ subcommand.Inspect ∷ subcommand.Check ∷ subcommand.Plan ∷ subcommand.Examine ∷ subcommand.About ∷ [])
       ≡ codes "open" ∷ codes "format" ∷ codes "apply" ∷ codes "show" ∷ codes "protect" ∷ codes "validate"
-      ∷ codes "relay" ∷ codes "ask" ∷ codes "key" ∷ codes "inspect" ∷ codes "check" ∷ codes "examine"
-      ∷ codes "about" ∷ []
+      ∷ codes "relay" ∷ codes "ask" ∷ codes "key" ∷ codes "inspect" ∷ codes "check" ∷ codes "plan"
+      ∷ codes "examine" ∷ codes "about" ∷ []
   pub topics : map topic_text (Help ∷ Version ∷ HelpOn subcommand.Open ∷ HelpOn subcommand.Format
       ∷ HelpOn subcommand.Apply ∷ HelpOn subcommand.Show ∷ HelpOn subcommand.Protect ∷ HelpOn subcommand.Validate
       ∷ HelpOn subcommand.Relay ∷ HelpOn subcommand.Ask ∷ HelpOn subcommand.Key ∷ HelpOn subcommand.Inspect
-      ∷ HelpOn subcommand.Check ∷ HelpOn subcommand.Examine ∷ HelpOn subcommand.About ∷ [])
+      ∷ HelpOn subcommand.Check ∷ HelpOn subcommand.Plan ∷ HelpOn subcommand.Examine ∷ HelpOn subcommand.About ∷ [])
       ≡ HELP.now ∷ VERSION.now ∷ OPEN.now ∷ FORMAT.now ∷ APPLY.now ∷ SHOW.now ∷ PROTECT.now ∷ VALIDATE.now
-      ∷ RELAY.now ∷ ASK.now ∷ KEY.now ∷ INSPECT.now ∷ CHECK.now ∷ EXAMINE.now ∷ ABOUT.now ∷ []
+      ∷ RELAY.now ∷ ASK.now ∷ KEY.now ∷ INSPECT.now ∷ CHECK.now ∷ PLAN.now ∷ EXAMINE.now ∷ ABOUT.now ∷ []

@@ -5,7 +5,8 @@ use Rattle.macs_words.specs.declared.help.Subcommand.TheVariants as subcommand
 use Rattle.macs_words.specs.declared.help.Topic.{Topic}
 use Rattle.macs_words.specs.declared.help.Topic.TheVariants.{Help, HelpOn, Version}
 use Rattle.macs_words.specs.declared.help_texts.TheConstants.{ABOUT, APPLY, ASK, CHECK, EXAMINE, FORMAT, HELP, INSPECT}
-use Rattle.macs_words.specs.declared.help_texts.TheConstants.{KEY, OPEN, PROTECT, RELAY, SHOW, VALIDATE, VERSION}
+use Rattle.macs_words.specs.declared.help_texts.TheConstants.{KEY, OPEN, PLAN, PROTECT, RELAY, SHOW, VALIDATE}
+use Rattle.macs_words.specs.declared.help_texts.TheConstants.{VERSION}
 
 -- what is printed on a subcommand
 abbrev pub subcommand_text : Subcommand → List ℕ
@@ -20,6 +21,7 @@ subcommand_text subcommand.Ask = ASK.now
 subcommand_text subcommand.Key = KEY.now
 subcommand_text subcommand.Inspect = INSPECT.now
 subcommand_text subcommand.Check = CHECK.now
+subcommand_text subcommand.Plan = PLAN.now
 subcommand_text subcommand.Examine = EXAMINE.now
 subcommand_text subcommand.About = ABOUT.now
 

@@ -12,11 +12,15 @@ use Rattle.clap.specs.Words.{Row, Rule, Text, first_of, subcommand_of, takes}
 use Rattle.clap.specs.declared.builder.action.ArgAction.TheVariants.{Set, SetTrue}
 use Rattle.clap.specs.declared.builder.value_parser.ValueParser.TheVariants as vp
 use Rattle.macs_words.specs.Controls.{printable_char}
-use Rattle.macs_words.specs.Words.{AreRefused, HasNumber, HasPace, HasPrintableCause, HasQuestion, MayHaveRoom, Names}
-use Rattle.macs_words.specs.Words.{macsecd}
+use Rattle.macs_words.specs.Words.{AreRefused, HasNumber, HasPace, HasPlan, HasPrintableCause, HasQuestion}
+use Rattle.macs_words.specs.Words.{MayHaveRoom, Names, macsecd}
 use Rattle.macs_words.specs.declared.action.Action.TheVariants.{Open, Format, Apply, Show, Protect, Validate, Relay}
 use Rattle.macs_words.specs.declared.action.Action.TheVariants.{Ask}
-use Rattle.macs_words.specs.declared.action.Action.TheVariants.{Key, Inspect, Check, Examine, About}
+use Rattle.macs_words.specs.declared.action.Action.TheVariants.{Key, Inspect, Check, Plan, Examine, About}
+use Rattle.macs_words.specs.declared.plan_words.PlanEnd.{PlanEnd}
+use Rattle.macs_words.specs.declared.plan_words.PlanEnd.TheVariants as plan_end
+use Rattle.macs_words.specs.declared.plan_words.PlanStage.{PlanStage}
+use Rattle.macs_words.specs.declared.plan_words.PlanStage.TheVariants as plan_stage
 use Rattle.macs_words.specs.declared.action.Question.{Question}
 use Rattle.macs_words.specs.declared.action.Question.TheVariants as question
 use Rattle.macs_words.specs.declared.action.UsageFault.TheVariants.{Usage}
@@ -25,12 +29,12 @@ use Rattle.macs_words.specs.declared.pace.Milliseconds.{Milliseconds}
 use Rattle.macs_words.specs.declared.pace.Pace.TheVariants.{Sleepless, Waiting}
 use Rattle.macs_words.specs.declared.pace.Running.{Running}
 
--- There are thirteen subcommands. These are the values and options of each, in their order; those with `--`; those that
+-- There are fourteen subcommands. These are the values and options of each, in their order; those with `--`; those that
 -- have to be given; the ranges of numbers; and those that are on where they are given, without a value.
 pub record KnownWords : Type 0 where
   pub subcommands : map (λ (s : Shape). s.name) macsecd.subs ≡ codes "open" ∷ codes "format" ∷ codes "apply"
       ∷ codes "show" ∷ codes "protect" ∷ codes "validate" ∷ codes "relay" ∷ codes "ask" ∷ codes "key"
-      ∷ codes "inspect" ∷ codes "check" ∷ codes "examine" ∷ codes "about" ∷ []
+      ∷ codes "inspect" ∷ codes "check" ∷ codes "plan" ∷ codes "examine" ∷ codes "about" ∷ []
   pub values : map (λ (s : Shape). map (λ (r : Rule). r.id) s.rules) macsecd.subs
       ≡ [] ∷ (codes "DISK" ∷ codes "SCI" ∷ codes "TX" ∷ codes "RX" ∷ codes "block" ∷ codes "over" ∷ [])
       ∷ (codes "DISK" ∷ codes "FILE" ∷ []) ∷ (codes "DISK" ∷ [])
@@ -39,7 +43,8 @@ pub record KnownWords : Type 0 where
       ∷ (codes "DISK" ∷ codes "OWN1" ∷ codes "PEER1" ∷ codes "OWN2" ∷ codes "PEER2" ∷ codes "turns" ∷ codes "wait"
       ∷ codes "buffer" ∷ codes "control" ∷ codes "metrics" ∷ [])
       ∷ (codes "PATH" ∷ codes "WORD" ∷ codes "FILE" ∷ []) ∷ (codes "long" ∷ []) ∷ (codes "INPUT" ∷ [])
-      ∷ (codes "FILE" ∷ codes "DISK" ∷ []) ∷ (codes "DISK" ∷ []) ∷ [] ∷ []
+      ∷ (codes "FILE" ∷ codes "DISK" ∷ []) ∷ (codes "FILE" ∷ codes "END" ∷ codes "STAGE" ∷ [])
+      ∷ (codes "DISK" ∷ []) ∷ [] ∷ []
   pub options : map (λ (s : Shape). map (λ (r : Rule). r.long) s.rules) macsecd.subs
       ≡ [] ∷ (None ∷ None ∷ None ∷ None ∷ Some (codes "block") ∷ Some (codes "over") ∷ [])
       ∷ (None ∷ None ∷ []) ∷ (None ∷ [])
@@ -48,26 +53,29 @@ pub record KnownWords : Type 0 where
       ∷ (None ∷ None ∷ None ∷ None ∷ None ∷ Some (codes "turns") ∷ Some (codes "wait") ∷ Some (codes "buffer")
       ∷ Some (codes "control") ∷ Some (codes "metrics") ∷ [])
       ∷ (None ∷ None ∷ None ∷ []) ∷ (Some (codes "long") ∷ []) ∷ (None ∷ []) ∷ (None ∷ None ∷ [])
-      ∷ (None ∷ []) ∷ [] ∷ []
+      ∷ (None ∷ None ∷ None ∷ []) ∷ (None ∷ []) ∷ [] ∷ []
   pub required : map (λ (s : Shape). map (λ (r : Rule). r.required) s.rules) macsecd.subs
       ≡ [] ∷ (true ∷ true ∷ true ∷ true ∷ false ∷ false ∷ []) ∷ (true ∷ true ∷ []) ∷ (true ∷ [])
       ∷ (true ∷ true ∷ true ∷ false ∷ []) ∷ (true ∷ true ∷ true ∷ false ∷ false ∷ [])
       ∷ (true ∷ true ∷ true ∷ true ∷ true ∷ false ∷ false ∷ false ∷ false ∷ false ∷ [])
-      ∷ (true ∷ true ∷ false ∷ []) ∷ (false ∷ []) ∷ (true ∷ []) ∷ (true ∷ false ∷ []) ∷ (true ∷ []) ∷ [] ∷ []
+      ∷ (true ∷ true ∷ false ∷ []) ∷ (false ∷ []) ∷ (true ∷ []) ∷ (true ∷ false ∷ []) ∷ (true ∷ true ∷ true ∷ [])
+      ∷ (true ∷ []) ∷ [] ∷ []
   pub ranges : map (λ (s : Shape). map (λ (r : Rule). r.parser) s.rules) macsecd.subs
       ≡ [] ∷ (None ∷ None ∷ Some (vp.Unsigned 0 (2 ^ 32 - 1)) ∷ Some (vp.Unsigned 0 (2 ^ 32 - 1)) ∷ None ∷ None ∷ [])
       ∷ replicate 2 None ∷ replicate 1 None ∷ replicate 4 None ∷ replicate 5 None
       ∷ (None ∷ None ∷ None ∷ None ∷ None ∷ Some (vp.Unsigned 0 (2 ^ 64 - 1)) ∷ Some (vp.Unsigned 1 60000)
       ∷ Some (vp.Unsigned 1 1073741823) ∷ None ∷ None ∷ [])
-      ∷ replicate 3 None ∷ replicate 1 None ∷ replicate 1 None ∷ replicate 2 None ∷ replicate 1 None ∷ [] ∷ []
+      ∷ replicate 3 None ∷ replicate 1 None ∷ replicate 1 None ∷ replicate 2 None ∷ replicate 3 None
+      ∷ replicate 1 None ∷ [] ∷ []
   pub actions : map (λ (s : Shape). map (λ (r : Rule). r.action) s.rules) macsecd.subs
       ≡ [] ∷ (replicate 5 (Some Set) ++ (Some SetTrue ∷ [])) ∷ replicate 2 (Some Set) ∷ replicate 1 (Some Set)
       ∷ (replicate 3 (Some Set) ++ (Some SetTrue ∷ [])) ∷ (replicate 3 (Some Set) ++ (Some SetTrue ∷ Some SetTrue ∷ []))
       ∷ replicate 10 (Some Set) ∷ replicate 3 (Some Set) ∷ (Some SetTrue ∷ []) ∷ replicate 1 (Some Set)
-      ∷ replicate 2 (Some Set) ∷ replicate 1 (Some Set) ∷ [] ∷ []
+      ∷ replicate 2 (Some Set) ∷ replicate 3 (Some Set) ∷ replicate 1 (Some Set) ∷ [] ∷ []
 
--- What is there where the words name an action is enough for it. Of the four questions each is asked by its word. Words
--- that are not taken are refused, and so are a relay without turns and without a wait, and an `ask` of anything else.
+-- What is there where the words name an action is enough for it. Of the four questions each is asked by its word, and
+-- so are the two ends and the four stages of a plan said. Words that are not taken are refused, and so are a relay
+-- without turns and without a wait, an `ask` of anything else, and a `plan` for another end or in another stage.
 pub record TakenWords : Type 0 where
   pub none : Names None Open
   pub opening : (values : List Row) → Names (Some (codes "open", values)) Open
@@ -111,6 +119,17 @@ pub record TakenWords : Type 0 where
       → first_of (codes "FILE") values ≡ Some file.now
       → option_map (λ t. t.now) disk ≡ first_of (codes "DISK") values
       → Names (Some (codes "check", values)) (Check file disk)
+  pub plan : (values : List Row) (file : Bor Text) (end : PlanEnd) (stage : PlanStage)
+      → first_of (codes "FILE") values ≡ Some file.now → HasPlan values end stage
+      → Names (Some (codes "plan", values)) (Plan file end stage)
+  pub first_left : (values : List Row) → first_of (codes "END") values ≡ Some (codes "left")
+      → first_of (codes "STAGE") values ≡ Some (codes "first") → HasPlan values plan_end.Left plan_stage.First
+  pub receive_right : (values : List Row) → first_of (codes "END") values ≡ Some (codes "right")
+      → first_of (codes "STAGE") values ≡ Some (codes "receive") → HasPlan values plan_end.Right plan_stage.Receive
+  pub send_left : (values : List Row) → first_of (codes "END") values ≡ Some (codes "left")
+      → first_of (codes "STAGE") values ≡ Some (codes "send") → HasPlan values plan_end.Left plan_stage.Send
+  pub remove_right : (values : List Row) → first_of (codes "END") values ≡ Some (codes "right")
+      → first_of (codes "STAGE") values ≡ Some (codes "remove") → HasPlan values plan_end.Right plan_stage.Remove
   pub examine : (values : List Row) (disk : Bor Text) → first_of (codes "DISK") values ≡ Some disk.now
       → Names (Some (codes "examine", values)) (Examine disk)
   pub about : (values : List Row) → Names (Some (codes "about", values)) About
@@ -136,6 +155,8 @@ pub record TakenWords : Type 0 where
       → first_of (codes "turns") values ≡ None → first_of (codes "wait") values ≡ None → AreRefused words
   pub no_question : (words : List Text) (values : List Row) → subcommand_of macsecd words ≡ Some (codes "ask", values)
       → ((asked : Question) → ¬ HasQuestion values asked) → AreRefused words
+  pub no_plan : (words : List Text) (values : List Row) → subcommand_of macsecd words ≡ Some (codes "plan", values)
+      → ((end : PlanEnd) (stage : PlanStage) → ¬ HasPlan values end stage) → AreRefused words
 
 -- No character that is printed of a cause is a control character: `?` is in the place of one, and any other stays.
 pub record PlainWords : Type 0 where

@@ -18,7 +18,11 @@ use Rattle.macs_words.specs.declared.action.UsageFault.{UsageFault}
 use Rattle.macs_words.specs.declared.action.UsageFault.TheVariants.{Usage, Memory}
 use Rattle.macs_words.specs.declared.action.Action.{Action}
 use Rattle.macs_words.specs.declared.action.Action.TheVariants.{Open, Format, Apply, Show, Protect, Validate, Relay}
-use Rattle.macs_words.specs.declared.action.Action.TheVariants.{Ask, Key, Inspect, Check, Examine, About}
+use Rattle.macs_words.specs.declared.action.Action.TheVariants.{Ask, Key, Inspect, Check, Plan, Examine, About}
+use Rattle.macs_words.specs.declared.plan_words.PlanEnd.{PlanEnd}
+use Rattle.macs_words.specs.declared.plan_words.PlanEnd.TheVariants as plan_end
+use Rattle.macs_words.specs.declared.plan_words.PlanStage.{PlanStage}
+use Rattle.macs_words.specs.declared.plan_words.PlanStage.TheVariants as plan_stage
 use Rattle.macs_words.specs.declared.action.Question.{Question}
 use Rattle.macs_words.specs.declared.action.Question.TheVariants as question
 use Rattle.macs_words.specs.declared.pace.Pace.{Pace}
@@ -107,6 +111,8 @@ lone_subcommands =
     subcommand_with (codes "key") (flag_rule (codes "long") ∷ [])
     ∷ subcommand_with (codes "inspect") (value_rule (codes "INPUT") ∷ [])
     ∷ subcommand_with (codes "check") (value_rule (codes "FILE") ∷ last_rule (codes "DISK") ∷ [])
+    ∷ subcommand_with (codes "plan")
+    (value_rule (codes "FILE") ∷ value_rule (codes "END") ∷ value_rule (codes "STAGE") ∷ [])
     ∷ subcommand_with (codes "examine") (value_rule (codes "DISK") ∷ [])
     ∷ subcommand_with (codes "about") []
     ∷ []
@@ -173,6 +179,23 @@ HasQuestion values (question.Apply file) = HasText values (codes "WORD") (codes 
     × HasText values (codes "FILE") file.now
 HasQuestion values asked = (first_of (codes "WORD") values ≡ plain_word asked) × (first_of (codes "FILE") values ≡ None)
 
+-- the word of an end of a link
+abbrev pub end_word : PlanEnd → Text
+end_word plan_end.Left = codes "left"
+end_word plan_end.Right = codes "right"
+
+-- the word of a stage of its keys
+abbrev pub stage_word : PlanStage → Text
+stage_word plan_stage.First = codes "first"
+stage_word plan_stage.Receive = codes "receive"
+stage_word plan_stage.Send = codes "send"
+stage_word plan_stage.Remove = codes "remove"
+
+-- the words of `plan` say this end and this stage
+abbrev pub HasPlan : List Row → PlanEnd → PlanStage → Type 0
+HasPlan values end stage = HasText values (codes "END") (end_word end)
+    × HasText values (codes "STAGE") (stage_word stage)
+
 -- the option without a value is used
 abbrev pub IsFlagged : List Row → Text → Bool → Type 0
 IsFlagged values name is = (is ≡ true) ↔ HasText values name (codes "true")
@@ -208,6 +231,8 @@ Names (Some found) (Key is_long) = (found.0 ≡ codes "key") × IsFlagged found.
 Names (Some found) (Inspect input) = (found.0 ≡ codes "inspect") × HasText found.1 (codes "INPUT") input.now
 Names (Some found) (Check file disk) =
     (found.0 ≡ codes "check") × HasText found.1 (codes "FILE") file.now × MayHaveText found.1 (codes "DISK") disk
+Names (Some found) (Plan file end stage) =
+    (found.0 ≡ codes "plan") × HasText found.1 (codes "FILE") file.now × HasPlan found.1 end stage
 Names (Some found) (Examine disk) = (found.0 ≡ codes "examine") × HasText found.1 (codes "DISK") disk.now
 Names (Some found) About = found.0 ≡ codes "about"
 
@@ -222,9 +247,15 @@ abbrev pub LacksQuestion : Option (Text × List Row) → Type 0
 LacksQuestion None = ⊥
 LacksQuestion (Some found) = (found.0 ≡ codes "ask") × ((asked : Question) → ¬ HasQuestion found.1 asked)
 
+-- a `plan` whose words say no end or no stage: it names no action
+abbrev pub LacksPlan : Option (Text × List Row) → Type 0
+LacksPlan None = ⊥
+LacksPlan (Some found) =
+    (found.0 ≡ codes "plan") × ((end : PlanEnd) (stage : PlanStage) → ¬ HasPlan found.1 end stage)
+
 -- words that clap takes and that name no action
 abbrev pub NamesNothing : Option (Text × List Row) → Type 0
-NamesNothing found = LacksPace found ⊎ LacksQuestion found
+NamesNothing found = LacksPace found ⊎ LacksQuestion found ⊎ LacksPlan found
 
 -- the words are none that are taken: clap refuses them, or they name no action
 abbrev pub AreRefused : List Text → Type 0
@@ -283,6 +314,7 @@ name_of subcommand.Ask = codes "ask"
 name_of subcommand.Key = codes "key"
 name_of subcommand.Inspect = codes "inspect"
 name_of subcommand.Check = codes "check"
+name_of subcommand.Plan = codes "plan"
 name_of subcommand.Examine = codes "examine"
 name_of subcommand.About = codes "about"
 

@@ -12,13 +12,17 @@ ghost use Rattle.macs_words.specs.Words.{FitsNumbers, FitsPace, HasNumber, HasPa
 ghost use Rattle.macs_words.specs.Words.{HasPrintableCause, HasText, IsClapCommand, IsFaultOf};
 ghost use Rattle.macs_words.specs.Words.{HasQuestion, MayHaveNumber, MayHaveRoom, Names};
 ghost use Rattle.macs_words.specs.Words.{NamesNothing, bare_app, count_rule, macsecd, number_rule};
-ghost use Rattle.macs_words.specs.Words.{NamesNoAction, plain_word, texts, value_rule};
+ghost use Rattle.macs_words.specs.Words.{NamesNoAction, end_word, plain_word, stage_word, texts};
+ghost use Rattle.macs_words.specs.Words.{value_rule};
 ghost use Rattle.macs_words.specs.Words.{flag_rule, last_rule, option_rule, room_rule, wait_rule};
+ghost use Rattle.macs_words.specs.declared.plan_words.PlanEnd.{PlanEnd};
+ghost use Rattle.macs_words.specs.declared.plan_words.PlanStage.{PlanStage};
 ghost use Rattle.macs_words.specs.declared.action.Question.{Question};
 ghost use Rattle.macs_words.specs.declared.pace.Pace.{Pace};
 
 use crate::pace::{Milliseconds, Pace, Running};
 use crate::plain_text::printable;
+use crate::plan_words::{PlanEnd, PlanStage, end_of, stage_of};
 use clap::builder::ValueParser;
 use clap::error::ErrorKind;
 use clap::{Arg, ArgAction, ArgMatches, Command};
@@ -100,6 +104,14 @@ pub enum Action<'a> {
         file: &'a str,
         /// The disk file, where it is given.
         disk: Option<&'a str>,
+    },
+    /// Prints the command file of an end of a link for a stage of its keys: `plan FILE left first`,
+    /// and so on.
+    Plan {
+        /// The file that says the link.
+        file: &'a str,
+        end: PlanEnd,
+        stage: PlanStage,
     },
     /// Prints what the journal of a disk has, which is only read: `examine DISK`.
     Examine {
@@ -360,6 +372,17 @@ fn check_words<'a>(alloc: Global) -> Result<Command<'a>, AllocError>
     with_value(file_words(alloc, "check", "FILE"), last(alloc, "DISK"))
 }
 
+/// The words of `plan`.
+fn plan_words<'a>(alloc: Global) -> Result<Command<'a>, AllocError>
+    ensures { IfOk result (λ command. IsClapCommand command (with_rule (with_rule (with_rule
+        (new_app (codes "plan")) (value_rule (codes "FILE"))) (value_rule (codes "END")))
+        (value_rule (codes "STAGE")))) }
+{
+    let words = with_value(Ok(Command::new(alloc, "plan")), value(alloc, "FILE"));
+    let words = with_value(words, value(alloc, "END"));
+    with_value(words, value(alloc, "STAGE"))
+}
+
 /// The words of `about`: none of its own.
 fn about_words<'a>(alloc: Global) -> Command<'a>
     ensures { IsClapCommand result (new_app (codes "about")) }
@@ -407,6 +430,7 @@ fn known_words<'a>(alloc: Global) -> Result<Command<'a>, AllocError>
     let words = with_words(words, key_words(alloc));
     let words = with_words(words, file_words(alloc, "inspect", "INPUT"));
     let words = with_words(words, check_words(alloc));
+    let words = with_words(words, plan_words(alloc));
     let words = with_words(words, file_words(alloc, "examine", "DISK"));
     with_words(words, Ok(about_words(alloc)))
 }
@@ -746,6 +770,44 @@ fn check_in<'a>(values: &ArgMatches<'a>) -> Option<Action<'a>>
     })
 }
 
+/// The end of `plan`: `None` where its word is none.
+fn end_in(values: &ArgMatches) -> Option<PlanEnd>
+    ensures read { IfSome result
+        (λ end. HasText (rows_of (found_of values.now)) (codes "END") (end_word end)) }
+    ensures found { (end : PlanEnd)
+        → HasText (rows_of (found_of values.now)) (codes "END") (end_word end)
+        → IsSome result }
+{
+    let word = text_in(values, "END")?;
+    end_of(word)
+}
+
+/// The stage of `plan`: `None` where its word is none.
+fn stage_in(values: &ArgMatches) -> Option<PlanStage>
+    ensures read { IfSome result
+        (λ stage. HasText (rows_of (found_of values.now)) (codes "STAGE") (stage_word stage)) }
+    ensures found { (stage : PlanStage)
+        → HasText (rows_of (found_of values.now)) (codes "STAGE") (stage_word stage)
+        → IsSome result }
+{
+    let word = text_in(values, "STAGE")?;
+    stage_of(word)
+}
+
+/// `plan` with its values.
+fn plan_in<'a>(values: &ArgMatches<'a>) -> Option<Action<'a>>
+    ensures read { IfSome result
+        (λ action. Names (Some (codes "plan", rows_of (found_of values.now))) action) }
+    ensures found { (action : Action)
+        → Names (Some (codes "plan", rows_of (found_of values.now))) action
+        → IsSome result }
+{
+    let file = text_in(values, "FILE")?;
+    let end = end_in(values)?;
+    let stage = stage_in(values)?;
+    Some(Action::Plan { file, end, stage })
+}
+
 /// `examine` with its value.
 fn examine_in<'a>(values: &ArgMatches<'a>) -> Option<Action<'a>>
     ensures read { IfSome result
@@ -773,6 +835,7 @@ fn lone_in<'a>(name: &str, values: &ArgMatches<'a>) -> Option<Action<'a>>
         "key" => key_in(values),
         "inspect" => inspect_in(values),
         "check" => check_in(values),
+        "plan" => plan_in(values),
         "examine" => examine_in(values),
         "about" => Some(Action::About),
         _ => None,
@@ -801,13 +864,18 @@ fn action_in<'a>(matches: &ArgMatches<'a>) -> Option<Action<'a>>
     }
 }
 
-/// What is said where the words of a subcommand name no action: of `ask` what it may be asked, and
-/// of a relay that has neither `--turns` nor `--wait` what clap says where a value is missing.
+/// What is said where the words of a subcommand name no action: of `ask` what it may be asked, of
+/// `plan` its ends and stages, and of a relay that has neither `--turns` nor `--wait` what clap
+/// says where a value is missing.
 fn missing_cause(alloc: Global, matches: &ArgMatches) -> Result<String, AllocError>
     ensures { IfOk result (λ cause. IsPrintable (string_bytes cause)) }
 {
     match matches.subcommand() {
         Some(("ask", _)) => printable(alloc, "ask PATH show, counters, stop, or apply FILE"),
+        Some(("plan", _)) => printable(
+            alloc,
+            "plan FILE left or right, then first, receive, send or remove",
+        ),
         _ => printable(alloc, "the following required arguments were not provided:"),
     }
 }
@@ -826,13 +894,14 @@ fn action_read<'a>(alloc: Global, matches: &ArgMatches<'a>) -> Result<Action<'a>
 }
 
 /// The action that the words name, without the program's own name among them. Refused as `Usage`
-/// where clap refuses the words, or where they name a relay with neither `--turns` nor `--wait`, or
-/// ask a relay nothing that it is asked; else as `Memory` where there is no memory.
+/// where clap refuses the words, or where they name a relay with neither `--turns` nor `--wait`,
+/// ask a relay nothing that it is asked, or plan for no end or no stage; else as `Memory` where
+/// there is no memory.
 pub fn action_of<'a>(alloc: Global, words: &'a [&'a str]) -> Result<Action<'a>, UsageFault>
     // What is answered is what clap reads.
     ensures read { IfOk result (Names (subcommand_of macsecd (texts words.now))) }
     // What clap takes is refused for memory alone, but for a relay with neither turns nor a wait,
-    // and a question that is none.
+    // a question that is none, and an end or a stage that is none.
     ensures taken { takes macsecd (texts words.now) ≡ true → IfErr result (λ fault.
         (fault ≡ UsageFault.Memory) ⊎ NamesNothing (subcommand_of macsecd (texts words.now))) }
     // What is answered is nothing that clap refuses.

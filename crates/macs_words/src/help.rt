@@ -4,7 +4,7 @@ ghost use Rattle.std.specs.Prelude.{◌≡◌, ◌↔◌, IsTrue, Some};
 ghost use Rattle.macs_words.specs.Words.{AsksFor, IsHelpFlag, IsVersionFlag, name_of, texts};
 
 use crate::help_texts::{
-    ABOUT, APPLY, ASK, CHECK, EXAMINE, FORMAT, HELP, INSPECT, KEY, OPEN, PROTECT, RELAY, SHOW,
+    ABOUT, APPLY, ASK, CHECK, EXAMINE, FORMAT, HELP, INSPECT, KEY, OPEN, PLAN, PROTECT, RELAY, SHOW,
     VALIDATE, VERSION,
 };
 
@@ -22,6 +22,7 @@ pub enum Subcommand {
     Key,
     Inspect,
     Check,
+    Plan,
     Examine,
     About,
 }
@@ -58,6 +59,7 @@ impl Subcommand {
             "key" => Some(Subcommand::Key),
             "inspect" => Some(Subcommand::Inspect),
             "check" => Some(Subcommand::Check),
+            "plan" => Some(Subcommand::Plan),
             "examine" => Some(Subcommand::Examine),
             "about" => Some(Subcommand::About),
             _ => None,
@@ -80,6 +82,7 @@ impl Subcommand {
             Subcommand::Key => KEY,
             Subcommand::Inspect => INSPECT,
             Subcommand::Check => CHECK,
+            Subcommand::Plan => PLAN,
             Subcommand::Examine => EXAMINE,
             Subcommand::About => ABOUT,
         }

@@ -7,7 +7,9 @@ mod help_texts;
 pub mod laws;
 mod pace;
 mod plain_text;
+mod plan_words;
 
 pub use action::{Action, Question, UsageFault, WireEnds, action_of};
 pub use help::{Subcommand, Topic, topic_of};
 pub use pace::{Milliseconds, Pace, Running};
+pub use plan_words::{PlanEnd, PlanStage};

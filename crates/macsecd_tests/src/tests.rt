@@ -21,6 +21,8 @@ mod link_files;
 mod older_files;
 mod opening;
 mod peers;
+mod planning;
+mod refused_words;
 mod relaying;
 mod shut;
 mod slips;

@@ -2,7 +2,8 @@
 
 use super::help_text::{
     ABOUT_TEXT, APPLY_TEXT, ASK_TEXT, CHECK_TEXT, EXAMINE_TEXT, FORMAT_TEXT, HELP_TEXT,
-    INSPECT_TEXT, KEY_TEXT, OPEN_TEXT, PROTECT_TEXT, RELAY_TEXT, SHOW_TEXT, VALIDATE_TEXT,
+    INSPECT_TEXT, KEY_TEXT, OPEN_TEXT, PLAN_TEXT, PROTECT_TEXT, RELAY_TEXT, SHOW_TEXT,
+    VALIDATE_TEXT,
 };
 use super::{INPUT, OPENED, Outcome, expect, printed};
 use std::alloc::Global;
@@ -91,6 +92,7 @@ fn prints_help_on_what_needs_no_disk(rt: HostRuntime) {
     expect_help(&rt, rt.alloc(), "key", KEY_TEXT);
     expect_help(&rt, rt.alloc(), "inspect", INSPECT_TEXT);
     expect_help(&rt, rt.alloc(), "check", CHECK_TEXT);
+    expect_help(&rt, rt.alloc(), "plan", PLAN_TEXT);
     expect_help(&rt, rt.alloc(), "about", ABOUT_TEXT);
 }
 
@@ -126,6 +128,7 @@ const FORMS: &[&str] = &[
     "\n  key   ",
     "\n  inspect INPUT   ",
     "\n  check FILE [DISK]   ",
+    "\n  plan FILE left|right first|receive|send|remove\n",
     "\n  examine DISK   ",
     "\n  about   ",
 ];

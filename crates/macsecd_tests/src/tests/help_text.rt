@@ -15,6 +15,8 @@ pub const HELP_TEXT: &str = "usage: macsecd [SUBCOMMAND VALUES..]
   key                          prints a fresh key
   inspect INPUT                prints what the SecTAG of each frame says
   check FILE [DISK]            checks the commands of a TOML file
+  plan FILE left|right first|receive|send|remove
+                               prints the commands of a stage of a link's keys
   examine DISK                 prints what the journal of a disk file has
   about                        prints which program this is
 
@@ -214,6 +216,31 @@ A fault of FILE is one line: the command, its key, and what is wrong with it, as
 example: macsecd check examples/left.toml left.disk
 status: 0 done, 2 usage, 3 a command would be refused, 4 disk, 5 a fault of the
         file, output or memory
+";
+
+pub const PLAN_TEXT: &str = "usage: macsecd plan FILE left|right first|receive|send|remove
+
+Prints the commands of an end of a link for a stage of its keys, as a TOML file
+for 'macsecd apply'. Nothing is changed.
+  FILE      a TOML file that says the link, and has no other key than these:
+              [left], [right]   each with sci = \"16 hex digits\", that of the end
+              [[key]]           for each pair of keys, the newest last:
+                                an = 0 to 3, and left and right, the keys of the
+                                frames from each end, \"32 or 64 hex digits\"
+  first     of a new endpoint: it sends and receives under the newest pair
+  receive   it receives under the newest pair too
+  send      it sends under it
+  remove    the pair before it goes
+A stage comes at both ends before the next one. A fault of FILE is one line: the
+table, its key, and what is wrong with it, or one of these:
+  key 2 an: not 0 to 3
+  same sci    both ends have one SCI
+  same key    a key is there twice
+  an in use   a pair has the association number of the one before it
+  one key     there is one pair, and the stage is not first
+
+example: macsecd plan link.toml left first > left.toml
+status: 0 done, 2 usage, 5 a fault of the file, output or memory
 ";
 
 pub const EXAMINE_TEXT: &str = "usage: macsecd examine DISK

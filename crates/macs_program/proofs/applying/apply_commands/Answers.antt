@@ -1,7 +1,13 @@
-use Rattle.std.proofs.Common.{ap}
+use Rattle.std.proofs.Common.{ap, take}
 use Rattle.std.proofs.lemmas.Result.{err_from_is_err_and}
 use Rattle.macs_program.proofs.Applied.{one-applied, some-applied}
+use Rattle.macs_program.proofs.NoneWaits.{applied-none}
 use Rattle.macs_program.proofs.applying.apply_commands.Goals as goal
+
+pub apply_command-requires : goal.apply_command-requires
+apply_command-requires g c =
+    applied-none g.D.SectorDisk.disk c.args.endpoint.now c.loop-i.endpoint (take c.loop-i.i c.args.commands.now)
+    c.loop-i.invariant.outcomes c.requires c.loop-i.invariant.applied
 
 pub loop-i-preserved : goal.loop-i-preserved
 loop-i-preserved g c =

@@ -3,7 +3,13 @@ use Rattle.std.proofs.lemmas.Result.{IfErr-weaker, IfOk-weaker}
 use Rattle.macs_endpoint.specs.Calls.{IsCall}
 use Rattle.macs_endpoint.specs.State.{Commands, Ran}
 use Rattle.macs_endpoint.specs.declared.fault.CommandFault.{CommandFault}
+use Rattle.macs_program.proofs.NoneWaits.{command-not-busy}
 use Rattle.macs_program.proofs.applying.give.Goals as goal
+
+pub outcome_of-requires : goal.outcome_of-requires
+outcome_of-requires g c =
+    command-not-busy g.D.SectorDisk.disk c.args.endpoint.now c.command.new.self c.args.command c.in-Err.fault c.requires
+    c.in-Err.ensures.call
 
 pub returns-in-Err-clause-settled : goal.returns-in-Err-clause-settled
 returns-in-Err-clause-settled g c =

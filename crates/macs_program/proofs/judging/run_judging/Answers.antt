@@ -1,6 +1,16 @@
 use Rattle.macs_edge.specs.CaptureRuns.{run_of}
+use Rattle.macs_edge.specs.declared.settling.Side.TheVariants.{Common}
 use Rattle.macs_program.proofs.Captured.{judged}
+use Rattle.macs_program.proofs.NoneWaits.{run-not-busy}
 use Rattle.macs_program.proofs.judging.run_judging.Goals as goal
+
+pub handed_on-requires : goal.handed_on-requires
+handed_on-requires g c =
+    run-not-busy g.D.SectorDisk.disk Common
+    (run_of c.args.endpoint.now (g.R.Source.state c.args.source.now) (g.S.Sink.state c.args.sink.now))
+    (run_of c.run_validate_each-answer.new.endpoint (g.R.Source.state c.run_validate_each-answer.new.source)
+    (g.S.Sink.state c.run_validate_each-answer.new.sink))
+    c.run_validate_each-answer.result c.requires c.run_validate_each-answer.ensures.runs
 
 pub returns-clause-judged : goal.returns-clause-judged
 returns-clause-judged g c =

@@ -1,4 +1,5 @@
 use Rattle.macs_program.proofs.ExamineDrawn.{about-texts, examine-texts}
+use Rattle.macs_program.proofs.PlanDrawn.{plan-texts}
 use Rattle.macs_program.proofs.TextDrawn.{capture-octets, check-texts, failure-texts, fault-orders, frame-texts}
 use Rattle.macs_program.proofs.TextDrawn.{line-texts, show-texts}
 use Rattle.macs_program.proofs.laws.texts.Goals as goal
@@ -17,6 +18,9 @@ returns-clause-frames c = frame-texts
 
 pub returns-clause-checks : goal.returns-clause-checks
 returns-clause-checks c = check-texts
+
+pub returns-clause-plans : goal.returns-clause-plans
+returns-clause-plans c = plan-texts
 
 pub returns-clause-shown : goal.returns-clause-shown
 returns-clause-shown c = show-texts

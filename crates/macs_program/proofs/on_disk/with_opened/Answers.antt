@@ -1,5 +1,8 @@
-use Rattle.macs_program.proofs.InFiles.{done-in, refused-in}
+use Rattle.macs_program.proofs.InFiles.{done-in, none-waits, refused-in}
 use Rattle.macs_program.proofs.on_disk.with_opened.Goals as goal
+
+pub run-requires : goal.run-requires
+run-requires g c = none-waits _ _ _ c.in-Ok.is c.requires
 
 pub returns-in-Ok : goal.returns-in-Ok
 returns-in-Ok g c = done-in _ _ _ _ _ _ _ c.run.result c.in-Ok.is c.requires c.run.ensures

@@ -1,4 +1,5 @@
-use Rattle.macs_program.proofs.Performed.{applies, checks, examines, formats, inspects, keys, opens, shows, tells}
+use Rattle.macs_program.proofs.Performed.{applies, checks, examines, formats, inspects, keys, opens, plans, shows}
+use Rattle.macs_program.proofs.Performed.{tells}
 use Rattle.macs_program.proofs.run.perform.Goals as goal
 
 pub returns-in-Open-clause-performs : goal.returns-in-Open-clause-performs
@@ -32,6 +33,11 @@ returns-in-Inspect-clause-performs g c = rw c.in-Inspect.is (inspects _ _ _ _ _ 
 pub returns-in-Check-clause-performs : goal.returns-in-Check-clause-performs
 returns-in-Check-clause-performs g c = rw c.in-Check.is (checks _ _ _ _ _ _ _ _ _ c.check.ensures.printed
     c.check.ensures.ended c.check.ensures.silent c.check.ensures.broken)
+
+pub returns-in-Plan-clause-performs : goal.returns-in-Plan-clause-performs
+returns-in-Plan-clause-performs g c = rw c.in-Plan.is
+    (plans _ _ _ _ _ _ _ c.in-Plan.file c.in-Plan.end c.in-Plan.stage c.plan.ensures.printed c.plan.ensures.ended
+    c.plan.ensures.silent c.plan.ensures.broken)
 
 pub returns-in-Examine-clause-performs : goal.returns-in-Examine-clause-performs
 returns-in-Examine-clause-performs g c = rw c.in-Examine.is (examines _ _ _ _ _ _ _ _ c.examine.ensures.printed

@@ -2,8 +2,14 @@ use Rattle.std.proofs.Common.{◌+◌, List, Option, subst, sym, take}
 use Rattle.std.proofs.lemmas.Result.{err_from_is_err_and}
 use Rattle.macs_config.specs.declared.refusal.Refusal.{Refusal}
 use Rattle.macs_program.specs.Applying.{Applies}
+use Rattle.macs_program.proofs.NoneWaits.{applied-none}
 use Rattle.macs_program.proofs.Tried.{one-tried, stopped-at}
 use Rattle.macs_program.proofs.trial.try_commands.Goals as goal
+
+pub try_command-requires : goal.try_command-requires
+try_command-requires g c =
+    applied-none g.D.SectorDisk.disk c.args.endpoint.now c.loop-i.endpoint (take c.loop-i.i c.args.commands.now)
+    c.loop-i.outcomes.items c.requires c.loop-i.invariant
 
 pub returns-in_err-outcome-clause-ended : goal.returns-in_err-outcome-clause-ended
 returns-in_err-outcome-clause-ended g c =

@@ -2,6 +2,9 @@ use Rattle.std.proofs.Common.{inl, inr}
 use Rattle.std.proofs.lemmas.Result.{IfErr-weaker, IfOk-weaker}
 use Rattle.macs_program.proofs.trial.try_opened.Goals as goal
 
+pub try_commands-requires : goal.try_commands-requires
+try_commands-requires c = rw c.in-Ok.is at c.requires
+
 pub returns-in-Ok-clause-tried : goal.returns-in-Ok-clause-tried
 returns-in-Ok-clause-tried c = λ copy opening.
     IfOk-weaker c.try_commands.result _ _

@@ -13,5 +13,6 @@ returns c =
     let with-9 = c.with_words-words-9.ensures _ _ with-8 c.key_words.ensures in
     let with-10 = c.with_words-words-10.ensures _ _ with-9 c.file_words.ensures in
     let with-11 = c.with_words-words-11.ensures _ _ with-10 c.check_words.ensures in
-    let with-12 = c.with_words-words-12.ensures _ _ with-11 c.file_words-2.ensures in
-    c.with_words.ensures _ _ with-12 c.about_words.ensures
+    let with-12 = c.with_words-words-12.ensures _ _ with-11 c.plan_words.ensures in
+    let with-13 = c.with_words-words-13.ensures _ _ with-12 c.file_words-2.ensures in
+    c.with_words.ensures _ _ with-13 c.about_words.ensures

@@ -1,0 +1,21 @@
+-- All that is to be drawn from the words on what `plan` says.
+use Rattle.std.proofs.Common.{refl}
+use Rattle.macs_program.specs.PlanTexts.{PlanTexts}
+
+pub plan-texts : PlanTexts
+plan-texts = record {
+  ends = refl;
+  stages = refl;
+  prints = λ end stage before after (octets, text, is, printed).
+      let (commands, planned, says) = is.planned in
+      (octets, text, is.short, is.utf8, is.members, is.parsed, commands, planned, says.read, says.taken, printed);
+  said = λ end stage octets said is. is;
+  whole = refl;
+  left = λ name. refl;
+  right = λ name. refl;
+  pair = λ at name. refl;
+  extra = refl;
+  extra_key = λ at. refl;
+  keys = refl;
+  reasons = refl;
+}

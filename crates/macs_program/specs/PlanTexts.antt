@@ -1,0 +1,64 @@
+-- What is to be drawn from the words on what `plan` says.
+use Rattle.std.specs.Prelude.{◌≡◌, ◌⊎◌, ◌<◌, ◌≤◌, ◌++◌, ◌∷◌, [], ℕ, List, length, map, codes, Option, Some, None, Ok}
+use Rattle.std.specs.Prelude.{Err}
+use Rattle.std.specs.Fmt.{decimal}
+use Rattle.std.specs.Io.KnownBytes.{Appends}
+use Rattle.std.specs.Str.{IsUtf8}
+use Rattle.toml.specs.Data.{Members}
+use Rattle.toml.specs.Parse.{parse_document}
+use Rattle.macs_config.specs.declared.command.Command.{Command}
+use Rattle.macs_commands.specs.CommandFiles.{file_commands}
+use Rattle.macs_plan.specs.Planning.{file_planned}
+use Rattle.macs_plan.specs.Writing.{file_of}
+use Rattle.macs_plan.specs.declared.link.End.{End}
+use Rattle.macs_plan.specs.declared.link.End.TheVariants as side
+use Rattle.macs_plan.specs.declared.plan_fault.Place.TheVariants as place
+use Rattle.macs_plan.specs.declared.plan_fault.PlanFault.{PlanFault}
+use Rattle.macs_plan.specs.declared.plan_fault.PlanFault.TheVariants as plan
+use Rattle.macs_plan.specs.declared.plan_fault.ValueName.{ValueName}
+use Rattle.macs_plan.specs.declared.plan_fault.ValueName.TheVariants as name
+use Rattle.macs_plan.specs.declared.planning.Stage.{Stage}
+use Rattle.macs_plan.specs.declared.planning.Stage.TheVariants as stage
+use Rattle.macs_words.specs.declared.plan_words.PlanEnd.TheVariants as plan_end
+use Rattle.macs_words.specs.declared.plan_words.PlanStage.TheVariants as plan_stage
+use Rattle.macs_program.specs.Plans.{IsSaidOfLink, PrintsPlan, end_of, name_reason, name_word, plan_fault_text}
+use Rattle.macs_program.specs.Plans.{stage_of}
+
+-- Each word names its own end or stage. What is printed is read as just the commands that are planned of the link that
+-- some octets say, of 1,048,576 at most. `plan` says that a file is too long, no text, no TOML, or why nothing is
+-- planned of it: that its tables are other ones, that a value of a table is none, by its key and what it is not, that
+-- there is a key too many, or which two are the same or that there is one pair alone.
+pub record PlanTexts : Type 0 where
+  pub ends : map end_of (plan_end.Left ∷ plan_end.Right ∷ []) ≡ side.Left ∷ side.Right ∷ []
+  pub stages : map stage_of (plan_stage.First ∷ plan_stage.Receive ∷ plan_stage.Send ∷ plan_stage.Remove ∷ [])
+      ≡ stage.First ∷ stage.Receive ∷ stage.Send ∷ stage.Remove ∷ []
+  pub prints : (end : End) (stage : Stage) (before after : Option (List ℕ)) → PrintsPlan end stage before after
+      → (octets : List ℕ) × (text : List ℕ) × (length octets ≤ 1048576) × IsUtf8 octets × (members : Members)
+      × (parse_document octets ≡ Some members) × (commands : List Command)
+      × (file_planned members end stage ≡ Ok commands) × (parse_document text ≡ Some (file_of commands))
+      × (file_commands (file_of commands) ≡ Ok commands) × Appends before after text
+  pub said : (end : End) (stage : Stage) (octets said : List ℕ) → IsSaidOfLink end stage octets said
+      → ((1048576 < length octets) × (said ≡ codes "link file: more than 1048576 octets"))
+      ⊎ ((length octets ≤ 1048576) × (¬ IsUtf8 octets) × (said ≡ codes "link file: not UTF-8"))
+      ⊎ ((length octets ≤ 1048576) × IsUtf8 octets × (((parse_document octets ≡ None)
+      × (said ≡ codes "link file: not TOML")) ⊎ ((members : Members) × (parse_document octets ≡ Some members)
+      × (fault : PlanFault) × (file_planned members end stage ≡ Err fault) × (said ≡ plan_fault_text fault))))
+  pub whole : map plan_fault_text (plan.Shape ∷ plan.SameSci ∷ plan.SameKey ∷ plan.AnInUse ∷ plan.OneKey
+      ∷ plan.Memory ∷ [])
+      ≡ codes "link file: not [left], [right] and tables [[key]] alone" ∷ codes "same sci" ∷ codes "same key"
+      ∷ codes "an in use" ∷ codes "one key" ∷ codes "memory" ∷ []
+  pub left : (name : ValueName) → plan_fault_text (plan.Value place.Left name)
+      ≡ codes "left " ++ (name_word name ++ (codes ": " ++ name_reason name))
+  pub right : (name : ValueName) → plan_fault_text (plan.Value place.Right name)
+      ≡ codes "right " ++ (name_word name ++ (codes ": " ++ name_reason name))
+  pub pair : (at : ℕ) (name : ValueName) → plan_fault_text (plan.Value (place.Key at) name)
+      ≡ codes "key " ++ (decimal at ++ (codes " " ++ (name_word name ++ (codes ": " ++ name_reason name))))
+  pub extra : map plan_fault_text (plan.Extra place.Left ∷ plan.Extra place.Right ∷ [])
+      ≡ codes "left: a key that it does not have" ∷ codes "right: a key that it does not have" ∷ []
+  pub extra_key : (at : ℕ) → plan_fault_text (plan.Extra (place.Key at))
+      ≡ codes "key " ++ (decimal at ++ codes ": a key that it does not have")
+  pub keys : map name_word (name.Sci ∷ name.An ∷ name.Left ∷ name.Right ∷ [])
+      ≡ codes "sci" ∷ codes "an" ∷ codes "left" ∷ codes "right" ∷ []
+  pub reasons : map name_reason (name.Sci ∷ name.An ∷ name.Left ∷ name.Right ∷ [])
+      ≡ codes "not 16 hex digits" ∷ codes "not 0 to 3" ∷ codes "not 32 or 64 hex digits"
+      ∷ codes "not 32 or 64 hex digits" ∷ []
