@@ -15,6 +15,6 @@ pub mod FileSectors
 mod FileOpenings
 pub mod FoundAgain
 pub mod FrontKept
-mod FailedCalls
-mod InterruptedCalls
+pub mod FailedCalls
+pub mod InterruptedCalls
 mod FileWords

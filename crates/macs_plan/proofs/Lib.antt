@@ -7,3 +7,5 @@ mod Sound
 mod Taken
 mod Stages
 mod LinkWords
+mod PlanWords
+mod Keyed

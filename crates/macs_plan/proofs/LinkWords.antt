@@ -10,8 +10,8 @@ use Rattle.macs_config.proofs.Channels.{bytes_eq-itself, same_octets}
 use Rattle.macs_commands.specs.CommandFiles.{count}
 use Rattle.macs_commands.specs.Fields.{an_in, sci_in}
 use Rattle.macs_plan.specs.LinkWords.{IsNewest, LinkWords, PairWords, RefusedWords}
-use Rattle.macs_plan.specs.Reading.{◌>>=◌, end_sci, file_link, followed, is_keys, items_at, key_at, key_pair, key_pairs}
-use Rattle.macs_plan.specs.Reading.{newest_link, required, reuses_an, sound_link, table_at, tables_link}
+use Rattle.macs_plan.specs.Reading.{◌>>=◌, end_sci, file_link, followed, has_tables, items_at, key_at, key_pair}
+use Rattle.macs_plan.specs.Reading.{key_pairs, newest_link, required, reuses_an, sound_link, table_at, tables_link}
 use Rattle.macs_plan.specs.declared.link.KeyPair.{KeyPair}
 use Rattle.macs_plan.specs.declared.link.Link.{Link}
 use Rattle.macs_plan.specs.declared.plan_fault.Place.{Place}
@@ -72,11 +72,29 @@ asked b r = cond b r (Err fault.Shape)
 
 taken : (m left right : Members) (items : Items) → get_member (codes "left") m ≡ Some (table left)
     → get_member (codes "right") m ≡ Some (table right) → get_member (codes "key") m ≡ Some (array items)
-    → count m ≡ 3 → is_keys items ≡ true → file_link m ≡ tables_link left right items
+    → count m ≡ 3 → has_tables items ≡ true → file_link m ≡ tables_link left right items
 taken m left right items at_left at_right at_key three keys =
     (λ i. with_tables (three i) (option_and_then as_table (at_left i)) (option_and_then as_table (at_right i))
     (option_and_then as_array (at_key i)))
     ∙ ap (λ (b : Bool). asked b (tables_link left right items)) keys
+
+no_tables : (m left right : Members) (items : Items) → get_member (codes "left") m ≡ Some (table left)
+    → get_member (codes "right") m ≡ Some (table right) → get_member (codes "key") m ≡ Some (array items)
+    → count m ≡ 3 → has_tables items ≡ false → file_link m ≡ Err fault.Shape
+no_tables m left right items at_left at_right at_key three none =
+    (λ i. with_tables (three i) (option_and_then as_table (at_left i)) (option_and_then as_table (at_right i))
+    (option_and_then as_array (at_key i)))
+    ∙ ap (λ (b : Bool). asked b (tables_link left right items)) none
+
+without_right : (n : ℕ) (left : Option Members) (items : Option Items)
+    → with_tables n left None items ≡ Err fault.Shape
+without_right n (Some left) items = refl
+without_right n None items = refl
+
+without_array : (n : ℕ) (left right : Option Members) → with_tables n left right None ≡ Err fault.Shape
+without_array n (Some left) (Some right) = refl
+without_array n (Some left) None = refl
+without_array n None right = refl
 
 no_shape : (n : ℕ) (left right : Option Members) (items : Option Items) → n ≢ 3
     → with_tables n left right items ≡ Err fault.Shape
@@ -232,6 +250,16 @@ pub link-words : LinkWords
 link-words = record {
   whole = whole;
   taken = taken;
+  no_left = λ m none.
+      λ i. with_tables (count m) (none i) (table_at (codes "right") m) (items_at (codes "key") m);
+  no_right = λ m none.
+      (λ i. with_tables (count m) (table_at (codes "left") m) (none i) (items_at (codes "key") m))
+      ∙ without_right (count m) (table_at (codes "left") m) (items_at (codes "key") m);
+  no_array = λ m none.
+      (λ i. with_tables (count m) (table_at (codes "left") m) (table_at (codes "right") m) (none i))
+      ∙ without_array (count m) (table_at (codes "left") m) (table_at (codes "right") m);
+  no_tables = no_tables;
+  some_tables = λ first items. refl;
   other_keys = λ m other.
       no_shape (count m) (table_at (codes "left") m) (table_at (codes "right") m) (items_at (codes "key") m) other;
   ends = ends;
@@ -246,6 +274,7 @@ link-words = record {
 
 pub pair-words : PairWords
 pair-words = record {
+  sak = λ key m. refl;
   last = λ at pairs is. (let same : [] ≡ pairs = cc in sym same);
   one = one;
   next = λ at m items first rest here later. λ i. followed (here i) (later i);
@@ -262,6 +291,11 @@ pair-words = record {
 
 pub refused-words : RefusedWords
 refused-words = record {
+  no_keys = refl;
+  keys_more = λ pair pairs. refl;
+  no_number = refl;
+  one_number = λ pair. refl;
+  numbers_more = λ pair next pairs. refl;
   same_sci = λ sci pairs. rw (bytes_eq-itself sci) refl;
   same_key = λ left right pairs apart again. rw (differs left right apart, again) refl;
   an_in_use = λ left right pairs apart once again. rw (differs left right apart, once, again) refl;

@@ -11,7 +11,7 @@ use Rattle.macs_plan.specs.declared.link.KeyPair.{KeyPair}
 use Rattle.macs_plan.specs.declared.plan_fault.PlanFault.{PlanFault}
 use Rattle.macs_commands.specs.CommandFiles.{are_tables}
 use Rattle.macs_commands.proofs.Reading.{none_left, one_left, other_left}
-use Rattle.macs_plan.specs.Reading.{followed, is_keys, key_pair, key_pairs}
+use Rattle.macs_plan.specs.Reading.{followed, has_tables, key_pair, key_pairs}
 use Rattle.std.proofs.lemmas.Bool.{true≢false}
 
 abbrev pub joined : List KeyPair → Result (List KeyPair) PlanFault → Result (List KeyPair) PlanFault
@@ -86,6 +86,6 @@ answered T result fault all is same =
 
 -- some values
 pub some_tables : (values : List Value) → (length values == 0) ≡ false
-    → are_tables (items_view values) ≡ is_keys (items_view values)
+    → are_tables (items_view values) ≡ has_tables (items_view values)
 some_tables [] some = absurd (true≢false some)
 some_tables (value ∷ values) some = refl

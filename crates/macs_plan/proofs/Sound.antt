@@ -7,11 +7,12 @@ use Rattle.macs_aes.specs.Keys.{octets_of_key}
 use Rattle.macs_config.specs.Config.{are_distinct, is_among}
 use Rattle.macs_config.proofs.Channels.{bytes_eq-itself}
 use Rattle.macs_commands.specs.CommandFiles.{count}
-use Rattle.macs_plan.specs.Accepting.{IsSound, Refuses}
+use Rattle.macs_plan.specs.Accepting.{IsSound}
 use Rattle.macs_plan.specs.Planning.{own_key}
-use Rattle.macs_plan.specs.Reading.{◌>>=◌, is_keys, items_at, keys_of, newest_link, reuses_an, shaped_link, sound_link}
+use Rattle.macs_plan.specs.Reading.{◌>>=◌, has_tables, items_at, keys_of, newest_link, reuses_an, shaped_link}
+use Rattle.macs_plan.specs.Reading.{sound_link}
 use Rattle.macs_plan.specs.Reading.{table_at, tables_link}
-use Rattle.macs_plan.specs.Reading.{end_sci, key_pairs}
+use Rattle.macs_plan.specs.Reading.{end_sci, file_link, key_pairs}
 use Rattle.macs_plan.specs.declared.link.End.{End}
 use Rattle.macs_plan.specs.declared.link.End.TheVariants.{Left, Right}
 use Rattle.macs_plan.specs.declared.link.KeyPair.{KeyPair}
@@ -57,8 +58,8 @@ from_tables left right items link is =
 pub from_shape : (n : ℕ) (left right : Members) (items : Items) (link : Link) → shaped_link n left right items ≡ Ok link
     → (n ≡ 3) × (tables_link left right items ≡ Ok link)
 from_shape n left right items link is =
-    let tests = chosen ((n == 3) && is_keys items) fault.Shape (tables_link left right items) link is in
-    (eqb-true n 3 (and_parts (n == 3) (is_keys items) tests.0).0, tests.1)
+    let tests = chosen ((n == 3) && has_tables items) fault.Shape (tables_link left right items) link is in
+    (eqb-true n 3 (and_parts (n == 3) (has_tables items) tests.0).0, tests.1)
 
 abbrev pub with_tables : ℕ → Option Members → Option Members → Option Items → Result Link PlanFault
 with_tables n left right items = elim left [
@@ -201,8 +202,8 @@ from_sound left right pairs link is =
     once true is = refl
     once false is = absurd (true≢false is)
 
-pub refuses : Refuses
-refuses members link is =
+pub is_sound : (members : Members) (link : Link) → file_link members ≡ Ok link → IsSound link
+is_sound members link is =
     let (left, right, items, at_left, at_right, at_key, three, tables) =
     from_file (count members) (table_at (codes "left") members) (table_at (codes "right") members)
     (items_at (codes "key") members) link is in

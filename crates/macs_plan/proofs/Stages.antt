@@ -17,8 +17,8 @@ use Rattle.macs_config.proofs.Channels.{bytes_eq-itself, same_octets}
 use Rattle.macs_config.proofs.Tables.{put-here, put-other, put_at-here, put_rx-here}
 use Rattle.macs_plan.specs.Accepting.{Begins, Begun, HasKeys, IsGone, IsSound, IsUnspent, Meets, Receives, Rekeyed}
 use Rattle.macs_plan.specs.Accepting.{Rekeys, Sends}
-use Rattle.macs_plan.specs.Planning.{first_keys, other_end, own_key, pair_before, receive_too, receives, remove_old}
-use Rattle.macs_plan.specs.Planning.{sci_of, send_so, sends}
+use Rattle.macs_plan.specs.Planning.{first_keys, other_end, own_key, pair_before, receive_both, receives}
+use Rattle.macs_plan.specs.Planning.{remove_earlier, sci_of, start_sending, sends}
 use Rattle.macs_plan.specs.declared.link.End.{End}
 use Rattle.macs_plan.specs.declared.link.End.TheVariants.{Left, Right}
 use Rattle.macs_plan.specs.declared.link.KeyPair.{KeyPair}
@@ -31,7 +31,7 @@ put_rx-other : {X : Type 0} (f : List ℕ → ℕ → X) (sci : List ℕ) (at nu
 put_rx-other f sci at number x differ = ap (λ g. g number) (put_at-here f sci (put (f sci) at x))
     ∙ put-other (f sci) at number x differ
 
-before_is : (link : Link) (earlier : KeyPair) → link.before ≡ Some earlier → pair_before link ≡ Ok earlier
+pub before_is : (link : Link) (earlier : KeyPair) → link.before ≡ Some earlier → pair_before link ≡ Ok earlier
 before_is link earlier is = rw is refl
 
 module _ (identity : Identity) (link : Link) (end : End) (earlier : KeyPair) (old : Config) (sound : IsSound link)
@@ -124,7 +124,7 @@ module _ (identity : Identity) (link : Link) (end : End) (earlier : KeyPair) (ol
   rekeyed = (
     one,
     (
-      receive_too link end,
+      receive_both link end,
       rw (before_is link earlier before) refl,
       (
         one,
@@ -139,7 +139,7 @@ module _ (identity : Identity) (link : Link) (end : End) (earlier : KeyPair) (ol
     (
       two,
       (
-        send_so link end,
+        start_sending link end,
         rw (before_is link earlier before) refl,
         (
           installed,
@@ -153,7 +153,7 @@ module _ (identity : Identity) (link : Link) (end : End) (earlier : KeyPair) (ol
       (
         three,
         (
-          remove_old link end earlier,
+          remove_earlier link end earlier,
           rw (before_is link earlier before) refl,
           (
             removed,

@@ -31,10 +31,6 @@ pub record IsSound (link : Link) : Type 0 where
   pub keys : (earlier : KeyPair) (one other : End) → link.before ≡ Some earlier
       → octets_of_key (own_key earlier one) ≢ octets_of_key (own_key link.newest other)
 
--- a link that is read is sound
-abbrev pub Refuses : Type 0
-Refuses = (members : Members) (link : Link) → file_link members ≡ Ok link → IsSound link
-
 -- ---- commands one after the other
 
 -- each of these commands is taken, and they lead to this configuration
@@ -78,6 +74,10 @@ pub record IsUnspent (link : Link) (end : End) (pair : KeyPair) (c : Config) : T
 -- the keys of a pair have their lengths
 abbrev pub HasKeys : KeyPair → Type 0
 HasKeys pair = (end : End) → HasItsLength (own_key pair end)
+
+-- a link that is read is sound, and its newest keys have their lengths
+abbrev pub Refuses : Type 0
+Refuses = (members : Members) (link : Link) → file_link members ≡ Ok link → IsSound link × HasKeys link.newest
 
 -- ---- the laws
 

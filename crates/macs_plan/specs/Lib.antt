@@ -3,3 +3,4 @@ pub mod Reading
 pub mod Writing
 pub mod Accepting
 pub mod LinkWords
+pub mod PlanWords

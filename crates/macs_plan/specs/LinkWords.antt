@@ -1,14 +1,14 @@
 -- What is to be drawn of the words on a link's file: which link it says, and why it says none.
-use Rattle.std.specs.Prelude.{◌≡◌, ◌≢◌, ◌<◌, ◌≤◌, ◌+◌, ◌++◌, ℕ, codes, true, false, List, [], ◌∷◌, Option, Some, None}
-use Rattle.std.specs.Prelude.{Ok, Err}
+use Rattle.std.specs.Prelude.{◌≡◌, ◌≢◌, ◌<◌, ◌≤◌, ◌==◌, ◌||◌, ◌+◌, ◌++◌, ℕ, codes, true, false, List, [], ◌∷◌, Option}
+use Rattle.std.specs.Prelude.{Some, None, option_and_then, Ok, Err}
 use Rattle.toml.specs.Data.{Data, Items, Members, array, get_member, item, no_items, table}
+use Rattle.macs_aes.specs.Keys.{octets_of_key}
 use Rattle.macs_aes.specs.declared.keys.Key.{Key}
 use Rattle.macs_config.specs.Config.{are_distinct}
-use Rattle.macs_commands.specs.CommandFiles.{count}
-use Rattle.macs_commands.specs.Fields.{an_in, sci_in}
-use Rattle.macs_plan.specs.Reading.{end_sci, file_link, is_keys, key_at, key_pair, key_pairs, keys_of, newest_link}
-use Rattle.macs_plan.specs.Reading.{reuses_an}
-use Rattle.macs_plan.specs.Reading.{sound_link, tables_link}
+use Rattle.macs_commands.specs.CommandFiles.{are_tables, count}
+use Rattle.macs_commands.specs.Fields.{an_in, key_of, sci_in, text_at}
+use Rattle.macs_plan.specs.Reading.{end_sci, file_link, has_tables, key_at, key_pair, key_pairs, keys_of, newest_link}
+use Rattle.macs_plan.specs.Reading.{items_at, reuses_an, sound_link, table_at, tables_link}
 use Rattle.macs_plan.specs.declared.link.KeyPair.{KeyPair}
 use Rattle.macs_plan.specs.declared.link.Link.{Link}
 use Rattle.macs_plan.specs.declared.plan_fault.Place.{Place}
@@ -31,7 +31,14 @@ pub record LinkWords : Type 0 where
       × (count m ≡ 3) × (tables_link left right items ≡ Ok link)
   pub taken : (m left right : Members) (items : Items) → get_member (codes "left") m ≡ Some (table left)
       → get_member (codes "right") m ≡ Some (table right) → get_member (codes "key") m ≡ Some (array items)
-      → count m ≡ 3 → is_keys items ≡ true → file_link m ≡ tables_link left right items
+      → count m ≡ 3 → has_tables items ≡ true → file_link m ≡ tables_link left right items
+  pub no_left : (m : Members) → table_at (codes "left") m ≡ None → file_link m ≡ Err fault.Shape
+  pub no_right : (m : Members) → table_at (codes "right") m ≡ None → file_link m ≡ Err fault.Shape
+  pub no_array : (m : Members) → items_at (codes "key") m ≡ None → file_link m ≡ Err fault.Shape
+  pub no_tables : (m left right : Members) (items : Items) → get_member (codes "left") m ≡ Some (table left)
+      → get_member (codes "right") m ≡ Some (table right) → get_member (codes "key") m ≡ Some (array items)
+      → count m ≡ 3 → has_tables items ≡ false → file_link m ≡ Err fault.Shape
+  pub some_tables : (first : Data) (items : Items) → has_tables (item first items) ≡ are_tables (item first items)
   pub other_keys : (m : Members) → count m ≢ 3 → file_link m ≡ Err fault.Shape
   pub ends : (left right : Members) (items : Items) (link : Link) → tables_link left right items ≡ Ok link
       → (end_sci place.Left left ≡ Ok link.left) × (end_sci place.Right right ≡ Ok link.right)
@@ -53,6 +60,7 @@ pub record LinkWords : Type 0 where
 -- The tables of keys say one pair each, in their order; the first fault is that of the first that has one. A pair is an
 -- AN at `an`, and a SAK for the frames of each end at `left` and `right`.
 pub record PairWords : Type 0 where
+  pub sak : (key : List ℕ) (m : Members) → key_at key m ≡ option_and_then key_of (text_at key m)
   pub last : (at : ℕ) (pairs : List KeyPair) → key_pairs at no_items ≡ Ok pairs → pairs ≡ []
   pub one : (at : ℕ) (value : Data) (items : Items) (pairs : List KeyPair) → key_pairs at (item value items) ≡ Ok pairs
       → (m : Members) × (first : KeyPair) × (rest : List KeyPair) × (value ≡ table m) × (pairs ≡ first ∷ rest)
@@ -81,8 +89,15 @@ pub record PairWords : Type 0 where
       → key_pair at m ≡ Err (fault.Extra (place.Key at))
 
 -- A link is refused whose ends have one SCI, else one that has a key twice, else one whose pair has the number of the
--- one before it, and no other.
+-- one before it, and no other. Its keys are those of all pairs.
 pub record RefusedWords : Type 0 where
+  pub no_keys : keys_of [] ≡ []
+  pub keys_more : (pair : KeyPair) (pairs : List KeyPair)
+      → keys_of (pair ∷ pairs) ≡ octets_of_key pair.left ∷ octets_of_key pair.right ∷ keys_of pairs
+  pub no_number : reuses_an [] ≡ false
+  pub one_number : (pair : KeyPair) → reuses_an (pair ∷ []) ≡ false
+  pub numbers_more : (pair next : KeyPair) (pairs : List KeyPair)
+      → reuses_an (pair ∷ next ∷ pairs) ≡ ((next.an == pair.an) || reuses_an (next ∷ pairs))
   pub same_sci : (sci : List ℕ) (pairs : List KeyPair) → sound_link sci sci pairs ≡ Err fault.SameSci
   pub same_key : (left right : List ℕ) (pairs : List KeyPair) → left ≢ right → are_distinct (keys_of pairs) ≡ false
       → sound_link left right pairs ≡ Err fault.SameKey

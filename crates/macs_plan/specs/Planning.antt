@@ -45,16 +45,16 @@ first_keys link end =
     ∷ receives link link.newest end ∷ []
 
 -- then for each new pair: it receives under it too
-abbrev pub receive_too : Link → End → List Command
-receive_too link end = receives link link.newest end ∷ []
+abbrev pub receive_both : Link → End → List Command
+receive_both link end = receives link link.newest end ∷ []
 
 -- it sends under it
-abbrev pub send_so : Link → End → List Command
-send_so link end = sends link.newest end ∷ TxUse link.newest.an ∷ []
+abbrev pub start_sending : Link → End → List Command
+start_sending link end = sends link.newest end ∷ TxUse link.newest.an ∷ []
 
 -- and the pair before goes
-abbrev pub remove_old : Link → End → KeyPair → List Command
-remove_old link end earlier = TxRemove earlier.an ∷ RxRemove (sci_of link (other_end end)) earlier.an ∷ []
+abbrev pub remove_earlier : Link → End → KeyPair → List Command
+remove_earlier link end earlier = TxRemove earlier.an ∷ RxRemove (sci_of link (other_end end)) earlier.an ∷ []
 
 -- the pair before the newest
 abbrev pub pair_before : Link → Result KeyPair PlanFault
@@ -63,9 +63,9 @@ pair_before link = elim link.before [ None ↦ Err fault.OneKey | Some earlier �
 -- the commands of a stage at an end
 abbrev pub planned : Link → End → Stage → Result (List Command) PlanFault
 planned link end stage.First = Ok (first_keys link end)
-planned link end stage.Receive = pair_before link >>= (λ (earlier : KeyPair). Ok (receive_too link end))
-planned link end stage.Send = pair_before link >>= (λ (earlier : KeyPair). Ok (send_so link end))
-planned link end stage.Remove = pair_before link >>= (λ (earlier : KeyPair). Ok (remove_old link end earlier))
+planned link end stage.Receive = pair_before link >>= (λ (earlier : KeyPair). Ok (receive_both link end))
+planned link end stage.Send = pair_before link >>= (λ (earlier : KeyPair). Ok (start_sending link end))
+planned link end stage.Remove = pair_before link >>= (λ (earlier : KeyPair). Ok (remove_earlier link end earlier))
 
 -- and of the link that a file says
 abbrev pub file_planned : Members → End → Stage → Result (List Command) PlanFault

@@ -112,13 +112,13 @@ tables_link left right items = do
   sound_link left_sci right_sci pairs
 
 -- there is a table of keys, and each is a table
-abbrev pub is_keys : Items → Bool
-is_keys no_items = false
-is_keys (item first items) = are_tables (item first items)
+abbrev pub has_tables : Items → Bool
+has_tables no_items = false
+has_tables (item first items) = are_tables (item first items)
 
 -- the link that a file of three keys says
 abbrev pub shaped_link : ℕ → Members → Members → Items → Result Link PlanFault
-shaped_link keys left right items = if (keys == 3) && is_keys items then tables_link left right items
+shaped_link keys left right items = if (keys == 3) && has_tables items then tables_link left right items
     else Err fault.Shape
 
 -- the link that a file says: its keys are `left`, `right` and `key`, and no other

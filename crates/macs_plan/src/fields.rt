@@ -1,4 +1,4 @@
-//! What is at a key of a table of a link's file.
+//! The values at the keys of a link's file.
 
 ghost use Rattle.std.specs.Prelude.{◌≡◌, option_map};
 ghost use Rattle.toml.specs.View.{array_view, table_view, view};

@@ -2,10 +2,11 @@
 
 ghost use Rattle.macs_plan.specs.Accepting.{Begins, Meets, Refuses, Rekeys};
 ghost use Rattle.macs_plan.specs.LinkWords.{LinkWords, PairWords, RefusedWords};
+ghost use Rattle.macs_plan.specs.PlanWords.{PlanWords};
 
 /// What is planned of a link is taken at both ends, and leads each from pair to pair.
 pub fn plans()
-    // A link that is read has two SCIs, and no key twice.
+    // A link that is read has two SCIs, and no key twice; its newest keys have their lengths.
     ensures refuses { Refuses }
     // What one end sends under a pair the other one receives under it.
     ensures meets { Meets }
@@ -15,7 +16,8 @@ pub fn plans()
     ensures rekeys { Rekeys }
 {}
 
-/// The words of `link_of` say this: which link a file says, and why it says none.
+/// The words of `link_of` and `planned` say this: which link a file says, and why it says none; and
+/// which commands a stage has.
 pub fn words()
     // What the tables of a link have.
     ensures links { LinkWords }
@@ -23,4 +25,6 @@ pub fn words()
     ensures pairs { PairWords }
     // Which links are refused.
     ensures refused { RefusedWords }
+    // The commands of each stage, and what is asked of an end.
+    ensures planned { PlanWords }
 {}

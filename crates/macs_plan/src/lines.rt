@@ -123,6 +123,7 @@ fn sci_mode_word(mode: SciMode) -> &'static str
     }
 }
 
+/// The table of `set-validate`.
 fn set_validate(alloc: Global, mode: Validate) -> Result<Table, AllocError>
     ensures { IfOk result (λ t. table_view t ≡ table_of (told.SetValidate mode)) }
 {
@@ -135,6 +136,7 @@ fn set_validate(alloc: Global, mode: Validate) -> Result<Table, AllocError>
     )
 }
 
+/// The table of `set-replay`.
 fn set_replay(alloc: Global, on: bool, window: u32) -> Result<Table, AllocError>
     ensures { IfOk result (λ t. table_view t ≡ table_of (told.SetReplay on window)) }
 {
@@ -143,6 +145,7 @@ fn set_replay(alloc: Global, on: bool, window: u32) -> Result<Table, AllocError>
     with(alloc, table, "window", number(window))
 }
 
+/// The table of `set-sci-mode`.
 fn set_sci_mode(alloc: Global, mode: SciMode) -> Result<Table, AllocError>
     ensures { IfOk result (λ t. table_view t ≡ table_of (told.SetSciMode mode)) }
 {
@@ -155,6 +158,7 @@ fn set_sci_mode(alloc: Global, mode: SciMode) -> Result<Table, AllocError>
     )
 }
 
+/// The table of `tx-install`.
 fn tx_install(
     alloc: Global,
     an: An,
@@ -174,18 +178,21 @@ fn tx_install(
     with(alloc, table, "offset", number(u32::from(offset)))
 }
 
+/// The table of `tx-use`.
 fn tx_use(alloc: Global, an: An) -> Result<Table, AllocError>
     ensures { IfOk result (λ t. table_view t ≡ table_of (told.TxUse an)) }
 {
     with(alloc, with_word(alloc, "tx-use"), "an", an_value(an))
 }
 
+/// The table of `tx-remove`.
 fn tx_remove(alloc: Global, an: An) -> Result<Table, AllocError>
     ensures { IfOk result (λ t. table_view t ≡ table_of (told.TxRemove an)) }
 {
     with(alloc, with_word(alloc, "tx-remove"), "an", an_value(an))
 }
 
+/// The table of `rx-add`.
 fn rx_add(alloc: Global, sci: Sci) -> Result<Table, AllocError>
     ensures { IfOk result (λ t. table_view t ≡ table_of (told.RxAdd sci)) }
 {
@@ -197,6 +204,7 @@ fn rx_add(alloc: Global, sci: Sci) -> Result<Table, AllocError>
     )
 }
 
+/// The table of `rx-drop`.
 fn rx_drop(alloc: Global, sci: Sci) -> Result<Table, AllocError>
     ensures { IfOk result (λ t. table_view t ≡ table_of (told.RxDrop sci)) }
 {
@@ -208,6 +216,7 @@ fn rx_drop(alloc: Global, sci: Sci) -> Result<Table, AllocError>
     )
 }
 
+/// The table of `rx-install`.
 fn rx_install(
     alloc: Global,
     sci: Sci,
@@ -227,6 +236,7 @@ fn rx_install(
     with(alloc, table, "offset", number(u32::from(offset)))
 }
 
+/// The table of `rx-remove`.
 fn rx_remove(alloc: Global, sci: Sci, an: An) -> Result<Table, AllocError>
     ensures { IfOk result (λ t. table_view t ≡ table_of (told.RxRemove sci an)) }
 {

@@ -6,7 +6,9 @@ use macs_fields::{An, Sci};
 /// An end of a link.
 #[derive(Clone, Copy, Debug, PartialEq, Eq)]
 pub enum End {
+    /// The one of the table `[left]`.
     Left,
+    /// The one of the table `[right]`.
     Right,
 }
 

@@ -8,8 +8,8 @@ ghost use Rattle.toml.specs.View.{table_view};
 ghost use Rattle.macs_config.specs.declared.command.Command.{Command};
 ghost use Rattle.macs_commands.specs.CommandFiles.{file_commands};
 ghost use Rattle.macs_plan.specs.Planning.{file_planned, first_keys, other_end, own_key};
-ghost use Rattle.macs_plan.specs.Planning.{pair_before, planned, receive_too, receives, remove_old};
-ghost use Rattle.macs_plan.specs.Planning.{sci_of, send_so, sends};
+ghost use Rattle.macs_plan.specs.Planning.{pair_before, planned, receive_both, receives};
+ghost use Rattle.macs_plan.specs.Planning.{remove_earlier, sci_of, sends, start_sending};
 ghost use Rattle.macs_plan.specs.Writing.{PlansText};
 ghost use Rattle.macs_plan.specs.declared.plan_fault.PlanFault.TheVariants.{Memory};
 
@@ -27,9 +27,13 @@ use toml::Table;
 /// receive under it too, then send under it, and then the pair before goes.
 #[derive(Clone, Copy, Debug, PartialEq, Eq)]
 pub enum Stage {
+    /// The first keys are installed on both sides.
     First,
+    /// The newest keys are installed on the receive side.
     Receive,
+    /// The newest keys are installed on the transmit side, and used.
     Send,
+    /// The keys before the newest are removed on both sides.
     Remove,
 }
 
@@ -63,7 +67,7 @@ fn own_key(pair: &KeyPair, end: End) -> Key
     }
 }
 
-/// An end sends under a pair.
+/// The command by which an end may send under a pair.
 fn sends(pair: &KeyPair, end: End) -> Command
     ensures { result ≡ sends pair.now end }
 {
@@ -76,7 +80,7 @@ fn sends(pair: &KeyPair, end: End) -> Command
     }
 }
 
-/// It receives under a pair.
+/// The command by which an end receives under a pair what the other end sends.
 fn receives(link: &Link, pair: &KeyPair, end: End) -> Command
     ensures { result ≡ receives link.now pair.now end }
 {
@@ -101,7 +105,7 @@ fn listed<const N: usize>(alloc: Global, commands: [Command; N]) -> Result<Vec<C
     }
 }
 
-/// The first keys.
+/// The commands that install the first keys.
 fn first_keys(alloc: Global, link: &Link, end: End) -> Result<Vec<Command>, PlanFault>
     ensures commands { IfOk result (λ commands. commands.items ≡ first_keys link.now end) }
     ensures fault { IfErr result (λ fault. fault ≡ Memory) }
@@ -118,18 +122,18 @@ fn first_keys(alloc: Global, link: &Link, end: End) -> Result<Vec<Command>, Plan
     listed(alloc, commands)
 }
 
-/// The end receives under the newest pair too.
-fn receive_too(alloc: Global, link: &Link, end: End) -> Result<Vec<Command>, PlanFault>
-    ensures commands { IfOk result (λ commands. commands.items ≡ receive_too link.now end) }
+/// The command by which an end receives under the newest pair too.
+fn receive_both(alloc: Global, link: &Link, end: End) -> Result<Vec<Command>, PlanFault>
+    ensures commands { IfOk result (λ commands. commands.items ≡ receive_both link.now end) }
     ensures fault { IfErr result (λ fault. fault ≡ Memory) }
 {
     let newest = link.newest;
     listed(alloc, [receives(link, &newest, end)])
 }
 
-/// It sends under the newest pair.
-fn send_so(alloc: Global, link: &Link, end: End) -> Result<Vec<Command>, PlanFault>
-    ensures commands { IfOk result (λ commands. commands.items ≡ send_so link.now end) }
+/// The commands by which an end sends under the newest pair.
+fn start_sending(alloc: Global, link: &Link, end: End) -> Result<Vec<Command>, PlanFault>
+    ensures commands { IfOk result (λ commands. commands.items ≡ start_sending link.now end) }
     ensures fault { IfErr result (λ fault. fault ≡ Memory) }
 {
     let newest = link.newest;
@@ -137,15 +141,15 @@ fn send_so(alloc: Global, link: &Link, end: End) -> Result<Vec<Command>, PlanFau
     listed(alloc, commands)
 }
 
-/// The pair before goes.
-fn remove_old(
+/// The commands that remove the pair before.
+fn remove_earlier(
     alloc: Global,
     link: &Link,
     end: End,
     earlier: &KeyPair,
 ) -> Result<Vec<Command>, PlanFault>
     ensures commands { IfOk result
-        (λ commands. commands.items ≡ remove_old link.now end earlier.now) }
+        (λ commands. commands.items ≡ remove_earlier link.now end earlier.now) }
     ensures fault { IfErr result (λ fault. fault ≡ Memory) }
 {
     let commands = [
@@ -187,17 +191,17 @@ pub fn planned(
         }
         Stage::Receive => {
             let _earlier = pair_before(link)?;
-            let commands = receive_too(alloc, link, end)?;
+            let commands = receive_both(alloc, link, end)?;
             Ok(commands)
         }
         Stage::Send => {
             let _earlier = pair_before(link)?;
-            let commands = send_so(alloc, link, end)?;
+            let commands = start_sending(alloc, link, end)?;
             Ok(commands)
         }
         Stage::Remove => {
             let earlier = pair_before(link)?;
-            let commands = remove_old(alloc, link, end, &earlier)?;
+            let commands = remove_earlier(alloc, link, end, &earlier)?;
             Ok(commands)
         }
     }
@@ -216,7 +220,7 @@ fn file_planned(
         → file_planned (table_view file.now) end stage ≡ Err fault) }
 {
     let link = link_of(alloc, file)?;
-    let _before = link.before;
+    let _before = link.before; // It is named for the proof alone.
     let commands = planned(alloc, &link, end, stage)?;
     Ok(commands)
 }

@@ -2,7 +2,7 @@
 
 ghost use Rattle.std.specs.Prelude.{◌≡◌, ◌≢◌, ◌<◌, ◌^◌, length, IfOk, IfErr, Ok, Err};
 ghost use Rattle.toml.specs.View.{items_view, table_view};
-ghost use Rattle.macs_plan.specs.Reading.{end_sci, file_link, is_keys, key_pair, key_pairs};
+ghost use Rattle.macs_plan.specs.Reading.{end_sci, file_link, has_tables, key_pair, key_pairs};
 ghost use Rattle.macs_plan.specs.Reading.{tables_link};
 ghost use Rattle.macs_plan.specs.declared.plan_fault.PlanFault.TheVariants.{Memory};
 
@@ -34,15 +34,15 @@ pub fn link_of<A: Allocator>(alloc: A, file: &Table) -> Result<Link, PlanFault>
     let Some(pairs) = array(file, "key") else {
         return Err(PlanFault::Shape);
     };
-    if keys(file) != 3 || !is_keys(pairs) {
+    if keys(file) != 3 || !has_tables(pairs) {
         return Err(PlanFault::Shape);
     }
     tables_link(alloc, left, right, pairs)
 }
 
 /// Whether there is a value, and each is a table.
-fn is_keys(values: &[Value]) -> bool
-    ensures { result ≡ is_keys (items_view values.now) }
+fn has_tables(values: &[Value]) -> bool
+    ensures { result ≡ has_tables (items_view values.now) }
 {
     !values.is_empty() && are_tables(values)
 }

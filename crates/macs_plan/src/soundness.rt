@@ -62,7 +62,7 @@ fn keys_differ(pairs: &[KeyPair]) -> bool
 }
 
 /// Whether a pair has the association number of the one before it.
-fn reuse_an(pairs: &[KeyPair]) -> bool
+fn reuses_an(pairs: &[KeyPair]) -> bool
     ensures { result ≡ reuses_an pairs.now }
 {
     for i in 0..pairs.len() {
@@ -103,7 +103,7 @@ pub(crate) fn sound_link(left: Sci, right: Sci, pairs: &[KeyPair]) -> Result<Lin
     if !keys_differ(pairs) {
         return Err(PlanFault::SameKey);
     }
-    if reuse_an(pairs) {
+    if reuses_an(pairs) {
         return Err(PlanFault::AnInUse);
     }
     newest_link(left, right, pairs)

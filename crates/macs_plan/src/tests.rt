@@ -17,6 +17,10 @@ const SECOND: &str = "[[key]]\nan = 1\n\
     left = '000102030405060708090a0b0c0d0e0f101112131415161718191a1b1c1d1e1f'\n\
     right = 'ffeeddccbbaa99887766554433221100'\n";
 
+/// A later pair, again at the first number.
+const THIRD: &str = "[[key]]\nan = 0\nleft = '9c0f3b51d7e8426a81b5c6d4e3f20719'\n\
+    right = '27d1a84e6b3c95f00e6f7d8c9b1a4352'\n";
+
 /// A file of these parts.
 fn file_of(rt: &impl Abort, alloc: Global, parts: &[&str]) -> String {
     let mut file = String::new(alloc);
@@ -93,6 +97,23 @@ fn stages_of_new_keys(rt: HostRuntime) {
     let remove = "[[command]]\nan = 0\ndo = \"tx-remove\"\n\n\
         [[command]]\nan = 0\ndo = \"rx-remove\"\nsci = \"0200000000010001\"\n";
     is_planned(&rt, rt.alloc(), &parts, End::Right, Stage::Remove, remove);
+}
+
+#[test]
+fn three_pairs(rt: HostRuntime) {
+    let alloc = rt.alloc();
+    let parts = [LEFT, RIGHT, FIRST, SECOND, THIRD];
+    let send = "[[command]]\nan = 0\nconfidential = true\ndo = \"tx-install\"\n\
+        key = \"27d1a84e6b3c95f00e6f7d8c9b1a4352\"\noffset = 0\nstart = 1\n\n\
+        [[command]]\nan = 0\ndo = \"tx-use\"\n";
+    is_planned(&rt, alloc, &parts, End::Right, Stage::Send, send);
+    let remove = "[[command]]\nan = 1\ndo = \"tx-remove\"\n\n\
+        [[command]]\nan = 1\ndo = \"rx-remove\"\nsci = \"0200000000020001\"\n";
+    is_planned(&rt, alloc, &parts, End::Left, Stage::Remove, remove);
+    let first_again = "[[key]]\nan = 2\nleft = '9c0f3b51d7e8426a81b5c6d4e3f20719'\n\
+        right = '5A1C7E93D04B26F8A97D31E4026FB85C'\n";
+    let parts = [LEFT, RIGHT, FIRST, SECOND, first_again];
+    is_refused(&rt, alloc, &parts, Stage::Remove, PlanFault::SameKey);
 }
 
 #[test]

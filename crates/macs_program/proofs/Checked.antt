@@ -1,20 +1,60 @@
 -- What is said of a command file that was read.
 use Rattle.std.proofs.Common.{◌≡◌, ◌⊎◌, ℕ, ◌++◌, ◌<◌, ◌≤◌, List, [], length, take, Option, Some, None, IfSome}
 use Rattle.std.proofs.Common.{option_map, inl, inr, length-take, ap, subst, sym, ◌∙◌, arith, string_bytes}
+use Rattle.std.proofs.Common.{Result, Ok, Err, IfErr}
 use Rattle.std.proofs.lemmas.List.{take_all}
 use Rattle.toml.specs.Data.{Members}
 use Rattle.toml.specs.Parse.{parse_document}
 use Rattle.macs_commands.specs.CommandFiles.{file_commands}
 use Rattle.macs_commands.specs.declared.config_fault.ConfigFault.{ConfigFault}
-use Rattle.macs_program.specs.Applying.{longest_file}
-use Rattle.macs_program.specs.Checking.{Complains, HasFault, IsSaidOfFile, IsSaidOfText}
+use Rattle.macs_config.specs.declared.command.Command.{Command}
+use Rattle.macs_program.specs.Applying.{SaidByFile, longest_file}
+use Rattle.macs_program.specs.Checking.{Complains, ComplainsOfFile, HasFault, IsSaidOfFile, IsSaidOfText}
 use Rattle.macs_program.specs.declared.failure.Failure.{Failure}
+use Rattle.macs_program.specs.declared.failure.Failure.TheVariants.{Commands, Memory}
 
 -- what holds of what is said holds of what a failure says
 pub complains-weaker : (P Q : List ℕ → Type 0) (failure : Failure) → ((said : List ℕ) → P said → Q said)
     → Complains P failure → Complains Q failure
 complains-weaker P Q failure weaker (inl memory) = inl memory
 complains-weaker P Q failure weaker (inr (text, is, holds)) = inr (text, is, weaker (string_bytes text) holds)
+
+-- ---- of a file that was opened
+
+-- the same commands under another name
+pub said-of : {F : Type 0} (left_in : F → Option (List ℕ)) (given said : List Command) → given ≡ said
+    → SaidByFile left_in said → SaidByFile left_in given
+said-of left_in given said same by_file =
+    subst (λ (commands : List Command). SaidByFile left_in commands) (sym same) by_file
+
+module _ (IsSaid : List ℕ → List ℕ → Type 0) where
+  -- nothing could be read of it; or this is said of its octets
+  abbrev pub EndsOfFile : {F : Type 0} → (F → Option (List ℕ)) → Failure → Type 0
+  EndsOfFile left_in failure = (failure ≡ Commands)
+      ⊎ ((octets : List ℕ) × Complains (IsSaid octets) failure
+      × ((failure ≡ Memory) ⊎ ComplainsOfFile IsSaid left_in failure))
+
+  -- it was not opened
+  pub not-opened : {F : Type 0} (left_in : F → Option (List ℕ)) (failure : Failure)
+      → (failure ≡ Memory) ⊎ (failure ≡ Commands) → EndsOfFile left_in failure
+  not-opened left_in failure (inl memory) = inr ([], inl memory, inl memory)
+  not-opened left_in failure (inr unread) = inl unread
+
+  complained : {F : Type 0} (left_in : F → Option (List ℕ)) (file : F) (failure : Failure)
+      → (failure ≡ Commands) ⊎ IfSome (left_in file) (λ octets. Complains (IsSaid octets) failure)
+      → (failure ≡ Commands) ⊎ ((octets : List ℕ) × Complains (IsSaid octets) failure) → EndsOfFile left_in failure
+  complained left_in file failure (inl unread) ended = inl unread
+  complained left_in file failure (inr fault) (inl unread) = inl unread
+  complained left_in file failure (inr fault) (inr (octets, complains)) = inr (octets, complains, inr (file, fault))
+
+  -- it was opened, and no commands were read
+  pub file-complained : {T F : Type 0} (left_in : F → Option (List ℕ)) (file : F) (result : Result T Failure)
+      → IfErr result (λ failure. (failure ≡ Commands)
+      ⊎ IfSome (left_in file) (λ octets. Complains (IsSaid octets) failure))
+      → IfErr result (λ failure. (failure ≡ Commands) ⊎ ((octets : List ℕ) × Complains (IsSaid octets) failure))
+      → IfErr result (EndsOfFile left_in)
+  file-complained left_in file (Ok value) fault ended = tt
+  file-complained left_in file (Err failure) fault ended = complained left_in file failure fault ended
 
 -- ---- what was read, and the whole file
 

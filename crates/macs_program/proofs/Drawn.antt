@@ -284,15 +284,16 @@ fault_of fault ran.GenerationsSpent is = inr (inl (refl, is))
 fault_of fault ran.Disk is = inr (inr (refl, is))
 fault_of fault (ran.Refused at) is = absurd is
 
-pub apply-words : {D : Type 0} (disk_of : D → Disk) → ApplyWords disk_of
-apply-words disk_of = record {
+pub apply-words : {D F : Type 0} (disk_of : D → Disk) (left_in : F → Option (List ℕ)) → ApplyWords disk_of left_in
+apply-words disk_of left_in = record {
   one = λ old new other commands p q x y. applies_once disk_of old old new other commands p q refl x y;
   none = λ old new outcomes is. is;
   kept = kept disk_of;
   refused = refused disk_of;
   as_many = as_many disk_of;
   all = λ old new commands before after status a. (a.applied, a.printed, a.status_is);
-  file = λ old new before after status f. (f.says, f.applies);
+  file = λ old new before after status f. (f.says, f.by_file, f.applies);
+  by_file = λ commands s. s.said;
   one_file = says_once;
   says = λ octets commands s. (s.short, s.utf8, s.members, s.parsed, s.said);
   done = refl;
@@ -303,7 +304,7 @@ apply-words disk_of = record {
   some = λ old new commands before after failure a. (a.all, a.applied, a.ends, a.printed);
   broken = λ old new before after failure is. elim is [
     | inl early ↦ inl early
-    | inr front ↦ inr (front.octets, front.commands, front.says, front.applies)
+    | inr front ↦ inr (front.octets, front.commands, front.says, front.by_file, front.applies)
   ];
 }
 
@@ -350,8 +351,8 @@ file-words file = record {
     | inl no_file ↦ inl no_file
     | inr refused ↦ inr (refused.disk, refused.left, refused.fault, refused.is, refused.is_disk, refused.refuses)
   ];
-  applied = λ before after status a. (a.endpoint, a.applies);
-  broken = λ before after failure b. (b.endpoint, b.ends);
+  applied = λ left_in before after status a. (a.endpoint, a.applies);
+  broken = λ left_in before after failure b. (b.endpoint, b.ends);
   shown = λ before after s. (s.endpoint, s.printed);
   passed = λ side summary p.
       (p.endpoint, p.passes.source, p.passes.source_left, p.passes.sink, p.passes.sink_left, p.passes.passes);

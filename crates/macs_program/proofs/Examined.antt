@@ -124,7 +124,7 @@ of-copy file failure (inr (is, few)) = inr (disk.Journal journal.TooSmall, is)
 -- want of memory, or a fault of the disk
 pub of-examination : {F : Type 0} (state_of : F → FileState) (failure : Failure) → ExaminationFails state_of failure
     → IsOfDisk failure
-of-examination state_of failure (inl (fault, is)) = of-file fault failure is
+of-examination state_of failure (inl (fault, is, whole, device)) = of-file fault failure is
 of-examination state_of failure (inr (inl (file, fails))) = of-copy (state_of file) failure fails
 of-examination state_of failure (inr (inr (file, copy, layout, is_copy, inl memory))) = inl memory
 of-examination state_of failure (inr (inr (file, copy, layout, is_copy, inr (fault, is, known, none)))) =

@@ -20,7 +20,8 @@ use Rattle.macs_pcap.specs.States.{SinkState, SourceState}
 use Rattle.macs_program.proofs.NoneWaits.{opened-none}
 use Rattle.macs_program.proofs.Failures.{MemoryOr, capture-no-output, capture-no-usage, commands-no-output}
 use Rattle.macs_program.proofs.Failures.{commands-no-usage, disk-no-output, disk-no-usage, of-opening, output-no-usage}
-use Rattle.macs_program.specs.Applying.{AppliesAll, AppliesSome, EndsRun, SaysCommands, outcome_lines}
+use Rattle.macs_program.specs.Applying.{AppliesAll, AppliesSome, EndsRun, SaidByFile, SaysCommands}
+use Rattle.macs_program.specs.Applying.{outcome_lines}
 use Rattle.macs_program.specs.Capturing.{EndsPass, PassesCapture}
 use Rattle.macs_program.specs.Endpoints.{AppliesIn, BreaksOff, BreaksOffIn, IsDiskIn, IsOpeningIn, OpeningFails}
 use Rattle.macs_program.specs.Endpoints.{PassEndsIn, PassesIn, ShowsIn, shown_text}
@@ -92,14 +93,15 @@ module _ {F W : Type 0} (file : F → FileState) (done : Doing (FileDisk F) W) (
 
 -- ---- commands
 
-module _ {D W : Type 0} (disk_of : D → Disk) (contents : W → Option (List ℕ)) (has_failed : W → Bool)
-    (old : EndpointValue D) (before : W) where
+module _ {F D W : Type 0} (left_in : F → Option (List ℕ)) (disk_of : D → Disk) (contents : W → Option (List ℕ))
+    (has_failed : W → Bool) (old : EndpointValue D) (before : W) where
   -- without a command file nothing is done
   pub none-applied : (fault failure : Failure) (result : Result Status Failure) → result ≡ Err failure → failure ≡ fault
-      → (fault ≡ Memory) ⊎ (fault ≡ Commands) → DoesApply disk_of contents has_failed old before result old before
+      → (fault ≡ Memory) ⊎ (fault ≡ Commands)
+      → DoesApply left_in disk_of contents has_failed old before result old before
   none-applied fault failure result is same names =
       let named = subst (λ (f : Failure). MemoryOr Commands f) (sym same) names in
-      subst (λ (r : Result Status Failure). DoesApply disk_of contents has_failed old before r old before)
+      subst (λ (r : Result Status Failure). DoesApply left_in disk_of contents has_failed old before r old before)
       (sym is) (record {
         printed = tt;
         ended = inl (named, refl, refl);
@@ -107,27 +109,29 @@ module _ {D W : Type 0} (disk_of : D → Disk) (contents : W → Option (List �
       })
 
   pub file-applied : (new : EndpointValue D) (after : W) (said given : List Command) (result : Result Status Failure)
-      → ((octets : List ℕ) × SaysCommands octets said) → given ≡ said
+      → ((octets : List ℕ) × SaysCommands octets said) → SaidByFile left_in said → given ≡ said
       → IfOk result (λ status. AppliesAll disk_of old given (contents before) (contents after) status new)
       → IfErr result (λ failure. AppliesSome disk_of old given (contents before) (contents after) failure new)
       → IfErr result (λ failure. failure ≡ Output → has_failed after ≡ true)
-      → DoesApply disk_of contents has_failed old before result new after
-  file-applied new after said given (Ok status) (octets, says) same applied ended broken = record {
+      → DoesApply left_in disk_of contents has_failed old before result new after
+  file-applied new after said given (Ok status) (octets, says) by_file same applied ended broken = record {
     printed = record {
       octets = octets;
       commands = given;
       says = subst (λ (commands : List Command). SaysCommands octets commands) (sym same) says;
+      by_file = subst (λ (commands : List Command). SaidByFile left_in commands) (sym same) by_file;
       applies = applied;
     };
     ended = tt;
     broken = tt;
   }
-  file-applied new after said given (Err failure) (octets, says) same applied ended broken = record {
+  file-applied new after said given (Err failure) (octets, says) by_file same applied ended broken = record {
     printed = tt;
     ended = inr (record {
       octets = octets;
       commands = given;
       says = subst (λ (commands : List Command). SaysCommands octets commands) (sym same) says;
+      by_file = subst (λ (commands : List Command). SaidByFile left_in commands) (sym same) by_file;
       applies = ended;
     });
     broken = broken;
@@ -139,35 +143,35 @@ ends-no-usage : {D : Type 0} (disk_of : D → Disk) (old : EndpointValue D) (com
 ends-no-usage disk_of old command failure new (inl ended) is = let e = ap failure_status (sym ended.3) ∙ is in cc
 ends-no-usage disk_of old command failure new (inr ended) is = let e = ap failure_status (sym ended.0) ∙ is in cc
 
-module _ {D : Type 0} (disk_of : D → Disk) (old : EndpointValue D) (known told : Option (List ℕ)) (failure : Failure)
-    (new : EndpointValue D) where
-  broken-off-no-usage : BreaksOff disk_of old known told failure new → failure_status failure ≢ ends.Usage
+module _ {F D : Type 0} (left_in : F → Option (List ℕ)) (disk_of : D → Disk) (old : EndpointValue D)
+    (known told : Option (List ℕ)) (failure : Failure) (new : EndpointValue D) where
+  broken-off-no-usage : BreaksOff left_in disk_of old known told failure new → failure_status failure ≢ ends.Usage
   broken-off-no-usage (inl none) is = commands-no-usage failure none.0 is
   broken-off-no-usage (inr front) is =
       ends-no-usage disk_of front.applies.between front.applies.next failure new front.applies.ends is
 
-  broken-off-lines : BreaksOff disk_of old known told failure new → failure ≢ Output
+  broken-off-lines : BreaksOff left_in disk_of old known told failure new → failure ≢ Output
       → (outcomes : List (Option Refusal)) × Appends known told (outcome_lines 1 outcomes)
   broken-off-lines (inl none) other =
       ([], subst (λ (k : Option (List ℕ)). Appends known k []) (sym none.2) (Appends-nil known))
   broken-off-lines (inr front) other = (front.applies.outcomes, front.applies.printed other)
 
 -- what `apply` comes to
-pub record AppliedIn {F W : Type 0} (file : F → FileState) (contents : W → Option (List ℕ)) (has_failed : W → Bool)
-    (before : W)
+pub record AppliedIn {F W : Type 0} (file : F → FileState) (left_in : F → Option (List ℕ))
+    (contents : W → Option (List ℕ)) (has_failed : W → Bool) (before : W)
     (result : Result Status Failure) (after : W) : Type 0 where
-  pub printed : IfOk result (λ status. AppliesIn file (contents before) (contents after) status)
+  pub printed : IfOk result (λ status. AppliesIn file left_in (contents before) (contents after) status)
   pub ended : IfErr result
-      (λ failure. OpeningFails file failure ⊎ BreaksOffIn file (contents before) (contents after) failure)
+      (λ failure. OpeningFails file failure ⊎ BreaksOffIn file left_in (contents before) (contents after) failure)
   pub failed : IfErr result (λ failure. failure_status failure ≢ ends.Usage)
   pub lines : IfErr result (λ failure. failure ≢ Output
       → (outcomes : List (Option Refusal)) × Appends (contents before) (contents after) (outcome_lines 1 outcomes))
   pub broken : IfErr result (λ failure. failure ≡ Output → has_failed after ≡ true)
 
-module _ {F W : Type 0} (file : F → FileState) (contents : W → Option (List ℕ)) (has_failed : W → Bool)
-    (before after : W) where
+module _ {F W : Type 0} (file : F → FileState) (left_in : F → Option (List ℕ)) (contents : W → Option (List ℕ))
+    (has_failed : W → Bool) (before after : W) where
   none-applied-in : (failure : Failure) → OpeningFails file failure → after ≡ before
-      → AppliedIn file contents has_failed before (Err failure) after
+      → AppliedIn file left_in contents has_failed before (Err failure) after
   none-applied-in failure fails silent = record {
     printed = tt;
     ended = inl fails;
@@ -178,10 +182,10 @@ module _ {F W : Type 0} (file : F → FileState) (contents : W → Option (List 
   }
 
   pub applied-in : (result : Result Status Failure)
-      → IsRunIn file (DoesApply (disk_in_file file) contents has_failed) before result after
-      → AppliedIn file contents has_failed before result after
+      → IsRunIn file (DoesApply left_in (disk_in_file file) contents has_failed) before result after
+      → AppliedIn file left_in contents has_failed before result after
   applied-in result (inl none) =
-      subst (λ (r : Result Status Failure). AppliedIn file contents has_failed before r after) (sym none.is)
+      subst (λ (r : Result Status Failure). AppliedIn file left_in contents has_failed before r after) (sym none.is)
       (none-applied-in none.failure none.fails none.silent)
   applied-in (Ok status) (inr run) = record {
     printed = record { old = run.old; new = run.new; endpoint = run.endpoint; applies = run.does.printed };
@@ -193,10 +197,10 @@ module _ {F W : Type 0} (file : F → FileState) (contents : W → Option (List 
   applied-in (Err failure) (inr run) = record {
     printed = tt;
     ended = inr (record { old = run.old; new = run.new; endpoint = run.endpoint; ends = run.does.ended });
-    failed = broken-off-no-usage (disk_in_file file) run.old (contents before) (contents after) failure run.new
+    failed = broken-off-no-usage left_in (disk_in_file file) run.old (contents before) (contents after) failure run.new
         run.does.ended;
-    lines =
-        broken-off-lines (disk_in_file file) run.old (contents before) (contents after) failure run.new run.does.ended;
+    lines = broken-off-lines left_in (disk_in_file file) run.old (contents before) (contents after) failure run.new
+        run.does.ended;
     broken = run.does.broken;
   }
 

@@ -96,24 +96,25 @@ inspecting-no-usage (failures.CommandFile cause) is = absurd is
 inspecting-no-usage (failures.Input fault) is = absurd is
 
 -- nor is one of `check`
-checking-no-usage : (failure : Failure) → CheckFails failure
+checking-no-usage : {F : Type 0} (left_in : F → Option (List ℕ)) (failure : Failure) → CheckFails left_in failure
     → (failure_status failure ≢ ends.Usage) × (failure_status failure ≢ ends.Disk)
-checking-no-usage failure (inl is) =
+checking-no-usage left_in failure (inl is) =
     ((λ e. let f = sym e ∙ ap failure_status is in cc), (λ e. let f = sym e ∙ ap failure_status is in cc))
-checking-no-usage failure (inr (inl is)) =
+checking-no-usage left_in failure (inr (inl is)) =
     ((λ e. let f = sym e ∙ ap failure_status is in cc), (λ e. let f = sym e ∙ ap failure_status is in cc))
-checking-no-usage failure (inr (inr (octets, inl is))) =
+checking-no-usage left_in failure (inr (inr (octets, inl is, by_file))) =
     ((λ e. let f = sym e ∙ ap failure_status is in cc), (λ e. let f = sym e ∙ ap failure_status is in cc))
-checking-no-usage failure (inr (inr (octets, inr (text, is, said)))) =
+checking-no-usage left_in failure (inr (inr (octets, inr (text, is, said), by_file))) =
     ((λ e. let f = sym e ∙ ap failure_status is in cc), (λ e. let f = sym e ∙ ap failure_status is in cc))
 
 -- a failure of `plan` is no wrong usage
-planning-no-usage : (end : End) (stage : Stage) (failure : Failure) → PlanFails end stage failure
-    → failure_status failure ≢ ends.Usage
-planning-no-usage end stage failure (inl is) = λ e. let f = sym e ∙ ap failure_status is in cc
-planning-no-usage end stage failure (inr (inl is)) = λ e. let f = sym e ∙ ap failure_status is in cc
-planning-no-usage end stage failure (inr (inr (octets, inl is))) = λ e. let f = sym e ∙ ap failure_status is in cc
-planning-no-usage end stage failure (inr (inr (octets, inr (text, is, said)))) =
+planning-no-usage : {F : Type 0} (left_in : F → Option (List ℕ)) (end : End) (stage : Stage) (failure : Failure)
+    → PlanFails left_in end stage failure → failure_status failure ≢ ends.Usage
+planning-no-usage left_in end stage failure (inl is) = λ e. let f = sym e ∙ ap failure_status is in cc
+planning-no-usage left_in end stage failure (inr (inl is)) = λ e. let f = sym e ∙ ap failure_status is in cc
+planning-no-usage left_in end stage failure (inr (inr (octets, inl is, by_file))) =
+    λ e. let f = sym e ∙ ap failure_status is in cc
+planning-no-usage left_in end stage failure (inr (inr (octets, inr (text, is, said), by_file))) =
     λ e. let f = sym e ∙ ap failure_status is in cc
 
 done-or-refused : (refused : Bool) → ((if refused then ends.Refused else ends.Done) ≡ ends.Done)
@@ -135,8 +136,8 @@ applied-status outcomes status is = elim (done-or-refused (list_any is_some outc
   | inr refused ↦ inr (is ∙ refused)
 ]
 
-module _ {F W : Type 0} (state_of : F → FileState) (contents : W → Option (List ℕ)) (failed : W → Bool)
-    (input : InputRead) (old : W)
+module _ {F W : Type 0} (state_of : F → FileState) (left_in : F → Option (List ℕ))
+    (contents : W → Option (List ℕ)) (failed : W → Bool) (input : InputRead) (old : W)
     (result : Result Status Failure) (new : W) where
   -- it is no wrong usage
   abbrev NoUsage : Type 0
@@ -163,8 +164,8 @@ module _ {F W : Type 0} (state_of : F → FileState) (contents : W → Option (L
   pub opens : IfOk result (λ status. IfSome input.octets (λ octets. Prints octets (contents old) (contents new) status))
       → IfOk result (λ status. (status ≡ ends.Done) ⊎ (status ≡ ends.Refused))
       → IfErr result (λ failure. failure_status failure ≡ ends.Fault) → Silent
-      → IfErr result (FailsAs state_of Open input (contents old) (contents new)) → Broken
-      → Performs state_of contents failed Open input old result new
+      → IfErr result (FailsAs state_of left_in Open input (contents old) (contents new)) → Broken
+      → Performs state_of left_in contents failed Open input old result new
   opens printed status is_fault silent fails broken = record {
     does = printed;
     status = status;
@@ -177,12 +178,12 @@ module _ {F W : Type 0} (state_of : F → FileState) (contents : W → Option (L
 
   pub formats : (disk sci : Bor (List ℕ)) (tx_block rx_block : ℕ) (block : Option (Bor (List ℕ))) (is_over : Bool)
       → IfOk result
-      (Does state_of (Format disk sci tx_block rx_block block is_over) input (contents old) (contents new))
+      (Does state_of left_in (Format disk sci tx_block rx_block block is_over) input (contents old) (contents new))
       → IfErr result (λ failure. failure_status failure ≡ ends.Usage
       → WrongValues (Format disk sci tx_block rx_block block is_over) × (new ≡ old)) → Silent
-      → IfErr result (FailsAs state_of (Format disk sci tx_block rx_block block is_over) input (contents old)
+      → IfErr result (FailsAs state_of left_in (Format disk sci tx_block rx_block block is_over) input (contents old)
       (contents new)) → Broken
-      → Performs state_of contents failed (Format disk sci tx_block rx_block block is_over) input old result new
+      → Performs state_of left_in contents failed (Format disk sci tx_block rx_block block is_over) input old result new
   formats disk sci tx_block rx_block block is_over done usage silent fails broken = record {
     does = done;
     status = IfOk-weaker result _ _
@@ -195,11 +196,11 @@ module _ {F W : Type 0} (state_of : F → FileState) (contents : W → Option (L
   }
 
   pub applies : (disk file : Bor (List ℕ))
-      → IfOk result (Does state_of (Apply disk file) input (contents old) (contents new)) → NoUsage
+      → IfOk result (Does state_of left_in (Apply disk file) input (contents old) (contents new)) → NoUsage
       → IfErr result (λ failure. failure ≢ Output
       → (outcomes : List (Option Refusal)) × Appends (contents old) (contents new) (outcome_lines 1 outcomes))
-      → IfErr result (FailsAs state_of (Apply disk file) input (contents old) (contents new)) → Broken
-      → Performs state_of contents failed (Apply disk file) input old result new
+      → IfErr result (FailsAs state_of left_in (Apply disk file) input (contents old) (contents new)) → Broken
+      → Performs state_of left_in contents failed (Apply disk file) input old result new
   applies disk file done other lines fails broken = record {
     does = done;
     status = IfOk-weaker result _ _
@@ -211,10 +212,10 @@ module _ {F W : Type 0} (state_of : F → FileState) (contents : W → Option (L
     broken = broken;
   }
 
-  pub shows : (disk : Bor (List ℕ)) → IfOk result (Does state_of (Show disk) input (contents old) (contents new))
-      → NoUsage → Silent
-      → IfErr result (FailsAs state_of (Show disk) input (contents old) (contents new)) → Broken
-      → Performs state_of contents failed (Show disk) input old result new
+  pub shows : (disk : Bor (List ℕ))
+      → IfOk result (Does state_of left_in (Show disk) input (contents old) (contents new)) → NoUsage → Silent
+      → IfErr result (FailsAs state_of left_in (Show disk) input (contents old) (contents new)) → Broken
+      → Performs state_of left_in contents failed (Show disk) input old result new
   shows disk done other silent fails broken = record {
     does = done;
     status = IfOk-weaker result _ _ (λ status all. inl all.1) done;
@@ -226,9 +227,11 @@ module _ {F W : Type 0} (state_of : F → FileState) (contents : W → Option (L
   }
 
   pub protects : (disk from to : Bor (List ℕ)) (is_all : Bool)
-      → IfOk result (Does state_of (Protect disk from to is_all) input (contents old) (contents new)) → NoUsage → Silent
-      → IfErr result (FailsAs state_of (Protect disk from to is_all) input (contents old) (contents new)) → Broken
-      → Performs state_of contents failed (Protect disk from to is_all) input old result new
+      → IfOk result (Does state_of left_in (Protect disk from to is_all) input (contents old) (contents new)) → NoUsage
+      → Silent
+      → IfErr result (FailsAs state_of left_in (Protect disk from to is_all) input (contents old) (contents new))
+      → Broken
+      → Performs state_of left_in contents failed (Protect disk from to is_all) input old result new
   protects disk from to is_all done other silent fails broken = record {
     does = done;
     status = IfOk-weaker result _ _ (λ status all. let (summary, passes, printed, is) = all in
@@ -241,10 +244,11 @@ module _ {F W : Type 0} (state_of : F → FileState) (contents : W → Option (L
   }
 
   pub validates : (disk from to : Bor (List ℕ)) (is_all : Bool) → IfOk result
-      (Does state_of (Validate disk from to is_all false) input (contents old) (contents new)) → NoUsage → Silent
-      → IfErr result (FailsAs state_of (Validate disk from to is_all false) input (contents old) (contents new))
+      (Does state_of left_in (Validate disk from to is_all false) input (contents old) (contents new)) → NoUsage
+      → Silent
+      → IfErr result (FailsAs state_of left_in (Validate disk from to is_all false) input (contents old) (contents new))
       → Broken
-      → Performs state_of contents failed (Validate disk from to is_all false) input old result new
+      → Performs state_of left_in contents failed (Validate disk from to is_all false) input old result new
   validates disk from to is_all done other silent fails broken = record {
     does = done;
     status = IfOk-weaker result _ _ (λ status all. let (summary, passes, printed, is) = all in
@@ -257,10 +261,11 @@ module _ {F W : Type 0} (state_of : F → FileState) (contents : W → Option (L
   }
 
   pub judges : (disk from to : Bor (List ℕ)) (is_all : Bool)
-      → IfOk result (Does state_of (Validate disk from to is_all true) input (contents old) (contents new))
+      → IfOk result (Does state_of left_in (Validate disk from to is_all true) input (contents old) (contents new))
       → NoUsage → IfErr result (λ failure. failure ≢ Output → PrintsVerdicts (contents old) (contents new))
-      → IfErr result (FailsAs state_of (Validate disk from to is_all true) input (contents old) (contents new)) → Broken
-      → Performs state_of contents failed (Validate disk from to is_all true) input old result new
+      → IfErr result (FailsAs state_of left_in (Validate disk from to is_all true) input (contents old) (contents new))
+      → Broken
+      → Performs state_of left_in contents failed (Validate disk from to is_all true) input old result new
   judges disk from to is_all done other front fails broken = record {
     does = done;
     status = IfOk-weaker result _ _ (λ status all. let (summary, verdicts, passes, printed, is) = all in
@@ -274,19 +279,21 @@ module _ {F W : Type 0} (state_of : F → FileState) (contents : W → Option (L
 
   -- which of the two, as its flag says
   pub validates-so : (disk from to : Bor (List ℕ)) (is_all is_each b : Bool) → is_each ≡ b
-      → Performs state_of contents failed (Validate disk from to is_all b) input old result new
-      → Performs state_of contents failed (Validate disk from to is_all is_each) input old result new
+      → Performs state_of left_in contents failed (Validate disk from to is_all b) input old result new
+      → Performs state_of left_in contents failed (Validate disk from to is_all is_each) input old result new
   validates-so disk from to is_all is_each b is performs =
-      subst (λ (x : Bool). Performs state_of contents failed (Validate disk from to is_all x) input old result new)
+      subst (λ (x : Bool).
+      Performs state_of left_in contents failed (Validate disk from to is_all x) input old result new)
       (sym is) performs
 
   pub relays : (disk : Bor (List ℕ)) (controlled common : WireEnds) (running : Running)
-      → IfOk result (Does state_of (Relay disk controlled common running) input (contents old) (contents new))
+      → IfOk result (Does state_of left_in (Relay disk controlled common running) input (contents old) (contents new))
       → IfErr result (λ failure. failure_status failure ≡ ends.Usage
       → WrongValues (Relay disk controlled common running) × (new ≡ old)) → Silent
-      → IfErr result (FailsAs state_of (Relay disk controlled common running) input (contents old) (contents new))
+      → IfErr result (FailsAs state_of left_in (Relay disk controlled common running) input (contents old)
+      (contents new))
       → Broken
-      → Performs state_of contents failed (Relay disk controlled common running) input old result new
+      → Performs state_of left_in contents failed (Relay disk controlled common running) input old result new
   relays disk controlled common running done usage silent fails broken = record {
     does = done;
     status = IfOk-weaker result _ _ (λ status all. let (summary, comes, spelled, printed, is) = all in inl is) done;
@@ -308,7 +315,7 @@ module _ {F W : Type 0} (state_of : F → FileState) (contents : W → Option (L
   pub asks : (path : Bor (List ℕ)) (asked : Question) → IfOk result (PrintsAnswer asked (contents old) (contents new))
       → IfErr result IsOfAsking
       → IfErr result (λ failure. failure ≢ Output → PrintsFront asked (contents old) (contents new)) → Broken
-      → Performs state_of contents failed (Ask path asked) input old result new
+      → Performs state_of left_in contents failed (Ask path asked) input old result new
   asks path asked done fails front broken = record {
     does = done;
     status = IfOk-weaker result _ _ (answer-status asked) done;
@@ -321,7 +328,7 @@ module _ {F W : Type 0} (state_of : F → FileState) (contents : W → Option (L
 
   pub keys : (is_long : Bool) → IfOk result
       (λ status. GivesKey is_long (contents old) (contents new) × (status ≡ ends.Done)) → IfErr result IsOfKey
-      → Silent → Broken → Performs state_of contents failed (Key is_long) input old result new
+      → Silent → Broken → Performs state_of left_in contents failed (Key is_long) input old result new
   keys is_long done fails silent broken = record {
     does = done;
     status = IfOk-weaker result _ _ (λ status all. inl all.1) done;
@@ -336,7 +343,7 @@ module _ {F W : Type 0} (state_of : F → FileState) (contents : W → Option (L
       (λ status. Inspects (contents old) (contents new) × (status ≡ ends.Done)) → IfErr result IsOfInspecting
       → IfErr result (InspectFails (contents old) (contents new))
       → IfErr result (λ failure. failure ≢ Output → PrintsFrames (contents old) (contents new))
-      → Broken → Performs state_of contents failed (Inspect from) input old result new
+      → Broken → Performs state_of left_in contents failed (Inspect from) input old result new
   inspects from done ours fails front broken = record {
     does = done;
     status = IfOk-weaker result _ _ (λ status all. inl all.1) done;
@@ -349,23 +356,23 @@ module _ {F W : Type 0} (state_of : F → FileState) (contents : W → Option (L
 
   -- how a check ends that printed what it was to print
   check-status : (disk : Option (Bor (List ℕ))) (status : Status)
-      → Checks state_of disk (contents old) (contents new) status
+      → Checks state_of left_in disk (contents old) (contents new) status
       → (status ≡ ends.Done) ⊎ (status ≡ ends.Refused)
   check-status None status printed = inl printed.1
   check-status (Some disk) status printed = applied-status printed.outcomes status printed.status_is
 
   -- a failure of a check is no wrong usage
-  check-no-usage : (disk : Option (Bor (List ℕ))) (failure : Failure) → CheckEnds state_of disk failure
+  check-no-usage : (disk : Option (Bor (List ℕ))) (failure : Failure) → CheckEnds state_of left_in disk failure
       → failure_status failure ≢ ends.Usage
-  check-no-usage None failure is = (checking-no-usage failure is).0
-  check-no-usage (Some disk) failure (inl is) = (checking-no-usage failure is).0
-  check-no-usage (Some disk) failure (inr (octets, commands, says, fails)) =
+  check-no-usage None failure is = (checking-no-usage left_in failure is).0
+  check-no-usage (Some disk) failure (inl is) = (checking-no-usage left_in failure is).0
+  check-no-usage (Some disk) failure (inr (octets, commands, says, by_file, fails)) =
       disk-no-usage failure (of-trial state_of commands failure fails)
 
   pub checks : (file : Bor (List ℕ)) (disk : Option (Bor (List ℕ)))
-      → IfOk result (Checks state_of disk (contents old) (contents new))
-      → IfErr result (CheckEnds state_of disk) → Silent → Broken
-      → Performs state_of contents failed (Check file disk) input old result new
+      → IfOk result (Checks state_of left_in disk (contents old) (contents new))
+      → IfErr result (CheckEnds state_of left_in disk) → Silent → Broken
+      → Performs state_of left_in contents failed (Check file disk) input old result new
   checks file disk done fails silent broken = record {
     does = done;
     status = IfOk-weaker result _ _ (check-status disk) done;
@@ -377,14 +384,15 @@ module _ {F W : Type 0} (state_of : F → FileState) (contents : W → Option (L
   }
 
   pub plans : (file : Bor (List ℕ)) (end : PlanEnd) (stage : PlanStage) → IfOk result
-      (λ status. PrintsPlan (end_of end) (stage_of stage) (contents old) (contents new) × (status ≡ ends.Done))
-      → IfErr result (PlanFails (end_of end) (stage_of stage)) → Silent → Broken
-      → Performs state_of contents failed (Plan file end stage) input old result new
+      (λ status. PrintsPlan left_in (end_of end) (stage_of stage) (contents old) (contents new)
+      × (status ≡ ends.Done))
+      → IfErr result (PlanFails left_in (end_of end) (stage_of stage)) → Silent → Broken
+      → Performs state_of left_in contents failed (Plan file end stage) input old result new
   plans file end stage done fails silent broken = record {
     does = done;
     status = IfOk-weaker result _ _ (λ status all. inl all.1) done;
     usage = IfErr-weaker result _ _
-        (λ failure is usage. absurd (planning-no-usage (end_of end) (stage_of stage) failure is usage)) fails;
+        (λ failure is usage. absurd (planning-no-usage left_in (end_of end) (stage_of stage) failure is usage)) fails;
     disk = IfErr-weaker result _ _ (λ failure same disk. ((λ is. absurd cc), same disk)) (kept silent);
     before = before silent;
     fails = fails;
@@ -393,7 +401,7 @@ module _ {F W : Type 0} (state_of : F → FileState) (contents : W → Option (L
 
   pub examines : (disk : Bor (List ℕ)) → IfOk result (PrintsExamined state_of (contents old) (contents new))
       → IfErr result (ExamineFails state_of) → Silent → Broken
-      → Performs state_of contents failed (Examine disk) input old result new
+      → Performs state_of left_in contents failed (Examine disk) input old result new
   examines disk done fails silent broken = record {
     does = done;
     status = IfOk-weaker result _ _ (λ status (text, is, printed). said-status _ _ _ _ is.says) done;
@@ -406,7 +414,7 @@ module _ {F W : Type 0} (state_of : F → FileState) (contents : W → Option (L
 
   pub tells : IfOk result (λ status. Appends (contents old) (contents new) about_text × (status ≡ ends.Done))
       → IfErr result (λ failure. (failure ≡ failures.Memory) ⊎ (failure ≡ Output)) → Silent → Broken
-      → Performs state_of contents failed About input old result new
+      → Performs state_of left_in contents failed About input old result new
   tells done fails silent broken = record {
     does = done;
     status = IfOk-weaker result _ _ (λ status all. inl all.1) done;

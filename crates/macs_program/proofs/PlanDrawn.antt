@@ -6,9 +6,9 @@ pub plan-texts : PlanTexts
 plan-texts = record {
   ends = refl;
   stages = refl;
-  prints = λ end stage before after (octets, text, is, printed).
+  planned = λ end stage octets text is.
       let (commands, planned, says) = is.planned in
-      (octets, text, is.short, is.utf8, is.members, is.parsed, commands, planned, says.read, says.taken, printed);
+      (is.short, is.utf8, is.members, is.parsed, commands, planned, says.read, says.taken);
   said = λ end stage octets said is. is;
   whole = refl;
   left = λ name. refl;

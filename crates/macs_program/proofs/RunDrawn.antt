@@ -1,7 +1,7 @@
 -- All that is to be drawn from words on whole runs.
 use Rattle.std.proofs.Common.{◌≡◌, ◌⊎◌, ◌++◌, inl, inr, ℕ, Bool, List, Option, None, length, refl, subst, Ok, ◌*◌, ◌∙◌}
 use Rattle.std.proofs.Common.{ap, arith}
-use Rattle.std.specs.Prelude.{option_map, string_bytes}
+use Rattle.std.specs.Prelude.{IfSome, option_map, string_bytes}
 use Rattle.std.specs.Borrow.{Bor}
 use Rattle.std.specs.Io.KnownBytes.{Appends}
 use Rattle.clap.specs.Words.{Text}
@@ -27,8 +27,8 @@ use Rattle.macs_pcap.specs.declared.header.Header.{Header}
 use Rattle.macs_rxsc.specs.declared.verdict.Verdict.{Verdict}
 use Rattle.macs_program.specs.Addresses.{AddressFaultHolds}
 use Rattle.macs_program.specs.Asking.{IsOfAsking}
-use Rattle.macs_program.specs.Applying.{SaysCommands}
-use Rattle.macs_program.specs.Checking.{CheckFails, IsSaidOfFile, PrintsCount, count_line}
+use Rattle.macs_program.specs.Applying.{SaidByFile, SaysCommands}
+use Rattle.macs_program.specs.Checking.{CheckFails, Complains, IsSaidOfFile, PrintsCount, count_line}
 use Rattle.macs_program.specs.Capturing.{EndsPass, PassesCapture}
 use Rattle.macs_program.specs.Contents.{number_of, sector_in}
 use Rattle.macs_program.specs.Endpoints.{IsEndpointIn, PassEnds, PassesIn}
@@ -56,10 +56,12 @@ use Rattle.macs_words.specs.declared.pace.Running.{Running}
 
 -- ---- what is done
 
-counted : (before after : Option (List ℕ)) (status : Status) → PrintsCount before after × (status ≡ ends.Done)
-    → (octets : List ℕ) × (commands : List Command) × SaysCommands octets commands
+counted : {F : Type 0} (left_in : F → Option (List ℕ)) (before after : Option (List ℕ)) (status : Status)
+    → PrintsCount left_in before after × (status ≡ ends.Done)
+    → (octets : List ℕ) × (commands : List Command) × SaysCommands octets commands × SaidByFile left_in commands
     × Appends before after (count_line (length commands)) × (status ≡ ends.Done)
-counted before after status ((octets, commands, says, printed), done) = (octets, commands, says, printed, done)
+counted left_in before after status ((octets, commands, says, by_file, printed), done) =
+    (octets, commands, says, by_file, printed, done)
 
 -- a sector of the copy is the disk's
 seen-in : (file : FileState) (layout : Layout) (at : ℕ)
@@ -137,8 +139,8 @@ judged file is_all before after status (summary, verdicts, is, printed, ended) =
   ended,
 )
 
-pub reply-words : {F : Type 0} (file : F → FileState) → ReplyWords file
-reply-words file = record {
+pub reply-words : {F : Type 0} (file : F → FileState) (left_in : F → Option (List ℕ)) → ReplyWords file left_in
+reply-words file left_in = record {
   replied = λ words input before after status is. is;
   opened = λ input before after status is. is;
   formatted = λ path sci tx_block rx_block block is_over input before after status
@@ -161,6 +163,7 @@ reply-words file = record {
     is.applies.octets,
     is.applies.commands,
     is.applies.says,
+    is.applies.by_file,
     is.applies.applies.outcomes,
     is.applies.applies.applied,
     is.applies.applies.printed,
@@ -215,10 +218,23 @@ reply-words file = record {
     done,
   );
   about = λ input before after status is. is;
-  checked = λ from input before after status is. counted before after status is;
-  planned = λ from end stage input before after status ((octets, text, is, printed), done).
+  checked = λ from input before after status is. counted left_in before after status is;
+  planned = λ from end stage input before after status ((octets, text, is, by_file, printed), done).
       let (commands, planned, says) = is.planned in
-      (octets, text, is.members, is.parsed, commands, planned, says.read, says.taken, printed, done);
+      (
+        octets,
+        text,
+        is.members,
+        is.parsed,
+        commands,
+        planned,
+        says.read,
+        says.taken,
+        by_file.0,
+        by_file.1,
+        printed,
+        done,
+      );
   prints = λ is_long octets before after is. (is.count, is.printed);
   lengths = (refl, refl);
   inspects = λ old new before after is. inspects old new before after is;
@@ -228,6 +244,7 @@ reply-words file = record {
     is.octets,
     is.commands,
     is.says,
+    is.by_file,
     is.tries.file,
     is.tries.copy,
     is.tries.is_copy,
@@ -260,22 +277,29 @@ of_key failures.Random is = inl refl
 of_key failures.Output is = inr refl
 of_key other is = absurd is
 
-of_check : (failure : Failure) → CheckFails failure
+of_check : {F : Type 0} (left_in : F → Option (List ℕ)) (failure : Failure) → CheckFails left_in failure
     → (failure ≡ failures.Commands) ⊎ (failure ≡ failures.Output) ⊎ (failure ≡ failures.Memory)
-    ⊎ ((octets : List ℕ) × (said : _) × (failure ≡ failures.CommandFile said) × IsSaidOfFile octets (string_bytes said))
-of_check failure (inl unread) = inl unread
-of_check failure (inr (inl unprinted)) = inr (inl unprinted)
-of_check failure (inr (inr (octets, inl memory))) = inr (inr (inl memory))
-of_check failure (inr (inr (octets, inr (said, is, holds)))) = inr (inr (inr (octets, said, is, holds)))
+    ⊎ ((octets : List ℕ) × (said : _) × (failure ≡ failures.CommandFile said) × IsSaidOfFile octets (string_bytes said)
+    × (from_file : F) × IfSome (left_in from_file) (λ all. Complains (IsSaidOfFile all) failure))
+of_check left_in failure (inl unread) = inl unread
+of_check left_in failure (inr (inl unprinted)) = inr (inl unprinted)
+of_check left_in failure (inr (inr (octets, inl memory, by_file))) = inr (inr (inl memory))
+of_check left_in failure (inr (inr (octets, inr (said, is, holds), inl memory))) = inr (inr (inl memory))
+of_check left_in failure (inr (inr (octets, inr (said, is, holds), inr (file, complains)))) =
+    inr (inr (inr (octets, said, is, holds, file, complains)))
 
-of_plan : (end : End) (stage : Stage) (failure : Failure) → PlanFails end stage failure
+of_plan : {F : Type 0} (left_in : F → Option (List ℕ)) (end : End) (stage : Stage) (failure : Failure)
+    → PlanFails left_in end stage failure
     → (failure ≡ failures.Commands) ⊎ (failure ≡ failures.Output) ⊎ (failure ≡ failures.Memory)
     ⊎ ((octets : List ℕ) × (said : _) × (failure ≡ failures.CommandFile said)
-    × IsSaidOfLink end stage octets (string_bytes said))
-of_plan end stage failure (inl unread) = inl unread
-of_plan end stage failure (inr (inl unprinted)) = inr (inl unprinted)
-of_plan end stage failure (inr (inr (octets, inl memory))) = inr (inr (inl memory))
-of_plan end stage failure (inr (inr (octets, inr (said, is, holds)))) = inr (inr (inr (octets, said, is, holds)))
+    × IsSaidOfLink end stage octets (string_bytes said)
+    × (from_file : F) × IfSome (left_in from_file) (λ all. Complains (IsSaidOfLink end stage all) failure))
+of_plan left_in end stage failure (inl unread) = inl unread
+of_plan left_in end stage failure (inr (inl unprinted)) = inr (inl unprinted)
+of_plan left_in end stage failure (inr (inr (octets, inl memory, by_file))) = inr (inr (inl memory))
+of_plan left_in end stage failure (inr (inr (octets, inr (said, is, holds), inl memory))) = inr (inr (inl memory))
+of_plan left_in end stage failure (inr (inr (octets, inr (said, is, holds), inr (file, complains)))) =
+    inr (inr (inr (octets, said, is, holds, file, complains)))
 
 passing : {D : Type 0} (disk_of : D → Disk) (side : Side) (old : EndpointValue D) (failure : Failure)
     (new : EndpointValue D)
@@ -296,8 +320,8 @@ judging disk_of old failure new (inl early) = inl early
 judging disk_of old failure new (inr stops) =
     inr (stops.source, stops.source_left, stops.sink, stops.sink_left, stops.ends)
 
-pub fail-words : {F : Type 0} (file : F → FileState) → FailWords file
-fail-words file = record {
+pub fail-words : {F : Type 0} (file : F → FileState) (left_in : F → Option (List ℕ)) → FailWords file left_in
+fail-words file left_in = record {
   failed = λ words input before after failure is. is;
   of_open = λ input before after failure is. is;
   of_format = λ path sci tx_block rx_block block is_over input before after failure is. is;
@@ -331,8 +355,9 @@ fail-words file = record {
     )
   ];
   of_about = λ input before after failure is. is;
-  of_check = λ from input before after failure is. of_check failure is;
-  of_plan = λ from end stage input before after failure is. of_plan (end_of end) (stage_of stage) failure is;
+  of_check = λ from input before after failure is. of_check left_in failure is;
+  of_plan = λ from end stage input before after failure is.
+      of_plan left_in (end_of end) (stage_of stage) failure is;
   of_trial = λ from path input before after failure is. is;
   copying = λ disk_file failure is. is;
   trying = λ copy commands failure is. elim is [

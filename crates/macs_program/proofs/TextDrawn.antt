@@ -25,7 +25,7 @@ use Rattle.macs_program.specs.Asking.{failure_in}
 use Rattle.macs_program.specs.Checking.{count_line}
 use Rattle.macs_program.specs.Summing.{pass_status}
 use Rattle.macs_program.specs.TextWords.{CheckTexts, FailureTexts, FaultOrders, FrameTexts, LineTexts}
-use Rattle.macs_program.specs.Trying.{would_line, would_lines}
+use Rattle.macs_program.specs.Trying.{trial_line, trial_lines}
 use Rattle.macs_program.specs.declared.failure.DiskFault.TheVariants as disk
 use Rattle.macs_program.specs.declared.failure.Failure.TheVariants as failures
 use Rattle.macs_program.specs.declared.status.Status.TheVariants as ends
@@ -155,10 +155,12 @@ check-texts = record {
   keys = refl;
   reasons = refl;
   none_tried = λ at. refl;
+  no_report = refl;
+  report = λ outcome outcomes. refl;
   kept = λ at. kept_as at (codes " would be ok");
   refused = λ at r. refused_as at (codes " would be refused ") r;
   more_tried = λ at outcome outcomes.
-      ap (λ (l : List ℕ). l ++ would_lines (at + 1) outcomes) (sym (append-nil (would_line at outcome)));
+      ap (λ (l : List ℕ). l ++ trial_lines (at + 1) outcomes) (sym (append-nil (trial_line at outcome)));
 }
 
 -- ---- `show`

@@ -1,9 +1,11 @@
 -- Commands that were given to an endpoint in memory, and how that fails.
 use Rattle.std.proofs.Common.{◌≡◌, ◌⊎◌, ◌∙◌, ◌+◌, ◌<◌, ◌≤◌, ◌++◌, inl, inr, ℕ, suc, Bool, if◌then◌else◌, is_some, List}
 use Rattle.std.proofs.Common.{[], ◌∷◌, length, take, drop, get_or, Option, Some, append_assoc, ap, subst, sym, arith}
+use Rattle.std.proofs.Common.{◌==◌, codes, false, true, refl}
 use Rattle.std.specs.Borrow.{Bor}
 use Rattle.clap.specs.Words.{Text}
 use Rattle.std.proofs.Math.Seq.{drop-cons}
+use Rattle.std.proofs.lemmas.Bool.{true≢false}
 use Rattle.std.proofs.lemmas.List.{append-nil, drop_all, take_more}
 use Rattle.macs_config.specs.declared.command.Command.{Command}
 use Rattle.macs_config.specs.declared.refusal.Refusal.{Refusal}
@@ -13,11 +15,11 @@ use Rattle.macs_endpoint.specs.Calls.{IsCall}
 use Rattle.macs_endpoint.specs.State.{Commands, Ran}
 use Rattle.macs_endpoint.specs.Value.{EndpointValue}
 use Rattle.macs_journal.specs.declared.fault.JournalFault.TheVariants as journal
-use Rattle.macs_program.specs.Applying.{Applies, SaysCommands, answer_of, outcomes_status}
+use Rattle.macs_program.specs.Applying.{Applies, SaidByFile, SaysCommands, answer_of, outcomes_status}
 use Rattle.macs_program.specs.Checking.{CheckEnds}
 use Rattle.macs_program.specs.Copying.{CopyFails}
-use Rattle.macs_program.specs.Trying.{EndsOn, EndsTrial, StopsAt, TrialEnds, TrialFails, failure_in_memory, would_line}
-use Rattle.macs_program.specs.Trying.{would_lines}
+use Rattle.macs_program.specs.Trying.{EndsOn, EndsTrial, StopsAt, TrialEnds, TrialFails, failure_in_memory, trial_line}
+use Rattle.macs_program.specs.Trying.{trial_lines, trial_report}
 use Rattle.macs_program.specs.declared.failure.DiskFault.{DiskFault}
 use Rattle.macs_program.specs.declared.failure.DiskFault.TheVariants as disk
 use Rattle.macs_program.specs.declared.failure.Failure.{Failure}
@@ -61,24 +63,35 @@ stopped-at disk_of old between commands i d command outcomes failure within next
 
 pub line-more : (text new one : List ℕ) (i : ℕ) (outcomes : List (Option Refusal)) (d outcome : Option Refusal)
     (whole : List ℕ)
-    → i < length outcomes → outcome ≡ get_or outcomes i d → one ≡ would_line (i + 1) outcome → new ≡ text ++ one
-    → text ++ would_lines (i + 1) (drop i outcomes) ≡ whole
-    → new ++ would_lines (i + 1 + 1) (drop (i + 1) outcomes) ≡ whole
+    → i < length outcomes → outcome ≡ get_or outcomes i d → one ≡ trial_line (i + 1) outcome → new ≡ text ++ one
+    → text ++ trial_lines (i + 1) (drop i outcomes) ≡ whole
+    → new ++ trial_lines (i + 1 + 1) (drop (i + 1) outcomes) ≡ whole
 line-more text new one i outcomes d outcome whole within is line_is new_is so_far =
     let next : suc i ≡ i + 1 = omega arith in
-    let rest = would_lines (i + 1 + 1) (drop (i + 1) outcomes) in
+    let rest = trial_lines (i + 1 + 1) (drop (i + 1) outcomes) in
     let here = drop-cons outcomes i d within ∙ ap (λ (k : ℕ). get_or outcomes i d ∷ drop k outcomes) next
     ∙ ap (λ (o : Option Refusal). o ∷ drop (i + 1) outcomes) (sym is) in
     ap (λ (t : List ℕ). t ++ rest) (new_is ∙ ap (λ (l : List ℕ). text ++ l) line_is)
-    ∙ append_assoc text (would_line (i + 1) outcome) rest
-    ∙ ap (λ (os : List (Option Refusal)). text ++ would_lines (i + 1) os) (sym here) ∙ so_far
+    ∙ append_assoc text (trial_line (i + 1) outcome) rest
+    ∙ ap (λ (os : List (Option Refusal)). text ++ trial_lines (i + 1) os) (sym here) ∙ so_far
 
 -- all lines are there
 pub lines-end : (text : List ℕ) (i : ℕ) (outcomes : List (Option Refusal)) (whole : List ℕ) → length outcomes ≤ i
-    → text ++ would_lines (i + 1) (drop i outcomes) ≡ whole → text ≡ whole
+    → text ++ trial_lines (i + 1) (drop i outcomes) ≡ whole → text ≡ whole
 lines-end text i outcomes whole behind so_far =
     let none : drop i outcomes ≡ [] = drop_all i outcomes behind in
-    sym (append-nil text) ∙ ap (λ (os : List (Option Refusal)). text ++ would_lines (i + 1) os) (sym none) ∙ so_far
+    sym (append-nil text) ∙ ap (λ (os : List (Option Refusal)). text ++ trial_lines (i + 1) os) (sym none) ∙ so_far
+
+-- what is said of all: of none, and of some
+pub none-reported : (outcomes : List (Option Refusal)) → (length outcomes == 0) ≡ true
+    → codes "0 commands" ++ 10 ∷ [] ≡ trial_report outcomes
+none-reported [] none = refl
+none-reported (outcome ∷ outcomes) none = absurd (true≢false (sym none))
+
+pub some-reported : (outcomes : List (Option Refusal)) → (length outcomes == 0) ≡ false
+    → trial_lines 1 outcomes ≡ trial_report outcomes
+some-reported [] some = absurd (true≢false some)
+some-reported (outcome ∷ outcomes) some = refl
 
 -- how the run ends, with one outcome more
 pub status-next : (outcomes : List (Option Refusal)) (i : ℕ) (d outcome : Option Refusal) (status new : Status)
@@ -120,15 +133,18 @@ copy-fails file failure (inr (is, few)) = inr (disk.Journal journal.TooSmall, is
 pub of-trial : {F : Type 0} (state_of : F → FileState) (commands : List Command) (failure : Failure)
     → TrialFails state_of commands failure
     → IsOfDisk failure
-of-trial state_of commands failure (inl (fault, is)) = of-file fault failure is
+of-trial state_of commands failure (inl (fault, is, whole, device)) = of-file fault failure is
 of-trial state_of commands failure (inr (inl (file, fails))) = copy-fails (state_of file) failure fails
 of-trial state_of commands failure (inr (inr (file, copy, is_copy, ends))) = ends-on _ copy commands failure ends
 
 -- what is to be printed of a trial is not
-pub trial-ended : {F : Type 0} (state_of : F → FileState) (given : Bor Text) (octets : List ℕ) (commands : List Command)
-    (failure : Failure)
-    → SaysCommands octets commands → (failure ≡ Output) ⊎ (failure ≡ Memory) ⊎ TrialFails state_of commands failure
-    → CheckEnds state_of (Some given) failure
-trial-ended state_of given octets commands failure says (inl output) = inl (inr (inl output))
-trial-ended state_of given octets commands failure says (inr (inl memory)) = inl (inr (inr (octets, inl memory)))
-trial-ended state_of given octets commands failure says (inr (inr fails)) = inr (octets, commands, says, fails)
+pub trial-ended : {F : Type 0} (state_of : F → FileState) (left_in : F → Option (List ℕ)) (given : Bor Text)
+    (octets : List ℕ) (commands : List Command) (failure : Failure)
+    → SaysCommands octets commands → SaidByFile left_in commands
+    → (failure ≡ Output) ⊎ (failure ≡ Memory) ⊎ TrialFails state_of commands failure
+    → CheckEnds state_of left_in (Some given) failure
+trial-ended state_of left_in given octets commands failure says by_file (inl output) = inl (inr (inl output))
+trial-ended state_of left_in given octets commands failure says by_file (inr (inl memory)) =
+    inl (inr (inr (octets, inl memory, inl memory)))
+trial-ended state_of left_in given octets commands failure says by_file (inr (inr fails)) =
+    inr (octets, commands, says, by_file, fails)

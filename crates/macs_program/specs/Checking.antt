@@ -1,6 +1,6 @@
 -- What `check` says of a command file, and of the commands on a disk.
 use Rattle.std.specs.Prelude.{◌≡◌, ◌⊎◌, ◌<◌, ◌≤◌, ◌==◌, ◌++◌, if◌then◌else◌, ⊤, ℕ, List, length, codes, Option, Some}
-use Rattle.std.specs.Prelude.{None, Err, string_bytes}
+use Rattle.std.specs.Prelude.{None, Err, IfSome, string_bytes}
 use Rattle.std.specs.Fmt.{decimal}
 use Rattle.std.specs.Io.KnownBytes.{Appends}
 use Rattle.std.specs.Borrow.{Bor}
@@ -16,7 +16,7 @@ use Rattle.macs_commands.specs.declared.config_fault.KeyName.{KeyName}
 use Rattle.macs_commands.specs.declared.config_fault.KeyName.TheVariants as name
 use Rattle.macs_disk.specs.Files.{FileState}
 use Rattle.macs_texts.specs.Lines.{line}
-use Rattle.macs_program.specs.Applying.{SaysCommands, longest_file}
+use Rattle.macs_program.specs.Applying.{SaidByFile, SaysCommands, longest_file}
 use Rattle.macs_program.specs.declared.failure.Failure.{Failure}
 use Rattle.macs_program.specs.declared.failure.Failure.TheVariants as failures
 use Rattle.macs_program.specs.declared.status.Status.{Status}
@@ -48,9 +48,9 @@ key_reason name.On = codes "not true or false"
 key_reason name.Window = codes "not 0 to 4294967295"
 key_reason name.An = codes "not 0 to 3"
 key_reason name.Key = codes "not 32 or 64 hex digits"
-key_reason name.Start = codes "not 1 to 4294967295"
+key_reason name.Start = codes "not 0 to 4294967295"
 key_reason name.Confidential = codes "not true or false"
-key_reason name.Offset = codes "not 0, 30 or 50"
+key_reason name.Offset = codes "not 0 to 255"
 key_reason name.Sci = codes "not 16 hex digits"
 
 -- the first fault of the commands of a file, by its place, key and reason
@@ -86,28 +86,34 @@ abbrev pub Complains : (List ℕ → Type 0) → Failure → Type 0
 Complains Holds failure =
     (failure ≡ failures.Memory) ⊎ ((text : _) × (failure ≡ failures.CommandFile text) × Holds (string_bytes text))
 
--- ---- of a file of which is not known here what it has
+-- ---- of a file, where `left_in` says what is left to read of one, where that is known
 
--- the number of commands is printed that some octets say
-abbrev pub PrintsCount : Option (List ℕ) → Option (List ℕ) → Type 0
-PrintsCount before after =
-    (octets : List ℕ) × (commands : List Command) × SaysCommands octets commands
+-- the number of commands is printed that a file says
+abbrev pub PrintsCount : {F : Type 0} → (F → Option (List ℕ)) → Option (List ℕ) → Option (List ℕ) → Type 0
+PrintsCount left_in before after =
+    (octets : List ℕ) × (commands : List Command) × SaysCommands octets commands × SaidByFile left_in commands
     × Appends before after (count_line (length commands))
 
+-- a failure says something of a file, which is said of its octets
+abbrev pub ComplainsOfFile : {F : Type 0} → (List ℕ → List ℕ → Type 0) → (F → Option (List ℕ)) → Failure → Type 0
+ComplainsOfFile {F} IsSaid left_in failure =
+    (file : F) × IfSome (left_in file) (λ octets. Complains (IsSaid octets) failure)
+
 -- the file is not read; or something is said of its octets, or there is no memory; or what is to be printed cannot be
-abbrev pub CheckFails : Failure → Type 0
-CheckFails failure = (failure ≡ failures.Commands) ⊎ (failure ≡ failures.Output)
-    ⊎ ((octets : List ℕ) × Complains (IsSaidOfFile octets) failure)
+abbrev pub CheckFails : {F : Type 0} → (F → Option (List ℕ)) → Failure → Type 0
+CheckFails left_in failure = (failure ≡ failures.Commands) ⊎ (failure ≡ failures.Output)
+    ⊎ ((octets : List ℕ) × Complains (IsSaidOfFile octets) failure
+    × ((failure ≡ failures.Memory) ⊎ ComplainsOfFile IsSaidOfFile left_in failure))
 
 -- ---- with a disk, where `state_of` says what files are, and without one
 
 -- the number of commands is printed, or what each would be answered on the disk
-abbrev pub Checks : {F : Type 0} → (F → FileState) → Option (Bor Text) → Option (List ℕ) → Option (List ℕ)
-    → Status → Type 0
-Checks state_of None before after status = PrintsCount before after × (status ≡ ends.Done)
-Checks state_of (Some disk) before after status = PrintsTrial state_of before after status
+abbrev pub Checks : {F : Type 0} → (F → FileState) → (F → Option (List ℕ)) → Option (Bor Text) → Option (List ℕ)
+    → Option (List ℕ) → Status → Type 0
+Checks state_of left_in None before after status = PrintsCount left_in before after × (status ≡ ends.Done)
+Checks state_of left_in (Some disk) before after status = PrintsTrial state_of left_in before after status
 
 -- the command file is not read, or has a fault; or they cannot be tried on the disk
-abbrev pub CheckEnds : {F : Type 0} → (F → FileState) → Option (Bor Text) → Failure → Type 0
-CheckEnds state_of None failure = CheckFails failure
-CheckEnds state_of (Some disk) failure = CheckFails failure ⊎ TrialStops state_of failure
+abbrev pub CheckEnds : {F : Type 0} → (F → FileState) → (F → Option (List ℕ)) → Option (Bor Text) → Failure → Type 0
+CheckEnds state_of left_in None failure = CheckFails left_in failure
+CheckEnds state_of left_in (Some disk) failure = CheckFails left_in failure ⊎ TrialStops state_of left_in failure

@@ -46,7 +46,8 @@ use Rattle.macs_journal.specs.declared.fault.JournalFault.TheVariants as journal
 use Rattle.macs_pcap.specs.States.{SinkState, SourceState}
 use Rattle.macs_program.specs.Addresses.{SpellsBoth, SpellsNone}
 use Rattle.macs_program.specs.Opened.{Answers, answer_status, answer_text}
-use Rattle.macs_program.specs.Applying.{Applies, AppliesAll, AppliesSome, EndsRun, SaysCommands, commit_fault}
+use Rattle.macs_program.specs.Applying.{Applies, AppliesAll, AppliesSome, EndsRun, SaidByFile, SaysCommands}
+use Rattle.macs_program.specs.Applying.{commit_fault}
 use Rattle.macs_program.specs.Applying.{outcome_lines, outcomes_status}
 use Rattle.macs_program.specs.CaptureFiles.{Asked, Asks, AsksInOrder, Makes, Opens as OpensCapture}
 use Rattle.macs_program.specs.Capturing.{EndsPass, EndsWith, IsFlushed, PassesCapture}
@@ -133,7 +134,7 @@ pub record TextLineWords : Type 0 where
 -- `command` of the endpoint answers; and to one file one list of commands. A file is of TOML, in UTF-8, of 1,048,576
 -- octets at most. A line is printed for each command, in their order, and the run has the status of those outcomes. It
 -- ends for a command that the endpoint answers so, or whose line cannot be printed.
-pub record ApplyWords {D : Type 0} (disk_of : D → Disk) : Type 0 where
+pub record ApplyWords {D F : Type 0} (disk_of : D → Disk) (left_in : F → Option (List ℕ)) : Type 0 where
   pub one : (old new other : EndpointValue D) (commands : List Command) (p q : List (Option Refusal))
       → Applies disk_of old commands p new
       → Applies disk_of old commands q other → p ≡ q
@@ -154,8 +155,11 @@ pub record ApplyWords {D : Type 0} (disk_of : D → Disk) : Type 0 where
       (a : AppliesAll disk_of old commands before after status new) → Applies disk_of old commands a.outcomes new
       × Appends before after (outcome_lines 1 a.outcomes) × (status ≡ outcomes_status a.outcomes)
   pub file : (old new : EndpointValue D) (before after : Option (List ℕ)) (status : Status)
-      (f : AppliesFile disk_of old before after status new)
-      → SaysCommands f.octets f.commands × AppliesAll disk_of old f.commands before after status new
+      (f : AppliesFile left_in disk_of old before after status new)
+      → SaysCommands f.octets f.commands × SaidByFile left_in f.commands
+      × AppliesAll disk_of old f.commands before after status new
+  pub by_file : (commands : List Command) (s : SaidByFile left_in commands)
+      → IfSome (left_in s.file) (λ octets. SaysCommands octets commands)
   pub one_file : (octets : List ℕ) (a b : List Command) → SaysCommands octets a → SaysCommands octets b → a ≡ b
   pub says : (octets : List ℕ) (commands : List Command) → SaysCommands octets commands → (length octets ≤ 1048576)
       × IsUtf8 octets
@@ -178,9 +182,9 @@ pub record ApplyWords {D : Type 0} (disk_of : D → Disk) : Type 0 where
       × Applies disk_of old a.done a.outcomes a.between × EndsRun disk_of a.between a.next failure new
       × (failure ≢ failures.Output → Appends before after (outcome_lines 1 a.outcomes))
   pub broken : (old new : EndpointValue D) (before after : Option (List ℕ)) (failure : Failure)
-      → BreaksOff disk_of old before after failure new
+      → BreaksOff left_in disk_of old before after failure new
       → (((failure ≡ failures.Memory) ⊎ (failure ≡ failures.Commands)) × (new ≡ old) × (after ≡ before))
-      ⊎ ((octets : List ℕ) × (commands : List Command) × SaysCommands octets commands
+      ⊎ ((octets : List ℕ) × (commands : List Command) × SaysCommands octets commands × SaidByFile left_in commands
       × AppliesSome disk_of old commands before after failure new)
 
 -- ---- captures
@@ -239,12 +243,12 @@ pub record FileWords {F : Type 0} (file : F → FileState) : Type 0 where
       ⊎ ((d : FileDisk F) × (left : FileDisk F) × (fault : JournalFault) × (failure ≡ failure_of_journal fault)
       × IsDiskIn file d
       × RefusesOpening (disk_in_file file) d left fault)
-  pub applied : (before after : Option (List ℕ)) (status : Status) (a : AppliesIn file before after status)
-      → IsEndpointIn file a.old
-      × AppliesFile (disk_in_file file) a.old before after status a.new
-  pub broken : (before after : Option (List ℕ)) (failure : Failure) (b : BreaksOffIn file before after failure)
-      → IsEndpointIn file b.old
-      × BreaksOff (disk_in_file file) b.old before after failure b.new
+  pub applied : (left_in : F → Option (List ℕ)) (before after : Option (List ℕ)) (status : Status)
+      (a : AppliesIn file left_in before after status) → IsEndpointIn file a.old
+      × AppliesFile left_in (disk_in_file file) a.old before after status a.new
+  pub broken : (left_in : F → Option (List ℕ)) (before after : Option (List ℕ)) (failure : Failure)
+      (b : BreaksOffIn file left_in before after failure) → IsEndpointIn file b.old
+      × BreaksOff left_in (disk_in_file file) b.old before after failure b.new
   pub shown : (before after : Option (List ℕ)) (s : ShowsIn file before after) → IsEndpointIn file s.shown
       × Appends before after (shown_text s.shown)
   pub passed : (side : Side) (summary : Summary) (p : PassesIn file side summary) → IsEndpointIn file p.old

@@ -16,7 +16,7 @@ use Rattle.macs_endpoint.specs.Value.{EndpointValue, state_of}
 use Rattle.macs_journal.specs.declared.fault.JournalFault.{JournalFault}
 use Rattle.macs_journal.specs.declared.recovery.RecoverRefused.{RecoverRefused}
 use Rattle.macs_pcap.specs.States.{SinkState, SourceState}
-use Rattle.macs_program.specs.Applying.{AppliesAll, AppliesSome, SaysCommands}
+use Rattle.macs_program.specs.Applying.{AppliesAll, AppliesSome, SaidByFile, SaysCommands}
 use Rattle.macs_program.specs.Capturing.{EndsPass, PassesCapture}
 use Rattle.macs_program.specs.Failing.{failure_of_file, failure_of_journal}
 use Rattle.macs_texts.specs.Showing.{show_text}
@@ -58,48 +58,48 @@ pub record IsRefusedIn {F : Type 0} (file : F → FileState) (failure : Failure)
 abbrev pub OpeningFails : {F : Type 0} → (F → FileState) → Failure → Type 0
 OpeningFails file failure = ((fault : FileFault) × (failure ≡ failure_of_file fault)) ⊎ IsRefusedIn file failure
 
--- ---- the commands of a file
+-- ---- the commands of a file, where `left_in` says what is left to read of one, where that is known
 
 -- the commands that some command file says are given to an endpoint, all of them, and a line is printed for each
-pub record AppliesFile {D : Type 0} (disk_of : D
-    → Disk) (old : EndpointValue D) (before after : Option (List ℕ)) (status : Status)
-    (new : EndpointValue D) : Type 0 where
+pub record AppliesFile {F D : Type 0} (left_in : F → Option (List ℕ)) (disk_of : D → Disk) (old : EndpointValue D)
+    (before after : Option (List ℕ)) (status : Status) (new : EndpointValue D) : Type 0 where
   pub octets : List ℕ
   pub commands : List Command
   pub says : SaysCommands octets commands
+  pub by_file : SaidByFile left_in commands
   pub applies : AppliesAll disk_of old commands before after status new
 
 -- the commands of some command file end at one of them
-pub record AppliesFront {D : Type 0} (disk_of : D
-    → Disk) (old : EndpointValue D) (before after : Option (List ℕ)) (failure : Failure)
-    (new : EndpointValue D) : Type 0 where
+pub record AppliesFront {F D : Type 0} (left_in : F → Option (List ℕ)) (disk_of : D → Disk) (old : EndpointValue D)
+    (before after : Option (List ℕ)) (failure : Failure) (new : EndpointValue D) : Type 0 where
   pub octets : List ℕ
   pub commands : List Command
   pub says : SaysCommands octets commands
+  pub by_file : SaidByFile left_in commands
   pub applies : AppliesSome disk_of old commands before after failure new
 
 -- there is no command file, or no memory, and nothing is done and printed; or the commands of one end at one of them
-abbrev pub BreaksOff : {D : Type 0} → (D → Disk) → EndpointValue D → Option (List ℕ) → Option (List ℕ) → Failure
-    → EndpointValue D → Type 0
-BreaksOff disk_of old before after failure new =
+abbrev pub BreaksOff : {F D : Type 0} → (F → Option (List ℕ)) → (D → Disk) → EndpointValue D → Option (List ℕ)
+    → Option (List ℕ) → Failure → EndpointValue D → Type 0
+BreaksOff left_in disk_of old before after failure new =
     (((failure ≡ failures.Memory) ⊎ (failure ≡ failures.Commands)) × (new ≡ old) × (after ≡ before))
-    ⊎ AppliesFront disk_of old before after failure new
+    ⊎ AppliesFront left_in disk_of old before after failure new
 
 -- the commands of a file are given to an endpoint on a disk in a file, and their lines are printed
-pub record AppliesIn {F : Type 0} (file : F → FileState) (before after : Option (List ℕ))
-    (status : Status) : Type 0 where
+pub record AppliesIn {F : Type 0} (file : F → FileState) (left_in : F → Option (List ℕ))
+    (before after : Option (List ℕ)) (status : Status) : Type 0 where
   pub old : EndpointValue (FileDisk F)
   pub new : EndpointValue (FileDisk F)
   pub endpoint : IsEndpointIn file old
-  pub applies : AppliesFile (disk_in_file file) old before after status new
+  pub applies : AppliesFile left_in (disk_in_file file) old before after status new
 
 -- they are not, or not all of them
-pub record BreaksOffIn {F : Type 0} (file : F → FileState) (before after : Option (List ℕ))
-    (failure : Failure) : Type 0 where
+pub record BreaksOffIn {F : Type 0} (file : F → FileState) (left_in : F → Option (List ℕ))
+    (before after : Option (List ℕ)) (failure : Failure) : Type 0 where
   pub old : EndpointValue (FileDisk F)
   pub new : EndpointValue (FileDisk F)
   pub endpoint : IsEndpointIn file old
-  pub ends : BreaksOff (disk_in_file file) old before after failure new
+  pub ends : BreaksOff left_in (disk_in_file file) old before after failure new
 
 -- ---- what is shown
 

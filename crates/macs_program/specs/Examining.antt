@@ -12,7 +12,6 @@ use Rattle.macs_disk.specs.Files.{Behaves, FileState, IsSure}
 use Rattle.macs_disk.specs.Layouts.{layout_in}
 use Rattle.macs_disk.specs.MemDisks.{disk_of}
 use Rattle.macs_disk.specs.States.{Image}
-use Rattle.macs_disk.specs.declared.file_fault.FileFault.{FileFault}
 use Rattle.macs_disk.specs.declared.layout.Layout.{Layout}
 use Rattle.macs_disk.specs.declared.layout.Layout.TheVariants.{Packed, Spaced}
 use Rattle.macs_disk.specs.declared.memory.MemDisk.{MemDisk}
@@ -26,8 +25,8 @@ use Rattle.macs_store.specs.Replay.{meaning_of}
 use Rattle.macs_store.specs.Standing.{Standing}
 use Rattle.macs_texts.specs.Lines.{line}
 use Rattle.macs_texts.specs.Showing.{association_numbers}
-use Rattle.macs_program.specs.Copying.{CopyFails, IsCopy}
-use Rattle.macs_program.specs.Failing.{failure_of_file, failure_of_journal}
+use Rattle.macs_program.specs.Copying.{CopyFails, IsCopy, IsNotRead}
+use Rattle.macs_program.specs.Failing.{failure_of_journal}
 use Rattle.macs_program.specs.FirstFault.{IsFirstFault}
 use Rattle.macs_program.specs.declared.examined_text.Figures.{Figures}
 use Rattle.macs_program.specs.declared.failure.Failure.{Failure}
@@ -155,7 +154,7 @@ pub record ExaminesIn {F : Type 0} (state_of : F → FileState) (text : List ℕ
 -- nothing is: the file is not opened; or there is no copy; or nothing is said of that
 abbrev pub ExaminationFails : {F : Type 0} → (F → FileState) → Failure → Type 0
 ExaminationFails {F} state_of failure =
-    ((fault : FileFault) × (failure ≡ failure_of_file fault))
+    IsNotRead failure
     ⊎ ((file : F) × CopyFails (state_of file) failure)
     ⊎ ((file : F) × (copy : MemDisk Global) × (layout : Layout) × IsLaidCopy (state_of file) copy layout
     × IsNotExamined (disk_of copy) failure)

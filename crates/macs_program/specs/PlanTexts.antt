@@ -2,7 +2,6 @@
 use Rattle.std.specs.Prelude.{◌≡◌, ◌⊎◌, ◌<◌, ◌≤◌, ◌++◌, ◌∷◌, [], ℕ, List, length, map, codes, Option, Some, None, Ok}
 use Rattle.std.specs.Prelude.{Err}
 use Rattle.std.specs.Fmt.{decimal}
-use Rattle.std.specs.Io.KnownBytes.{Appends}
 use Rattle.std.specs.Str.{IsUtf8}
 use Rattle.toml.specs.Data.{Members}
 use Rattle.toml.specs.Parse.{parse_document}
@@ -21,10 +20,10 @@ use Rattle.macs_plan.specs.declared.planning.Stage.{Stage}
 use Rattle.macs_plan.specs.declared.planning.Stage.TheVariants as stage
 use Rattle.macs_words.specs.declared.plan_words.PlanEnd.TheVariants as plan_end
 use Rattle.macs_words.specs.declared.plan_words.PlanStage.TheVariants as plan_stage
-use Rattle.macs_program.specs.Plans.{IsSaidOfLink, PrintsPlan, end_of, name_reason, name_word, plan_fault_text}
+use Rattle.macs_program.specs.Plans.{IsSaidOfLink, PlansFile, end_of, name_reason, name_word, plan_fault_text}
 use Rattle.macs_program.specs.Plans.{stage_of}
 
--- Each word names its own end or stage. What is printed is read as just the commands that are planned of the link that
+-- Each word names its own end or stage. What is planned is read as just the commands that are planned of the link that
 -- some octets say, of 1,048,576 at most. `plan` says that a file is too long, no text, no TOML, or why nothing is
 -- planned of it: that its tables are other ones, that a value of a table is none, by its key and what it is not, that
 -- there is a key too many, or which two are the same or that there is one pair alone.
@@ -32,11 +31,11 @@ pub record PlanTexts : Type 0 where
   pub ends : map end_of (plan_end.Left ∷ plan_end.Right ∷ []) ≡ side.Left ∷ side.Right ∷ []
   pub stages : map stage_of (plan_stage.First ∷ plan_stage.Receive ∷ plan_stage.Send ∷ plan_stage.Remove ∷ [])
       ≡ stage.First ∷ stage.Receive ∷ stage.Send ∷ stage.Remove ∷ []
-  pub prints : (end : End) (stage : Stage) (before after : Option (List ℕ)) → PrintsPlan end stage before after
-      → (octets : List ℕ) × (text : List ℕ) × (length octets ≤ 1048576) × IsUtf8 octets × (members : Members)
+  pub planned : (end : End) (stage : Stage) (octets text : List ℕ) → PlansFile end stage octets text
+      → (length octets ≤ 1048576) × IsUtf8 octets × (members : Members)
       × (parse_document octets ≡ Some members) × (commands : List Command)
       × (file_planned members end stage ≡ Ok commands) × (parse_document text ≡ Some (file_of commands))
-      × (file_commands (file_of commands) ≡ Ok commands) × Appends before after text
+      × (file_commands (file_of commands) ≡ Ok commands)
   pub said : (end : End) (stage : Stage) (octets said : List ℕ) → IsSaidOfLink end stage octets said
       → ((1048576 < length octets) × (said ≡ codes "link file: more than 1048576 octets"))
       ⊎ ((length octets ≤ 1048576) × (¬ IsUtf8 octets) × (said ≡ codes "link file: not UTF-8"))

@@ -1,5 +1,6 @@
 -- What `plan` prints of a link's file, and what it says of one of which nothing is planned.
 use Rattle.std.specs.Prelude.{◌≡◌, ◌⊎◌, ◌<◌, ◌≤◌, ◌++◌, ℕ, List, length, codes, Option, Some, None, Err}
+use Rattle.std.specs.Prelude.{IfSome}
 use Rattle.std.specs.Fmt.{decimal}
 use Rattle.std.specs.Io.KnownBytes.{Appends}
 use Rattle.std.specs.Str.{IsUtf8}
@@ -22,7 +23,7 @@ use Rattle.macs_words.specs.declared.plan_words.PlanEnd.TheVariants as plan_end
 use Rattle.macs_words.specs.declared.plan_words.PlanStage.{PlanStage}
 use Rattle.macs_words.specs.declared.plan_words.PlanStage.TheVariants as plan_stage
 use Rattle.macs_program.specs.Applying.{longest_file}
-use Rattle.macs_program.specs.Checking.{Complains}
+use Rattle.macs_program.specs.Checking.{Complains, ComplainsOfFile}
 use Rattle.macs_program.specs.declared.failure.Failure.{Failure}
 use Rattle.macs_program.specs.declared.failure.Failure.TheVariants as failures
 
@@ -108,14 +109,22 @@ IsSaidOfLink end stage octets said =
     ⊎ ((length octets ≤ longest_file) × (¬ IsUtf8 octets) × (said ≡ codes "link file: not UTF-8"))
     ⊎ ((length octets ≤ longest_file) × IsUtf8 octets × IsSaidOfLinkText end stage octets said)
 
--- ---- of a file of which is not known here what it has
+-- ---- of a file, where `left_in` says what is left to read of one, where that is known
 
--- the command file of what is planned of some octets is printed
-abbrev pub PrintsPlan : End → Stage → Option (List ℕ) → Option (List ℕ) → Type 0
-PrintsPlan end stage before after =
-    (octets : List ℕ) × (text : List ℕ) × PlansFile end stage octets text × Appends before after text
+-- this text is the command file of what is planned of a file
+abbrev pub IsPlanOfFile : {F : Type 0} → (F → Option (List ℕ)) → End → Stage → List ℕ → Type 0
+IsPlanOfFile {F} left_in end stage text =
+    (file : F) × IfSome (left_in file) (λ octets. PlansFile end stage octets text)
+
+-- the command file of what is planned of a file is printed
+abbrev pub PrintsPlan : {F : Type 0} → (F → Option (List ℕ)) → End → Stage → Option (List ℕ) → Option (List ℕ)
+    → Type 0
+PrintsPlan left_in end stage before after =
+    (octets : List ℕ) × (text : List ℕ) × PlansFile end stage octets text × IsPlanOfFile left_in end stage text
+    × Appends before after text
 
 -- the file is not read; or what is to be printed cannot be; or something is said of its octets, or there is no memory
-abbrev pub PlanFails : End → Stage → Failure → Type 0
-PlanFails end stage failure = (failure ≡ failures.Commands) ⊎ (failure ≡ failures.Output)
-    ⊎ ((octets : List ℕ) × Complains (IsSaidOfLink end stage octets) failure)
+abbrev pub PlanFails : {F : Type 0} → (F → Option (List ℕ)) → End → Stage → Failure → Type 0
+PlanFails left_in end stage failure = (failure ≡ failures.Commands) ⊎ (failure ≡ failures.Output)
+    ⊎ ((octets : List ℕ) × Complains (IsSaidOfLink end stage octets) failure
+    × ((failure ≡ failures.Memory) ⊎ ComplainsOfFile (IsSaidOfLink end stage) left_in failure))

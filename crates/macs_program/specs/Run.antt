@@ -55,49 +55,50 @@ Prints input before after status =
     (answer : Opened) × Answers input answer × Appends before after (line (answer_text answer))
     × (status ≡ answer_status answer)
 
--- What a run prints that does what it is asked for, where `state_of` says what files are. Which file has a name is not
--- known here: the lines are those of what is done with some endpoint that was opened on a disk in a file; that of a
--- relay is what some endpoint comes to
-abbrev pub Does : {F : Type 0} → (F → FileState) → Action → InputRead → Option (List ℕ) → Option (List ℕ)
-    → Status → Type 0
-Does state_of Open input before after status = IfSome input.octets (λ octets. Prints octets before after status)
-Does state_of (Format disk sci tx_block rx_block block is_over) input before after status =
+-- What a run prints that does what it is asked for, where `state_of` says what files are, and `left_in` what is left to
+-- read of one. Which file has a name is not known here: the lines are those of what is done with some endpoint that was
+-- opened on a disk in a file, and of the commands that some file says; that of a relay is what some endpoint comes to
+abbrev pub Does : {F : Type 0} → (F → FileState) → (F → Option (List ℕ)) → Action → InputRead → Option (List ℕ)
+    → Option (List ℕ) → Status → Type 0
+Does state_of left_in Open input before after status = IfSome input.octets (λ octets. Prints octets before after status)
+Does state_of left_in (Format disk sci tx_block rx_block block is_over) input before after status =
     (identity : Identity) × SpellsIdentity sci.now tx_block rx_block identity
     × (layout : Layout) × SpellsLayout (option_map (λ text. text.now) block) layout
     × Formats state_of is_over layout identity
     × Appends before after (line (codes "formatted")) × (status ≡ ends.Done)
-Does state_of (Apply disk file) input before after status =
-    AppliesIn state_of before after status
-Does state_of (Show disk) input before after status = ShowsIn state_of before after × (status ≡ ends.Done)
-Does state_of (Protect disk from to is_all) input before after status =
+Does state_of left_in (Apply disk file) input before after status =
+    AppliesIn state_of left_in before after status
+Does state_of left_in (Show disk) input before after status = ShowsIn state_of before after × (status ≡ ends.Done)
+Does state_of left_in (Protect disk from to is_all) input before after status =
     (summary : Summary) × PassesIn state_of Controlled summary
     × Appends before after (summary_line Controlled summary) × (status ≡ pass_status is_all summary)
-Does state_of (Validate disk from to is_all false) input before after status =
+Does state_of left_in (Validate disk from to is_all false) input before after status =
     (summary : Summary) × PassesIn state_of Common summary
     × Appends before after (summary_line Common summary) × (status ≡ pass_status is_all summary)
-Does state_of (Validate disk from to is_all true) input before after status =
+Does state_of left_in (Validate disk from to is_all true) input before after status =
     (summary : Summary) × (verdicts : List Verdict) × JudgesIn state_of summary verdicts
     × Appends before after (verdict_lines 1 verdicts ++ summary_line Common summary)
     × (status ≡ pass_status is_all summary)
-Does state_of (Relay disk controlled common running) input before after status =
+Does state_of left_in (Relay disk controlled common running) input before after status =
     (summary : RelaySummary) × ComesTo state_of (course_of running) summary × SpellsBoth controlled common
     × Appends before after (relay_line summary) × (status ≡ ends.Done)
-Does state_of (Ask path asked) input before after status = PrintsAnswer asked before after status
-Does state_of (Key is_long) input before after status = GivesKey is_long before after × (status ≡ ends.Done)
-Does state_of (Inspect from) input before after status = Inspects before after × (status ≡ ends.Done)
-Does state_of (Check file disk) input before after status = Checks state_of disk before after status
-Does state_of (Plan file end stage) input before after status =
-    PrintsPlan (end_of end) (stage_of stage) before after × (status ≡ ends.Done)
-Does state_of (Examine disk) input before after status = PrintsExamined state_of before after status
-Does state_of About input before after status = Appends before after about_text × (status ≡ ends.Done)
+Does state_of left_in (Ask path asked) input before after status = PrintsAnswer asked before after status
+Does state_of left_in (Key is_long) input before after status = GivesKey is_long before after × (status ≡ ends.Done)
+Does state_of left_in (Inspect from) input before after status = Inspects before after × (status ≡ ends.Done)
+Does state_of left_in (Check file disk) input before after status = Checks state_of left_in disk before after status
+Does state_of left_in (Plan file end stage) input before after status =
+    PrintsPlan left_in (end_of end) (stage_of stage) before after × (status ≡ ends.Done)
+Does state_of left_in (Examine disk) input before after status = PrintsExamined state_of before after status
+Does state_of left_in About input before after status = Appends before after about_text × (status ≡ ends.Done)
 
 -- a run that does not fail is asked for help and prints it, or its words are taken and name an action, and it does that
-abbrev pub Replies : {F : Type 0} → (F → FileState) → List Text → InputRead → Option (List ℕ) → Option (List ℕ)
-    → Status → Type 0
-Replies state_of words input before after status =
+abbrev pub Replies : {F : Type 0} → (F → FileState) → (F → Option (List ℕ)) → List Text → InputRead
+    → Option (List ℕ) → Option (List ℕ) → Status → Type 0
+Replies state_of left_in words input before after status =
     ((topic : Topic) × AsksFor words topic × Appends before after (topic_text topic) × (status ≡ ends.Done))
     ⊎ ((takes macsecd words ≡ true)
-    × (action : Action) × Names (subcommand_of macsecd words) action × Does state_of action input before after status)
+    × (action : Action) × Names (subcommand_of macsecd words) action
+    × Does state_of left_in action input before after status)
 
 -- What was printed before a failure: of `apply` and of `ask PATH apply` the lines of the commands before it, of
 -- `inspect` those of the frames before it, of `validate --each` those of the verdicts before it, else nothing
@@ -125,38 +126,40 @@ OpenFails input failure =
     × IfSome input.octets (λ all. IsFirst (InputFaultHolds (take 20001 all)) input_faults fault))
     ⊎ (failure ≡ Memory) ⊎ (failure ≡ Output)
 
--- How an action fails, where `state_of` says what files are: for the first value of the words that is none, for the
--- opening of the endpoint, or as what is done with it ends
-abbrev pub FailsAs : {F : Type 0} → (F → FileState) → Action → InputRead → Option (List ℕ) → Option (List ℕ)
-    → Failure → Type 0
-FailsAs state_of Open input before after failure = OpenFails input failure
-FailsAs state_of (Format disk sci tx_block rx_block block is_over) octets before after failure =
+-- How an action fails, where `state_of` says what files are, and `left_in` what is left to read of one: for the first
+-- value of the words that is none, for the opening of the endpoint, or as what is done with it ends
+abbrev pub FailsAs : {F : Type 0} → (F → FileState) → (F → Option (List ℕ)) → Action → InputRead → Option (List ℕ)
+    → Option (List ℕ) → Failure → Type 0
+FailsAs state_of left_in Open input before after failure = OpenFails input failure
+FailsAs state_of left_in (Format disk sci tx_block rx_block block is_over) octets before after failure =
     ((fault : ValueFault) × (failure ≡ Value fault)
     × IsFirst (ValueFaultHolds sci.now tx_block rx_block (option_map (λ text. text.now) block)) value_faults fault)
     ⊎ ((identity : Identity) × SpellsIdentity sci.now tx_block rx_block identity
     × FormatFails state_of is_over identity failure)
     ⊎ (failure ≡ Output)
-FailsAs state_of (Apply disk file) octets before after failure = OpeningFails state_of failure
-    ⊎ BreaksOffIn state_of before after failure
-FailsAs state_of (Show disk) octets before after failure = OpeningFails state_of failure ⊎ (failure ≡ Memory)
+FailsAs state_of left_in (Apply disk file) octets before after failure = OpeningFails state_of failure
+    ⊎ BreaksOffIn state_of left_in before after failure
+FailsAs state_of left_in (Show disk) octets before after failure = OpeningFails state_of failure ⊎ (failure ≡ Memory)
     ⊎ (failure ≡ Output)
-FailsAs state_of (Protect disk from to is_all) octets before after failure = OpeningFails state_of failure
+FailsAs state_of left_in (Protect disk from to is_all) octets before after failure = OpeningFails state_of failure
     ⊎ PassEndsIn state_of Controlled failure
-FailsAs state_of (Validate disk from to is_all false) octets before after failure = OpeningFails state_of failure
+FailsAs state_of left_in (Validate disk from to is_all false) octets before after failure =
+    OpeningFails state_of failure
     ⊎ PassEndsIn state_of Common failure
-FailsAs state_of (Validate disk from to is_all true) octets before after failure = OpeningFails state_of failure
+FailsAs state_of left_in (Validate disk from to is_all true) octets before after failure = OpeningFails state_of failure
     ⊎ JudgingEndsIn state_of failure
-FailsAs state_of (Relay disk controlled common running) octets before after failure =
+FailsAs state_of left_in (Relay disk controlled common running) octets before after failure =
     ((fault : AddressFault) × (failure ≡ Address fault)
     × IsFirst (AddressFaultHolds controlled common) address_faults fault)
     ⊎ OpeningFails state_of failure ⊎ RelayEndsIn state_of (course_of running) failure
-FailsAs state_of (Ask path asked) octets before after failure = IsOfAsking failure
-FailsAs state_of (Key is_long) octets before after failure = IsOfKey failure
-FailsAs state_of (Inspect from) octets before after failure = InspectFails before after failure
-FailsAs state_of (Check file disk) octets before after failure = CheckEnds state_of disk failure
-FailsAs state_of (Plan file end stage) octets before after failure = PlanFails (end_of end) (stage_of stage) failure
-FailsAs state_of (Examine disk) octets before after failure = ExamineFails state_of failure
-FailsAs state_of About octets before after failure = (failure ≡ Memory) ⊎ (failure ≡ Output)
+FailsAs state_of left_in (Ask path asked) octets before after failure = IsOfAsking failure
+FailsAs state_of left_in (Key is_long) octets before after failure = IsOfKey failure
+FailsAs state_of left_in (Inspect from) octets before after failure = InspectFails before after failure
+FailsAs state_of left_in (Check file disk) octets before after failure = CheckEnds state_of left_in disk failure
+FailsAs state_of left_in (Plan file end stage) octets before after failure =
+    PlanFails left_in (end_of end) (stage_of stage) failure
+FailsAs state_of left_in (Examine disk) octets before after failure = ExamineFails state_of failure
+FailsAs state_of left_in About octets before after failure = (failure ≡ Memory) ⊎ (failure ≡ Output)
 
 -- it is one that hands frames to an endpoint
 abbrev pub is_on_frames : Action → Bool
@@ -168,26 +171,26 @@ is_on_frames action = false
 -- An action is done, with a status of these two, or fails. A failure that is wrong usage is that of a wrong value, and
 -- nothing was printed; one of the disk is that of another action than `open`; and one of the output is that of a print
 -- that failed
-pub record Performs {F W : Type 0} (state_of : F → FileState) (contents : W → Option (List ℕ)) (failed : W → Bool)
-    (action : Action)
+pub record Performs {F W : Type 0} (state_of : F → FileState) (left_in : F → Option (List ℕ))
+    (contents : W → Option (List ℕ)) (failed : W → Bool) (action : Action)
     (input : InputRead) (old : W) (result : Result Status Failure) (new : W) : Type 0 where
-  pub does : IfOk result (Does state_of action input (contents old) (contents new))
+  pub does : IfOk result (Does state_of left_in action input (contents old) (contents new))
   pub status : IfOk result (λ end. (end ≡ ends.Done) ⊎ (end ≡ ends.Refused))
   pub usage : IfErr result (λ failure. failure_status failure ≡ ends.Usage → WrongValues action × (new ≡ old))
   pub disk : IfErr result (λ failure. failure_status failure ≡ ends.Disk
       → (action ≢ Open) × HasPrinted action (contents old) (contents new))
   pub before : IfErr result (λ failure. failure ≢ Output → HasPrinted action (contents old) (contents new))
-  pub fails : IfErr result (FailsAs state_of action input (contents old) (contents new))
+  pub fails : IfErr result (FailsAs state_of left_in action input (contents old) (contents new))
   pub broken : IfErr result (λ failure. failure ≡ Output → failed new ≡ true)
 
 -- how a run fails: its words are refused, or help cannot be printed, or the words name an action that fails so
-abbrev pub FailsFor : {F : Type 0} → (F → FileState) → List Text → InputRead → Option (List ℕ) → Option (List ℕ)
-    → Failure → Type 0
-FailsFor state_of words octets before after failure =
+abbrev pub FailsFor : {F : Type 0} → (F → FileState) → (F → Option (List ℕ)) → List Text → InputRead
+    → Option (List ℕ) → Option (List ℕ) → Failure → Type 0
+FailsFor state_of left_in words octets before after failure =
     ((fault : UsageFault) × (failure ≡ failure_of_words fault))
     ⊎ ((topic : Topic) × AsksFor words topic × (failure ≡ Output))
     ⊎ ((action : Action) × Names (subcommand_of macsecd words) action
-    × FailsAs state_of action octets before after failure)
+    × FailsAs state_of left_in action octets before after failure)
 
 -- what was printed before a failure: nothing, or the lines of the commands or frames before it
 abbrev pub PrintedBefore : List Text → Option (List ℕ) → Option (List ℕ) → Type 0
@@ -203,11 +206,11 @@ HasWrongValues words =
 -- wrong usage is that of words which ask for no help, and nothing was printed; one of the disk is that of an action
 -- that the words name, other than `open`; and one of the output is that of a print that failed. The input is left
 -- unread by all words but those that name `open`
-pub record Acts {F R W : Type 0} (state_of : F → FileState) (remaining : R → Option (List ℕ)) (read_failed : R → Bool)
-    (contents : W → Option (List ℕ)) (failed : W → Bool)
+pub record Acts {F R W : Type 0} (state_of : F → FileState) (left_in : F → Option (List ℕ))
+    (remaining : R → Option (List ℕ)) (read_failed : R → Bool) (contents : W → Option (List ℕ)) (failed : W → Bool)
     (words : List Text) (input : R) (old : W) (result : Result Status Failure) (left : R) (new : W) : Type 0 where
   pub replied : IfOk result
-      (Replies state_of words (read_of remaining read_failed input left) (contents old) (contents new))
+      (Replies state_of left_in words (read_of remaining read_failed input left) (contents old) (contents new))
   pub status : IfOk result (λ end. (end ≡ ends.Done) ⊎ (end ≡ ends.Refused))
   pub usage : IfErr result (λ failure. failure_status failure ≡ ends.Usage
       → (AreRefused words ⊎ HasWrongValues words) × (new ≡ old))
@@ -217,7 +220,7 @@ pub record Acts {F R W : Type 0} (state_of : F → FileState) (remaining : R →
       × HasPrinted action (contents old) (contents new))
   pub before : IfErr result (λ failure. failure ≢ Output → PrintedBefore words (contents old) (contents new))
   pub fails : IfErr result
-      (FailsFor state_of words (read_of remaining read_failed input left) (contents old) (contents new))
+      (FailsFor state_of left_in words (read_of remaining read_failed input left) (contents old) (contents new))
   pub broken : IfErr result (λ failure. failure ≡ Output → failed new ≡ true)
   pub unread : ((takes macsecd words ≡ true) × Names (subcommand_of macsecd words) Open → ⊥) → left ≡ input
 

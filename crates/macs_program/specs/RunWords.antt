@@ -70,9 +70,10 @@ use Rattle.macs_words.specs.declared.pace.Running.{Running}
 use Rattle.macs_program.specs.About.{about_text}
 use Rattle.macs_program.specs.Addresses.{AddressFaultHolds, SpellsBoth, address_faults}
 use Rattle.macs_program.specs.Opened.{Answers, answer_status, answer_text}
-use Rattle.macs_program.specs.Applying.{Applies, SaysCommands, commit_fault, outcome_lines, outcomes_status}
+use Rattle.macs_program.specs.Applying.{Applies, SaidByFile, SaysCommands, commit_fault, outcome_lines}
+use Rattle.macs_program.specs.Applying.{outcomes_status}
 use Rattle.macs_program.specs.Capturing.{EndsPass, PassesCapture}
-use Rattle.macs_program.specs.Checking.{IsSaidOfFile, count_line}
+use Rattle.macs_program.specs.Checking.{Complains, IsSaidOfFile, count_line}
 use Rattle.macs_program.specs.Copying.{CopyFails, IsCopy}
 use Rattle.macs_program.specs.Endpoints.{BreaksOffIn, IsEndpointIn, OpeningFails, PassEndsIn}
 use Rattle.macs_program.specs.Examining.{examined_text, fault_line, figures_of}
@@ -83,13 +84,13 @@ use Rattle.macs_program.specs.Inspecting.{AreLinesOf, InspectsCapture, RunsCaptu
 use Rattle.macs_program.specs.Judging.{EndsEach, JudgesCapture, JudgingEndsIn, verdict_lines}
 use Rattle.macs_program.specs.Keys.{PrintsKey, key_octets}
 use Rattle.macs_program.specs.NewDisks.{FormatFails, Permits}
-use Rattle.macs_program.specs.Plans.{IsSaidOfLink, end_of, stage_of}
+use Rattle.macs_program.specs.Plans.{IsSaidOfLink, PlansFile, end_of, stage_of}
 use Rattle.macs_program.specs.Relaying.{ComesTo, RelayEndsIn, course_of}
 use Rattle.macs_program.specs.OpenInput.{InputFaultHolds, input_faults}
 use Rattle.macs_program.specs.Run.{Does, FailsAs, FailsFor, HasPrinted, HasWrongValues, PrintedBefore, Replies}
 use Rattle.macs_program.specs.Run.{WrongValues}
 use Rattle.macs_program.specs.Summing.{pass_status, relay_line, summary_line}
-use Rattle.macs_program.specs.Trying.{EndsOn, failure_in_memory, would_lines}
+use Rattle.macs_program.specs.Trying.{EndsOn, failure_in_memory, trial_report}
 use Rattle.macs_program.specs.Values.{SpellsIdentity, SpellsLayout, ValueFaultHolds, value_faults}
 use Rattle.macs_program.specs.declared.addresses.AddressFault.{AddressFault}
 use Rattle.macs_program.specs.declared.opened.Opened.{Opened}
@@ -106,29 +107,29 @@ use Rattle.macs_program.specs.declared.values.ValueFault.{ValueFault}
 -- A run that replies was asked for help and prints it, or its words are taken and name the action that it does. Each
 -- action does this: `open` prints the answer to its input; `format` makes a file a disk that, when it was settled, was
 -- one that may be written over, blanks it in the layout of its words and formats it with the identity of its words;
--- `apply` gives the commands of a file to an endpoint in a file, and prints a line for each; `show` prints its text,
--- as it was opened; `examine` prints what the journal is that is found on a copy of the disk in a file, and what its
--- records stand for, or the sector of its first fault; `protect` and `validate` take a capture through it, each from
--- its own side, and `validate --each` prints the line of each verdict before its own; `relay` prints what it came to;
--- `ask` prints lines of outcomes, or a text; `key` prints as many octets as it is to, in hex; `inspect` prints a line
--- for each record of a capture, up to its end; `about` prints one text; `check` prints how many commands some octets
--- say, or, with a disk, a line for each: what the endpoint on a copy of the disk in a file answers to it, where each
+-- `apply` gives the commands that a file says to an endpoint in a file, and prints a line for each; `show` prints its
+-- text, as it was opened; `examine` prints what the journal is that is found on a copy of the disk in a file, and what
+-- its records stand for, or the sector of its first fault; `protect` and `validate` take a capture through it, each
+-- from its own side, and `validate --each` prints the line of each verdict before its own; `relay` prints what it came
+-- to; `ask` prints lines of outcomes, or a text; `key` prints as many octets as it is to, in hex; `inspect` prints a
+-- line for each record of a capture, up to its end; `about` prints one text; `check` prints how many commands a file
+-- says, or, with a disk, a line for each: what the endpoint on a copy of the disk in a file answers to it, where each
 -- sector of the copy is that of the disk; `plan` prints a text that is read as just the commands that are planned, for
--- the end and the stage of its words, of a link that some octets say. Of a capture that is given, and a key that is
+-- the end and the stage of its words, of a link that a file says. Of a capture that is given, and a key that is
 -- given, it is this one.
-pub record ReplyWords {F : Type 0} (file : F → FileState) : Type 0 where
+pub record ReplyWords {F : Type 0} (file : F → FileState) (left_in : F → Option (List ℕ)) : Type 0 where
   pub replied : (words : List Text) (input : InputRead) (before after : Option (List ℕ)) (status : Status)
-      → Replies file words input before after status
+      → Replies file left_in words input before after status
       → ((topic : Topic) × AsksFor words topic × Appends before after (topic_text topic) × (status ≡ ends.Done))
       ⊎ ((takes macsecd words ≡ true) × (action : Action) × Names (subcommand_of macsecd words) action
-      × Does file action input before after status)
+      × Does file left_in action input before after status)
   pub opened : (input : InputRead) (before after : Option (List ℕ)) (status : Status)
-      → Does file Open input before after status → IfSome input.octets (λ octets. (answer : Opened)
+      → Does file left_in Open input before after status → IfSome input.octets (λ octets. (answer : Opened)
       × Answers octets answer × Appends before after (answer_text answer ++ 10 ∷ [])
       × (status ≡ answer_status answer))
   pub formatted : (path sci : Bor Text) (tx_block rx_block : ℕ) (block : Option (Bor Text)) (is_over : Bool)
       (input : InputRead) (before after : Option (List ℕ)) (status : Status)
-      → Does file (Format path sci tx_block rx_block block is_over) input before after status
+      → Does file left_in (Format path sci tx_block rx_block block is_over) input before after status
       → (identity : Identity) × SpellsIdentity sci.now tx_block rx_block identity
       × (layout : Layout) × SpellsLayout (option_map (λ text. text.now) block) layout
       × (blank : FileDisk F) × (new : FileDisk F)
@@ -138,16 +139,16 @@ pub record ReplyWords {F : Type 0} (file : F → FileState) : Type 0 where
       × IsFormat (disk_in_file file) blank identity (Ok tt) new
       × Appends before after (codes "formatted" ++ 10 ∷ []) × (status ≡ ends.Done)
   pub applied : (path from : Bor Text) (input : InputRead) (before after : Option (List ℕ)) (status : Status)
-      → Does file (Apply path from) input before after status
+      → Does file left_in (Apply path from) input before after status
       → (old : EndpointValue (FileDisk F)) × (new : EndpointValue (FileDisk F)) × IsEndpointIn file old
-      × (octets : List ℕ) × (commands : List Command) × SaysCommands octets commands
+      × (octets : List ℕ) × (commands : List Command) × SaysCommands octets commands × SaidByFile left_in commands
       × (outcomes : List (Option Refusal)) × Applies (disk_in_file file) old commands outcomes new
       × Appends before after (outcome_lines 1 outcomes) × (status ≡ outcomes_status outcomes)
   pub shown : (path : Bor Text) (input : InputRead) (before after : Option (List ℕ)) (status : Status)
-      → Does file (Show path) input before after status → (shown : EndpointValue (FileDisk F))
+      → Does file left_in (Show path) input before after status → (shown : EndpointValue (FileDisk F))
       × IsEndpointIn file shown × Appends before after (show_text (state_of shown no_logs)) × (status ≡ ends.Done)
   pub examined : (path : Bor Text) (input : InputRead) (before after : Option (List ℕ)) (status : Status)
-      → Does file (Examine path) input before after status
+      → Does file left_in (Examine path) input before after status
       → (disk_file : F) × (copy : MemDisk Global) × (layout : Layout)
       × (Behaves (file disk_file) → ((file disk_file).size % 512 ≡ 0) × (1028 ≤ (file disk_file).size / 512)
       × (IsSure (file disk_file)
@@ -158,21 +159,21 @@ pub record ReplyWords {F : Type 0} (file : F → FileState) : Type 0 where
       ⊎ ((at : ℕ) × IsFirstFault (now (disk_of copy)).seen at × Appends before after (fault_line at)
       × (status ≡ ends.Refused)))
   pub protected : (path from to : Bor Text) (is_all : Bool) (input : InputRead) (before after : Option (List ℕ))
-      (status : Status) → Does file (Protect path from to is_all) input before after status
+      (status : Status) → Does file left_in (Protect path from to is_all) input before after status
       → (summary : Summary) × (old : EndpointValue (FileDisk F)) × (new : EndpointValue (FileDisk F))
       × IsEndpointIn file old × (source : SourceState) × (left : SourceState) × (sink : SinkState)
       × (sunk : SinkState)
       × PassesCapture (disk_in_file file) Controlled (run_of old source sink) (Ok summary) (run_of new left sunk)
       × Appends before after (summary_line Controlled summary) × (status ≡ pass_status is_all summary)
   pub validated : (path from to : Bor Text) (is_all : Bool) (input : InputRead) (before after : Option (List ℕ))
-      (status : Status) → Does file (Validate path from to is_all false) input before after status
+      (status : Status) → Does file left_in (Validate path from to is_all false) input before after status
       → (summary : Summary) × (old : EndpointValue (FileDisk F)) × (new : EndpointValue (FileDisk F))
       × IsEndpointIn file old × (source : SourceState) × (left : SourceState) × (sink : SinkState)
       × (sunk : SinkState)
       × PassesCapture (disk_in_file file) Common (run_of old source sink) (Ok summary) (run_of new left sunk)
       × Appends before after (summary_line Common summary) × (status ≡ pass_status is_all summary)
   pub judged : (path from to : Bor Text) (is_all : Bool) (input : InputRead) (before after : Option (List ℕ))
-      (status : Status) → Does file (Validate path from to is_all true) input before after status
+      (status : Status) → Does file left_in (Validate path from to is_all true) input before after status
       → (summary : Summary) × (verdicts : List Verdict) × (old : EndpointValue (FileDisk F))
       × (new : EndpointValue (FileDisk F))
       × IsEndpointIn file old × (source : SourceState) × (left : SourceState) × (sink : SinkState)
@@ -182,29 +183,30 @@ pub record ReplyWords {F : Type 0} (file : F → FileState) : Type 0 where
       × (status ≡ pass_status is_all summary)
   pub relayed : (path : Bor Text) (controlled common : WireEnds) (running : Running) (input : InputRead)
       (before after : Option (List ℕ)) (status : Status)
-      → Does file (Relay path controlled common running) input before after status
+      → Does file left_in (Relay path controlled common running) input before after status
       → (summary : RelaySummary) × ComesTo file (course_of running) summary × SpellsBoth controlled common
       × Appends before after (relay_line summary) × (status ≡ ends.Done)
   pub asked_apply : (path from : Bor Text) (input : InputRead) (before after : Option (List ℕ)) (status : Status)
-      → Does file (Ask path (question.Apply from)) input before after status → (outcomes : List (Option Refusal))
-      × Appends before after (outcome_lines 1 outcomes) × (status ≡ outcomes_status outcomes)
+      → Does file left_in (Ask path (question.Apply from)) input before after status
+      → (outcomes : List (Option Refusal)) × Appends before after (outcome_lines 1 outcomes)
+      × (status ≡ outcomes_status outcomes)
   pub asked_show : (path : Bor Text) (input : InputRead) (before after : Option (List ℕ)) (status : Status)
-      → Does file (Ask path question.Show) input before after status
+      → Does file left_in (Ask path question.Show) input before after status
       → (text : List ℕ) × Appends before after text × (status ≡ ends.Done)
   pub asked_counters : (path : Bor Text) (input : InputRead) (before after : Option (List ℕ)) (status : Status)
-      → Does file (Ask path question.Counters) input before after status
+      → Does file left_in (Ask path question.Counters) input before after status
       → (text : List ℕ) × Appends before after text × (status ≡ ends.Done)
   pub asked_stop : (path : Bor Text) (input : InputRead) (before after : Option (List ℕ)) (status : Status)
-      → Does file (Ask path question.Stop) input before after status
+      → Does file left_in (Ask path question.Stop) input before after status
       → (text : List ℕ) × Appends before after text × (status ≡ ends.Done)
   pub key : (input : InputRead) (before after : Option (List ℕ)) (status : Status)
-      → Does file (Key false) input before after status → (octets : List ℕ) × (length octets ≡ 16)
+      → Does file left_in (Key false) input before after status → (octets : List ℕ) × (length octets ≡ 16)
       × Appends before after (encode_lower octets ++ 10 ∷ []) × (status ≡ ends.Done)
   pub long_key : (input : InputRead) (before after : Option (List ℕ)) (status : Status)
-      → Does file (Key true) input before after status → (octets : List ℕ) × (length octets ≡ 32)
+      → Does file left_in (Key true) input before after status → (octets : List ℕ) × (length octets ≡ 32)
       × Appends before after (encode_lower octets ++ 10 ∷ []) × (status ≡ ends.Done)
   pub inspected : (from : Bor Text) (input : InputRead) (before after : Option (List ℕ)) (status : Status)
-      → Does file (Inspect from) input before after status
+      → Does file left_in (Inspect from) input before after status
       → (old : SourceState) × (new : SourceState) × (header : Header) × (behind : SourceState)
       × ReadsHeader old behind (Ok header) × (records : List CaptureRecord) × (until : SourceState)
       × HoldsOfLeft behind.left until.left (λ left rest. BeginsWithRecords header.big left records rest)
@@ -212,15 +214,18 @@ pub record ReplyWords {F : Type 0} (file : F → FileState) : Type 0 where
       × (room : ℕ) × (frame : List ℕ) × ReadsRecord header.big (length records) room until new frame (Ok None)
       × (status ≡ ends.Done)
   pub about : (input : InputRead) (before after : Option (List ℕ)) (status : Status)
-      → Does file About input before after status → Appends before after about_text × (status ≡ ends.Done)
+      → Does file left_in About input before after status → Appends before after about_text × (status ≡ ends.Done)
   pub checked : (from : Bor Text) (input : InputRead) (before after : Option (List ℕ)) (status : Status)
-      → Does file (Check from None) input before after status → (octets : List ℕ) × (commands : List Command)
-      × SaysCommands octets commands × Appends before after (count_line (length commands)) × (status ≡ ends.Done)
+      → Does file left_in (Check from None) input before after status → (octets : List ℕ) × (commands : List Command)
+      × SaysCommands octets commands × SaidByFile left_in commands
+      × Appends before after (count_line (length commands)) × (status ≡ ends.Done)
   pub planned : (from : Bor Text) (end : PlanEnd) (stage : PlanStage) (input : InputRead)
-      (before after : Option (List ℕ)) (status : Status) → Does file (Plan from end stage) input before after status
+      (before after : Option (List ℕ)) (status : Status)
+      → Does file left_in (Plan from end stage) input before after status
       → (octets : List ℕ) × (text : List ℕ) × (members : Members) × (parse_document octets ≡ Some members)
       × (commands : List Command) × (file_planned members (end_of end) (stage_of stage) ≡ Ok commands)
       × (parse_document text ≡ Some (file_of commands)) × (file_commands (file_of commands) ≡ Ok commands)
+      × (from_file : F) × IfSome (left_in from_file) (λ all. PlansFile (end_of end) (stage_of stage) all text)
       × Appends before after text × (status ≡ ends.Done)
   pub prints : (is_long : Bool) (octets : List ℕ) (before after : Option (List ℕ))
       → PrintsKey is_long octets before after
@@ -237,14 +242,14 @@ pub record ReplyWords {F : Type 0} (file : F → FileState) : Type 0 where
   pub stops : (old new : SourceState) (before after : Option (List ℕ)) (failure : Failure)
       → RunsCapture old before (Err failure) new after → StopsCapture old before failure new after
   pub tried : (from path : Bor Text) (input : InputRead) (before after : Option (List ℕ)) (status : Status)
-      → Does file (Check from (Some path)) input before after status
-      → (octets : List ℕ) × (commands : List Command) × SaysCommands octets commands
+      → Does file left_in (Check from (Some path)) input before after status
+      → (octets : List ℕ) × (commands : List Command) × SaysCommands octets commands × SaidByFile left_in commands
       × (disk_file : F) × (copy : MemDisk Global)
       × (Behaves (file disk_file) → ((file disk_file).size % 512 ≡ 0) × (1028 ≤ (file disk_file).size / 512)
       × (IsSure (file disk_file) → IsCopy (file disk_file) (disk_of copy)))
       × (old : EndpointValue (MemDisk Global)) × (new : EndpointValue (MemDisk Global)) × Opens disk_of copy old
       × (outcomes : List (Option Refusal)) × Applies disk_of old commands outcomes new
-      × Appends before after (would_lines 1 outcomes) × (status ≡ outcomes_status outcomes)
+      × Appends before after (trial_report outcomes) × (status ≡ outcomes_status outcomes)
   pub copied : (disk_file : FileState) (copy : Disk) → IsCopy disk_file copy → (copy.sectors ≡ 1028) × IsHonest copy
       × ((at : ℕ) → at < 1028 → (now copy).seen at ≡ (state_in_file (layout_in disk_file) disk_file).seen at)
 
@@ -256,35 +261,36 @@ pub record ReplyWords {F : Type 0} (file : F → FileState) : Type 0 where
 -- not opened or of which there is no copy, for memory, or for a fault that is of no sector, for which no endpoint is
 -- opened on the copy. `check` with a disk fails as without one; or the file is not opened, or there is no copy of its
 -- disk; or no endpoint is opened on that, there is no memory, or a command ends the run.
-pub record FailWords {F : Type 0} (file : F → FileState) : Type 0 where
+pub record FailWords {F : Type 0} (file : F → FileState) (left_in : F → Option (List ℕ)) : Type 0 where
   pub failed : (words : List Text) (input : InputRead) (before after : Option (List ℕ)) (failure : Failure)
-      → FailsFor file words input before after failure
+      → FailsFor file left_in words input before after failure
       → ((fault : UsageFault) × (failure ≡ failure_of_words fault))
       ⊎ ((topic : Topic) × AsksFor words topic × (failure ≡ failures.Output))
       ⊎ ((action : Action) × Names (subcommand_of macsecd words) action
-      × FailsAs file action input before after failure)
+      × FailsAs file left_in action input before after failure)
   pub of_open : (input : InputRead) (before after : Option (List ℕ)) (failure : Failure)
-      → FailsAs file Open input before after failure
+      → FailsAs file left_in Open input before after failure
       → ((failure ≡ failures.Input request_faults.Input) × (input.has_failed ≡ true))
       ⊎ ((fault : InputFault) × (failure ≡ failures.Input fault)
       × IfSome input.octets (λ all. IsFirst (InputFaultHolds (take 20001 all)) input_faults fault))
       ⊎ (failure ≡ failures.Memory) ⊎ (failure ≡ failures.Output)
   pub of_format : (path sci : Bor Text) (tx_block rx_block : ℕ) (block : Option (Bor Text)) (is_over : Bool)
       (input : InputRead) (before after : Option (List ℕ)) (failure : Failure)
-      → FailsAs file (Format path sci tx_block rx_block block is_over) input before after failure
+      → FailsAs file left_in (Format path sci tx_block rx_block block is_over) input before after failure
       → ((fault : ValueFault) × (failure ≡ failures.Value fault)
       × IsFirst (ValueFaultHolds sci.now tx_block rx_block (option_map (λ text. text.now) block)) value_faults fault)
       ⊎ ((identity : Identity) × SpellsIdentity sci.now tx_block rx_block identity
       × FormatFails file is_over identity failure) ⊎ (failure ≡ failures.Output)
   pub of_apply : (path from : Bor Text) (input : InputRead) (before after : Option (List ℕ)) (failure : Failure)
-      → FailsAs file (Apply path from) input before after failure
-      → OpeningFails file failure ⊎ BreaksOffIn file before after failure
+      → FailsAs file left_in (Apply path from) input before after failure
+      → OpeningFails file failure ⊎ BreaksOffIn file left_in before after failure
   pub of_show : (path : Bor Text) (input : InputRead) (before after : Option (List ℕ)) (failure : Failure)
-      → FailsAs file (Show path) input before after failure
+      → FailsAs file left_in (Show path) input before after failure
       → OpeningFails file failure ⊎ (failure ≡ failures.Memory) ⊎ (failure ≡ failures.Output)
   pub of_examine : (path : Bor Text) (input : InputRead) (before after : Option (List ℕ)) (failure : Failure)
-      → FailsAs file (Examine path) input before after failure
-      → (failure ≡ failures.Output) ⊎ ((fault : FileFault) × (failure ≡ failure_of_file fault))
+      → FailsAs file left_in (Examine path) input before after failure
+      → (failure ≡ failures.Output) ⊎ ((fault : FileFault) × (failure ≡ failure_of_file fault)
+      × (fault ≢ file_fault.Length) × (fault ≢ file_fault.Device))
       ⊎ ((disk_file : F) × CopyFails (file disk_file) failure)
       ⊎ ((disk_file : F) × (copy : MemDisk Global) × (layout : Layout)
       × (Behaves (file disk_file) → ((file disk_file).size % 512 ≡ 0) × (1028 ≤ (file disk_file).size / 512)
@@ -294,13 +300,13 @@ pub record FailWords {F : Type 0} (file : F → FileState) : Type 0 where
       × IsUnfitTo this_edition (disk_of copy).sectors (now (disk_of copy)).seen fault
       × (fault ≡ journal.BadJournal → ¬ IsBadJournal (now (disk_of copy)).seen))))
   pub of_protect : (path from to : Bor Text) (is_all : Bool) (input : InputRead) (before after : Option (List ℕ))
-      (failure : Failure) → FailsAs file (Protect path from to is_all) input before after failure
+      (failure : Failure) → FailsAs file left_in (Protect path from to is_all) input before after failure
       → OpeningFails file failure ⊎ PassEndsIn file Controlled failure
   pub of_validate : (path from to : Bor Text) (is_all : Bool) (input : InputRead) (before after : Option (List ℕ))
-      (failure : Failure) → FailsAs file (Validate path from to is_all false) input before after failure
+      (failure : Failure) → FailsAs file left_in (Validate path from to is_all false) input before after failure
       → OpeningFails file failure ⊎ PassEndsIn file Common failure
   pub of_judging : (path from to : Bor Text) (is_all : Bool) (input : InputRead) (before after : Option (List ℕ))
-      (failure : Failure) → FailsAs file (Validate path from to is_all true) input before after failure
+      (failure : Failure) → FailsAs file left_in (Validate path from to is_all true) input before after failure
       → OpeningFails file failure ⊎ JudgingEndsIn file failure
   pub judging : (failure : Failure) → JudgingEndsIn file failure
       → (old : EndpointValue (FileDisk F)) × (new : EndpointValue (FileDisk F)) × IsEndpointIn file old
@@ -314,19 +320,19 @@ pub record FailWords {F : Type 0} (file : F → FileState) : Type 0 where
       × EndsPass (disk_in_file file) side (run_of old source sink) failure (run_of new left sunk)))
   pub of_relay : (path : Bor Text) (controlled common : WireEnds) (running : Running) (input : InputRead)
       (before after : Option (List ℕ)) (failure : Failure)
-      → FailsAs file (Relay path controlled common running) input before after failure
+      → FailsAs file left_in (Relay path controlled common running) input before after failure
       → ((fault : AddressFault) × (failure ≡ failures.Address fault)
       × IsFirst (AddressFaultHolds controlled common) address_faults fault)
       ⊎ OpeningFails file failure ⊎ RelayEndsIn file (course_of running) failure
   pub of_ask : (path : Bor Text) (asked : Question) (input : InputRead) (before after : Option (List ℕ))
-      (failure : Failure) → FailsAs file (Ask path asked) input before after failure
+      (failure : Failure) → FailsAs file left_in (Ask path asked) input before after failure
       → (failure ≡ failures.Disk (disk.Journal journal.Stopped)) ⊎ (failure ≡ failures.Control)
       ⊎ (failure ≡ failures.Commands) ⊎ (failure ≡ failures.Memory) ⊎ (failure ≡ failures.Output)
   pub of_key : (is_long : Bool) (input : InputRead) (before after : Option (List ℕ)) (failure : Failure)
-      → FailsAs file (Key is_long) input before after failure
+      → FailsAs file left_in (Key is_long) input before after failure
       → (failure ≡ failures.Random) ⊎ (failure ≡ failures.Output)
   pub of_inspect : (from : Bor Text) (input : InputRead) (before after : Option (List ℕ)) (failure : Failure)
-      → FailsAs file (Inspect from) input before after failure
+      → FailsAs file left_in (Inspect from) input before after failure
       → (((failure ≡ failures.Memory) ⊎ (failure ≡ failures.Capture)) × (after ≡ before))
       ⊎ ((old : SourceState) × (new : SourceState) × StopsCapture old before failure new after)
   pub inspecting : (old : SourceState) (before : Option (List ℕ)) (failure : Failure) (new : SourceState)
@@ -342,23 +348,28 @@ pub record FailWords {F : Type 0} (file : F → FileState) : Type 0 where
       × (failure ≡ failure_of_capture fault) × (after ≡ between))
       ⊎ ((failure ≡ failures.Memory) × (after ≡ between)) ⊎ (failure ≡ failures.Output)))
   pub of_about : (input : InputRead) (before after : Option (List ℕ)) (failure : Failure)
-      → FailsAs file About input before after failure → (failure ≡ failures.Memory) ⊎ (failure ≡ failures.Output)
+      → FailsAs file left_in About input before after failure
+      → (failure ≡ failures.Memory) ⊎ (failure ≡ failures.Output)
   pub of_check : (from : Bor Text) (input : InputRead) (before after : Option (List ℕ)) (failure : Failure)
-      → FailsAs file (Check from None) input before after failure
+      → FailsAs file left_in (Check from None) input before after failure
       → (failure ≡ failures.Commands) ⊎ (failure ≡ failures.Output) ⊎ (failure ≡ failures.Memory)
       ⊎ ((octets : List ℕ) × (said : _) × (failure ≡ failures.CommandFile said)
-      × IsSaidOfFile octets (string_bytes said))
+      × IsSaidOfFile octets (string_bytes said)
+      × (from_file : F) × IfSome (left_in from_file) (λ all. Complains (IsSaidOfFile all) failure))
   pub of_plan : (from : Bor Text) (end : PlanEnd) (stage : PlanStage) (input : InputRead)
       (before after : Option (List ℕ)) (failure : Failure)
-      → FailsAs file (Plan from end stage) input before after failure
+      → FailsAs file left_in (Plan from end stage) input before after failure
       → (failure ≡ failures.Commands) ⊎ (failure ≡ failures.Output) ⊎ (failure ≡ failures.Memory)
       ⊎ ((octets : List ℕ) × (said : _) × (failure ≡ failures.CommandFile said)
-      × IsSaidOfLink (end_of end) (stage_of stage) octets (string_bytes said))
+      × IsSaidOfLink (end_of end) (stage_of stage) octets (string_bytes said)
+      × (from_file : F) × IfSome (left_in from_file)
+      (λ all. Complains (IsSaidOfLink (end_of end) (stage_of stage) all) failure))
   pub of_trial : (from path : Bor Text) (input : InputRead) (before after : Option (List ℕ)) (failure : Failure)
-      → FailsAs file (Check from (Some path)) input before after failure
-      → FailsAs file (Check from None) input before after failure
-      ⊎ ((octets : List ℕ) × (commands : List Command) × SaysCommands octets commands
-      × (((fault : FileFault) × (failure ≡ failure_of_file fault))
+      → FailsAs file left_in (Check from (Some path)) input before after failure
+      → FailsAs file left_in (Check from None) input before after failure
+      ⊎ ((octets : List ℕ) × (commands : List Command) × SaysCommands octets commands × SaidByFile left_in commands
+      × (((fault : FileFault) × (failure ≡ failure_of_file fault)
+      × (fault ≢ file_fault.Length) × (fault ≢ file_fault.Device))
       ⊎ ((disk_file : F) × CopyFails (file disk_file) failure)
       ⊎ ((disk_file : F) × (copy : MemDisk Global)
       × (Behaves (file disk_file) → ((file disk_file).size % 512 ≡ 0) × (1028 ≤ (file disk_file).size / 512)
@@ -367,7 +378,8 @@ pub record FailWords {F : Type 0} (file : F → FileState) : Type 0 where
   pub copying : (disk_file : FileState) (failure : Failure) → CopyFails disk_file failure
       → ((fault : FileFault) × (failure ≡ failure_of_file fault)
       × (fault ≡ file_fault.Length → Behaves disk_file → disk_file.size % 512 ≢ 0))
-      ⊎ ((failure ≡ failures.Disk (disk.Journal journal.TooSmall)) × (Behaves disk_file → disk_file.size / 512 < 1028))
+      ⊎ ((failure ≡ failures.Disk (disk.Journal journal.TooSmall))
+      × (Behaves disk_file → (disk_file.size % 512 ≡ 0) × (disk_file.size / 512 < 1028)))
   pub trying : (copy : MemDisk Global) (commands : List Command) (failure : Failure)
       → EndsOn disk_of copy commands failure
       → ((left : MemDisk Global) × (fault : JournalFault) × RefusesOpening disk_of copy left fault

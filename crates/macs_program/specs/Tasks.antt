@@ -48,11 +48,11 @@ IsRunIn file done before result after = IsNotOpened file before result after ⊎
 -- ---- what each does
 
 -- `apply`: the commands of a file are given to the endpoint, or not all of them
-pub record DoesApply {D W : Type 0} (disk_of : D → Disk) (contents : W → Option (List ℕ)) (has_failed : W → Bool)
-    (old : EndpointValue D) (before : W)
+pub record DoesApply {F D W : Type 0} (left_in : F → Option (List ℕ)) (disk_of : D → Disk)
+    (contents : W → Option (List ℕ)) (has_failed : W → Bool) (old : EndpointValue D) (before : W)
     (result : Result Status Failure) (new : EndpointValue D) (after : W) : Type 0 where
-  pub printed : IfOk result (λ status. AppliesFile disk_of old (contents before) (contents after) status new)
-  pub ended : IfErr result (λ failure. BreaksOff disk_of old (contents before) (contents after) failure new)
+  pub printed : IfOk result (λ status. AppliesFile left_in disk_of old (contents before) (contents after) status new)
+  pub ended : IfErr result (λ failure. BreaksOff left_in disk_of old (contents before) (contents after) failure new)
   pub broken : IfErr result (λ failure. failure ≡ Output → has_failed after ≡ true)
 
 -- `show`: the text of the endpoint is printed, which stays as it is

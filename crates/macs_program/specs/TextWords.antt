@@ -63,7 +63,7 @@ use Rattle.macs_program.specs.OpenInput.{InputFaultHolds, IsFourLines, SpellsKey
 use Rattle.macs_program.specs.OpenInput.{input_faults}
 use Rattle.macs_program.specs.Lines.{line_at}
 use Rattle.macs_program.specs.Summing.{pass_status, relay_line, summary_line}
-use Rattle.macs_program.specs.Trying.{failure_in_memory, would_lines}
+use Rattle.macs_program.specs.Trying.{failure_in_memory, trial_lines, trial_report}
 use Rattle.macs_program.specs.Values.{SpellsLayout, ValueFaultHolds, value_faults}
 use Rattle.macs_program.specs.declared.addresses.AddressFault.{AddressFault}
 use Rattle.macs_program.specs.declared.addresses.AddressFault.TheVariants.{Own1, Peer1, Own2, Peer2}
@@ -284,11 +284,14 @@ pub record CheckTexts : Type 0 where
   pub reasons : map key_reason (key.Mode ∷ key.On ∷ key.Window ∷ key.An ∷ key.Key ∷ key.Start ∷ key.Confidential
       ∷ key.Offset ∷ key.Sci ∷ [])
       ≡ codes "not a mode of this command" ∷ codes "not true or false" ∷ codes "not 0 to 4294967295"
-      ∷ codes "not 0 to 3" ∷ codes "not 32 or 64 hex digits" ∷ codes "not 1 to 4294967295"
-      ∷ codes "not true or false" ∷ codes "not 0, 30 or 50" ∷ codes "not 16 hex digits" ∷ []
-  pub none_tried : (at : ℕ) → would_lines at [] ≡ []
-  pub kept : (at : ℕ) → would_lines at (None ∷ []) ≡ decimal at ++ (codes " would be ok" ++ 10 ∷ [])
-  pub refused : (at : ℕ) (r : Refusal) → would_lines at (Some r ∷ [])
+      ∷ codes "not 0 to 3" ∷ codes "not 32 or 64 hex digits" ∷ codes "not 0 to 4294967295"
+      ∷ codes "not true or false" ∷ codes "not 0 to 255" ∷ codes "not 16 hex digits" ∷ []
+  pub none_tried : (at : ℕ) → trial_lines at [] ≡ []
+  pub no_report : trial_report [] ≡ codes "0 commands" ++ 10 ∷ []
+  pub report : (outcome : Option Refusal) (outcomes : List (Option Refusal))
+      → trial_report (outcome ∷ outcomes) ≡ trial_lines 1 (outcome ∷ outcomes)
+  pub kept : (at : ℕ) → trial_lines at (None ∷ []) ≡ decimal at ++ (codes " would be ok" ++ 10 ∷ [])
+  pub refused : (at : ℕ) (r : Refusal) → trial_lines at (Some r ∷ [])
       ≡ decimal at ++ (codes " would be refused " ++ (refusal_name r ++ 10 ∷ []))
   pub more_tried : (at : ℕ) (outcome : Option Refusal) (outcomes : List (Option Refusal))
-      → would_lines at (outcome ∷ outcomes) ≡ would_lines at (outcome ∷ []) ++ would_lines (at + 1) outcomes
+      → trial_lines at (outcome ∷ outcomes) ≡ trial_lines at (outcome ∷ []) ++ trial_lines (at + 1) outcomes

@@ -9,7 +9,6 @@ use Rattle.macs_config.specs.declared.refusal.Refusal.{Refusal}
 use Rattle.macs_disk.specs.Disk.{Disk}
 use Rattle.macs_disk.specs.Files.{Behaves, FileState, IsSure}
 use Rattle.macs_disk.specs.MemDisks.{disk_of}
-use Rattle.macs_disk.specs.declared.file_fault.FileFault.{FileFault}
 use Rattle.macs_disk.specs.declared.memory.MemDisk.{MemDisk}
 use Rattle.macs_endpoint.specs.Calls.{IsCall}
 use Rattle.macs_endpoint.specs.Opening.{Opens, RefusesOpening}
@@ -21,9 +20,8 @@ use Rattle.macs_journal.specs.declared.fault.JournalFault.{JournalFault}
 use Rattle.macs_journal.specs.declared.fault.JournalFault.TheVariants as journal
 use Rattle.macs_texts.specs.Lines.{line}
 use Rattle.macs_texts.specs.Refusals.{refusal_name}
-use Rattle.macs_program.specs.Applying.{Applies, SaysCommands, commit_fault, outcomes_status}
-use Rattle.macs_program.specs.Copying.{CopyFails, IsCopy}
-use Rattle.macs_program.specs.Failing.{failure_of_file}
+use Rattle.macs_program.specs.Applying.{Applies, SaidByFile, SaysCommands, commit_fault, outcomes_status}
+use Rattle.macs_program.specs.Copying.{CopyFails, IsCopy, IsNotRead}
 use Rattle.macs_program.specs.declared.failure.DiskFault.{DiskFault}
 use Rattle.macs_program.specs.declared.failure.DiskFault.TheVariants as disk
 use Rattle.macs_program.specs.declared.failure.Failure.{Failure}
@@ -33,18 +31,23 @@ use Rattle.macs_program.specs.declared.status.Status.{Status}
 -- ---- lines
 
 -- what is said of a command by its number, which would be kept or refused
-abbrev pub would_text : ℕ → Option Refusal → List ℕ
-would_text at None = decimal at ++ codes " would be ok"
-would_text at (Some refusal) = decimal at ++ (codes " would be refused " ++ refusal_name refusal)
+abbrev pub trial_text : ℕ → Option Refusal → List ℕ
+trial_text at None = decimal at ++ codes " would be ok"
+trial_text at (Some refusal) = decimal at ++ (codes " would be refused " ++ refusal_name refusal)
 
 -- its line
-abbrev pub would_line : ℕ → Option Refusal → List ℕ
-would_line at outcome = line (would_text at outcome)
+abbrev pub trial_line : ℕ → Option Refusal → List ℕ
+trial_line at outcome = line (trial_text at outcome)
 
 -- the lines of commands, the first of which has this number
-abbrev pub would_lines : ℕ → List (Option Refusal) → List ℕ
-would_lines at [] = []
-would_lines at (outcome ∷ outcomes) = would_line at outcome ++ would_lines (at + 1) outcomes
+abbrev pub trial_lines : ℕ → List (Option Refusal) → List ℕ
+trial_lines at [] = []
+trial_lines at (outcome ∷ outcomes) = trial_line at outcome ++ trial_lines (at + 1) outcomes
+
+-- all lines: those of the commands, or one where there are none
+abbrev pub trial_report : List (Option Refusal) → List ℕ
+trial_report [] = line (codes "0 commands")
+trial_report (outcome ∷ outcomes) = trial_lines 1 (outcome ∷ outcomes)
 
 -- ---- on a disk in memory
 
@@ -111,24 +114,27 @@ pub record TriesIn {F : Type 0} (state_of : F → FileState) (commands : List Co
 -- commands ends the run
 abbrev pub TrialFails : {F : Type 0} → (F → FileState) → List Command → Failure → Type 0
 TrialFails {F} state_of commands failure =
-    ((fault : FileFault) × (failure ≡ failure_of_file fault))
+    IsNotRead failure
     ⊎ ((file : F) × CopyFails (state_of file) failure)
     ⊎ ((file : F) × (copy : MemDisk Global) × IsCopyIn state_of file copy × EndsOn disk_of copy commands failure)
 
 -- ---- whole
 
--- the lines of the commands that some octets say are printed, with what each would be answered
-pub record PrintsTrial {F : Type 0} (state_of : F → FileState) (before after : Option (List ℕ))
-    (status : Status) : Type 0 where
+-- The lines of the commands that a file says are printed, with what each would be answered. What is left to read of a
+-- file is said by `left_in`, where it is known
+pub record PrintsTrial {F : Type 0} (state_of : F → FileState) (left_in : F → Option (List ℕ))
+    (before after : Option (List ℕ)) (status : Status) : Type 0 where
   pub octets : List ℕ
   pub commands : List Command
   pub says : SaysCommands octets commands
+  pub by_file : SaidByFile left_in commands
   pub outcomes : List (Option Refusal)
   pub tries : TriesIn state_of commands outcomes
-  pub printed : Appends before after (would_lines 1 outcomes)
+  pub printed : Appends before after (trial_report outcomes)
   pub status_is : status ≡ outcomes_status outcomes
 
 -- they cannot be tried
-abbrev pub TrialStops : {F : Type 0} → (F → FileState) → Failure → Type 0
-TrialStops state_of failure =
-    (octets : List ℕ) × (commands : List Command) × SaysCommands octets commands × TrialFails state_of commands failure
+abbrev pub TrialStops : {F : Type 0} → (F → FileState) → (F → Option (List ℕ)) → Failure → Type 0
+TrialStops state_of left_in failure =
+    (octets : List ℕ) × (commands : List Command) × SaysCommands octets commands × SaidByFile left_in commands
+    × TrialFails state_of commands failure

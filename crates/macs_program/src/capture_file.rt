@@ -1,6 +1,8 @@
 //! What captures ask of a file, besides what a disk does.
 
 ghost use Rattle.std.specs.Prelude.{◌≡◌, OnErr, OnOk};
+ghost use Rattle.std.specs.IoError.{error_kind};
+ghost use Rattle.macs_disk.specs.FileFailures.{Claims, NotesFailure};
 ghost use Rattle.macs_disk.specs.Files.{Behaves, IsClaimed, file_cut};
 
 use macs_disk::DiskFile;
@@ -13,7 +15,9 @@ pub trait CaptureFile: DiskFile {
     /// the file has claimed it for itself alone.
     fn share(&mut self) -> io::Result<()>
         ensures steady { (Self.file self.new).behaves ≡ (Self.file self.old).behaves }
-        ensures effect { Behaves (Self.file self.old) → Self.file self.new ≡ Self.file self.old };
+        ensures effect { Behaves (Self.file self.old) → Self.file self.new ≡ Self.file self.old }
+        ensures failure { NotesFailure (Self.failures self.old) (Self.failures self.new) Claims
+            error_kind result };
 
     /// Cuts the file to nothing. What becomes of a file that is not claimed is not said, since
     /// others may write to it.

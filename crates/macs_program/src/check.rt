@@ -10,11 +10,11 @@ ghost use Rattle.toml.specs.Parse.{parse_document};
 ghost use Rattle.macs_config.specs.declared.refusal.Refusal.{Refusal};
 ghost use Rattle.macs_commands.specs.CommandFiles.{file_commands};
 ghost use Rattle.std.specs.Prelude.{Ok, Some};
-ghost use Rattle.macs_program.specs.Applying.{SaysCommands, outcomes_status};
-ghost use Rattle.macs_program.specs.Checking.{CheckEnds, Checks, Complains, HasFault, IsSaidOfFile};
-ghost use Rattle.macs_program.specs.Checking.{IsSaidOfText};
+ghost use Rattle.macs_program.specs.Applying.{SaidByFile, SaysCommands, outcomes_status};
+ghost use Rattle.macs_program.specs.Checking.{CheckEnds, Checks, Complains, ComplainsOfFile};
+ghost use Rattle.macs_program.specs.Checking.{HasFault, IsSaidOfFile, IsSaidOfText};
 ghost use Rattle.macs_program.specs.Checking.{count_line, fault_text, key_reason, key_word};
-ghost use Rattle.macs_program.specs.Trying.{TrialFails, TriesIn, would_lines};
+ghost use Rattle.macs_program.specs.Trying.{TrialFails, TriesIn, trial_report};
 
 use crate::applying::MAX_FILE;
 use crate::capture_file::CaptureFile;
@@ -23,7 +23,7 @@ use crate::files::failure_of;
 use crate::output::{Line, append_count, print, print_octets};
 use crate::status::Status;
 use crate::stream::Stream;
-use crate::trial::{outcomes_status, try_in, would_lines};
+use crate::trial::{outcomes_status, trial_report, try_in};
 use macs_config::Command;
 use macs_edge::{ConfigFault, KeyName, commands_of};
 use std::alloc::{AllocError, Global};
@@ -62,9 +62,9 @@ fn key_reason(name: KeyName) -> &'static str
         KeyName::Window => "not 0 to 4294967295",
         KeyName::An => "not 0 to 3",
         KeyName::Key => "not 32 or 64 hex digits",
-        KeyName::Start => "not 1 to 4294967295",
+        KeyName::Start => "not 0 to 4294967295",
         KeyName::Confidential => "not true or false",
-        KeyName::Offset => "not 0, 30 or 50",
+        KeyName::Offset => "not 0 to 255",
         KeyName::Sci => "not 16 hex digits",
     }
 }
@@ -145,7 +145,7 @@ fn commands_said(alloc: Global, octets: &[u8]) -> Result<Vec<Command>, Failure>
 }
 
 /// The commands that an open file says, of which no more is read than can be of use. It fails as
-/// `Commands` where a read fails, and else says the first fault.
+/// `Commands` where a read fails, else as `CommandFile` with the first fault, or as `Memory`.
 pub fn commands_read<R: Read>(alloc: Global, file: &mut R) -> Result<Vec<Command>, Failure>
     ensures said { IfOk result (λ commands. IfSome (R.remaining file.old)
         (λ octets. SaysCommands octets commands.items)) }
@@ -178,13 +178,16 @@ fn count_line(count: usize) -> Line
     line
 }
 
-/// The commands that a file says. It fails as `Commands` where it cannot be opened or read, and
-/// else says the first fault.
+/// The commands that a file says. It fails as `Commands` where it cannot be opened or read, else as
+/// `CommandFile` with the first fault, or as `Memory`.
 fn checked_commands<T: Files>(rt: &T, alloc: Global, path: &str) -> Result<Vec<Command>, Failure>
+    // A file was opened, and it says them.
+    ensures said { IfOk result (λ commands. SaidByFile T.File.remaining commands.items) }
     ensures spelled { IfOk result
         (λ commands. (octets : List ℕ) × SaysCommands octets commands.items) }
     ensures ended { IfErr result (λ failure. (failure ≡ Failure.Commands)
-        ⊎ ((octets : List ℕ) × Complains (IsSaidOfFile octets) failure)) }
+        ⊎ ((octets : List ℕ) × Complains (IsSaidOfFile octets) failure
+        × ((failure ≡ Failure.Memory) ⊎ ComplainsOfFile IsSaidOfFile T.File.remaining failure))) }
 {
     match fs::open(rt, path) {
         Ok(mut file) => commands_read(alloc, &mut file),
@@ -205,7 +208,7 @@ fn print_count<W: Stream>(count: usize, out: &mut W) -> Result<Status, Failure>
 }
 
 /// Prints what these commands would be answered by the endpoint on the disk in a file. It fails as
-/// `try_in` does, and as `Memory`; nothing is printed then.
+/// `try_in` does, and as `Memory`, with nothing printed before.
 fn print_trial<T: Files, W: Stream>(
     rt: &T,
     alloc: Global,
@@ -217,7 +220,7 @@ where
     T::File: CaptureFile,
     ensures printed { IfOk result
         (λ status. (outcomes : List (Option Refusal)) × TriesIn T.File.file commands.now outcomes
-        × Appends (W.contents out.old) (W.contents out.new) (would_lines 1 outcomes)
+        × Appends (W.contents out.old) (W.contents out.new) (trial_report outcomes)
         × (status ≡ outcomes_status outcomes)) }
     ensures ended { IfErr result (λ failure. (failure ≡ Failure.Output) ⊎ (failure ≡ Failure.Memory)
         ⊎ TrialFails T.File.file commands.now failure) }
@@ -225,7 +228,7 @@ where
     ensures broken { IfErr result (λ failure. failure ≡ Failure.Output → W.failed out.new ≡ true) }
 {
     let outcomes = try_in(rt, alloc, disk, commands)?;
-    let text = would_lines(alloc, outcomes.as_slice())?;
+    let text = trial_report(alloc, outcomes.as_slice())?;
     print(out, text.as_str())?;
     Ok(outcomes_status(outcomes.as_slice()))
 }
@@ -241,9 +244,9 @@ pub fn check<T: Files, W: Stream>(
 ) -> Result<Status, Failure>
 where
     T::File: CaptureFile,
-    ensures printed { IfOk result
-        (Checks T.File.file disk.entry (W.contents out.old) (W.contents out.new)) }
-    ensures ended { IfErr result (CheckEnds T.File.file disk.entry) }
+    ensures printed { IfOk result (Checks T.File.file T.File.remaining disk.entry
+        (W.contents out.old) (W.contents out.new)) }
+    ensures ended { IfErr result (CheckEnds T.File.file T.File.remaining disk.entry) }
     ensures silent { IfErr result (λ failure. failure ≢ Failure.Output → out.new ≡ out.old) }
     ensures broken { IfErr result (λ failure. failure ≡ Failure.Output → W.failed out.new ≡ true) }
 {

@@ -1,6 +1,8 @@
 //! What is in a file before it is written over.
 
-ghost use Rattle.std.specs.Prelude.{◌≡◌, ◌↔◌, ◌<◌, ◌+◌, ◌*◌, ◌/◌, ◌^◌, IfOk, IsTrue, OnOk};
+ghost use Rattle.std.specs.Prelude.{◌≡◌, ◌↔◌, ◌<◌, ◌+◌, ◌*◌, ◌/◌, ◌^◌, IfErr, IfOk, IsTrue, OnOk};
+ghost use Rattle.std.specs.IoError.{error_kind};
+ghost use Rattle.macs_disk.specs.FileFailures.{MoveFails, Reads};
 ghost use Rattle.macs_disk.specs.Files.{Behaves, IsSure};
 ghost use Rattle.macs_journal.specs.Areas.{least_sectors};
 ghost use Rattle.macs_record.specs.Heads.{Head, IsHeadOf};
@@ -51,6 +53,8 @@ pub fn read_sector<F: DiskFile>(
     ensures same { Behaves (F.file file.old) → F.file file.new ≡ F.file file.old }
     ensures octets { Behaves (F.file file.old) → IsSure (F.file file.old)
         → OnOk result (sector.new ≡ sector_in (F.file file.old) number) }
+    ensures cause { IfErr result
+        (λ error. MoveFails (F.failures file.old) (F.failures file.new) Reads (error_kind error)) }
 {
     read_exact_at(file, SECTOR as u64 * number, sector)
 }

@@ -2,7 +2,9 @@
 
 ghost use Rattle.std.specs.Prelude.{◌≡◌, ◌≢◌, ◌⊎◌, ◌<◌, ◌≤◌, ◌*◌, ◌/◌, ◌%◌, ◌^◌, IfErr, IfOk};
 ghost use Rattle.std.specs.Prelude.{IsErrOf, OnOk};
+ghost use Rattle.std.specs.declared.io.ErrorKind.{ErrorKind};
 ghost use Rattle.macs_disk.specs.Disk.{now};
+ghost use Rattle.macs_disk.specs.FileFailures.{MeasureFails, MoveFails, NoneFailed, Reads};
 ghost use Rattle.macs_disk.specs.Files.{Behaves, IsSure};
 ghost use Rattle.macs_disk.specs.Layouts.{layout_in};
 ghost use Rattle.macs_disk.specs.MemDisks.{disk_of};
@@ -28,8 +30,8 @@ const SECTORS: u64 = 1_028;
 /// What the mark of a spaced file begins with.
 const MARK: &[u8; 8] = b"MSEC4096";
 
-/// Claims a file beside other readers, and answers how many sectors of 512 octets it has, where
-/// these are all of it.
+/// Claims a file together with other readers, and answers how many sectors of 512 octets it has;
+/// `Length` if there is a rest.
 pub fn measure<F: CaptureFile>(file: &mut F) -> Result<u64, FileFault>
     ensures steady { (F.file file.new).behaves ≡ (F.file file.old).behaves }
     ensures same { Behaves (F.file file.old) → F.file file.new ≡ F.file file.old }
@@ -39,6 +41,8 @@ pub fn measure<F: CaptureFile>(file: &mut F) -> Result<u64, FileFault>
     ensures whole { Behaves (F.file file.old) → OnOk result ((F.file file.old).size % 512 ≡ 0) }
     ensures length { IsErrOf result FileFault.Length → Behaves (F.file file.old)
         → (F.file file.old).size % 512 ≢ 0 }
+    ensures quiet { OnOk result (NoneFailed (F.failures file.old) (F.failures file.new)) }
+    ensures cause { IfErr result (MeasureFails (F.failures file.old) (F.failures file.new)) }
 {
     file.share()?;
     let octets = file.size()?;
@@ -48,7 +52,7 @@ pub fn measure<F: CaptureFile>(file: &mut F) -> Result<u64, FileFault>
     Ok(octets / SECTOR as u64)
 }
 
-/// How a disk lies in a file of so many sectors: spaced where the mark of that is there.
+/// The layout of the disk in a file of so many sectors: spaced where it has that mark.
 pub fn find_layout<F: DiskFile>(file: &mut F, sectors: u64) -> io::Result<Layout>
     requires { 512 * sectors < 2 ^ 64 }
     ensures steady { (F.file file.new).behaves ≡ (F.file file.old).behaves }
@@ -92,6 +96,8 @@ fn copy_sector<F: DiskFile>(
         ≡ state_after_write (now (disk_of copy.old))
         at (sector_in (F.file file.old) (number_of layout at))) }
     ensures failed { IfErr result (λ fault. fault ≢ FileFault.Length) }
+    ensures cause { IfErr result (λ fault. fault ≡ FileFault.Device → (kind : ErrorKind)
+        × MoveFails (F.failures file.old) (F.failures file.new) Reads kind) }
 {
     let mut sector = CLOSED_GATE;
     let Ok(()) = read_sector(file, number_of(layout, at), &mut sector) else {
@@ -99,7 +105,7 @@ fn copy_sector<F: DiskFile>(
     };
     match copy.write(at, &sector) {
         Ok(()) => Ok(()),
-        Err(_) => Err(FileFault::Memory), // Nothing else fails there.
+        Err(_) => Err(FileFault::Memory), // A write in memory fails only for that.
     }
 }
 
@@ -130,7 +136,7 @@ fn blank_copy(alloc: Global) -> Result<MemDisk, FileFault>
 {
     match MemDisk::new(alloc, SECTORS) {
         Ok(copy) => Ok(copy),
-        Err(_) => Err(FileFault::Memory), // It has a size that a disk may have.
+        Err(_) => Err(FileFault::Memory), // 1,028 sectors are allowed.
     }
 }
 
@@ -152,10 +158,10 @@ fn copy_disk<F: DiskFile>(alloc: Global, file: &mut F, sectors: u64) -> Result<M
 }
 
 /// A copy in memory of the disk in a file that is open to read, of 1,028 sectors. The file is
-/// claimed beside other readers, and no octet of it is changed. It fails as `Disk` with the first
-/// fault: `File` where the file is claimed by a writer or cannot be measured, `Length` where it is
-/// not whole sectors, `Journal` with `TooSmall` where they are fewer, and with `Disk` where one
-/// cannot be read; and as `Memory`.
+/// claimed together with other readers, and no octet of it is changed. It fails as `Disk` with the
+/// first fault: `File` where the file is claimed by a writer or cannot be measured, `Length` where
+/// it is not whole sectors, `Journal` with `TooSmall` where they are fewer, and with `Disk` where a
+/// sector cannot be read; and as `Memory`.
 pub fn copy_of<F: CaptureFile>(alloc: Global, file: &mut F) -> Result<MemDisk, Failure>
     ensures same { Behaves (F.file file.old) → F.file file.new ≡ F.file file.old }
     ensures copied { Behaves (F.file file.old) → IsSure (F.file file.old)

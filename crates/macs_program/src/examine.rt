@@ -47,14 +47,14 @@ struct Examined {
     disk: MemDisk,
 }
 
-/// What is said of a disk, and how the run ends that says it.
+/// What is said of a disk, and the status of the run that says it.
 #[derive(Drop)]
 struct Said {
     text: String,
     status: Status,
 }
 
-/// Finds the journal of a disk in memory, with a room that is lent for its records.
+/// Finds the journal of a disk in memory, in a room that the caller lends for its records.
 fn find_with(copy: MemDisk, room: &mut Room) -> Result<Examined, RecoverRefused<MemDisk>>
     ensures found { IfOk result
         (λ found. (content : Content) × HasJournal (now (disk_of copy)).seen content
@@ -101,13 +101,13 @@ fn find(copy: MemDisk) -> Result<Examined, RecoverRefused<MemDisk>>
 
 /// What is said of a journal with these figures, whose disk was opened to a store or refused.
 #[inline(never)]
-fn tell(
+fn report_journal(
     alloc: Global,
     layout: Layout,
     figures: Figures,
     opened: Result<Store<MemDisk>, OpenRefused<MemDisk>>,
 ) -> Result<Said, Failure>
-    ensures told { (disk : MemDisk Global) → IsStoreOpening disk_of disk opened
+    ensures reported { (disk : MemDisk Global) → IsStoreOpening disk_of disk opened
         → IfOk result (λ said. (standing : Standing)
         × StandingIs this_edition (disk_of disk).sectors (now (disk_of disk)).seen (Ok standing)
         × (string_bytes said.text ≡ examined_text layout figures standing)
@@ -128,10 +128,10 @@ fn tell(
 }
 
 /// What is said of a disk whose journal is bad: its first fault.
-fn tell_fault(alloc: Global, disk: &MemDisk) -> Result<Said, Failure>
+fn report_fault(alloc: Global, disk: &MemDisk) -> Result<Said, Failure>
     requires room { least_sectors ≤ (disk_of disk.now).sectors }
     requires bad { IsBadJournal (now (disk_of disk.now)).durable }
-    ensures told { IfOk result
+    ensures reported { IfOk result
         (λ said. SaysFault (now (disk_of disk.now)).durable (string_bytes said.text) said.status) }
     ensures ended { IfErr result (λ failure. failure ≡ Failure.Memory) }
 {
@@ -149,19 +149,19 @@ fn tell_fault(alloc: Global, disk: &MemDisk) -> Result<Said, Failure>
 
 /// What is said of a disk on which no journal was found: the first fault of a bad one.
 #[inline(never)]
-fn tell_refused(alloc: Global, refused: &RecoverRefused<MemDisk>) -> Result<Said, Failure>
+fn report_refused(alloc: Global, refused: &RecoverRefused<MemDisk>) -> Result<Said, Failure>
     requires room { refused.now.fault ≡ JournalFault.BadJournal
         → least_sectors ≤ (disk_of refused.now.disk).sectors }
     requires bad { refused.now.fault ≡ JournalFault.BadJournal
         → IsBadJournal (now (disk_of refused.now.disk)).durable }
-    ensures told { IfOk result (λ said. (refused.now.fault ≡ JournalFault.BadJournal)
+    ensures reported { IfOk result (λ said. (refused.now.fault ≡ JournalFault.BadJournal)
         × SaysFault (now (disk_of refused.now.disk)).durable (string_bytes said.text) said.status) }
     ensures ended { IfErr result (λ failure. (failure ≡ Failure.Memory)
         ⊎ ((refused.now.fault ≢ JournalFault.BadJournal)
         × (failure ≡ failure_in_memory (Journal refused.now.fault)))) }
 {
     match refused.fault {
-        JournalFault::BadJournal => tell_fault(alloc, &refused.disk),
+        JournalFault::BadJournal => report_fault(alloc, &refused.disk),
         _ => Err(failure_in_memory(DiskFault::Journal(refused.fault))),
     }
 }
@@ -170,13 +170,13 @@ fn tell_refused(alloc: Global, refused: &RecoverRefused<MemDisk>) -> Result<Said
 /// first fault of a bad journal. It fails as `Memory`, and as `Disk` with another fault for which
 /// no endpoint is opened on it.
 fn examine_copy(alloc: Global, layout: Layout, copy: MemDisk) -> Result<Said, Failure>
-    ensures told { IfOk result
+    ensures reported { IfOk result
         (λ said. Says (now (disk_of copy)).seen layout (string_bytes said.text) said.status) }
     ensures ended { IfErr result (IsNotExamined (disk_of copy)) }
 {
     match find(copy) {
-        Ok(found) => tell(alloc, layout, found.figures, Store::open(found.disk)),
-        Err(refused) => tell_refused(alloc, &refused),
+        Ok(found) => report_journal(alloc, layout, found.figures, Store::open(found.disk)),
+        Err(refused) => report_refused(alloc, &refused),
     }
 }
 
@@ -200,7 +200,7 @@ fn layout_of<F: CaptureFile>(file: &mut F) -> Result<Layout, FileFault>
 fn examine_in<T: Files>(rt: &T, alloc: Global, path: &str) -> Result<Said, Failure>
 where
     T::File: CaptureFile,
-    ensures told { IfOk result
+    ensures reported { IfOk result
         (λ said. ExaminesIn T.File.file (string_bytes said.text) said.status) }
     ensures ended { IfErr result (ExaminationFails T.File.file) }
 {

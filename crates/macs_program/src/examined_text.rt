@@ -57,14 +57,14 @@ fn block_of(layout: Layout) -> u64
     }
 }
 
-/// The line of a number: what it is, and which.
+/// A line of a name and a number.
 fn number_line(alloc: Global, name: &str, number: u64) -> Result<String, AllocError>
     ensures { IfOk result (λ text. string_bytes text ≡ number_line name.now number) }
 {
     ended(format!(in alloc; "{name} {number}")?)
 }
 
-/// The line of a number that has a greatest one.
+/// A line of a name, a number and its greatest value.
 fn part_line(alloc: Global, name: &str, number: u64, most: u64) -> Result<String, AllocError>
     ensures { IfOk result (λ text. string_bytes text ≡ part_line name.now number most) }
 {

@@ -26,7 +26,7 @@ const AREA_SECTORS: u64 = 514;
 pub enum AreaHead {
     /// The gate is closed.
     Closed,
-    /// The gate is open, and the body is that of no head.
+    /// The gate is open, and the body is no head.
     Headless,
     /// The gate is open.
     Opened(Head),
@@ -208,7 +208,7 @@ fn current_fault(copy: &MemDisk, area: u64, head: &Head) -> Option<u64>
 }
 
 /// The sector of the first fault of the journal on a disk in memory, as a power loss would leave
-/// that. `None` where the journal is not bad.
+/// it. `None` where the journal is not bad.
 pub fn fault_of(copy: &MemDisk) -> Option<u64>
     requires { least_sectors ≤ (disk_of copy.now).sectors }
     ensures first { IfSome result (IsFirstFault (now (disk_of copy.now)).durable) }

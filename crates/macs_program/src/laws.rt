@@ -1,6 +1,6 @@
 //! Laws of the definitions.
 
-ghost use Rattle.std.specs.Prelude.{◌≡◌, ◌/◌, ℕ, Bool, true, false, None};
+ghost use Rattle.std.specs.Prelude.{◌≡◌, ◌/◌, ℕ, Bool, List, Option, true, false, None};
 ghost use Rattle.macs_config.specs.Identity.{Identity};
 ghost use Rattle.macs_disk.specs.Files.{Behaves, FileState, Settles};
 ghost use Rattle.macs_disk.specs.declared.layout.Layout.{Layout};
@@ -66,7 +66,7 @@ pub fn words<D: SectorDisk, F: DiskFile>()
     // Which lines an input has.
     ensures text_lines { TextLineWords }
     // What `apply` does, line by line.
-    ensures applies { ApplyWords D.disk }
+    ensures applies { (left_in : F → Option (List ℕ)) → ApplyWords D.disk left_in }
     // What a run over captures asks for, and how it ends.
     ensures captures { CaptureWords D.disk }
     // Which endpoint is opened, and which file becomes a disk.
@@ -87,9 +87,9 @@ pub fn relays<F: DiskFile>()
 /// fails, and what was printed before.
 pub fn runs<F: DiskFile, R: Input>()
     // What a run replies, and what each action does.
-    ensures replies { ReplyWords F.file }
+    ensures replies { (left_in : F → Option (List ℕ)) → ReplyWords F.file left_in }
     // How a run and each action fail.
-    ensures fails { FailWords F.file }
+    ensures fails { (left_in : F → Option (List ℕ)) → FailWords F.file left_in }
     // What was printed before a failure, and which values are wrong.
     ensures before { BeforeWords }
     // What is said of an input: what was left of it before, and whether a read of it failed.

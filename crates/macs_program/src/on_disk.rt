@@ -193,7 +193,7 @@ struct ApplyFile<'a, T> {
 }
 
 impl<T: Files, D: SectorDisk, W: Stream> Task<D, W> for ApplyFile<'_, T> {
-    ghost does = { λ _. DoesApply D.disk W.contents W.failed };
+    ghost does = { λ _. DoesApply T.File.remaining D.disk W.contents W.failed };
 
     #[inline(never)]
     fn run(&self, endpoint: &mut Endpoint<D>, out: &mut W) -> Result<Status, Failure> {
@@ -214,9 +214,10 @@ pub fn apply<'a, T: Files, W: Stream>(
 where
     T::File: DiskFile,
     ensures printed { IfOk result (λ status.
-        AppliesIn T.File.file (W.contents out.old) (W.contents out.new) status) }
+        AppliesIn T.File.file T.File.remaining (W.contents out.old) (W.contents out.new) status) }
     ensures ended { IfErr result (λ failure. OpeningFails T.File.file failure
-        ⊎ BreaksOffIn T.File.file (W.contents out.old) (W.contents out.new) failure) }
+        ⊎ BreaksOffIn T.File.file T.File.remaining (W.contents out.old) (W.contents out.new)
+        failure) }
     ensures failed { IfErr result (λ failure. failure_status failure ≢ Status.Usage) }
     ensures lines { IfErr result (λ failure. failure ≢ Failure.Output
         → (outcomes : List (Option Refusal))

@@ -7,10 +7,11 @@ ghost use Rattle.toml.specs.View.{table_view};
 ghost use Rattle.toml.specs.Parse.{parse_document};
 ghost use Rattle.macs_plan.specs.Planning.{file_planned};
 ghost use Rattle.macs_plan.specs.Writing.{PlansText};
-ghost use Rattle.macs_program.specs.Checking.{Complains};
-ghost use Rattle.macs_program.specs.Plans.{HasPlanFault, IsSaidOfLink, IsSaidOfLinkText, PlanFails};
-ghost use Rattle.macs_program.specs.Plans.{PlansFile, PrintsPlan, end_of, extra_text, name_reason};
-ghost use Rattle.macs_program.specs.Plans.{name_word, plan_fault_text, stage_of, value_text};
+ghost use Rattle.macs_program.specs.Checking.{Complains, ComplainsOfFile};
+ghost use Rattle.macs_program.specs.Plans.{HasPlanFault, IsPlanOfFile, IsSaidOfLink};
+ghost use Rattle.macs_program.specs.Plans.{IsSaidOfLinkText, PlanFails, PlansFile, PrintsPlan};
+ghost use Rattle.macs_program.specs.Plans.{end_of, extra_text, name_reason, name_word};
+ghost use Rattle.macs_program.specs.Plans.{plan_fault_text, stage_of, value_text};
 
 use crate::applying::MAX_FILE;
 use crate::check::failure_saying;
@@ -199,10 +200,15 @@ fn planned_file<T: Files>(
     end: End,
     stage: Stage,
 ) -> Result<String, Failure>
+    // A file was opened, and it is planned of what it says.
+    ensures planned { IfOk result
+        (λ text. IsPlanOfFile T.File.remaining end stage (string_bytes text)) }
     ensures spelled { IfOk result
         (λ text. (octets : List ℕ) × PlansFile end stage octets (string_bytes text)) }
     ensures ended { IfErr result (λ failure. (failure ≡ Failure.Commands)
-        ⊎ ((octets : List ℕ) × Complains (IsSaidOfLink end stage octets) failure)) }
+        ⊎ ((octets : List ℕ) × Complains (IsSaidOfLink end stage octets) failure
+        × ((failure ≡ Failure.Memory)
+        ⊎ ComplainsOfFile (IsSaidOfLink end stage) T.File.remaining failure))) }
 {
     match fs::open(rt, path) {
         Ok(mut file) => planned_read(alloc, &mut file, end, stage),
@@ -221,9 +227,10 @@ pub fn plan<T: Files, W: Stream>(
     out: &mut W,
 ) -> Result<Status, Failure>
     ensures printed { IfOk result (λ status.
-        PrintsPlan (end_of end) (stage_of stage) (W.contents out.old) (W.contents out.new)
+        PrintsPlan T.File.remaining (end_of end) (stage_of stage) (W.contents out.old)
+        (W.contents out.new)
         × (status ≡ Status.Done)) }
-    ensures ended { IfErr result (PlanFails (end_of end) (stage_of stage)) }
+    ensures ended { IfErr result (PlanFails T.File.remaining (end_of end) (stage_of stage)) }
     ensures silent { IfErr result (λ failure. failure ≢ Failure.Output → out.new ≡ out.old) }
     ensures broken { IfErr result (λ failure. failure ≡ Failure.Output → W.failed out.new ≡ true) }
 {

@@ -90,7 +90,7 @@ fn perform<T: Files + Net + Clock + Env + RandomSource, R: Input, W: Stream>(
 ) -> Result<Status, Failure>
 where
     T::File: CaptureFile,
-    ensures performs { Performs T.File.file W.contents W.failed action.entry
+    ensures performs { Performs T.File.file T.File.remaining W.contents W.failed action.entry
         (read_of R.remaining R.failed input.old input.new) out.old result out.new }
     ensures unread { action.entry ≢ Action.Open → input.new ≡ input.old }
 {
@@ -132,7 +132,8 @@ where
     T::File: CaptureFile,
     requires { is_on_frames action ≡ true }
     ensures { (input : InputRead)
-        → Performs T.File.file W.contents W.failed action.entry input out.old result out.new }
+        → Performs T.File.file T.File.remaining W.contents W.failed action.entry input out.old
+        result out.new }
 {
     match action {
         Action::Protect {
@@ -174,8 +175,8 @@ fn act<T: Files + Net + Clock + Env + RandomSource, R: Input, W: Stream>(
 ) -> Result<Status, Failure>
 where
     T::File: CaptureFile,
-    ensures { Acts T.File.file R.remaining R.failed W.contents W.failed (texts words.now) input.old
-        out.old result input.new out.new }
+    ensures { Acts T.File.file T.File.remaining R.remaining R.failed W.contents W.failed
+        (texts words.now) input.old out.old result input.new out.new }
 {
     if let Some(topic) = topic_of(words) {
         print(out, topic.text())?;
@@ -228,8 +229,9 @@ where
     // At 0 and 3 the words ask for help or are taken, and the help or what the action prints is
     // written to standard output.
     ensures replied { (result ≡ 0) ⊎ (result ≡ 3) → (status : Status) × (result ≡ code_of status)
-        × Replies T.File.file (texts words.now) (read_of R.remaining R.failed input.old input.new)
-        (W.contents out.old) (W.contents out.new) status }
+        × Replies T.File.file T.File.remaining (texts words.now)
+        (read_of R.remaining R.failed input.old input.new) (W.contents out.old)
+        (W.contents out.new) status }
     // And nothing on standard error.
     ensures quiet { (result ≡ 0) ⊎ (result ≡ 3) → err.new ≡ err.old }
     // At 2 the words ask for no help.
@@ -251,8 +253,9 @@ where
         → (failure : Failure) × (result ≡ code_of (failure_status failure))
         × PrintsUnlessFailed (E.contents err.old) (E.contents err.new) (E.failed err.new)
         (complaint failure)
-        × FailsFor T.File.file (texts words.now) (read_of R.remaining R.failed input.old input.new)
-        (W.contents out.old) (W.contents out.new) failure
+        × FailsFor T.File.file T.File.remaining (texts words.now)
+        (read_of R.remaining R.failed input.old input.new) (W.contents out.old)
+        (W.contents out.new) failure
         × (failure ≢ Failure.Output
         → PrintedBefore (texts words.now) (W.contents out.old) (W.contents out.new))
         × (failure ≡ Failure.Output → W.failed out.new ≡ true) }

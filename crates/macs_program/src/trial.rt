@@ -10,7 +10,8 @@ ghost use Rattle.macs_endpoint.specs.State.{Commands, Ran};
 ghost use Rattle.macs_program.specs.Applying.{Applies, answer_of, outcomes_status};
 ghost use Rattle.macs_program.specs.Trying.{EndsOn, EndsTrial, TrialEnds, TrialFails, TriesIn};
 ghost use Rattle.macs_program.specs.Trying.{TriesOn};
-ghost use Rattle.macs_program.specs.Trying.{failure_in_memory, would_line, would_lines, would_text};
+ghost use Rattle.macs_program.specs.Trying.{failure_in_memory, trial_line, trial_lines};
+ghost use Rattle.macs_program.specs.Trying.{trial_report, trial_text};
 
 use crate::applying::{give, status_after};
 use crate::capture_file::CaptureFile;
@@ -26,7 +27,7 @@ use macs_texts::refusal_name;
 use std::alloc::{AllocError, Global};
 use std::rt::Files;
 
-/// What a fault of a disk in memory is: a call of it fails for want of memory alone.
+/// The failure that a fault of a disk in memory is: its calls fail only for want of memory.
 pub fn failure_in_memory(fault: DiskFault) -> Failure
     ensures { result ≡ failure_in_memory fault }
 {
@@ -93,7 +94,8 @@ fn try_opened(
     }
 }
 
-/// Gives these commands to the endpoint on a disk in memory.
+/// Gives these commands to the endpoint on a disk in memory. It is a function of its own, so that
+/// the endpoint has one place on the stack.
 #[inline(never)]
 fn try_on(
     alloc: Global,
@@ -130,9 +132,9 @@ where
     }
 }
 
-/// What is said of a command by its number.
-fn would_text(alloc: Global, at: usize, outcome: Option<Refusal>) -> Result<String, AllocError>
-    ensures { IfOk result (λ text. string_bytes text ≡ would_text at outcome) }
+/// The text on command `at`: kept, or refused by this name.
+fn trial_text(alloc: Global, at: usize, outcome: Option<Refusal>) -> Result<String, AllocError>
+    ensures { IfOk result (λ text. string_bytes text ≡ trial_text at outcome) }
 {
     match outcome {
         None => format!(in alloc; "{at} would be ok"),
@@ -144,26 +146,36 @@ fn would_text(alloc: Global, at: usize, outcome: Option<Refusal>) -> Result<Stri
 }
 
 /// The line of a command by its number.
-fn would_line(alloc: Global, at: usize, outcome: Option<Refusal>) -> Result<String, AllocError>
-    ensures { IfOk result (λ text. string_bytes text ≡ would_line at outcome) }
+fn trial_line(alloc: Global, at: usize, outcome: Option<Refusal>) -> Result<String, AllocError>
+    ensures { IfOk result (λ text. string_bytes text ≡ trial_line at outcome) }
 {
-    let mut text = would_text(alloc, at, outcome)?;
+    let mut text = trial_text(alloc, at, outcome)?;
     text.push('\n')?;
     Ok(text)
 }
 
 /// The lines of commands, each with what it would be answered.
-pub fn would_lines(alloc: Global, outcomes: &[Option<Refusal>]) -> Result<String, AllocError>
-    ensures { IfOk result (λ text. string_bytes text ≡ would_lines 1 outcomes.now) }
+fn trial_lines(alloc: Global, outcomes: &[Option<Refusal>]) -> Result<String, AllocError>
+    ensures { IfOk result (λ text. string_bytes text ≡ trial_lines 1 outcomes.now) }
 {
     let mut text = String::new(alloc);
     for i in 0..outcomes.len() {
-        text.push_str(would_line(alloc, i + 1, outcomes[i])?.as_str())?;
+        text.push_str(trial_line(alloc, i + 1, outcomes[i])?.as_str())?;
     }
     Ok(text)
 }
 
-/// How a run ends that gave its commands: refused where one was.
+/// What is said of all commands: a line of each, or that there are none.
+pub fn trial_report(alloc: Global, outcomes: &[Option<Refusal>]) -> Result<String, AllocError>
+    ensures { IfOk result (λ text. string_bytes text ≡ trial_report outcomes.now) }
+{
+    if outcomes.is_empty() {
+        return String::from_str(alloc, "0 commands\n");
+    }
+    trial_lines(alloc, outcomes)
+}
+
+/// The status of a run that gave all its commands: refused if one was.
 pub fn outcomes_status(outcomes: &[Option<Refusal>]) -> Status
     ensures { result ≡ outcomes_status outcomes.now }
 {

@@ -207,7 +207,8 @@ them, and prints how many there are: '4 commands'. With DISK it prints a line fo
 each instead, with what 'macsecd apply' would answer there, as
   1 would be ok
   2 would be refused KeySpent
-Nothing is changed, and DISK is only read.
+A command that can be read may still be refused: with DISK alone that is said.
+Nothing is changed. DISK is only read, and no relay may run on it meanwhile.
   FILE   as of apply: see 'macsecd apply --help'
   DISK   a disk file that was formatted
 A fault of FILE is one line: the command, its key, and what is wrong with it, as
@@ -245,8 +246,8 @@ status: 0 done, 2 usage, 5 a fault of the file, output or memory
 
 pub const EXAMINE: &str = "usage: macsecd examine DISK
 
-Prints what the journal of a disk file has. The file is only read, and claimed
-beside other readers.
+Prints the state of the journal in a disk file. The file is only read; meanwhile
+others may read it, but no relay may run on it, and no program may write to it.
   DISK   a disk file that was formatted
 It prints, a line each,
   format 2                           1 was written by programs before 0.1.0
@@ -259,7 +260,7 @@ It prints, a line each,
   ceiling rx 0200000000020001 0 17   of each receive association, by channel
   spent tx 1 of 512                  keys that were ever installed
   spent rx 1 of 512
-  whole                              all records can be read
+  whole                              records can be read, and in this order
 or of a bad journal the first sector of the disk that is at fault, from 0, as
   fault in sector 4
 

@@ -86,7 +86,7 @@ const FAULTS: &[(&str, &str)] = &[
 const FURTHER_FAULTS: &[(&str, &str)] = &[
     (
         "[[command]]\ndo = 'tx-install'\nan = 0\nkey = 'ad7a2bd03eac835a6f620fdcb506b345'\nstart = 4294967296\n",
-        "macsecd: command 1 start: not 1 to 4294967295\n",
+        "macsecd: command 1 start: not 0 to 4294967295\n",
     ),
     (
         "[[command]]\ndo = 'tx-install'\nan = 0\nkey = 'ad7a2bd03eac835a6f620fdcb506b345'\nstart = 1\n",
@@ -94,7 +94,7 @@ const FURTHER_FAULTS: &[(&str, &str)] = &[
     ),
     (
         "[[command]]\ndo = 'tx-install'\nan = 0\nkey = 'ad7a2bd03eac835a6f620fdcb506b345'\nstart = 1\nconfidential = true\noffset = 256\n",
-        "macsecd: command 1 offset: not 0, 30 or 50\n",
+        "macsecd: command 1 offset: not 0 to 255\n",
     ),
     (
         "[[command]]\ndo = 'tx-use'\nan = 0\n[[command]]\ndo = 'use-tx'\nan = 0\n",

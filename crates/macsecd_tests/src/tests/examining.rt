@@ -201,6 +201,8 @@ const FAULTS: &[Step] = &[
     Run(&["examine", "story-examine-faults/folder"], NO_FILE),
     Filled(FAULTY, 0, 526_337),
     Run(FAULTY_WORDS, Outcome::Disk("macsecd: disk length\n")),
+    Filled(FAULTY, 0, 100),
+    Run(FAULTY_WORDS, Outcome::Disk("macsecd: disk length\n")),
     Filled(FAULTY, 0, 512),
     Run(FAULTY_WORDS, Outcome::Disk("macsecd: too small\n")),
     HasOctets(FAULTY, 512),

@@ -66,7 +66,7 @@ const TRIED: &[Step] = &[
         Outcome::Done("1 would be ok\n"),
     ),
     Text(ONE, ""),
-    Run(&["check", ONE, DISK], Outcome::Done("")),
+    Run(&["check", ONE, DISK], Outcome::Done("0 commands\n")),
     Closing(0, 0, &["check", SIX, DISK]),
     Run(
         &[

@@ -1,4 +1,4 @@
-use Rattle.macs_plan.proofs.Sound.{refuses}
+use Rattle.macs_plan.proofs.Keyed.{refuses}
 use Rattle.macs_plan.proofs.Stages.{begins, meets, rekeys}
 use Rattle.macs_plan.proofs.laws.plans.Goals as goal
 

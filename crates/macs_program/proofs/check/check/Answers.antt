@@ -2,6 +2,7 @@ use Rattle.std.proofs.Common.{List, subst, sym}
 use Rattle.std.proofs.lemmas.Result.{IfErr-weaker, IfOk-weaker}
 use Rattle.macs_config.specs.declared.command.Command.{Command}
 use Rattle.macs_program.specs.Applying.{SaysCommands}
+use Rattle.macs_program.proofs.Checked.{said-of}
 use Rattle.macs_program.proofs.Tried.{trial-ended}
 use Rattle.macs_program.proofs.check.check.Goals as goal
 
@@ -9,11 +10,13 @@ pub returns-clause-printed : goal.returns-clause-printed
 returns-clause-printed g c =
     let (octets, says) = c.in_ok-commands.ensures.spelled in
     let given = subst (λ (commands : List Command). SaysCommands octets commands) (sym c.as_slice.ensures.value) says in
+    let by_file = said-of _ _ _ c.as_slice.ensures.value c.in_ok-commands.ensures.said in
     rw c.in-Some.is (IfOk-weaker c.print_trial.result _ _ (λ status all.
     let (outcomes, tries, printed, is) = all in record {
       octets = octets;
       commands = c.as_slice.result.now;
       says = given;
+      by_file = by_file;
       outcomes = outcomes;
       tries = tries;
       printed = printed;
@@ -24,5 +27,6 @@ pub returns-clause-ended : goal.returns-clause-ended
 returns-clause-ended g c =
     let (octets, says) = c.in_ok-commands.ensures.spelled in
     let given = subst (λ (commands : List Command). SaysCommands octets commands) (sym c.as_slice.ensures.value) says in
-    rw c.in-Some.is (IfErr-weaker c.print_trial.result _ _ (λ failure ends. trial-ended g.T.File.DiskFile.file
-    c.in-Some.disk octets c.as_slice.result.now failure given ends) c.print_trial.ensures.ended)
+    let by_file = said-of _ _ _ c.as_slice.ensures.value c.in_ok-commands.ensures.said in
+    rw c.in-Some.is (IfErr-weaker c.print_trial.result _ _ (λ failure ends. trial-ended g.T.File.DiskFile.file _
+    c.in-Some.disk octets c.as_slice.result.now failure given by_file ends) c.print_trial.ensures.ended)

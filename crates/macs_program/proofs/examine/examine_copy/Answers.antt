@@ -8,45 +8,45 @@ use Rattle.macs_program.specs.declared.examined_text.Figures.{Figures}
 use Rattle.macs_program.proofs.Examined.{bad-found, found-stands, not-found, not-told}
 use Rattle.macs_program.proofs.examine.examine_copy.Goals as goal
 
-pub returns-in-Ok-clause-told : goal.returns-in-Ok-clause-told
-returns-in-Ok-clause-told c =
+pub returns-in-Ok-clause-reported : goal.returns-in-Ok-clause-reported
+returns-in-Ok-clause-reported c =
     let (content, has, figures) = c.in-Ok.ensures.found in
-    IfOk-weaker c.tell.result _ _ (λ said all.
+    IfOk-weaker c.report_journal.result _ _ (λ said all.
     let (standing, stands, is, done) = all in inl (
       content,
       standing,
       found-stands _ _ _ content standing c.in-Ok.ensures.seen has stands,
       is ∙ ap (λ (f : Figures). examined_text c.args.layout f standing) figures,
       done,
-    )) (c.tell.ensures.told c.in-Ok.found.disk c.open.ensures)
+    )) (c.report_journal.ensures.reported c.in-Ok.found.disk c.open.ensures)
 
 pub returns-in-Ok-clause-ended : goal.returns-in-Ok-clause-ended
 returns-in-Ok-clause-ended c =
     let (content, has, figures) = c.in-Ok.ensures.found in
-    IfErr-weaker c.tell.result _ _
+    IfErr-weaker c.report_journal.result _ _
     (λ failure. not-told (disk_of c.args.copy) (disk_of c.in-Ok.found.disk) failure content has c.in-Ok.ensures.seen
     c.in-Ok.ensures.sectors)
-    (c.tell.ensures.ended c.in-Ok.found.disk c.open.ensures)
+    (c.report_journal.ensures.ended c.in-Ok.found.disk c.open.ensures)
 
-pub tell_refused-requires-clause-room : goal.tell_refused-requires-clause-room
-tell_refused-requires-clause-room c = λ bad. (c.in-Err.ensures.left bad).0
+pub report_refused-requires-clause-room : goal.report_refused-requires-clause-room
+report_refused-requires-clause-room c = λ bad. (c.in-Err.ensures.left bad).0
 
-pub tell_refused-requires-clause-bad : goal.tell_refused-requires-clause-bad
-tell_refused-requires-clause-bad c = λ bad.
+pub report_refused-requires-clause-bad : goal.report_refused-requires-clause-bad
+report_refused-requires-clause-bad c = λ bad.
     subst (λ (i : Image). IsBadJournal i) (sym (c.in-Err.ensures.left bad).1)
     (bad-found (disk_of c.args.copy) c.in-Err.refused.fault bad c.in-Err.ensures.refused).1
 
-pub returns-in-Err-clause-told : goal.returns-in-Err-clause-told
-returns-in-Err-clause-told c =
-    IfOk-weaker c.tell_refused.result _ _ (λ said all.
+pub returns-in-Err-clause-reported : goal.returns-in-Err-clause-reported
+returns-in-Err-clause-reported c =
+    IfOk-weaker c.report_refused.result _ _ (λ said all.
     let (bad, says) = all in
     inr (subst (λ (i : Image). SaysFault i (string_bytes said.text) said.status) (c.in-Err.ensures.left bad).1 says))
-    c.tell_refused.ensures.told
+    c.report_refused.ensures.reported
 
 pub returns-in-Err-clause-ended : goal.returns-in-Err-clause-ended
 returns-in-Err-clause-ended c =
-    IfErr-weaker c.tell_refused.result _ _ (λ failure ends. elim ends [
+    IfErr-weaker c.report_refused.result _ _ (λ failure ends. elim ends [
       | inl memory ↦ inl memory
       | inr (other, is) ↦ not-found (disk_of c.args.copy) c.in-Err.refused.fault failure is other
           c.in-Err.ensures.refused
-    ]) c.tell_refused.ensures.ended
+    ]) c.report_refused.ensures.ended

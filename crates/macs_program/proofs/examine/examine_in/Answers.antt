@@ -19,8 +19,8 @@ returns-in_err-layout-in-Ok-clause-ended g c =
       ),
     )))
 
-pub returns-in_ok-layout-in-Ok-clause-told : goal.returns-in_ok-layout-in-Ok-clause-told
-returns-in_ok-layout-in-Ok-clause-told g c =
+pub returns-in_ok-layout-in-Ok-clause-reported : goal.returns-in_ok-layout-in-Ok-clause-reported
+returns-in_ok-layout-in-Ok-clause-reported g c =
     let file = g.T.File.DiskFile.file in
     let copied = c.in_ok-copy-in-Ok.ensures in
     IfOk-weaker c.examine_copy.result _ _
@@ -32,7 +32,7 @@ returns-in_ok-layout-in-Ok-clause-told g c =
           c.in_ok-layout-in-Ok.layout copied.same copied.whole copied.enough copied.copied
           c.in_ok-layout-in-Ok.ensures.found;
       says = says;
-    }) c.examine_copy.ensures.told
+    }) c.examine_copy.ensures.reported
 
 pub returns-in_ok-layout-in-Ok-clause-ended : goal.returns-in_ok-layout-in-Ok-clause-ended
 returns-in_ok-layout-in-Ok-clause-ended g c =

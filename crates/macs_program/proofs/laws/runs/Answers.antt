@@ -3,10 +3,10 @@ use Rattle.macs_program.proofs.RunDrawn.{before-words, fail-words, reply-words}
 use Rattle.macs_program.proofs.laws.runs.Goals as goal
 
 pub returns-clause-replies : goal.returns-clause-replies
-returns-clause-replies g c = reply-words g.F.DiskFile.file
+returns-clause-replies g c = λ left_in. reply-words g.F.DiskFile.file left_in
 
 pub returns-clause-fails : goal.returns-clause-fails
-returns-clause-fails g c = fail-words g.F.DiskFile.file
+returns-clause-fails g c = λ left_in. fail-words g.F.DiskFile.file left_in
 
 pub returns-clause-before : goal.returns-clause-before
 returns-clause-before g c = before-words

@@ -9,7 +9,7 @@ pub returns-clause-text_lines : goal.returns-clause-text_lines
 returns-clause-text_lines g c = text-line-words
 
 pub returns-clause-applies : goal.returns-clause-applies
-returns-clause-applies g c = apply-words g.D.SectorDisk.disk
+returns-clause-applies g c = λ left_in. apply-words g.D.SectorDisk.disk left_in
 
 pub returns-clause-captures : goal.returns-clause-captures
 returns-clause-captures g c = capture-words g.D.SectorDisk.disk

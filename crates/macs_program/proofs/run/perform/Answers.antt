@@ -4,19 +4,19 @@ use Rattle.macs_program.proofs.run.perform.Goals as goal
 
 pub returns-in-Open-clause-performs : goal.returns-in-Open-clause-performs
 returns-in-Open-clause-performs g c =
-    rw c.in-Open.is (opens _ _ _ _ _ _ _ c.open_input.ensures.printed c.open_input.ensures.status
+    rw c.in-Open.is (opens _ _ _ _ _ _ _ _ c.open_input.ensures.printed c.open_input.ensures.status
     c.open_input.ensures.failed c.open_input.ensures.silent c.open_input.ensures.ended c.open_input.ensures.broken)
 
 pub returns-in-Format-clause-performs : goal.returns-in-Format-clause-performs
-returns-in-Format-clause-performs g c = rw c.in-Format.is (formats _ _ _ _ _ _ _ _ _ _ _ _ _ c.format.ensures.printed
+returns-in-Format-clause-performs g c = rw c.in-Format.is (formats _ _ _ _ _ _ _ _ _ _ _ _ _ _ c.format.ensures.printed
     c.format.ensures.usage c.format.ensures.silent c.format.ensures.ended c.format.ensures.broken)
 
 pub returns-in-Apply-clause-performs : goal.returns-in-Apply-clause-performs
-returns-in-Apply-clause-performs g c = rw c.in-Apply.is (applies _ _ _ _ _ _ _ _ _ c.apply.ensures.printed
+returns-in-Apply-clause-performs g c = rw c.in-Apply.is (applies _ _ _ _ _ _ _ _ _ _ c.apply.ensures.printed
     c.apply.ensures.failed c.apply.ensures.lines c.apply.ensures.ended c.apply.ensures.broken)
 
 pub returns-in-Show-clause-performs : goal.returns-in-Show-clause-performs
-returns-in-Show-clause-performs g c = rw c.in-Show.is (shows _ _ _ _ _ _ _ _ c.show.ensures.printed
+returns-in-Show-clause-performs g c = rw c.in-Show.is (shows _ _ _ _ _ _ _ _ _ c.show.ensures.printed
     c.show.ensures.failed c.show.ensures.silent c.show.ensures.ended c.show.ensures.broken)
 
 pub returns-in-Protect-clause-performs : goal.returns-in-Protect-clause-performs
@@ -24,25 +24,25 @@ returns-in-Protect-clause-performs g c = c.perform_on_frames.ensures _
 
 pub returns-in-Key-clause-performs : goal.returns-in-Key-clause-performs
 returns-in-Key-clause-performs g c = rw c.in-Key.is
-    (keys _ _ _ _ _ _ _ _ c.key.ensures.printed c.key.ensures.failed c.key.ensures.silent c.key.ensures.broken)
+    (keys _ _ _ _ _ _ _ _ _ c.key.ensures.printed c.key.ensures.failed c.key.ensures.silent c.key.ensures.broken)
 
 pub returns-in-Inspect-clause-performs : goal.returns-in-Inspect-clause-performs
-returns-in-Inspect-clause-performs g c = rw c.in-Inspect.is (inspects _ _ _ _ _ _ _ _ c.inspect.ensures.printed
+returns-in-Inspect-clause-performs g c = rw c.in-Inspect.is (inspects _ _ _ _ _ _ _ _ _ c.inspect.ensures.printed
     c.inspect.ensures.failed c.inspect.ensures.ended c.inspect.ensures.front c.inspect.ensures.broken)
 
 pub returns-in-Check-clause-performs : goal.returns-in-Check-clause-performs
-returns-in-Check-clause-performs g c = rw c.in-Check.is (checks _ _ _ _ _ _ _ _ _ c.check.ensures.printed
+returns-in-Check-clause-performs g c = rw c.in-Check.is (checks _ _ _ _ _ _ _ _ _ _ c.check.ensures.printed
     c.check.ensures.ended c.check.ensures.silent c.check.ensures.broken)
 
 pub returns-in-Plan-clause-performs : goal.returns-in-Plan-clause-performs
 returns-in-Plan-clause-performs g c = rw c.in-Plan.is
-    (plans _ _ _ _ _ _ _ c.in-Plan.file c.in-Plan.end c.in-Plan.stage c.plan.ensures.printed c.plan.ensures.ended
+    (plans _ _ _ _ _ _ _ _ c.in-Plan.file c.in-Plan.end c.in-Plan.stage c.plan.ensures.printed c.plan.ensures.ended
     c.plan.ensures.silent c.plan.ensures.broken)
 
 pub returns-in-Examine-clause-performs : goal.returns-in-Examine-clause-performs
-returns-in-Examine-clause-performs g c = rw c.in-Examine.is (examines _ _ _ _ _ _ _ _ c.examine.ensures.printed
+returns-in-Examine-clause-performs g c = rw c.in-Examine.is (examines _ _ _ _ _ _ _ _ _ c.examine.ensures.printed
     c.examine.ensures.ended c.examine.ensures.silent c.examine.ensures.broken)
 
 pub returns-in-About-clause-performs : goal.returns-in-About-clause-performs
 returns-in-About-clause-performs g c = rw c.in-About.is
-    (tells _ _ _ _ _ _ _ c.about.ensures.printed c.about.ensures.ended c.about.ensures.silent c.about.ensures.broken)
+    (tells _ _ _ _ _ _ _ _ c.about.ensures.printed c.about.ensures.ended c.about.ensures.silent c.about.ensures.broken)
