@@ -207,4 +207,6 @@ module _ {D : Type 0} (disk_of : D → Disk) (sound : (it : D) → IsHonest (dis
         one this_edition (disk_of disk).sectors (now (disk_of disk)).seen refused.fault fault
         (unfit disk refused was opening worked) is;
     opened = opened;
+    failures = λ disk refused opening worked.
+        failures (disk_of disk) (disk_of refused.disk) refused.fault worked opening.refused.fails;
   }

@@ -440,7 +440,8 @@ RefusalsAreFailures {D} disk_of = (disk : D) (before : List Life) (refused : Rec
     ⊎ IsSpentFor this_edition (now (disk_of disk)).seen refused.fault)
 
 -- What an honest disk is refused for is the one reason that holds of what reads give there, but for a device call that
--- failed; and one that is opened has none.
+-- failed; and one that is opened has none. On every disk no failed call is counted by an opening that is refused for
+-- another reason than that one failed.
 pub record RefusalsAreOne {D : Type 0} (disk_of : D → Disk) : Type 0 where
   pub refused : (disk : D) (refused : RecoverRefused D) → IsHonest (disk_of disk) → IsOpening disk_of disk (Err refused)
       → refused.fault ≢ DiskFault
@@ -452,6 +453,9 @@ pub record RefusalsAreOne {D : Type 0} (disk_of : D → Disk) : Type 0 where
   pub opened : (disk : D) (first : EndpointValue D) (fault : JournalFault) → IsHonest (disk_of disk)
       → IsOpening disk_of disk (Ok first)
       → ¬ IsUnfitTo this_edition (disk_of disk).sectors (now (disk_of disk)).seen fault
+  pub failures : (disk : D) (refused : RecoverRefused D) → IsOpening disk_of disk (Err refused)
+      → refused.fault ≢ DiskFault
+      → (disk_of refused.disk).failures ≡ (disk_of disk).failures
 
 -- ---- what an opening makes of a journal
 
