@@ -23,6 +23,7 @@ use Rattle.macs_journal.specs.Areas.{least_sectors}
 use Rattle.macs_journal.specs.declared.fault.JournalFault.{JournalFault}
 use Rattle.macs_journal.specs.declared.fault.JournalFault.TheVariants.{TooSmall}
 use Rattle.macs_journal.specs.declared.recovery.RecoverRefused.{RecoverRefused}
+use Rattle.macs_store.specs.Opening.{IsOpenName}
 use Rattle.macs_store.specs.Standing.{Standing}
 use Rattle.macs_store.specs.Value.{IsIdle, StoreValue, generation, standing_in, used_slots}
 use Rattle.macs_store.specs.Value as store
@@ -60,7 +61,8 @@ use Rattle.macs_endpoint.specs.declared.turn.Turn.TheVariants.{Command as Comman
 use Rattle.macs_headline.specs.Stopping.{TellsFault, TellsStopped}
 
 -- An opening that succeeds counts no failed device call, begins with a reservation's turn, and has counted nothing. A
--- disk that is too small is reported so, by an opening and by a `format`, and is as it was; and no other is.
+-- disk that is too small is reported so, by an opening and by a `format`, and is as it was; and no other is. An opening
+-- is refused for one of the faults of an opening, also on a disk that claims nothing.
 pub record OpeningsCount {D : Type 0} (disk_of : D → Disk) : Type 0 where
   pub failures : (disk : D) (first : EndpointValue D) → IsOpening disk_of disk (Ok first)
       → (disk_in disk_of first).failures ≡ (disk_of disk).failures
@@ -80,6 +82,8 @@ pub record OpeningsCount {D : Type 0} (disk_of : D → Disk) : Type 0 where
   pub format_small : (old new : D) (identity : Identity) (result : Result (Unit {0}) JournalFault)
       → IsFormat disk_of old identity result new
       → (disk_of old).sectors < least_sectors → (result ≡ Err TooSmall) × (new ≡ old)
+  pub names : (disk : D) (refused : RecoverRefused D) → IsOpening disk_of disk (Err refused)
+      → IsOpenName refused.fault
 
 -- A ceiling that the transmit side needs comes first. A ceiling is raised by a whole block: from where it is, or from
 -- the number that was seen, up to 2^32. A command that is kept leaves the turn to a reservation, and a refill that
