@@ -50,6 +50,12 @@ left_by TooSmall old new is = inl is
 left_by Failed old new is = is
 left_by fault old new is = inr is
 
+left_synced : (fault : JournalFault) (old new : DiskState) → fault ≢ TooSmall → fault ≢ Failed → IsLeftBy fault old new
+    → new ≡ state_after_sync old
+left_synced TooSmall old new large worked is = absurd (large refl)
+left_synced Failed old new large worked is = absurd (worked refl)
+left_synced fault old new large worked is = is
+
 -- a journal of format two is not one to start over
 none_of_two : (old : Disk) → HasFormat (now old).seen Two → HasNoneToMigrate old
 none_of_two old two c s to = not-old (now old).seen c s two to.is
@@ -170,6 +176,12 @@ module _ {D : Type 0} (disk_of : D → Disk) (sound : (it : D) → IsHonest (dis
       unwritten (disk_of disk) (disk_of left) refused.works quiet.0.from_first
       (left_by fault (now (disk_of disk)) (now (disk_of left)) quiet.1)
 
+  synced : (disk left : D) (fault : JournalFault) → IsHonest (disk_of disk) → RefusesDisk disk_of disk left fault
+      → fault ≢ Failed → fault ≢ TooSmall → now (disk_of left) ≡ state_after_sync (now (disk_of disk))
+  synced disk left fault was refused worked large =
+      let quiet = refused.unwritten (refused.works.honest ∙ was) (λ failed. absurd (worked failed)) in
+      left_synced fault (now (disk_of disk)) (now (disk_of left)) large worked quiet.1
+
   alike : (disk : D) (result : Result (EndpointValue D) (RecoverRefused D)) → IsHonest (disk_of disk)
       → IsOpening disk_of disk result
       → (image : Image) → LeftSince (disk_after_opening disk_of result) (disk_of disk).clock image
@@ -211,6 +223,8 @@ module _ {D : Type 0} (disk_of : D → Disk) (sound : (it : D) → IsHonest (dis
     unwritten = two_unwritten;
     refused = λ disk refused was opening other.
         refused_unwritten disk refused.disk refused.fault was opening.refused (λ failed. absurd (other failed));
+    refused_synced = λ disk refused was opening worked large.
+        synced disk refused.disk refused.fault was opening.refused worked large;
     settled = λ disk first was opening. opening.device.settled (opening.device.works.honest ∙ was);
     format = λ disk first was opening. opening.device.format (opening.device.works.honest ∙ was);
     anew = λ disk first c was opening found one. (

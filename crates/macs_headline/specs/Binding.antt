@@ -13,7 +13,7 @@ use Rattle.macs_journal.specs.Areas.{least_sectors}
 use Rattle.macs_journal.specs.Found.{Content, HasFormat, HasJournal, IsNotFormatted}
 use Rattle.macs_journal.specs.Rewriting.{IsSettled}
 use Rattle.macs_journal.specs.declared.fault.JournalFault.{JournalFault}
-use Rattle.macs_journal.specs.declared.fault.JournalFault.TheVariants.{Disk as DiskFault, NotFormatted}
+use Rattle.macs_journal.specs.declared.fault.JournalFault.TheVariants.{Disk as DiskFault, NotFormatted, TooSmall}
 use Rattle.macs_journal.specs.declared.recovery.RecoverRefused.{RecoverRefused}
 use Rattle.macs_store.specs.Found.{IsUnfitTo, StandingIs, StandsFor}
 use Rattle.macs_store.specs.Snapshot.{snapshot}
@@ -481,9 +481,10 @@ StandsAsRead old image = (s : Standing) × StandsFor this_edition (now old).seen
 -- What an opening makes of the journal of an honest disk. Whatever it answers, and wherever it is cut short, what is
 -- left could be left before, or stands for the same; and where a journal of format one was there, and has a next
 -- generation, that one is left, or the one that was rewritten. An opening of a journal of format two writes nothing,
--- nor does one that is refused for what is on the disk. After Ok nothing is pending, each image is in format two, and a
--- journal of format one was rewritten, which was not in the last generation. Each image is in format two after a
--- `format` that answers Ok, too, and after each call of an endpoint.
+-- nor does one that is refused for what is on the disk; but for a disk that is too small, that one leaves it as a sync
+-- does. After Ok nothing is pending, each image is in format two, and a journal of format one was rewritten, which was
+-- not in the last generation. Each image is in format two after a `format` that answers Ok, too, and after each call of
+-- an endpoint.
 pub record OpeningsBeginAnew {D : Type 0} (disk_of : D → Disk) : Type 0 where
   pub alike : (disk : D) (result : Result (EndpointValue D) (RecoverRefused D)) → IsHonest (disk_of disk)
       → IsOpening disk_of disk result
@@ -503,6 +504,10 @@ pub record OpeningsBeginAnew {D : Type 0} (disk_of : D → Disk) : Type 0 where
   pub refused : (disk : D) (refused : RecoverRefused D) → IsHonest (disk_of disk) → IsOpening disk_of disk (Err refused)
       → refused.fault ≢ DiskFault
       → IsUnwritten (disk_of disk) (disk_of refused.disk)
+  pub refused_synced : (disk : D) (refused : RecoverRefused D) → IsHonest (disk_of disk)
+      → IsOpening disk_of disk (Err refused)
+      → refused.fault ≢ DiskFault → refused.fault ≢ TooSmall
+      → now (disk_of refused.disk) ≡ state_after_sync (now (disk_of disk))
   pub settled : (disk : D) (first : EndpointValue D) → IsHonest (disk_of disk) → IsOpening disk_of disk (Ok first)
       → IsSettled (now (disk_in disk_of first))
   pub format : (disk : D) (first : EndpointValue D) → IsHonest (disk_of disk) → IsOpening disk_of disk (Ok first)
