@@ -106,6 +106,9 @@ module _ {D : Type 0} (disk_of : D → Disk) where
       | inr behind ↦ inr (behind.0, behind.1, behind.2.raised, behind.2.most)
     ];
     refill_spent = λ old new spends. spends;
+    call_failures = λ old new call reply is. is.device.works.failures;
+    format_failures = λ old new identity result is. is.device.work.works.failures;
+    refused_failures = λ disk refused is. is.refused.works.failures;
   }
 
 -- ---- events that are served

@@ -32,7 +32,7 @@ use Rattle.macs_endpoint.specs.Lives.{LeavesLife, Lives}
 use Rattle.macs_endpoint.specs.Opening.{IsOpening}
 use Rattle.macs_endpoint.specs.Serving.{EndsAs, IsServed, Told, is_halt}
 use Rattle.macs_endpoint.specs.RefillCosts.{HasRaised, RaisesBehind, Spends, most_behind, reserved_in}
-use Rattle.macs_endpoint.specs.State.{Advanced, Advances, Commands, Ran, Reply}
+use Rattle.macs_endpoint.specs.State.{Advanced, Advances, Call, Commands, Ran, Reply}
 use Rattle.macs_endpoint.specs.Value.{EndpointValue, IsBacked, disk_in}
 use Rattle.macs_endpoint.specs.declared.event.ServeEnd.{ServeEnd}
 use Rattle.macs_endpoint.specs.declared.event.ServeEnd.TheVariants.{Halted}
@@ -51,7 +51,8 @@ use Rattle.macs_endpoint.specs.declared.progress.Step.TheVariants.{Reserved}
 -- of one that is not all the work, as many as that takes. A `format` that is answered Ok counts no failed device call.
 -- One leaves each sector alone but those that it writes to, and all of them where a head gate reads open. So does an
 -- opening that starts the journal over, in its other area, done or refused, and so does each compaction; and until that
--- writes the new head gate a power loss leaves the journal as it was.
+-- writes the new head gate a power loss leaves the journal as it was. No failed device call that was counted is ever
+-- taken back: by a call, by a `format` or by an opening that is refused.
 pub record CallsLeave {D : Type 0} (disk_of : D → Disk) : Type 0 where
   pub opened : (disk : D) (first : EndpointValue D) → IsOpening disk_of disk (Ok first) → IsIdle first.store
       × (first.reserving ≡ None) × (first.in_hand ≡ None)
@@ -122,6 +123,13 @@ pub record CallsLeave {D : Type 0} (disk_of : D → Disk) : Type 0 where
       × ((store.disk_in disk_of new).clock ≤ (disk_in disk_of old).clock + most_behind old (raises ++ raise ∷ [])))
   pub refill_spent : (old : EndpointValue D) (new : StoreValue D) → Spends disk_of old (Err refill.GenerationsSpent) new
       → (raises : List Raise) × HasRaised disk_of old raises new
+  pub call_failures : (old new : EndpointValue D) (call : Call) (reply : Reply) → IsCall disk_of old call reply new
+      → (disk_in disk_of old).failures ≤ (disk_in disk_of new).failures
+  pub format_failures : (old new : D) (identity : Identity) (result : Result (Unit {0}) JournalFault)
+      → IsFormat disk_of old identity result new
+      → (disk_of old).failures ≤ (disk_of new).failures
+  pub refused_failures : (disk : D) (refused : RecoverRefused D) → IsOpening disk_of disk (Err refused)
+      → (disk_of disk).failures ≤ (disk_of refused.disk).failures
 
 -- Events that were served are calls of the endpoint, one after another. Source and sink say to the end whether they
 -- report their events and answers. On an honest disk that held what was in memory a power loss leaves at each moment
