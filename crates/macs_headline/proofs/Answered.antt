@@ -180,7 +180,7 @@ abbrev delivery_of : (s : State) (frame : List ℕ) (kind : Kind) (out : List �
     → IsVerifiedDelivery s frame kind out new → Delivery
 delivery_of s frame kind out new d = record { sci = d.sci; key = d.sa.key; pn = (tag_of frame).pn; kind = kind }
 
-given_held : (old new : Logs) (d : Delivery) (rest : List Delivery) → AreHeldIn old new → old.given ≡ d ∷ rest
+pub given_held : (old new : Logs) (d : Delivery) (rest : List Delivery) → AreHeldIn old new → old.given ≡ d ∷ rest
     → Contains new.given d
 given_held old new d rest held joins =
     subst (λ (given : List Delivery). Contains given d) held.given
@@ -247,7 +247,8 @@ delivered-below sectors past found f frame out kind verified among =
 
 -- ---- frames that were written
 
-used_held : (old new : Logs) (u : Use) (rest : List Use) → AreHeldIn old new → old.used ≡ u ∷ rest → Contains new.used u
+pub used_held : (old new : Logs) (u : Use) (rest : List Use) → AreHeldIn old new → old.used ≡ u ∷ rest
+    → Contains new.used u
 used_held old new u rest held joins =
     subst (λ (used : List Use). Contains used u) held.used
     (contains-rear held.used_since old.used u

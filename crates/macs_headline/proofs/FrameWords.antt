@@ -17,6 +17,7 @@ use Rattle.macs_headline.specs.FrameWords.{FrameWords}
 use Rattle.macs_headline.specs.Frames.{IsNamedIn, IsStandardFrame}
 use Rattle.macs_headline.specs.Received.{IsOfChannel}
 use Rattle.macs_headline.specs.Verdicts.{behind_data, behind_tag}
+use Rattle.macs_headline.proofs.Answered.{given_held, used_held}
 
 -- ---- what is sealed
 
@@ -124,6 +125,13 @@ frame-words sectors = record {
   other_delivery = λ lives logs frame out sci key kind pn o. o.other;
   beyond_frame = λ lives logs plain out pn found b. b.beyond;
   beyond_delivery = λ lives logs frame out kind found b. b.beyond;
+  frame_used = λ lives logs plain out pn found b.
+      used_held b.answered.after.logs logs (record { key = b.frame.sa.key; pn = pn }) b.answered.at.logs.used
+      b.answered.held b.frame.logged;
+  delivery_given = λ lives logs frame out kind found b.
+      given_held b.answered.after.logs logs
+      (record { sci = b.delivery.sci; key = b.delivery.sa.key; pn = (tag_of frame).pn; kind = kind })
+      b.answered.at.logs.given b.answered.held b.delivery.logged;
   sent_octets = λ plain is. is;
   received_octets = λ frame is. is;
   encrypted = λ frame key sci plain offset v is. sealed frame key sci plain offset true v is;

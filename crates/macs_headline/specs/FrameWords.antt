@@ -1,7 +1,8 @@
 -- The headline on words that say what a frame is: all that is to be drawn from each, by the frame's octets and the
 -- state's fields.
 use Rattle.std.specs.Prelude.{◌≡◌, ◌≢◌, ◌↔◌, ◌<◌, ◌≤◌, ◌+◌, ◌-◌, ◌%◌, ◌^◌, ◌++◌, true, false, if◌then◌else◌, ℕ, List}
-use Rattle.std.specs.Prelude.{[], ◌∷◌, length, max, nat_lt, slice_index, slice_range, take, drop, All, Some, None}
+use Rattle.std.specs.Prelude.{[], ◌∷◌, length, max, nat_lt, slice_index, slice_range, take, drop, All, Contains, Some}
+use Rattle.std.specs.Prelude.{None}
 use Rattle.std.specs.Int.{w32, from_be_bytes, to_be_bytes}
 use Rattle.macs_fields.specs.Fields.{octets_of}
 use Rattle.macs_gcm.specs.Gcm.{seal}
@@ -48,8 +49,8 @@ iv_in sci frame = sci ++ to_be_bytes w32 (from_be_bytes w32 (slice_range frame 1
 -- Ok; and it moves the numbers there: next is beyond it, lowest follows next within the window, and it may be the
 -- greatest that was seen. One that is held back verifies too, with a number of next or beyond. A frame whose tag names
 -- no SCI is of a channel where that is the only one. What is another frame, or another delivery, than one of a key has
--- another number under that key, and SCI; and what is found after one is beyond its number. A frame that is given has
--- octets below 256.
+-- another number under that key, and SCI; and what is found after one is beyond its number, under a key, and SCI, with
+-- which it was used or delivered in those lives. A frame that is given has octets below 256.
 --
 -- What verifies is sealed (IEEE Std 802.1AE-2018, clause 14): under the SCI and the PN, with all octets up to the end
 -- of the SecTAG, and those of Secure Data that are in the clear, as what is authenticated alone. Where E is set those
@@ -109,6 +110,13 @@ pub record FrameWords (sectors : ℕ) : Type 0 where
   pub beyond_delivery : (lives : List Life) (logs : Logs) (frame out : List ℕ) (kind : Kind) (found : Standing)
       (b : IsFoundBeyondDelivery sectors lives logs frame kind out found)
       → IsBeyondRx found b.delivery.sci b.delivery.sa.key (tag_of frame).pn
+  pub frame_used : (lives : List Life) (logs : Logs) (plain out : List ℕ) (pn : ℕ) (found : Standing)
+      (b : IsFoundBeyondFrame sectors lives logs plain pn out found)
+      → Contains logs.used (record { key = b.frame.sa.key; pn = pn })
+  pub delivery_given : (lives : List Life) (logs : Logs) (frame out : List ℕ) (kind : Kind) (found : Standing)
+      (b : IsFoundBeyondDelivery sectors lives logs frame kind out found)
+      → Contains logs.given
+      (record { sci = b.delivery.sci; key = b.delivery.sa.key; pn = (tag_of frame).pn; kind = kind })
   pub sent_octets : (plain : List ℕ) → IsInRange (Protects plain) → All (λ octet. octet < 2 ^ 8) plain
   pub received_octets : (frame : List ℕ) → IsInRange (Receives frame) → All (λ octet. octet < 2 ^ 8) frame
   pub encrypted : (frame key sci plain : List ℕ) (offset : ℕ) → Verified frame key sci offset plain
