@@ -271,6 +271,7 @@ module _ {D : Type 0} (disk_of : D → Disk) where
     spent_behind = λ old new command raise call is. call.behaves.ceilings
         ∙ reserved_some (standing_in old.store) old.reserving raise is;
     fault = refill_fault;
+    ended = λ old new call. let left = call.behaves.ceilings in (left.0, left.1.is_next);
     refilled = refilled;
     refilled_behind = refilled_behind;
     spends = spends_so;

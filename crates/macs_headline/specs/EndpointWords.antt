@@ -91,9 +91,9 @@ pub record OpeningsCount {D : Type 0} (disk_of : D → Disk) : Type 0 where
 -- that, and then the others so. A command that is answered as GenerationsSpent leaves the standing, with the
 -- reservation that was under way; and a refill that is answered as Disk, where none was under way, what was raised so.
 -- One that is answered as Ok leaves what was raised so, the reservation under way first, until none is needed; and its
--- slots and device calls are those of ceilings that were raised so. A refill, and a command that is kept, of an
--- endpoint with no work under way, make four device calls at most for each slot that they use, where the journal does
--- not start over; and the command uses one.
+-- slots and device calls are those of ceilings that were raised so. After one that is answered as GenerationsSpent a
+-- ceiling is still needed. A refill, and a command that is kept, of an endpoint with no work under way, make four device
+-- calls at most for each slot that they use, where the journal does not start over; and the command uses one.
 pub record CeilingsAreRaised {D : Type 0} (disk_of : D → Disk) : Type 0 where
   pub none : (t : TxSide) (r : RxSide) (old new : Standing) (next : Option Raise) → IsRefilled t r old new next
       → first_raise old t r ≡ None → new ≡ old
@@ -125,6 +125,10 @@ pub record CeilingsAreRaised {D : Type 0} (disk_of : D → Disk) : Type 0 where
       → old.reserving ≡ None
       → (raise : Raise) × IsRefilled (tx_side (state_of old no_logs)) (rx_side (state_of old no_logs))
       (standing_in old.store) (standing_in new.store) (Some raise)
+  pub ended : (old new : EndpointValue D) → IsCall disk_of old Refills (Refilled (Err refill.GenerationsSpent)) new
+      → (raise : Raise)
+      × (first_raise (standing_in new.store) (tx_side (state_of old no_logs)) (rx_side (state_of old no_logs))
+      ≡ Some raise)
   pub refilled : (old new : EndpointValue D) → IsCall disk_of old Refills (Refilled (Ok tt)) new → old.reserving ≡ None
       → IsRefilled (tx_side (state_of old no_logs)) (rx_side (state_of old no_logs)) (standing_in old.store)
       (standing_in new.store) None
