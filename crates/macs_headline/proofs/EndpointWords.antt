@@ -33,10 +33,11 @@ use Rattle.macs_store.specs.Value as store
 use Rattle.macs_endpoint.specs.Advancing.{turn_after_refill}
 use Rattle.macs_endpoint.specs.Calls.{IsCall}
 use Rattle.macs_endpoint.specs.Ceilings.{IsRefilled, Raise, Raises, either_raise, first_raise, standing_with_raise}
-use Rattle.macs_endpoint.specs.Ceilings.{standing_with_reserved}
+use Rattle.macs_endpoint.specs.Ceilings.{StandsAfter, standing_with_reserved}
 use Rattle.macs_endpoint.specs.KeptCommands.{KeepsCommand}
 use Rattle.macs_endpoint.specs.Lives.{FitsLife, LeavesLife, Transition}
 use Rattle.macs_endpoint.specs.Serving.{EndsAs, is_halt}
+use Rattle.macs_endpoint.specs.Queue.{first_command}
 use Rattle.macs_endpoint.specs.RefillCosts.{Spends, generation_in_raises, most_in_raises, reserved_in, slots_in_raises}
 use Rattle.macs_endpoint.specs.State.{Advanced, Commands, Protected, Protects, Ran, Received, Receives, Refilled}
 use Rattle.macs_endpoint.specs.State.{Refills, Reply, Submitted, no_logs, rx_side, tx_side}
@@ -48,6 +49,7 @@ use Rattle.macs_endpoint.specs.declared.fault.RefillFault.TheVariants as refill
 use Rattle.macs_endpoint.specs.declared.fault.StepFault.TheVariants as step
 use Rattle.macs_endpoint.specs.declared.fault.Stopped.{Stopped}
 use Rattle.macs_endpoint.specs.declared.fault.SubmitFault.TheVariants as submit
+use Rattle.macs_endpoint.specs.declared.queue.Waiting.{Waiting}
 use Rattle.macs_headline.specs.Stopping.{TellsFault, TellsStopped}
 use Rattle.macs_headline.specs.EndpointWords.{CallsAreCounted, CeilingsAreRaised, OpeningsCount, ServedWords}
 use Rattle.macs_headline.proofs.LookUps.{none-some}
@@ -272,6 +274,10 @@ module _ {D : Type 0} (disk_of : D → Disk) where
         ∙ reserved_some (standing_in old.store) old.reserving raise is;
     fault = refill_fault;
     ended = λ old new call. let left = call.behaves.ceilings in (left.0, left.1.is_next);
+    kept = λ old new command call. call.behaves.ceilings;
+    done = λ old new ticket first rest call is.
+        subst (λ (waiting : List Waiting). StandsAfter (first_command waiting) (standing_in old.store)
+        (standing_in new.store)) is call.behaves.ceilings;
     refilled = refilled;
     refilled_behind = refilled_behind;
     spends = spends_so;

@@ -24,7 +24,7 @@ use Rattle.macs_journal.specs.declared.fault.JournalFault.{JournalFault}
 use Rattle.macs_journal.specs.declared.fault.JournalFault.TheVariants.{TooSmall}
 use Rattle.macs_journal.specs.declared.recovery.RecoverRefused.{RecoverRefused}
 use Rattle.macs_store.specs.Opening.{IsOpenName}
-use Rattle.macs_store.specs.Standing.{Standing}
+use Rattle.macs_store.specs.Standing.{Standing, accept}
 use Rattle.macs_store.specs.Value.{IsIdle, StoreValue, generation, standing_in, used_slots}
 use Rattle.macs_store.specs.Value as store
 use Rattle.macs_endpoint.specs.Calls.{IsCall}
@@ -36,7 +36,7 @@ use Rattle.macs_endpoint.specs.Lives.{FitsLife, LeavesLife, Transition}
 use Rattle.macs_endpoint.specs.Opening.{IsOpening}
 use Rattle.macs_endpoint.specs.Restart.{Fits, state_during}
 use Rattle.macs_endpoint.specs.Serving.{EndsAs, IsServed, Told, call_of, is_halt, reply_of}
-use Rattle.macs_endpoint.specs.RefillCosts.{Spends}
+use Rattle.macs_endpoint.specs.RefillCosts.{Spends, reserved_in}
 use Rattle.macs_endpoint.specs.State.{Advanced, Advances, Commands, Protected, Protects, Ran, Received, Receives}
 use Rattle.macs_endpoint.specs.State.{Refilled, Refills, Reply, Submits, Submitted, no_logs, rx_side, tx_side}
 use Rattle.macs_endpoint.specs.Value.{EndpointValue, disk_in, state_of}
@@ -57,6 +57,8 @@ use Rattle.macs_endpoint.specs.declared.fault.StepFault.{StepFault}
 use Rattle.macs_endpoint.specs.declared.fault.Stopped.{Stopped}
 use Rattle.macs_endpoint.specs.declared.fault.SubmitFault.{SubmitFault}
 use Rattle.macs_endpoint.specs.declared.progress.Step.{Step as Progress}
+use Rattle.macs_endpoint.specs.declared.progress.Step.TheVariants.{Done}
+use Rattle.macs_endpoint.specs.declared.queue.Waiting.{Waiting}
 use Rattle.macs_endpoint.specs.declared.turn.Turn.TheVariants.{Command as CommandTurn, Reservation}
 use Rattle.macs_headline.specs.Stopping.{TellsFault, TellsStopped}
 
@@ -92,8 +94,10 @@ pub record OpeningsCount {D : Type 0} (disk_of : D → Disk) : Type 0 where
 -- reservation that was under way; and a refill that is answered as Disk, where none was under way, what was raised so.
 -- One that is answered as Ok leaves what was raised so, the reservation under way first, until none is needed; and its
 -- slots and device calls are those of ceilings that were raised so. After one that is answered as GenerationsSpent a
--- ceiling is still needed. A refill, and a command that is kept, of an endpoint with no work under way, make four device
--- calls at most for each slot that they use, where the journal does not start over; and the command uses one.
+-- ceiling is still needed. What a command that is answered as Ok makes, it makes of the standing with the reservation
+-- that was under way; and one that waited, once it is done, of the standing. A refill, and a command that is kept, of an
+-- endpoint with no work under way, make four device calls at most for each slot that they use, where the journal does
+-- not start over; and the command uses one.
 pub record CeilingsAreRaised {D : Type 0} (disk_of : D → Disk) : Type 0 where
   pub none : (t : TxSide) (r : RxSide) (old new : Standing) (next : Option Raise) → IsRefilled t r old new next
       → first_raise old t r ≡ None → new ≡ old
@@ -129,6 +133,11 @@ pub record CeilingsAreRaised {D : Type 0} (disk_of : D → Disk) : Type 0 where
       → (raise : Raise)
       × (first_raise (standing_in new.store) (tx_side (state_of old no_logs)) (rx_side (state_of old no_logs))
       ≡ Some raise)
+  pub kept : (old new : EndpointValue D) (command : Command) → IsCall disk_of old (Commands command) (Ran (Ok tt)) new
+      → accept (reserved_in old) command ≡ Ok (standing_in new.store)
+  pub done : (old new : EndpointValue D) (ticket : ℕ) (first : Waiting) (rest : List Waiting)
+      → IsCall disk_of old Advances (Advanced (Ok (Done ticket (Ok tt)))) new → old.waiting ≡ first ∷ rest
+      → accept (standing_in old.store) first.command ≡ Ok (standing_in new.store)
   pub refilled : (old new : EndpointValue D) → IsCall disk_of old Refills (Refilled (Ok tt)) new → old.reserving ≡ None
       → IsRefilled (tx_side (state_of old no_logs)) (rx_side (state_of old no_logs)) (standing_in old.store)
       (standing_in new.store) None
