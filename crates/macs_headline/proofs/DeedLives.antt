@@ -59,4 +59,9 @@ deeds-make-lives {D} disk_of = record {
   passed_on = λ seen deed is. ap (λ (d : Deed D). lives_of_deed seen d) is;
   is_life = made;
   told = told;
+  given = λ old new first last turns does. does;
+  given_by_format = λ old new identity result does. does;
+  given_by_refusal = λ old new fault does. does;
+  none_done = λ old new chain. chain;
+  one_done = λ old new link links chain. chain;
 }
