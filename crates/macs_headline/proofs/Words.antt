@@ -125,6 +125,14 @@ command-words = record {
   window = λ on window is. is;
   tx_start = λ an key start confidential offset is. is.2;
   rx_start = λ sci an key start offset is. is.3;
+  install_range = λ an key start confidential offset is. (is.0, is.3);
+  use_range = λ an is. is;
+  remove_range = λ an is. is;
+  add_range = λ sci is. (is.size, is.each);
+  drop_range = λ sci is. (is.size, is.each);
+  rx_install_range = λ sci an key start offset is. (is.0.size, is.0.each, is.1, is.4);
+  rx_remove_range = λ sci an is. (is.0.size, is.0.each, is.1);
+  submitted = λ c is. is;
 }
 
 -- ---- calls

@@ -1,6 +1,7 @@
 -- The headline on words of its own clauses that say what may be, what a clause leaves open, or one side of an 'or':
 -- they say this and no more.
 use Rattle.std.specs.Prelude.{◌≡◌, ◌≢◌, ◌⊎◌, ◌<◌, ◌+◌, ◌^◌, false, ℕ, Bool, List, [], Option, Some, None, Result, Ok}
+use Rattle.std.specs.Prelude.{length, All}
 use Rattle.macs_aes.specs.declared.keys.Key.{Key}
 use Rattle.macs_frame.specs.Tag.{tag_of}
 use Rattle.macs_config.specs.Apply.{apply}
@@ -61,7 +62,8 @@ pub record EditionWords : Type 0 where
 -- Which command is on validation, on replay protection, on how SecTAGs name the channel, on which association frames go
 -- out under, on a transmit association, on a receive channel, and on a receive association: it names that, and no other
 -- command is. What sets a packet number is on its association, or is a window. A window and the number that an
--- association begins with, of a command that is given, are below 2^32.
+-- association begins with, of a command that is given, are below 2^32; an association's number is below 4, an SCI has 8
+-- octets, and an offset is below 256. That is so of a command that is handed in to wait, too.
 pub record CommandWords : Type 0 where
   pub validate : (c : Command) → IsOnValidate c → (to : Validate) × (c ≡ SetValidate to)
   pub replay : (c : Command) → IsOnReplay c → (on : Bool) × (window : ℕ) × (c ≡ SetReplay on window)
@@ -82,6 +84,21 @@ pub record CommandWords : Type 0 where
       → start < 2 ^ 32
   pub rx_start : (sci : List ℕ) (an : ℕ) (key : Key) (start offset : ℕ)
       → IsInRange (Commands (RxInstall sci an key start offset)) → start < 2 ^ 32
+  pub install_range : (an : ℕ) (key : Key) (start : ℕ) (confidential : Bool) (offset : ℕ)
+      → IsInRange (Commands (TxInstall an key start confidential offset))
+      → (an < 4) × (offset < 2 ^ 8)
+  pub use_range : (an : ℕ) → IsInRange (Commands (TxUse an)) → an < 4
+  pub remove_range : (an : ℕ) → IsInRange (Commands (TxRemove an)) → an < 4
+  pub add_range : (sci : List ℕ) → IsInRange (Commands (RxAdd sci))
+      → (length sci ≡ 8) × All (λ octet. octet < 2 ^ 8) sci
+  pub drop_range : (sci : List ℕ) → IsInRange (Commands (RxDrop sci))
+      → (length sci ≡ 8) × All (λ octet. octet < 2 ^ 8) sci
+  pub rx_install_range : (sci : List ℕ) (an : ℕ) (key : Key) (start offset : ℕ)
+      → IsInRange (Commands (RxInstall sci an key start offset))
+      → (length sci ≡ 8) × All (λ octet. octet < 2 ^ 8) sci × (an < 4) × (offset < 2 ^ 8)
+  pub rx_remove_range : (sci : List ℕ) (an : ℕ) → IsInRange (Commands (RxRemove sci an))
+      → (length sci ≡ 8) × All (λ octet. octet < 2 ^ 8) sci × (an < 4)
+  pub submitted : (c : Command) → IsInRange (Submits c) → IsInRange (Commands c)
 
 -- A frame goes out under an association where `protect` answered its number, and it is the one in use; one comes in
 -- under an association where `receive` was given a frame that names it, by channel and AN, of an endpoint that runs. A
