@@ -178,6 +178,11 @@ journal-words = record {
   failures = failures;
   until = λ old new limit k c image finds from to before left. finds k from to before image left;
   new_gates = new_gates;
+  spared = λ old new i k is from to. (
+    is.reads k from to,
+    λ octets kept whole.
+        let before = is.leaves k from to octets (record { kept = kept; whole = whole }) in (before.kept, before.whole),
+  );
   most_calls = λ used s. omega arith;
 }
 

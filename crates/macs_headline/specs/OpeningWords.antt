@@ -1,9 +1,9 @@
 -- What the words say that give the reason why an opening is refused, what it leaves, and which sectors are written.
 use Rattle.std.specs.Prelude.{◌≡◌, ◌≢◌, ◌⊎◌, ◌↔◌, ◌≤◌, ◌<◌, ◌+◌, ◌*◌, ◌-◌, ◌^◌, ◌==◌, if◌then◌else◌, ℕ, true, length}
-use Rattle.std.specs.Prelude.{Some, None, Ok}
+use Rattle.std.specs.Prelude.{false, List, Some, None, Ok}
 use Rattle.macs_config.specs.Config.{Edition, this_edition}
 use Rattle.macs_disk.specs.Disk.{Disk, MayLeave, now}
-use Rattle.macs_disk.specs.States.{DiskState, Image, IsImage, settled_state}
+use Rattle.macs_disk.specs.States.{DiskState, Image, IsImage, IsSector, settled_state}
 use Rattle.macs_record.specs.Gates.{IsOpen, closed_gate}
 use Rattle.macs_record.specs.declared.format.Format.TheVariants.{One}
 use Rattle.macs_journal.specs.Areas.{least_sectors}
@@ -12,7 +12,7 @@ use Rattle.macs_journal.specs.Formatting.{FormatWrites}
 use Rattle.macs_journal.specs.Found.{Content, HasJournal, IsBadJournal, IsNotFormatted}
 use Rattle.macs_journal.specs.Recovery.{IsLeftBy, IsRecoverName}
 use Rattle.macs_journal.specs.Rewriting.{HasNewGates}
-use Rattle.macs_journal.specs.Work.{FailsWith}
+use Rattle.macs_journal.specs.Work.{FailsWith, IsSpared}
 use Rattle.macs_journal.specs.declared.fault.JournalFault.{JournalFault}
 use Rattle.macs_journal.specs.declared.fault.JournalFault.TheVariants.{BadJournal, Disk as DiskFault, GenerationsSpent}
 use Rattle.macs_journal.specs.declared.fault.JournalFault.TheVariants.{NotFormatted, TooSmall}
@@ -69,8 +69,9 @@ pub record RefusalWords : Type 0 where
 -- where it writes nothing the disk is as it was if it is too small, as a sync leaves it if that is refused which is on
 -- it, and one or the other if a device call failed; and no failed call is counted unless one is reported. While a
 -- journal starts over, each image that is left before its head gate is written has the journal as it was. The gates of
--- an area that starts over are open at the head, and closed where they read open. To keep a change takes 4 device calls
--- at most; or, where all 256 slots are used, 523 and one for each record of a snapshot.
+-- an area that starts over are open at the head, and closed where they read open. A sector that is left alone reads at
+-- each moment as before, and what a power loss may leave in it at each moment it could leave there before. To keep a
+-- change takes 4 device calls at most; or, where all 256 slots are used, 523 and one for each record of a snapshot.
 pub record JournalWords : Type 0 where
   pub format_writes : (seen : Image) (i : ℕ) → FormatWrites seen i
       → (i ≤ 2) ⊎ ((k : ℕ) × (k < 257) × (i ≡ 2 * k + 1) × IsOpen (seen i))
@@ -95,5 +96,11 @@ pub record JournalWords : Type 0 where
       → IsImage (new.past k) image → HasJournal image c
   pub new_gates : (old new : Image) (area slot : ℕ) → HasNewGates old new area → IsOpen (new (514 * area + 1))
       × (slot < 256 → IsOpen (old (514 * area + 3 + 2 * slot)) → new (514 * area + 3 + 2 * slot) ≡ closed_gate)
+  pub spared : (old new : Disk) (i k : ℕ) → IsSpared old new i → old.clock ≤ k → k ≤ new.clock
+      → ((new.past k).seen i ≡ (now old).seen i)
+      × ((octets : List ℕ) → ((new.past k).pending i ≡ false → octets ≡ (new.past k).durable i)
+      → ((new.past k).pending i ≡ true → IsSector octets)
+      → ((now old).pending i ≡ false → octets ≡ (now old).durable i)
+      × ((now old).pending i ≡ true → IsSector octets))
   pub most_calls : (used : ℕ) (s : Standing)
       → most_with_change used s ≤ (if used == 256 then 523 + length (snapshot s) else 4)
