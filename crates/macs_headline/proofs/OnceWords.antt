@@ -10,6 +10,7 @@ once-words = record {
   used = λ sectors lives image turns first last after plain out pn w front between behind u is.
       let words = log-words sectors in
       words.twice front between behind u (subst (λ (entries : List Use). HasNoneTwice entries) is w.once);
+  logged = λ sectors lives image turns first last after plain out pn w. w.standard.logged;
   written = λ sectors lives image turns first last after plain out pn w earlier given number among.
       let o = w.others earlier number given among in (o.answered, o.frame, o.other);
   delivered = λ sectors lives image turns first last after frame out kind d on narrow earlier given old verified among.

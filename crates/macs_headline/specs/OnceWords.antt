@@ -14,16 +14,21 @@ use Rattle.macs_headline.specs.Deliveries.{IsVerifiedDelivery, IsVerifiedKind, d
 use Rattle.macs_headline.specs.Frames.{IsStandardFrame, writing}
 use Rattle.macs_headline.specs.History.{Life, logs_of}
 
--- After a frame that is written once no entry of what was used is there twice, and each frame that was written before
--- is the standard's, under another key or with another number. Each that was delivered as verified before one that is
--- delivered once verified, too, under another SCI, another key, or with another number: with replay protection and
--- window 0 each of all lives, and where this one is Ok each of the lives before, whatever the window.
+-- After a frame that is written once what was used is its key and number, and then what was used before; no entry of
+-- that is there twice, and each frame that was written before is the standard's, under another key or with another
+-- number. Each that was delivered as verified before one that is delivered once verified, too, under another SCI,
+-- another key, or with another number: with replay protection and window 0 each of all lives, and where this one is Ok
+-- each of the lives before, whatever the window.
 pub record OnceWords (D : Type 0) : Type 0 where
   pub used : (sectors : ℕ) (lives : List Life) (image : Image) (turns : List (Transition D))
       (first last after : EndpointValue D) (plain out : List ℕ) (pn : ℕ)
       (w : IsWrittenOnce sectors lives image turns first last after plain pn out)
       (front between behind : List Use) (u : Use)
       → w.later.used ≢ front ++ u ∷ (between ++ u ∷ behind)
+  pub logged : (sectors : ℕ) (lives : List Life) (image : Image) (turns : List (Transition D))
+      (first last after : EndpointValue D) (plain out : List ℕ) (pn : ℕ)
+      (w : IsWrittenOnce sectors lives image turns first last after plain pn out)
+      → w.later.used ≡ record { key = w.standard.sa.key; pn = pn } ∷ w.at.logs.used
   pub written : (sectors : ℕ) (lives : List Life) (image : Image) (turns : List (Transition D))
       (first last after : EndpointValue D) (plain out : List ℕ) (pn : ℕ)
       (w : IsWrittenOnce sectors lives image turns first last after plain pn out) (earlier given : List ℕ) (number : ℕ)
