@@ -18,6 +18,8 @@ pub example-words : ExampleWords
 example-words = record {
   night = λ identity an key plain pn out f. (f.least, f.most, f.frame);
   torn = λ h. h.torn;
+  run_start = λ image disk run. run.start;
+  one_call = λ image disk k run before. run.calls k before;
 }
 
 pub days-are-calls : {D : Type 0} (disk_of : D → Disk) → DaysAreCalls disk_of

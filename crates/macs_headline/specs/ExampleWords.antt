@@ -1,5 +1,5 @@
 -- The headline on the words in which the contracts of its example programs end.
-use Rattle.std.specs.Prelude.{◌≡◌, ◌≢◌, ◌⊎◌, ◌<◌, ◌≤◌, ◌^◌, ℕ, true, is_ok, List, [], ◌∷◌, map, None, Result, Ok}
+use Rattle.std.specs.Prelude.{◌≡◌, ◌≢◌, ◌⊎◌, ◌<◌, ◌≤◌, ◌^◌, ℕ, suc, true, is_ok, List, [], ◌∷◌, map, None, Result, Ok}
 use Rattle.macs_frame.specs.Opening.{Verified}
 use Rattle.macs_frame.specs.Protection.{protected_frame}
 use Rattle.macs_frame.specs.Tag.{tag_of}
@@ -8,7 +8,7 @@ use Rattle.macs_config.specs.Config.{this_edition}
 use Rattle.macs_config.specs.Identity.{Identity}
 use Rattle.macs_config.specs.declared.command.Command.{Command}
 use Rattle.macs_disk.specs.Disk.{Disk, MayLeave, now}
-use Rattle.macs_disk.specs.States.{IsSector}
+use Rattle.macs_disk.specs.States.{Image, IsSector, settled_state, state_after_sync, state_after_write}
 use Rattle.macs_rxsc.specs.declared.verdict.Kind.{Kind}
 use Rattle.macs_rxsc.specs.declared.verdict.Kind.TheVariants.{Ok as AsOk}
 use Rattle.macs_rxsc.specs.declared.verdict.Verdict.{Verdict}
@@ -20,7 +20,7 @@ use Rattle.macs_headline.specs.Binding.{HasHistory}
 use Rattle.macs_headline.specs.Days.{IsDay, exchange_with, link_of}
 use Rattle.macs_headline.specs.Deeds.{Chain, Formatting, Living}
 use Rattle.macs_headline.specs.Deliveries.{IsVerifiedKind}
-use Rattle.macs_headline.specs.ExampleCuts.{compacting_disk, torn_image}
+use Rattle.macs_headline.specs.ExampleCuts.{IsRun, compacting_disk, torn_image}
 use Rattle.macs_headline.specs.ExampleLives.{IsWorkedHistory}
 use Rattle.macs_headline.specs.History.{Formats, Serves}
 use Rattle.macs_headline.specs.Nights.{IsNight, IsNightFrame}
@@ -31,13 +31,18 @@ use Rattle.macs_headline.specs.declared.watch.Watch.{Watch}
 
 -- A frame of a night has a number of 1 to 2^32 - 1, and is the protected frame of the plain one under it: with the SCI
 -- spelled out, E and C set, and all User Data encrypted. In the worked history a compaction may leave any 512 octets in
--- each of three sectors.
+-- each of three sectors. A run begins with its image, of which nothing is pending, and each call of it leads on by one
+-- write of a sector, or by a sync.
 pub record ExampleWords : Type 0 where
   pub night : (identity : Identity) (an : ℕ) (key plain : List ℕ) (pn : ℕ) (out : List ℕ)
       → IsNightFrame identity an key plain pn out → (1 ≤ pn) × (pn < 2 ^ 32) × (out ≡ protected_frame key identity.sci
       (record { an = an; pn = pn; name = Explicit identity.sci; encrypted = true; changed = true }) 0 plain)
   pub torn : IsWorkedHistory → (head first second : List ℕ) → IsSector head → IsSector first → IsSector second
       → MayLeave compacting_disk (torn_image head first second)
+  pub run_start : (image : Image) (disk : Disk) → IsRun image disk → disk.past 0 ≡ settled_state image
+  pub one_call : (image : Image) (disk : Disk) (k : ℕ) → IsRun image disk → k < disk.clock
+      → ((at : ℕ) × (octets : List ℕ) × (disk.past (suc k) ≡ state_after_write (disk.past k) at octets))
+      ⊎ (disk.past (suc k) ≡ state_after_sync (disk.past k))
 
 -- What the contract of a night says of it, for the frame of the evening and for that of the morning: where it was
 -- written it has a number of 1 to 2^32 - 1 and is the protected frame of its plain one under it, with the SCI spelled
