@@ -5,6 +5,8 @@ use Rattle.macs_headline.specs.WorkedWords.{MigrationWords, WorkedWords}
 pub worked-words : WorkedWords
 worked-words = record {
   calls = refl;
+  cuts = refl;
+  refusals = refl;
   last_life = refl;
   history = λ h. (h.last, h.history, h.used, h.given);
   left_open = λ h. (h.widening, h.widening_calls, h.left_open);

@@ -1,5 +1,5 @@
 -- The headline on its worked history and on its worked migration: what they are, entry by entry.
-use Rattle.std.specs.Prelude.{◌≡◌, ℕ, true, List, [], ◌∷◌, ◌++◌, map, replicate, length, None, Ok}
+use Rattle.std.specs.Prelude.{◌≡◌, ℕ, true, List, [], ◌∷◌, ◌++◌, map, replicate, length, Option, Some, None, Ok}
 use Rattle.macs_config.specs.Config.{IsUpTo, first_edition, this_edition}
 use Rattle.macs_disk.specs.Disk.{Disk, IsHonest, MayLeave, now}
 use Rattle.macs_disk.specs.States.{settled_state}
@@ -8,15 +8,17 @@ use Rattle.macs_journal.specs.Appending.{free_gate}
 use Rattle.macs_journal.specs.Compacting.{compacted}
 use Rattle.macs_journal.specs.Found.{HasJournal}
 use Rattle.macs_journal.specs.Value.{IsHolding}
+use Rattle.macs_journal.specs.declared.fault.JournalFault.{JournalFault}
+use Rattle.macs_journal.specs.declared.fault.JournalFault.TheVariants.{Disk as DiskFault, NotFormatted}
 use Rattle.macs_rxsc.specs.declared.verdict.Kind.{Kind}
 use Rattle.macs_rxsc.specs.declared.verdict.Kind.TheVariants.{Delayed, Ok as AsOk}
 use Rattle.macs_store.specs.Found.{IsToMigrate, StandAlike, StandingIs, StandsFor}
 use Rattle.macs_store.specs.Snapshot.{snapshot}
-use Rattle.macs_endpoint.specs.State.{Delivery, State, Use}
+use Rattle.macs_endpoint.specs.State.{Advances, Call, Commands, Delivery, State, Use}
 use Rattle.macs_headline.specs.Answered.{exchanges_of_lives}
 use Rattle.macs_headline.specs.Binding.{HasHistory}
 use Rattle.macs_headline.specs.Deeds.{IsPassedOn}
-use Rattle.macs_headline.specs.Example.{later_edition}
+use Rattle.macs_headline.specs.Example.{later_edition, remove_peer}
 use Rattle.macs_headline.specs.ExampleCuts.{IsRun, append_in_hand, compacting_disk, compaction_in_hand, killed_disk}
 use Rattle.macs_headline.specs.ExampleCuts.{place_behind, widening_disk, working_disk}
 use Rattle.macs_headline.specs.ExampleDisk.{anew_content, anew_image, checked, cut_image, ended_content, ended_image}
@@ -28,11 +30,21 @@ use Rattle.macs_headline.specs.ExampleMigration.{beginning_disk, beginning_in_ha
 use Rattle.macs_headline.specs.ExampleMigration.{later_lives, long_image, long_standing, migrated_content}
 use Rattle.macs_headline.specs.ExampleMigration.{migrated_image, old_lives, used_content, used_image, used_standing}
 use Rattle.macs_headline.specs.ExampleStanding.{checked_standing, full_standing, last_standing}
-use Rattle.macs_headline.specs.History.{Formatted, IsHistory, Life, Serves}
+use Rattle.macs_headline.specs.History.{Formatted, IsHistory, Life, Refuses, Serves}
 
 -- how many calls were answered in a life
 abbrev pub calls_in : Life → ℕ
 calls_in life = length (exchanges_of_lives (life ∷ []))
+
+-- the call in which a life was cut short, if it was
+abbrev pub cut_in : Life → Option Call
+cut_in (Serves edition image exchanges cut) = cut
+cut_in life = None
+
+-- for which fault an opening was refused, if it was
+abbrev pub refused_in : Life → Option JournalFault
+refused_in (Refuses edition image fault) = Some fault
+refused_in life = None
 
 -- this number was used under the endpoint's key, sixteen octets of 1
 abbrev pub used_number : ℕ → Use
@@ -42,14 +54,19 @@ used_number pn = record { key = replicate 16 1; pn = pn }
 abbrev pub given_as : Kind → Delivery
 given_as kind = record { sci = 2 ∷ 0 ∷ 0 ∷ 0 ∷ 0 ∷ 7 ∷ 0 ∷ 1 ∷ []; key = replicate 32 2; pn = 5; kind = kind }
 
--- The worked history has ten lives, of which five answered calls, 297 in all; nine frames went out under one key, and
--- one frame of the peer was delivered three times. Three of its disks had work under way: an append that a power loss
--- left with its gate open, a compaction of a journal of 256 records, which stands for the same however many of its
--- bodies are written and started the journal over in generation 2, and an append whose program was killed. That one's
--- medium was passed on with the gate pending, which is read as written, and has the history so far to this edition and
--- to a larger one.
+-- The worked history has ten lives, of which five answered calls, 297 in all; two were cut short, in a command and in a
+-- step, and two openings were refused, one for a failed device call; nine frames went out under one key, and one frame
+-- of the peer was delivered three times. Three of its disks had work under way: an append that a power loss left with
+-- its gate open, a compaction of a journal of 256 records, which stands for the same however many of its bodies are
+-- written and started the journal over in generation 2, and an append whose program was killed. That one's medium was
+-- passed on with the gate pending, which is read as written, and has the history so far to this edition and to a larger
+-- one.
 pub record WorkedWords : Type 0 where
   pub calls : map calls_in example_lives ≡ 0 ∷ 0 ∷ 0 ∷ 0 ∷ 28 ∷ 255 ∷ 0 ∷ 6 ∷ 4 ∷ 4 ∷ []
+  pub cuts : map cut_in example_lives ≡ None ∷ None ∷ None ∷ None ∷ None ∷ Some (Commands remove_peer) ∷ None ∷ None
+      ∷ Some Advances ∷ None ∷ []
+  pub refusals : map refused_in example_lives ≡ None ∷ Some NotFormatted ∷ None ∷ Some DiskFault ∷ None ∷ None ∷ None
+      ∷ None ∷ None ∷ None ∷ []
   pub last_life : early_lives ++ Serves later_edition ended_image last_exchanges None ∷ [] ≡ example_lives
   pub history : IsWorkedHistory → (last : State) × IsHistory 1028 example_lives (Formatted last)
       × (last.logs.used ≡ map used_number (17 ∷ 13 ∷ 9 ∷ 6 ∷ 5 ∷ 4 ∷ 3 ∷ 2 ∷ 1 ∷ []))
