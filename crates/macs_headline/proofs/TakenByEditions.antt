@@ -1,10 +1,10 @@
 -- What an edition takes.
-use Rattle.std.proofs.Common.{◌≡◌, ◌∙◌, ◌&&◌, ◌⊎◌, ◌≤◌, inl, inr, ℕ, Bool, true, false, cond, nat_le, List, [], ◌∷◌}
-use Rattle.std.proofs.Common.{length, Option, Some, None, bytes_eq, refl, sym, ap}
-use Rattle.std.proofs.lemmas.Bool.{false≢true, leb-true, lt-leb}
+use Rattle.std.proofs.Common.{◌≡◌, ◌∙◌, ◌&&◌, ◌||◌, ◌==◌, ◌⊎◌, ◌≤◌, inl, inr, ℕ, Bool, true, false, cond, nat_le}
+use Rattle.std.proofs.Common.{List, [], ◌∷◌, length, Option, Some, None, bytes_eq, refl, sym, ap}
+use Rattle.std.proofs.lemmas.Bool.{eqb-true, false≢true, leb-true, lt-leb}
 use Rattle.macs_fields.specs.First.{first}
 use Rattle.macs_config.specs.Apply.{Named, Reason, are_channels_full, refusals}
-use Rattle.macs_config.specs.Config.{Config, Edition, has_channel}
+use Rattle.macs_config.specs.Config.{Config, Edition, has_channel, takes_key}
 use Rattle.macs_config.specs.Identity.{Identity}
 use Rattle.macs_config.specs.declared.command.Command.{Command}
 use Rattle.macs_config.specs.declared.command.Command.TheVariants.{RxAdd}
@@ -73,6 +73,22 @@ never_full false true full free is = cc
 never_full false false true free is = cc
 never_full false false false free is = cc
 
+-- ---- the length of a key that is taken
+
+either_length : (long is_long is_short : Bool) → ((long && is_long) || is_short) ≡ true
+    → (is_short ≡ true) ⊎ ((is_long ≡ true) × (long ≡ true))
+either_length long is_long true is = inl refl
+either_length true true false is = inr (refl, refl)
+either_length true false false is = absurd (false≢true is)
+either_length false is_long false is = absurd (false≢true is)
+
+key_length : (edition : Edition) (key : List ℕ) → takes_key edition key ≡ true
+    → (length key ≡ 16) ⊎ ((length key ≡ 32) × (edition.long_keys ≡ true))
+key_length edition key is = elim (either_length edition.long_keys (length key == 32) (length key == 16) is) [
+  | inl short ↦ inl (eqb-true (length key) 16 short)
+  | inr long ↦ inr (eqb-true (length key) 32 long.0, long.1)
+]
+
 pub editions-take : EditionsTake
 editions-take = record {
   channels = λ edition identity c sci few.
@@ -84,6 +100,7 @@ editions-take = record {
   long_keys = λ edition identity c command is takes. never-long edition takes identity c command is;
   short_keys = short-keys;
   short_taken = short-taken;
+  lengths = key_length;
   two_read = λ edition identity count records two.
       ap (λ (b : Bool). cond (b && true) (replay_of edition identity count records) None) two;
   formats = λ edition identity count records two short.

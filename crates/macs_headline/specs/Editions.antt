@@ -84,12 +84,12 @@ HasLongKey r = ⊥
 
 -- What an edition takes. ChannelsFull is answered to a command that adds a channel alone, and only where as many exist
 -- as the edition takes. LongKey is answered to no command in range where it takes long keys, and else a command that
--- installs is accepted with a key of 16 octets alone; it is answered to none with a key of 16 octets. Areas of format
--- two are read by their records alone, where the edition reads them, so as those of format one where no record is of a
--- long key, and else not; an area of format one with a record of a long key stands for nothing. A record of a command
--- that it accepts stands for what the command makes, whatever is installed; so does one of an association that a
--- command asks for. What it reads, in a snapshot or after it, has no more channels than it takes, and no key that it
--- does not take.
+-- installs is accepted with a key of 16 octets alone; it is answered to none with a key of 16 octets. A key that is
+-- taken has 16 octets, or 32 where long keys are taken. Areas of format two are read by their records alone, where the
+-- edition reads them, so as those of format one where no record is of a long key, and else not; an area of format one
+-- with a record of a long key stands for nothing. A record of a command that it accepts stands for what the command
+-- makes, whatever is installed; so does one of an association that a command asks for. What it reads, in a snapshot or
+-- after it, has no more channels than it takes, and no key that it does not take.
 pub record EditionsTake : Type 0 where
   pub channels : (edition : Edition) (identity : Identity) (c : Config) (sci : List ℕ)
       → length c.channels < edition.channels
@@ -106,6 +106,8 @@ pub record EditionsTake : Type 0 where
   pub short_taken : (edition : Edition) (identity : Identity) (c : Config) (command : Command)
       → IfSome (key_in command) (λ key. length key ≡ 16)
       → ¬ (refusal_of edition identity c command ≡ Some LongKey)
+  pub lengths : (edition : Edition) (key : List ℕ) → takes_key edition key ≡ true
+      → (length key ≡ 16) ⊎ ((length key ≡ 32) × (edition.long_keys ≡ true))
   pub two_read : (edition : Edition) (identity : Identity) (count : ℕ) (records : List Record)
       → edition.format_two ≡ true
       → reading_of edition Two identity count records ≡ replay_of edition identity count records
