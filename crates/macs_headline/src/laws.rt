@@ -1,6 +1,6 @@
 //! The laws, and that what a program does is what they speak of.
 
-ghost use Rattle.std.specs.Prelude.{◌≡◌, ◌≤◌, ℕ, Bool, true, List, [], ◌∷◌, IsTrue};
+ghost use Rattle.std.specs.Prelude.{◌≡◌, ◌≤◌, ◌%◌, ℕ, Bool, true, List, [], ◌∷◌, IsTrue};
 ghost use Rattle.macs_disk.specs.Disk.{Disk, IsHonest, LeftSince, MayLeave, disk_after_loss};
 ghost use Rattle.macs_disk.specs.FileDisks.{IsBlank, IsFoundAgain, IsFoundAs, IsLeftAsShown};
 ghost use Rattle.macs_disk.specs.FileDisks.{IsOpened, disk_in_file};
@@ -619,6 +619,9 @@ pub fn files<F: DiskFile>()
     // that.
     ensures settled { (old new : FileState) → Settles old new → IsClaimed new
         × (IsSure old → new.seen ≡ old.seen) }
+    // A file that is opened has whole sectors.
+    ensures whole_sectors { (file : FileState) (least : ℕ) (layout : Layout) (disk : Disk)
+        → IsOpened file least layout disk → file.size % 512 ≡ 0 }
     // Blocks of 512 octets suit both layouts, and those of 4,096 the one in which sectors lie
     // apart.
     ensures blocks { (suits Packed 512 ≡ true) × (suits Spaced 512 ≡ true)
