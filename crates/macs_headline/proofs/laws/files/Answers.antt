@@ -18,6 +18,9 @@ returns-clause-reopened g c it file again new left found behaves honest nothing 
 pub returns-clause-let_go : goal.returns-clause-let_go
 returns-clause-let_go g c = let-go
 
+pub returns-clause-sectors : goal.returns-clause-sectors
+returns-clause-sectors g c = λ old new layout disk blank. blank.sectors
+
 pub returns-clause-whole_sectors : goal.returns-clause-whole_sectors
 returns-clause-whole_sectors g c = λ file least layout disk opened. opened.whole
 
