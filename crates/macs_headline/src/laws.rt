@@ -1,7 +1,7 @@
 //! The laws, and that what a program does is what they speak of.
 
-ghost use Rattle.std.specs.Prelude.{◌≡◌, ◌≤◌, ◌%◌, ℕ, max, Bool, true, List, [], ◌∷◌, IsTrue};
-ghost use Rattle.macs_disk.specs.Disk.{Disk, IsHonest, LeftSince, MayLeave, disk_after_loss};
+ghost use Rattle.std.specs.Prelude.{◌≡◌, ◌≤◌, ◌<◌, ◌%◌, ℕ, max, Bool, true, List, [], ◌∷◌, IsTrue};
+ghost use Rattle.macs_disk.specs.Disk.{Disk, IsHonest, LeftSince, MayLeave, disk_after_loss, now};
 ghost use Rattle.macs_disk.specs.FileDisks.{IsBlank, IsFoundAgain, IsFoundAs, IsLeftAsShown};
 ghost use Rattle.macs_disk.specs.FileDisks.{IsOpened, disk_in_file};
 ghost use Rattle.macs_disk.specs.FileDisks.{file_left, layout_of, state_in_file};
@@ -9,7 +9,7 @@ ghost use Rattle.macs_disk.specs.Files.{Behaves, FileState, HasNothingNew, IsCla
 ghost use Rattle.macs_disk.specs.Files.{Settles};
 ghost use Rattle.macs_disk.specs.Layouts.{sectors_in, suits};
 ghost use Rattle.macs_disk.specs.Memory.{blank_memory};
-ghost use Rattle.macs_disk.specs.States.{Image, IsImage};
+ghost use Rattle.macs_disk.specs.States.{Image, IsImage, zero_sector};
 ghost use Rattle.macs_disk.specs.declared.file.FileDisk.{FileDisk};
 ghost use Rattle.macs_disk.specs.declared.layout.Layout.{Layout};
 ghost use Rattle.macs_disk.specs.declared.layout.Layout.TheVariants.{Packed, Spaced};
@@ -622,6 +622,9 @@ pub fn files<F: DiskFile>()
     // It has the sectors that its file had, or 1,028, where these are more.
     ensures sectors { (old new : FileState) (layout : Layout) (disk : Disk)
         → IsBlank old new layout disk → disk.sectors ≡ max (sectors_in layout old.size) 1028 }
+    // Its first 1,028 are zeros.
+    ensures zeros { (old new : FileState) (layout : Layout) (disk : Disk) (i : ℕ)
+        → IsBlank old new layout disk → i < 1028 → (now disk).seen i ≡ zero_sector }
     // A file that is opened has whole sectors.
     ensures whole_sectors { (file : FileState) (least : ℕ) (layout : Layout) (disk : Disk)
         → IsOpened file least layout disk → file.size % 512 ≡ 0 }

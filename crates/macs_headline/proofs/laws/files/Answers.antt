@@ -21,6 +21,9 @@ returns-clause-let_go g c = let-go
 pub returns-clause-sectors : goal.returns-clause-sectors
 returns-clause-sectors g c = λ old new layout disk blank. blank.sectors
 
+pub returns-clause-zeros : goal.returns-clause-zeros
+returns-clause-zeros g c = λ old new layout disk i blank within. blank.zeros i within
+
 pub returns-clause-whole_sectors : goal.returns-clause-whole_sectors
 returns-clause-whole_sectors g c = λ file least layout disk opened. opened.whole
 
