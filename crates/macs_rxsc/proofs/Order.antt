@@ -10,7 +10,7 @@ use Rattle.macs_config.specs.declared.association.RxSa.{RxSa}
 use Rattle.macs_config.specs.declared.command.Validate.{Validate}
 use Rattle.macs_rxsc.specs.Receive.{AreOrdered, Arrival, InOrder, Numbers, Outcome, IsOutcome, RxSide, IsNumbered}
 use Rattle.macs_rxsc.specs.Receive.{numbers_after_delivery, arrival_outcome, numbers_after_hold, put_numbers}
-use Rattle.macs_rxsc.specs.Receive.{first_numbers, numbers_under_window}
+use Rattle.macs_rxsc.specs.Receive.{AreNumbered, first_numbers, numbers_under_window}
 
 -- ---- numbers
 
@@ -267,3 +267,14 @@ in-order window sa n c numbers ceiling is has_numbers has_ceiling =
     let i = numbered window sa n c numbers ceiling is has_numbers has_ceiling in
     let within = i.windowed in
     (i.numbered, omega (arith, within), i.ordered, i.below, i.bounded)
+
+-- what is in its order has its numbers, where it is there
+has_numbers : (window : ℕ) (sa : Option RxSa) (n : Option Numbers) (c : Option ℕ) → IsNumbered window sa n c
+    → IsSome sa → IsSome n
+has_numbers window (Some sa) (Some n) c is some = refl
+has_numbers window (Some sa) None c is some = absurd is
+has_numbers window None n c is some = absurd (cc)
+
+pub all-numbered : (side : RxSide) (ceilings : List ℕ → ℕ → Option ℕ) → AllOrdered side ceilings → AreNumbered side
+all-numbered side ceilings ordered sci an some =
+    has_numbers side.replay.window (side.rx sci an) (side.numbers sci an) (ceilings sci an) (ordered sci an) some

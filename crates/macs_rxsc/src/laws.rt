@@ -21,6 +21,13 @@ pub fn receives_once()
         → IsOutcome side ceilings frame a → IsOutcome side ceilings frame b → a ≡ b }
 {}
 
+/// Where the numbers of all associations are in order, each association that exists has its
+/// numbers, so that `settled_or_arrives` speaks of the side.
+pub fn ordered_are_numbered()
+    ensures { (side : RxSide) (ceilings : List ℕ → ℕ → Option ℕ)
+        → ((sci : List ℕ) (an : ℕ) → AreOrdered side ceilings sci an) → AreNumbered side }
+{}
+
 /// Which numbers are in order: the lowest is 1 or more, at most a window below the next, and not
 /// above it; and the next is not above the ceiling, which is 2^32 at most.
 pub fn numbers_in_order()
