@@ -1,7 +1,7 @@
 -- What is to be drawn of the parts of a snapshot.
 use Rattle.std.proofs.Common.{◌≡◌, ◌<◌, ◌+◌, ◌++◌, ◌&&◌, ℕ, Bool, true, false, cond, not, nat_le, nat_lt, List, [], ◌∷◌}
 use Rattle.std.proofs.Common.{length, Option, Some, None, is_none, bytes_eq, refl, ap, arith}
-use Rattle.std.proofs.lemmas.Bool.{le-ltb, lt-leb}
+use Rattle.std.proofs.lemmas.Bool.{le-ltb, lt-leb, or_left}
 use Rattle.std.specs.List.{list_all}
 use Rattle.macs_config.specs.Config.{Config, Edition, are_distinct, default, has_channel, is_among, max_spent, spent_of}
 use Rattle.macs_config.specs.Config.{takes_key}
@@ -48,6 +48,13 @@ not_new spent one more is =
     (no_left (not (is_among spent one)) (list_all (λ item. not (is_among spent item)) more)
     (not-is (is_among spent one) is))
 
+-- nor is each where one comes twice
+twice : (spent : List (List ℕ)) (one : List ℕ) (more : List (List ℕ)) → are_new spent (one ∷ one ∷ more) ≡ false
+twice spent one more =
+    no_left (are_distinct (one ∷ one ∷ more)) (list_all (λ item. not (is_among spent item)) (one ∷ one ∷ more))
+    (no_left (not (is_among (one ∷ more) one)) (are_distinct (one ∷ more))
+    (not-is (is_among (one ∷ more) one) (or_left (bytes_eq one one) (is_among more one) (bytes_eq-itself one))))
+
 pub part-words : PartWords
 part-words = record {
   tx_twice = λ edition identity c an before sa parts is. stopped edition identity c (TxSa an sa) parts
@@ -79,6 +86,10 @@ part-words = record {
       (no_left (are_new (spent_of role c) (one ∷ more))
       (nat_le (length (spent_of role c) + length (one ∷ more)) max_spent)
       (not_new (spent_of role c) one more is));
+  spent_in_one = λ edition identity c role one more parts.
+      stopped edition identity c (Spent role (one ∷ one ∷ more)) parts
+      (no_left (are_new (spent_of role c) (one ∷ one ∷ more))
+      (nat_le (length (spent_of role c) + length (one ∷ one ∷ more)) max_spent) (twice (spent_of role c) one more));
   spent_full =
       λ edition identity c role fingerprints parts is. stopped edition identity c (Spent role fingerprints) parts
       (no_right (are_new (spent_of role c) fingerprints)

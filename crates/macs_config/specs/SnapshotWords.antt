@@ -12,7 +12,8 @@ use Rattle.macs_config.specs.declared.part.Part.TheVariants.{TxSa, Channel, RxSa
 
 -- A snapshot is refused where behind some of its parts there comes an association or a channel that stands already; an
 -- association to receive whose channel does not stand; a key that the edition does not take; the own SCI as a channel,
--- or one more channel than the edition may have; a fingerprint that is spent already, or more of them than fit.
+-- or one more channel than the edition may have; a fingerprint that is spent already, or twice in the part, or more of
+-- them than fit.
 pub record PartWords : Type 0 where
   pub tx_twice : (edition : Edition) (identity : Identity) (c : Config) (an : ℕ) (before sa : TxAssociation)
       (parts : List Part)
@@ -39,6 +40,9 @@ pub record PartWords : Type 0 where
       (more : List (List ℕ)) (parts : List Part)
       → is_among (spent_of role c) one ≡ true
       → config_with_parts edition identity c (Spent role (one ∷ more) ∷ parts) ≡ None
+  pub spent_in_one : (edition : Edition) (identity : Identity) (c : Config) (role : Role) (one : List ℕ)
+      (more : List (List ℕ)) (parts : List Part)
+      → config_with_parts edition identity c (Spent role (one ∷ one ∷ more) ∷ parts) ≡ None
   pub spent_full : (edition : Edition) (identity : Identity) (c : Config) (role : Role) (fingerprints : List (List ℕ))
       (parts : List Part)
       → max_spent < length (spent_of role c) + length fingerprints
