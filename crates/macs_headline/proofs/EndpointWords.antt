@@ -201,6 +201,36 @@ module _ {D : Type 0} (disk_of : D → Disk) where
         omega (arith, calls, four, most),
       )
 
+  -- the same behind work that is under way
+  refill_behind : (old : EndpointValue D) (new : StoreValue D) → Spends disk_of old (Ok tt) new
+      → generation new ≡ generation_then old.store
+      → (slots_then old.store ≤ used_slots new)
+      × ((store.disk_in disk_of new).clock
+      ≤ (disk_in disk_of old).clock + calls_left old.store + 4 * (used_slots new - slots_then old.store))
+  refill_behind old new (raises, has) same =
+      let so = raised_so (slots_then old.store) (generation_then old.store) (reserved_in old) raises
+      (sym has.generation ∙ same) in
+      let used = has.slots in
+      let most = has.most in
+      let each = so.0 in
+      let few = so.1 in
+      (omega (arith, used, each), omega (arith, used, most, each, few))
+
+  command_behind : (old new : EndpointValue D) (command : Command) → KeepsCommand disk_of old command (Ok tt) new
+      → slots_then old.store < 256
+      → (used_slots new.store ≡ slots_then old.store + 1) × (generation new.store ≡ generation_then old.store)
+      × ((disk_in disk_of new).clock ≤ (disk_in disk_of old).clock + calls_left old.store + 4)
+  command_behind old new command keeps fewer =
+      let none : (slots_then old.store == 256) ≡ false =
+      ne_eqb (slots_then old.store) 256 (λ full. omega (arith, full, fewer)) in
+      let one = one_slot (slots_then old.store == 256) (slots_then old.store) (reserved_in old) none in
+      let four = one.1 in
+      let most = keeps.most in (
+        keeps.slots ∙ one.0,
+        keeps.generation ∙ same_generation (slots_then old.store == 256) (generation_then old.store) none,
+        omega (arith, four, most),
+      )
+
   -- a reservation that fails where none is under way
   refill_fault : (old new : EndpointValue D) → IsCall disk_of old Refills (Refilled (Err refill.Disk)) new
       → old.reserving ≡ None
@@ -282,6 +312,8 @@ module _ {D : Type 0} (disk_of : D → Disk) where
     refilled_behind = refilled_behind;
     spends = spends_so;
     refill = refill_calls;
+    refill_behind = refill_behind;
+    command_behind = command_behind;
     command = command_calls;
   }
 

@@ -25,7 +25,8 @@ use Rattle.macs_journal.specs.declared.fault.JournalFault.TheVariants.{TooSmall}
 use Rattle.macs_journal.specs.declared.recovery.RecoverRefused.{RecoverRefused}
 use Rattle.macs_store.specs.Opening.{IsOpenName}
 use Rattle.macs_store.specs.Standing.{Standing, accept}
-use Rattle.macs_store.specs.Value.{IsIdle, StoreValue, generation, standing_in, used_slots}
+use Rattle.macs_store.specs.Value.{IsIdle, StoreValue, calls_left, generation, generation_then, slots_then, standing_in}
+use Rattle.macs_store.specs.Value.{used_slots}
 use Rattle.macs_store.specs.Value as store
 use Rattle.macs_endpoint.specs.Calls.{IsCall}
 use Rattle.macs_endpoint.specs.Ceilings.{IsRefilled, Raise, RaiseRx, RaiseTx, first_raise, standing_with_raise}
@@ -95,9 +96,10 @@ pub record OpeningsCount {D : Type 0} (disk_of : D → Disk) : Type 0 where
 -- One that is answered as Ok leaves what was raised so, the reservation under way first, until none is needed; and its
 -- slots and device calls are those of ceilings that were raised so. After one that is answered as GenerationsSpent a
 -- ceiling is still needed. What a command that is answered as Ok makes, it makes of the standing with the reservation
--- that was under way; and one that waited, once it is done, of the standing. A refill, and a command that is kept, of an
--- endpoint with no work under way, make four device calls at most for each slot that they use, where the journal does
--- not start over; and the command uses one.
+-- that was under way; and one that waited, once it is done, of the standing. A refill, and a command that is kept, of
+-- an endpoint with no work under way, make four device calls at most for each slot that they use, where the journal
+-- does not start over; and the command uses one. Where work is under way its slot and its device calls come before
+-- these.
 pub record CeilingsAreRaised {D : Type 0} (disk_of : D → Disk) : Type 0 where
   pub none : (t : TxSide) (r : RxSide) (old new : Standing) (next : Option Raise) → IsRefilled t r old new next
       → first_raise old t r ≡ None → new ≡ old
@@ -153,6 +155,15 @@ pub record CeilingsAreRaised {D : Type 0} (disk_of : D → Disk) : Type 0 where
   pub refill : (old : EndpointValue D) (new : StoreValue D) → Spends disk_of old (Ok tt) new → IsIdle old.store
       → generation new ≡ generation old.store
       → (store.disk_in disk_of new).clock ≤ (disk_in disk_of old).clock + 4 * (used_slots new - used_slots old.store)
+  pub refill_behind : (old : EndpointValue D) (new : StoreValue D) → Spends disk_of old (Ok tt) new
+      → generation new ≡ generation_then old.store
+      → (slots_then old.store ≤ used_slots new)
+      × ((store.disk_in disk_of new).clock
+      ≤ (disk_in disk_of old).clock + calls_left old.store + 4 * (used_slots new - slots_then old.store))
+  pub command_behind : (old new : EndpointValue D) (command : Command) → KeepsCommand disk_of old command (Ok tt) new
+      → slots_then old.store < 256
+      → (used_slots new.store ≡ slots_then old.store + 1) × (generation new.store ≡ generation_then old.store)
+      × ((disk_in disk_of new).clock ≤ (disk_in disk_of old).clock + calls_left old.store + 4)
   pub command : (old new : EndpointValue D) (command : Command) → KeepsCommand disk_of old command (Ok tt) new
       → IsIdle old.store
       → used_slots old.store < 256
