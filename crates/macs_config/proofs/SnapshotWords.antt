@@ -131,4 +131,5 @@ order-words = record {
       (no_left (nat_le 2 (place_of second)) (are_ordered (place_of second) parts)
       (not_le 2 (place_of second) (omega (arith, is)))));
   empty = λ edition identity. refl;
+  places = λ validate replay mode encoding an tx sci rx fingerprints. (refl, refl, refl, refl, refl, refl);
 }

@@ -1,14 +1,18 @@
 -- What is to be drawn of the parts of a snapshot: which are refused behind those in front of them, and in which order
 -- they come.
-use Rattle.std.specs.Prelude.{◌≡◌, ◌<◌, ◌≤◌, ◌+◌, ◌++◌, ℕ, true, false, List, [], ◌∷◌, length, Some, None}
+use Rattle.std.specs.Prelude.{◌≡◌, ◌<◌, ◌≤◌, ◌+◌, ◌++◌, ℕ, true, false, List, [], ◌∷◌, length, Option, Some, None}
 use Rattle.macs_config.specs.Config.{Config, Edition, has_channel, is_among, max_spent, spent_of, takes_key}
 use Rattle.macs_config.specs.Identity.{Identity}
 use Rattle.macs_config.specs.Snapshot.{config_of_parts, config_with_parts, place_of}
 use Rattle.macs_config.specs.declared.association.RxSa.{RxSa as RxAssociation}
 use Rattle.macs_config.specs.declared.association.TxSa.{TxSa as TxAssociation}
+use Rattle.macs_config.specs.declared.command.Replay.{Replay}
 use Rattle.macs_config.specs.declared.command.Role.{Role}
+use Rattle.macs_config.specs.declared.command.Role.TheVariants.{Transmit, Receive}
+use Rattle.macs_config.specs.declared.command.SciMode.{SciMode}
+use Rattle.macs_config.specs.declared.command.Validate.{Validate}
 use Rattle.macs_config.specs.declared.part.Part.{Part}
-use Rattle.macs_config.specs.declared.part.Part.TheVariants.{TxSa, Channel, RxSa, Spent}
+use Rattle.macs_config.specs.declared.part.Part.TheVariants.{Settings, TxSa, Channel, RxSa, Spent}
 
 -- A snapshot is refused where behind some of its parts there comes an association or a channel that stands already; an
 -- association to receive whose channel does not stand; a key that the edition does not take; the own SCI as a channel,
@@ -48,7 +52,8 @@ pub record PartWords : Type 0 where
       → max_spent < length (spent_of role c) + length fingerprints
       → config_with_parts edition identity c (Spent role fingerprints ∷ parts) ≡ None
 
--- A snapshot begins with its settings, and no part of it comes behind one that has a later place in the order.
+-- A snapshot begins with its settings, and no part of it comes behind one that has a later place in the order:
+-- settings, associations to transmit, channels, associations to receive, and the fingerprints of either side.
 pub record OrderWords : Type 0 where
   pub first : (edition : Edition) (identity : Identity) (part : Part) (parts : List Part) → 1 < place_of part
       → config_of_parts edition identity (part ∷ parts) ≡ None
@@ -59,3 +64,8 @@ pub record OrderWords : Type 0 where
       → place_of second ≡ 1
       → config_of_parts edition identity (first ∷ second ∷ parts) ≡ None
   pub empty : (edition : Edition) (identity : Identity) → config_of_parts edition identity [] ≡ None
+  pub places : (validate : Validate) (replay : Replay) (mode : SciMode) (encoding : Option ℕ) (an : ℕ)
+      (tx : TxAssociation) (sci : List ℕ) (rx : RxAssociation) (fingerprints : List (List ℕ))
+      → (place_of (Settings validate replay mode encoding) ≡ 1) × (place_of (TxSa an tx) ≡ 2)
+      × (place_of (Channel sci) ≡ 3) × (place_of (RxSa sci an rx) ≡ 4)
+      × (place_of (Spent Transmit fingerprints) ≡ 5) × (place_of (Spent Receive fingerprints) ≡ 6)
