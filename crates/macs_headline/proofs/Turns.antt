@@ -136,4 +136,5 @@ turns-are-built {D} = record {
   reserved_none = tt;
   not_reserved = λ turn turns made spent filled later. (is_not_reserved turn.reply made spent filled, later);
   encoding = λ e an is numbered. (is, numbered);
+  queue = λ e sound. (sound.few, sound.tickets);
 }

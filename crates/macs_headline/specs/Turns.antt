@@ -1,6 +1,7 @@
 -- The endpoint's own laws on turns, on work that lasts and on numbers that are left: what they count they count call by
 -- call, and what they ask for is built call by call, from each call and its answer.
-use Rattle.std.specs.Prelude.{◌≡◌, ◌≢◌, ◌≤◌, ◌+◌, false, ℕ, Bool, List, [], ◌∷◌, Some, None, IsSome, Result, Ok, Err}
+use Rattle.std.specs.Prelude.{◌≡◌, ◌≢◌, ◌≤◌, ◌+◌, ◌-◌, ◌^◌, false, ℕ, Bool, List, [], ◌∷◌, length, Some, None, IsSome}
+use Rattle.std.specs.Prelude.{Result, Ok, Err}
 use Rattle.macs_aes.specs.declared.keys.Key.{Key}
 use Rattle.macs_config.specs.declared.command.Command.TheVariants.{RxDrop, RxInstall, RxRemove, TxInstall, TxRemove}
 use Rattle.macs_store.specs.Value.{IsIdle, standing_in}
@@ -10,7 +11,7 @@ use Rattle.macs_endpoint.specs.Lives.{Transition}
 use Rattle.macs_endpoint.specs.Needed.{raise_in}
 use Rattle.macs_endpoint.specs.Rooms.{IsEncodingAn, RxStays, TxStays, frames_sent}
 use Rattle.macs_endpoint.specs.State.{Advanced, Advances, Protected, Refilled, command_made, no_logs}
-use Rattle.macs_endpoint.specs.Value.{EndpointValue, is_stopped, state_of}
+use Rattle.macs_endpoint.specs.Value.{EndpointValue, IsSoundEndpoint, is_stopped, state_of}
 use Rattle.macs_endpoint.specs.declared.fault.CommandFault.{CommandFault}
 use Rattle.macs_endpoint.specs.declared.fault.RefillFault.TheVariants as refill
 use Rattle.macs_endpoint.specs.declared.fault.StepFault.TheVariants as step
@@ -52,7 +53,7 @@ pub record TurnsAreCounted (D : Type 0) : Type 0 where
 -- Work lasts over no calls, and over one more before which it is under way, and after which the endpoint runs. No
 -- command is done with, a ceiling is needed, and none is raised, by no calls, and by one more whose answer says so, or
 -- before which one is needed. An association is the one that frames go out under where it is so configured and has a
--- number.
+-- number. Of an endpoint that is sound 16 commands wait at most, and 2^64 - 1 tickets were given at most.
 pub record TurnsAreBuilt (D : Type 0) : Type 0 where
   pub tx_none : (an : ℕ) (e : EndpointValue D) → TxStays an e []
   pub tx_stays : (an : ℕ) (e : EndpointValue D) (turn : Transition D) (turns : List (Transition D))
@@ -85,3 +86,4 @@ pub record TurnsAreBuilt (D : Type 0) : Type 0 where
       → NoneReserved (turn ∷ turns)
   pub encoding : (e : EndpointValue D) (an : ℕ) → (standing_in e.store).config.encoding ≡ Some an
       → IsSome ((state_of e no_logs).next an) → IsEncodingAn e an
+  pub queue : (e : EndpointValue D) → IsSoundEndpoint e → (length e.waiting ≤ 16) × (e.tickets ≤ 2 ^ 64 - 1)
