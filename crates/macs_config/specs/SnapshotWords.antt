@@ -1,5 +1,5 @@
--- What is to be drawn of the parts of a snapshot: which are refused behind those in front of them, and in which order
--- they come.
+-- What is to be drawn of the parts of a snapshot: which are refused after those before them, and in which order they
+-- come.
 use Rattle.std.specs.Prelude.{◌≡◌, ◌<◌, ◌≤◌, ◌+◌, ◌++◌, ℕ, true, false, List, [], ◌∷◌, length, Option, Some, None}
 use Rattle.macs_config.specs.Config.{Config, Edition, has_channel, is_among, max_spent, spent_of, takes_key}
 use Rattle.macs_config.specs.Identity.{Identity}
@@ -14,8 +14,8 @@ use Rattle.macs_config.specs.declared.command.Validate.{Validate}
 use Rattle.macs_config.specs.declared.part.Part.{Part}
 use Rattle.macs_config.specs.declared.part.Part.TheVariants.{Settings, TxSa, Channel, RxSa, Spent}
 
--- A snapshot is refused where behind some of its parts there comes an association or a channel that stands already; an
--- association to receive whose channel does not stand; a key that the edition does not take; the own SCI as a channel,
+-- A snapshot is refused where after some of its parts there comes an association or a channel that is there already;
+-- an association to receive whose channel is not there; a key that the edition does not take; the own SCI as a channel,
 -- or one more channel than the edition may have; a fingerprint that is spent already, or twice in the part, or more of
 -- them than fit.
 pub record PartWords : Type 0 where
@@ -52,7 +52,7 @@ pub record PartWords : Type 0 where
       → max_spent < length (spent_of role c) + length fingerprints
       → config_with_parts edition identity c (Spent role fingerprints ∷ parts) ≡ None
 
--- A snapshot begins with its settings, and no part of it comes behind one that has a later place in the order:
+-- A snapshot begins with its settings, and no part of it comes after one that has a later place in the order:
 -- settings, associations to transmit, channels, associations to receive, and the fingerprints of either side.
 pub record OrderWords : Type 0 where
   pub first : (edition : Edition) (identity : Identity) (part : Part) (parts : List Part) → 1 < place_of part
