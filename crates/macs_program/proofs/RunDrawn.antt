@@ -220,8 +220,7 @@ reply-words file left_in = record {
   about = λ input before after status is. is;
   checked = λ from input before after status is. counted left_in before after status is;
   planned = λ from end stage input before after status ((octets, text, is, by_file, printed), done).
-      let (commands, planned, says) = is.planned in
-      (
+      let (commands, planned, says) = is.planned in (
         octets,
         text,
         is.members,

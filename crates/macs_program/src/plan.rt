@@ -107,7 +107,10 @@ fn fault_text(alloc: Global, fault: PlanFault) -> Result<String, AllocError>
 {
     match fault {
         PlanFault::Shape => {
-            String::from_str(alloc, "link file: not [left], [right] and tables [[key]] alone")
+            String::from_str(
+                alloc,
+                "link file: not [left], [right] and tables [[key]] alone",
+            )
         }
         PlanFault::Value { place, name } => value_text(alloc, place, name),
         PlanFault::Extra { place } => extra_text(alloc, place),

@@ -4,8 +4,8 @@ ghost use Rattle.std.specs.Prelude.{◌≡◌, ◌↔◌, IsTrue, Some};
 ghost use Rattle.macs_words.specs.Words.{AsksFor, IsHelpFlag, IsVersionFlag, name_of, texts};
 
 use crate::help_texts::{
-    ABOUT, APPLY, ASK, CHECK, EXAMINE, FORMAT, HELP, INSPECT, KEY, OPEN, PLAN, PROTECT, RELAY, SHOW,
-    VALIDATE, VERSION,
+    ABOUT, APPLY, ASK, CHECK, EXAMINE, FORMAT, HELP, INSPECT, KEY, OPEN, PLAN, PROTECT, RELAY,
+    SHOW, VALIDATE, VERSION,
 };
 
 /// A subcommand.
