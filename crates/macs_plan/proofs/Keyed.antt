@@ -102,7 +102,7 @@ newest_has pairs (Some earlier) newest (front, is) each =
 link_has : (members : Members) (link : Link) → file_link members ≡ Ok link → HasKeys link.newest
 link_has members link is =
     let (left, right, items, at_left, at_right, at_key, three, tables) = link-words.whole members link is in
-    let (has_left, has_right, pairs, has_pairs, newest) = link-words.ends left right items link tables in
+    let (pairs, has_pairs, newest) = (link-words.ends left right items link tables).2 in
     newest_has pairs link.before link.newest newest (each_has 1 items pairs has_pairs)
 
 pub refuses : Refuses

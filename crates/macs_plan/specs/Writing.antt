@@ -20,6 +20,7 @@ use Rattle.macs_plan.specs.declared.plan_fault.PlanFault.{PlanFault}
 
 -- ---- values
 
+-- a number
 abbrev pub number : ℕ → Data
 number n = integer (pos n)
 
