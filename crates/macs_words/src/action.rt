@@ -1,7 +1,8 @@
 //! What the program's words ask for.
 
-ghost use Rattle.std.specs.Prelude.{◌≡◌, ◌≢◌, ◌⊎◌, ◌↔◌, ◌<◌, ◌^◌, ℕ, Option, IfOk, IfErr, IfSome};
-ghost use Rattle.std.specs.Prelude.{IsSome, IsTrue, OnOk, Some, true, false, [], codes, option_map};
+ghost use Rattle.std.specs.Prelude.{◌≡◌, ◌≢◌, ◌⊎◌, ◌↔◌, ◌<◌, ◌^◌, ◌++◌, ◌∷◌, ℕ, Option, IfOk};
+ghost use Rattle.std.specs.Prelude.{IfErr, IfSome, IsSome, IsTrue, OnOk, Some, true, false, []};
+ghost use Rattle.std.specs.Prelude.{codes, option_map};
 ghost use Rattle.std.specs.Prelude.{string_bytes};
 ghost use Rattle.clap.specs.Words.{App, Rule, Text, app_of, fault_of, first_of, found_of, new_app};
 ghost use Rattle.clap.specs.Words.{rows_of, rule_of, subcommand_of, subcommand_rows_of, takes};
@@ -10,8 +11,10 @@ ghost use Rattle.macs_words.specs.Controls.{IsPrintable};
 ghost use Rattle.macs_words.specs.Waits.{IsRoom, IsWaitLimit};
 ghost use Rattle.macs_words.specs.Words.{FitsNumbers, FitsPace, HasNumber, HasPace};
 ghost use Rattle.macs_words.specs.Words.{HasPrintableCause, HasText, IsClapCommand, IsFaultOf};
-ghost use Rattle.macs_words.specs.Words.{HasQuestion, MayHaveNumber, MayHaveRoom, Names};
-ghost use Rattle.macs_words.specs.Words.{NamesNothing, bare_app, count_rule, macsecd, number_rule};
+ghost use Rattle.macs_words.specs.Words.{HasQuestion, MayHaveNumber, MayHaveRoom, MayHaveText};
+ghost use Rattle.macs_words.specs.Words.{Names, NamesNothing, app_with, ask_subcommand, bare_app};
+ghost use Rattle.macs_words.specs.Words.{count_rule, first_subcommands, frame_subcommands, macsecd};
+ghost use Rattle.macs_words.specs.Words.{number_rule};
 ghost use Rattle.macs_words.specs.Words.{NamesNoAction, end_word, plain_word, stage_word, texts};
 ghost use Rattle.macs_words.specs.Words.{value_rule};
 ghost use Rattle.macs_words.specs.Words.{flag_rule, last_rule, option_rule, room_rule, wait_rule};
@@ -403,6 +406,18 @@ fn bare_words<'a>(alloc: Global) -> Command<'a>
 }
 
 /// These words with one subcommand more.
+fn with_subcommand<'a>(
+    words: Result<Command<'a>, AllocError>,
+    subcommand: Command<'a>,
+) -> Result<Command<'a>, AllocError>
+    ensures { (app its : App) → IfOk words.entry (λ command. app_of command ≡ app)
+        → IsClapCommand subcommand.entry its
+        → IfOk result (λ command. app_of command ≡ with_subcommand app its.top) }
+{
+    words?.subcommand(subcommand)
+}
+
+/// The same, where there was memory for its own words.
 fn with_words<'a>(
     words: Result<Command<'a>, AllocError>,
     subcommand: Result<Command<'a>, AllocError>,
@@ -411,28 +426,41 @@ fn with_words<'a>(
         → IfOk subcommand.entry (λ command. IsClapCommand command its)
         → IfOk result (λ command. app_of command ≡ with_subcommand app its.top) }
 {
-    let subcommand = subcommand?;
-    words?.subcommand(subcommand)
+    with_subcommand(words, subcommand?)
+}
+
+/// The words of the subcommands that have no frames but that of `open`.
+fn first_words<'a>(alloc: Global) -> Result<Command<'a>, AllocError>
+    ensures { IfOk result (λ command. app_of command ≡ app_with first_subcommands) }
+{
+    let words = with_subcommand(Ok(bare_words(alloc)), open_words(alloc));
+    let words = with_words(words, format_words(alloc));
+    let words = with_words(words, apply_words(alloc));
+    with_words(words, show_words(alloc))
+}
+
+/// These, and the words of the subcommands that take frames through an endpoint or ask a running
+/// relay.
+fn endpoint_words<'a>(alloc: Global) -> Result<Command<'a>, AllocError>
+    ensures { IfOk result (λ command. app_of command
+        ≡ app_with (first_subcommands ++ frame_subcommands ++ ask_subcommand ∷ [])) }
+{
+    let words = with_words(first_words(alloc), capture_words(alloc, "protect"));
+    let words = with_words(words, validate_words(alloc));
+    let words = with_words(words, relay_words(alloc));
+    with_words(words, ask_words(alloc))
 }
 
 /// The words that the program knows.
 fn known_words<'a>(alloc: Global) -> Result<Command<'a>, AllocError>
     ensures { IfOk result (λ command. app_of command ≡ macsecd) }
 {
-    let words = with_words(Ok(bare_words(alloc)), Ok(open_words(alloc)));
-    let words = with_words(words, format_words(alloc));
-    let words = with_words(words, apply_words(alloc));
-    let words = with_words(words, show_words(alloc));
-    let words = with_words(words, capture_words(alloc, "protect"));
-    let words = with_words(words, validate_words(alloc));
-    let words = with_words(words, relay_words(alloc));
-    let words = with_words(words, ask_words(alloc));
-    let words = with_words(words, key_words(alloc));
+    let words = with_words(endpoint_words(alloc), key_words(alloc));
     let words = with_words(words, file_words(alloc, "inspect", "INPUT"));
     let words = with_words(words, check_words(alloc));
     let words = with_words(words, plan_words(alloc));
     let words = with_words(words, file_words(alloc, "examine", "DISK"));
-    with_words(words, Ok(about_words(alloc)))
+    with_subcommand(words, about_words(alloc))
 }
 
 /// What an error says first, in one line. It repeats the words, so control characters are replaced.
@@ -665,6 +693,26 @@ fn pace_in(values: &ArgMatches) -> Option<Pace>
     }
 }
 
+/// How `relay` runs, with its options.
+fn running_in<'a>(values: &ArgMatches<'a>) -> Option<Running<'a>>
+    ensures read { IfSome result (λ running. HasPace (rows_of (found_of values.now)) running.pace
+        × MayHaveRoom (rows_of (found_of values.now)) (codes "buffer") running.buffer
+        × MayHaveText (rows_of (found_of values.now)) (codes "control") running.control
+        × MayHaveText (rows_of (found_of values.now)) (codes "metrics") running.metrics) }
+    ensures found { (pace : Pace) (room : Option ℕ) → HasPace (rows_of (found_of values.now)) pace
+        → FitsPace pace → MayHaveRoom (rows_of (found_of values.now)) (codes "buffer") room
+        → IsSome result }
+{
+    let pace = pace_in(values)?;
+    let buffer = optional_room_in(values, "buffer")?;
+    Some(Running {
+        pace,
+        buffer,
+        control: text_in(values, "control"),
+        metrics: text_in(values, "metrics"),
+    })
+}
+
 /// `relay` with its values.
 fn relay_in<'a>(values: &ArgMatches<'a>) -> Option<Action<'a>>
     ensures read { IfSome result
@@ -676,14 +724,7 @@ fn relay_in<'a>(values: &ArgMatches<'a>) -> Option<Action<'a>>
     let disk = text_in(values, "DISK")?;
     let controlled = ends_in(values, "OWN1", "PEER1")?;
     let common = ends_in(values, "OWN2", "PEER2")?;
-    let pace = pace_in(values)?;
-    let buffer = optional_room_in(values, "buffer")?;
-    let running = Running {
-        pace,
-        buffer,
-        control: text_in(values, "control"),
-        metrics: text_in(values, "metrics"),
-    };
+    let running = running_in(values)?;
     Some(Action::Relay {
         disk,
         controlled,
@@ -842,6 +883,24 @@ fn lone_in<'a>(name: &str, values: &ArgMatches<'a>) -> Option<Action<'a>>
     }
 }
 
+/// The action of a subcommand but `open`, `format`, `apply` and `show`, with its values.
+fn frames_in<'a>(name: &str, values: &ArgMatches<'a>) -> Option<Action<'a>>
+    requires others { (name.now ≢ codes "open") × (name.now ≢ codes "format")
+        × (name.now ≢ codes "apply") × (name.now ≢ codes "show") }
+    ensures read { IfSome result (Names (Some (name.now, rows_of (found_of values.now)))) }
+    ensures found { (action : Action)
+        → Names (Some (name.now, rows_of (found_of values.now))) action
+        → FitsNumbers action → IsSome result }
+{
+    match name {
+        "protect" => protect_in(values),
+        "validate" => validate_in(values),
+        "relay" => relay_in(values),
+        "ask" => ask_in(values),
+        _ => lone_in(name, values),
+    }
+}
+
 /// The action of the subcommand that was used with its values, `open` where there was none.
 fn action_in<'a>(matches: &ArgMatches<'a>) -> Option<Action<'a>>
     ensures read { IfSome result (Names (subcommand_rows_of matches.now)) }
@@ -856,11 +915,7 @@ fn action_in<'a>(matches: &ArgMatches<'a>) -> Option<Action<'a>>
         "format" => format_in(values),
         "apply" => apply_in(values),
         "show" => show_in(values),
-        "protect" => protect_in(values),
-        "validate" => validate_in(values),
-        "relay" => relay_in(values),
-        "ask" => ask_in(values),
-        _ => lone_in(name, values),
+        _ => frames_in(name, values),
     }
 }
 

@@ -1,13 +1,8 @@
-use Rattle.std.proofs.Common.{◌≡◌}
-use Rattle.std.proofs.lemmas.Result.{IfOk-at_ok, IfOk-weaker}
-use Rattle.clap.specs.Words.{app_of}
+use Rattle.std.proofs.lemmas.Result.{IfOk-at_ok}
 use Rattle.macs_words.specs.Words.{IsClapCommand}
-use Rattle.macs_words.proofs.Subcommands.{one_more}
 use Rattle.macs_words.proofs.action.with_words.Goals as goal
 
 pub returns : goal.returns
 returns c = λ app its known is.
-    let old = IfOk-at_ok (λ command. app_of command ≡ app) c.in_ok-words.was known in
-    let sub = IfOk-at_ok (λ command. IsClapCommand command its) c.in_ok-subcommand.was is in
-    IfOk-weaker c.subcommand.result _ _ (λ command added. one_more _ _ command app its old sub added)
-    c.subcommand.ensures
+    c.with_subcommand.ensures app its known
+    (IfOk-at_ok (λ command. IsClapCommand command its) c.in_ok-subcommand.was is)
