@@ -32,6 +32,8 @@ use Rattle.macs_words.specs.declared.action.Question.{Question}
 use Rattle.macs_words.specs.declared.action.Question.TheVariants as question
 use Rattle.macs_words.specs.declared.pace.Pace.{Pace}
 use Rattle.macs_words.specs.declared.pace.Pace.TheVariants.{Sleepless, Waiting}
+use Rattle.macs_words.specs.declared.pace.Running.{Running}
+use Rattle.macs_words.specs.declared.action.WireEnds.{WireEnds}
 use Rattle.macs_words.specs.declared.action.UsageFault.{UsageFault}
 use Rattle.macs_words.specs.declared.action.UsageFault.TheVariants.{Usage, Memory}
 use Rattle.macs_words.specs.Words.{FitsNumbers, FitsPace, HasNumber, HasPace, HasQuestion, IsClapCommand, IsFaultOf}
@@ -107,26 +109,27 @@ blocks rows About named fits = absurd (omega (arith, ap (λ (t : Text). slice_in
 
 -- ---- what `relay` is given
 
--- how it takes its turns is there, and the buffer
-pub pace_of : (rows : List Row) (action : Action) → Names (Some (codes "relay", rows)) action → FitsNumbers action
-    → (pace : Pace) × (room : Option ℕ) × HasPace rows pace × FitsPace pace × MayHaveRoom rows (codes "buffer") room
-pace_of rows Open named fits = cc
-pace_of rows (Format disk sci tx_block rx_block block is_over) named fits =
+-- it is a relay
+pub relay_of : (rows : List Row) (action : Action) → Names (Some (codes "relay", rows)) action → FitsNumbers action
+    → (disk : Bor Text) × (controlled : WireEnds) × (common : WireEnds) × (running : Running)
+    × Names (Some (codes "relay", rows)) (Relay disk controlled common running) × FitsPace running.pace
+relay_of rows Open named fits = cc
+relay_of rows (Format disk sci tx_block rx_block block is_over) named fits =
     absurd (omega (arith, ap (λ (t : Text). slice_index t 0) named.0))
-pace_of rows (Apply disk file) named fits = absurd (omega (arith, ap (λ (t : Text). slice_index t 0) named.0))
-pace_of rows (Show disk) named fits = absurd (omega (arith, ap (λ (t : Text). slice_index t 0) named.0))
-pace_of rows (Protect disk input output is_all) named fits =
+relay_of rows (Apply disk file) named fits = absurd (omega (arith, ap (λ (t : Text). slice_index t 0) named.0))
+relay_of rows (Show disk) named fits = absurd (omega (arith, ap (λ (t : Text). slice_index t 0) named.0))
+relay_of rows (Protect disk input output is_all) named fits =
     absurd (omega (arith, ap (λ (t : Text). slice_index t 0) named.0))
-pace_of rows (Validate disk input output is_all is_each) named fits =
+relay_of rows (Validate disk input output is_all is_each) named fits =
     absurd (omega (arith, ap (λ (t : Text). slice_index t 0) named.0))
-pace_of rows (Relay disk controlled common running) named fits = (running.pace, running.buffer, named.6, fits, named.7)
-pace_of rows (Ask path asked) named fits = absurd (omega (arith, ap (λ (t : Text). slice_index t 0) named.0))
-pace_of rows (Key is_long) named fits = absurd (omega (arith, ap (λ (t : Text). slice_index t 0) named.0))
-pace_of rows (Inspect input) named fits = absurd (omega (arith, ap (λ (t : Text). slice_index t 0) named.0))
-pace_of rows (Check file disk) named fits = absurd (omega (arith, ap (λ (t : Text). slice_index t 0) named.0))
-pace_of rows (Plan file end stage) named fits = absurd (omega (arith, ap (λ (t : Text). slice_index t 0) named.0))
-pace_of rows (Examine disk) named fits = absurd (omega (arith, ap (λ (t : Text). slice_index t 0) named.0))
-pace_of rows About named fits = absurd (omega (arith, ap (λ (t : Text). slice_index t 0) named))
+relay_of rows (Relay disk controlled common running) named fits = (disk, controlled, common, running, named, fits)
+relay_of rows (Ask path asked) named fits = absurd (omega (arith, ap (λ (t : Text). slice_index t 0) named.0))
+relay_of rows (Key is_long) named fits = absurd (omega (arith, ap (λ (t : Text). slice_index t 0) named.0))
+relay_of rows (Inspect input) named fits = absurd (omega (arith, ap (λ (t : Text). slice_index t 0) named.0))
+relay_of rows (Check file disk) named fits = absurd (omega (arith, ap (λ (t : Text). slice_index t 0) named.0))
+relay_of rows (Plan file end stage) named fits = absurd (omega (arith, ap (λ (t : Text). slice_index t 0) named.0))
+relay_of rows (Examine disk) named fits = absurd (omega (arith, ap (λ (t : Text). slice_index t 0) named.0))
+relay_of rows About named fits = absurd (omega (arith, ap (λ (t : Text). slice_index t 0) named))
 
 -- ---- what `ask` is given
 

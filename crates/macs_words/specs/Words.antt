@@ -126,12 +126,13 @@ bare_app = on_top (λ s. record s {
   disable_version_flag = true;
 }) (new_app (codes "macsecd"))
 
+-- and these subcommands
+abbrev pub app_with : List Shape → App
+app_with shapes = record { top = record bare_app.top { is_leaf = false }; subs = shapes }
+
 -- the words that the program knows
 abbrev pub macsecd : App
-macsecd = record {
-  top = record bare_app.top { is_leaf = false };
-  subs = first_subcommands ++ frame_subcommands ++ ask_subcommand ∷ lone_subcommands;
-}
+macsecd = app_with (first_subcommands ++ frame_subcommands ++ ask_subcommand ∷ lone_subcommands)
 
 -- ---- actions
 

@@ -1,0 +1,50 @@
+//! `ask` with its values.
+
+ghost use Rattle.std.specs.Prelude.{◌≡◌, ◌↔◌, IfSome, IsSome, Some, codes};
+ghost use Rattle.clap.specs.Words.{found_of, rows_of};
+ghost use Rattle.macs_words.specs.Words.{HasQuestion, Names, plain_word};
+ghost use Rattle.macs_words.specs.declared.action.Question.{Question};
+
+use crate::action::{Action, Question};
+use crate::read_values::text_in;
+use clap::ArgMatches;
+
+/// The question that a word alone asks, but for `apply`.
+fn plain_question<'a>(word: &str) -> Option<Question<'a>>
+    ensures { (question : Question)
+        → (result ≡ Some question) ↔ (Some word.now ≡ plain_word question) }
+{
+    match word {
+        "show" => Some(Question::Show),
+        "counters" => Some(Question::Counters),
+        "stop" => Some(Question::Stop),
+        _ => None,
+    }
+}
+
+/// The question of `ask`: `None` where its words ask none.
+fn question_in<'a>(values: &ArgMatches<'a>) -> Option<Question<'a>>
+    ensures read { IfSome result (HasQuestion (rows_of (found_of values.now))) }
+    ensures found { (question : Question) → HasQuestion (rows_of (found_of values.now)) question
+        → IsSome result }
+{
+    let word = text_in(values, "WORD")?;
+    match text_in(values, "FILE") {
+        None => plain_question(word),
+        Some(file) if word == "apply" => Some(Question::Apply(file)),
+        Some(_) => None,
+    }
+}
+
+/// `ask` with its values.
+pub fn ask_in<'a>(values: &ArgMatches<'a>) -> Option<Action<'a>>
+    ensures read { IfSome result
+        (λ action. Names (Some (codes "ask", rows_of (found_of values.now))) action) }
+    ensures found { (action : Action)
+        → Names (Some (codes "ask", rows_of (found_of values.now))) action
+        → IsSome result }
+{
+    let path = text_in(values, "PATH")?;
+    let question = question_in(values)?;
+    Some(Action::Ask { path, question })
+}

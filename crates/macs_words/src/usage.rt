@@ -1,0 +1,86 @@
+//! The action that the words name, or why they name none.
+
+ghost use Rattle.std.specs.Prelude.{◌≡◌, ◌⊎◌, IfOk, IfErr, OnOk, true, [], string_bytes};
+ghost use Rattle.clap.specs.Words.{fault_of, subcommand_of, subcommand_rows_of, takes};
+ghost use Rattle.macs_words.specs.Controls.{IsPrintable};
+ghost use Rattle.macs_words.specs.Words.{HasPrintableCause, IsFaultOf, Names, NamesNoAction};
+ghost use Rattle.macs_words.specs.Words.{NamesNothing, macsecd, texts};
+
+use crate::action::{Action, UsageFault};
+use crate::known::known_words;
+use crate::plain_text::printable;
+use crate::reading::action_in;
+use clap::ArgMatches;
+use clap::error::ErrorKind;
+use std::alloc::{AllocError, Global};
+
+/// What an error says first, in one line. It repeats the words, so control characters are replaced.
+fn cause_of(alloc: Global, error: &clap::Error) -> Result<String, AllocError>
+    ensures { IfOk result (λ cause. IsPrintable (string_bytes cause)) }
+{
+    let text = error.to_string(alloc)?;
+    let line = text.lines().next().unwrap_or("");
+    printable(alloc, line.strip_prefix("error: ").unwrap_or(line))
+}
+
+/// The fault that an error of the library is.
+fn usage_fault_of(alloc: Global, error: &clap::Error) -> Result<UsageFault, AllocError>
+    ensures kind { IfOk result (IsFaultOf error.now) }
+    ensures printable { IfOk result HasPrintableCause }
+{
+    match error.kind() {
+        ErrorKind::OutOfMemory => Ok(UsageFault::Memory),
+        _ => Ok(UsageFault::Usage(cause_of(alloc, error)?)),
+    }
+}
+
+/// What is said where the words of a subcommand name no action: of `ask` what it may be asked, of
+/// `plan` its ends and stages, and of a relay that has neither `--turns` nor `--wait` what clap
+/// says where a value is missing.
+fn missing_cause(alloc: Global, matches: &ArgMatches) -> Result<String, AllocError>
+    ensures { IfOk result (λ cause. IsPrintable (string_bytes cause)) }
+{
+    match matches.subcommand() {
+        Some(("ask", _)) => printable(alloc, "ask PATH show, counters, stop, or apply FILE"),
+        Some(("plan", _)) => printable(
+            alloc,
+            "plan FILE left or right, then first, receive, send or remove",
+        ),
+        _ => printable(alloc, "the following required arguments were not provided:"),
+    }
+}
+
+/// The action that was read. Refused as `Usage` where the words name none, then as `Memory` where
+/// memory runs out.
+fn action_read<'a>(alloc: Global, matches: &ArgMatches<'a>) -> Result<Action<'a>, UsageFault>
+    ensures read { IfOk result (Names (subcommand_rows_of matches.now)) }
+    ensures refused { IfErr result (λ fault. NamesNoAction (subcommand_rows_of matches.now)) }
+    ensures printable { IfErr result HasPrintableCause }
+{
+    match action_in(matches) {
+        Some(action) => Ok(action),
+        None => Err(UsageFault::Usage(missing_cause(alloc, matches)?)),
+    }
+}
+
+/// The action that the words name, without the program's own name among them. Refused as `Usage`
+/// where clap refuses the words, or where they name a relay with neither `--turns` nor `--wait`,
+/// ask a relay nothing that it is asked, or plan for no end or no stage; else as `Memory` where
+/// there is no memory.
+pub fn action_of<'a>(alloc: Global, words: &'a [&'a str]) -> Result<Action<'a>, UsageFault>
+    // What is answered is what clap reads.
+    ensures read { IfOk result (Names (subcommand_of macsecd (texts words.now))) }
+    // What clap takes is refused for memory alone, but for a relay with neither turns nor a wait,
+    // a question that is none, and an end or a stage that is none.
+    ensures taken { takes macsecd (texts words.now) ≡ true → IfErr result (λ fault.
+        (fault ≡ UsageFault.Memory) ⊎ NamesNothing (subcommand_of macsecd (texts words.now))) }
+    // What is answered is nothing that clap refuses.
+    ensures refused { OnOk result (fault_of macsecd (texts words.now) ≡ []) }
+    // The cause of a refusal has no control character.
+    ensures printable { IfErr result HasPrintableCause }
+{
+    match known_words(alloc)?.try_get_matches_from(words) {
+        Ok(matches) => action_read(alloc, &matches),
+        Err(error) => Err(usage_fault_of(alloc, &error)?),
+    }
+}
