@@ -3,16 +3,16 @@ use Rattle.std.specs.Prelude.{◌++◌, ℕ, List, codes}
 use Rattle.macs_texts.specs.Lines.{line}
 use Rattle.macs_words.specs.Help.{topic_text}
 use Rattle.macs_words.specs.declared.help.Topic.TheVariants.{Version}
-use Rattle.macs_program.specs.declared.build.TheConstants.{COMMIT, LEVEL}
+use Rattle.macs_program.specs.declared.build.TheConstants.{COMMIT, LEVEL, TOOLCHAIN}
 
 -- the line of a word: what it is, and which
 abbrev pub word_line : List ℕ → List ℕ → List ℕ
 word_line name word = line (name ++ (codes " " ++ word))
 
--- its version, the commit of its sources, the processors that it is built for, and the formats of the journal that it
--- writes and reads
+-- its version, the commit of its sources, the toolchain that built it, the processors that it is built for, and the
+-- formats of the journal that it writes and reads
 abbrev pub about_text : List ℕ
 about_text =
-    topic_text Version ++ (word_line (codes "commit") COMMIT.now ++ (word_line (codes "built for") LEVEL.now
-    ++ (word_line (codes "journal writes format") (codes "2")
-    ++ word_line (codes "journal reads formats") (codes "1, 2"))))
+    topic_text Version ++ (word_line (codes "commit") COMMIT.now ++ (word_line (codes "toolchain") TOOLCHAIN.now
+    ++ (word_line (codes "built for") LEVEL.now ++ (word_line (codes "journal writes format") (codes "2")
+    ++ word_line (codes "journal reads formats") (codes "1, 2")))))

@@ -21,7 +21,7 @@ use Rattle.macs_program.specs.Examining.{block_of, channel_ceilings_text, end_te
 use Rattle.macs_program.specs.Examining.{figures_of, figures_text, number_line, part_line}
 use Rattle.macs_program.specs.Examining.{rx_ceiling_text, tx_ceiling_text}
 use Rattle.macs_program.specs.FirstFault.{IsFirstFault}
-use Rattle.macs_program.specs.declared.build.TheConstants.{COMMIT, LEVEL}
+use Rattle.macs_program.specs.declared.build.TheConstants.{COMMIT, LEVEL, TOOLCHAIN}
 use Rattle.macs_program.specs.declared.examined_text.Figures.{Figures}
 
 -- First five lines of the journal: its format, the block of its layout, which area is current, in which generation, and
@@ -68,12 +68,13 @@ pub record ExamineTexts : Type 0 where
   pub end : (config : Config) → end_text config ≡ part_line (codes "spent tx") (length config.spent_tx) 512
       ++ (part_line (codes "spent rx") (length config.spent_rx) 512 ++ (codes "whole" ++ 10 ∷ []))
 
--- `about` says the version, the commit of the sources and the processors as the build has them, and as the formats
--- that are written and read just those that this edition keeps, and reads.
+-- `about` says the version, the commit of the sources, the toolchain and the processors as the build has them, and as
+-- the formats that are written and read just those that this edition keeps, and reads.
 pub record AboutTexts : Type 0 where
   pub about : about_text ≡ topic_text Version ++ (word_line (codes "commit") COMMIT.now
-      ++ (word_line (codes "built for") LEVEL.now ++ (word_line (codes "journal writes format") (codes "2")
-      ++ word_line (codes "journal reads formats") (codes "1, 2"))))
+      ++ (word_line (codes "toolchain") TOOLCHAIN.now ++ (word_line (codes "built for") LEVEL.now
+      ++ (word_line (codes "journal writes format") (codes "2")
+      ++ word_line (codes "journal reads formats") (codes "1, 2")))))
   pub word : (name word : List ℕ) → word_line name word ≡ (name ++ (codes " " ++ word)) ++ 10 ∷ []
   pub writes : (migrates this_edition One ≡ true) × (migrates this_edition Two ≡ false)
   pub reads : (reads this_edition One ≡ true) × (reads this_edition Two ≡ true)

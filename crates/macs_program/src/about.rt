@@ -4,7 +4,7 @@ ghost use Rattle.std.specs.Prelude.{◌≡◌, ◌≢◌, ◌⊎◌, true, IfErr
 ghost use Rattle.std.specs.Io.KnownBytes.{Appends};
 ghost use Rattle.macs_program.specs.About.{about_text, word_line};
 
-use crate::build::{COMMIT, LEVEL};
+use crate::build::{COMMIT, LEVEL, TOOLCHAIN};
 use crate::failure::Failure;
 use crate::output::print;
 use crate::status::Status;
@@ -20,8 +20,8 @@ fn word_line(alloc: Global, name: &str, word: &str) -> Result<String, AllocError
     ended(format!(in alloc; "{name} {word}")?)
 }
 
-/// What is said of the program: its version, the commit of its sources, its processors, and which
-/// formats of the journal it writes and reads.
+/// What is said of the program: its version, the commit of its sources, the toolchain, its
+/// processors, and which formats of the journal it writes and reads.
 fn about_text(alloc: Global) -> Result<String, AllocError>
     ensures { IfOk result (λ text. string_bytes text ≡ about_text) }
 {
@@ -30,6 +30,7 @@ fn about_text(alloc: Global) -> Result<String, AllocError>
         word_line(alloc, "journal reads formats", "1, 2"),
     );
     let text = joined(word_line(alloc, "built for", LEVEL), text);
+    let text = joined(word_line(alloc, "toolchain", TOOLCHAIN), text);
     let text = joined(word_line(alloc, "commit", COMMIT), text);
     joined(String::from_str(alloc, Topic::Version.text()), text)
 }

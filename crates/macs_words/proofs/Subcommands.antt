@@ -34,7 +34,6 @@ use Rattle.macs_words.specs.declared.pace.Pace.{Pace}
 use Rattle.macs_words.specs.declared.pace.Pace.TheVariants.{Sleepless, Waiting}
 use Rattle.macs_words.specs.declared.action.UsageFault.{UsageFault}
 use Rattle.macs_words.specs.declared.action.UsageFault.TheVariants.{Usage, Memory}
-use Rattle.macs_words.specs.Waits.{IsRoom}
 use Rattle.macs_words.specs.Words.{FitsNumbers, FitsPace, HasNumber, HasPace, HasQuestion, IsClapCommand, IsFaultOf}
 use Rattle.macs_words.specs.Words.{IsFlagged, MayHaveRoom, Names, NamesNothing}
 use Rattle.macs_words.specs.Words.{bare_app, count_rule, flag_rule, last_rule, macsecd, number_rule, option_rule}

@@ -25,7 +25,6 @@ use Rattle.macs_words.specs.declared.help_texts.TheConstants.{APPLY, ASK, CHECK,
 use Rattle.macs_words.specs.declared.help_texts.TheConstants.{PLAN, PROTECT}
 use Rattle.macs_words.specs.declared.help_texts.TheConstants.{ABOUT, EXAMINE, RELAY, SHOW, VALIDATE, VERSION}
 use Rattle.macs_words.specs.declared.pace.Milliseconds.{Milliseconds}
-use Rattle.macs_words.specs.declared.pace.Pace.{Pace}
 use Rattle.macs_words.specs.declared.pace.Pace.TheVariants.{Sleepless, Waiting}
 use Rattle.macs_words.specs.declared.pace.Running.{Running}
 

@@ -5,7 +5,7 @@ use Rattle.std.specs.Str.Parse.{IsNumeral, digits_value, without_leading_plus}
 use Rattle.std.specs.Borrow.{Bor}
 use Rattle.clap.specs.Simple.{new_shape, on_top}
 use Rattle.clap.specs.Words.{App, Row, Rule, Shape, Text, app_of, first_of, kind_of, new_app, new_rule, subcommand_of}
-use Rattle.clap.specs.Words.{takes, with_subcommand}
+use Rattle.clap.specs.Words.{takes}
 use Rattle.clap.specs.declared.builder.action.ArgAction.TheVariants.{Set, SetTrue}
 use Rattle.clap.specs.declared.builder.value_parser.ValueParser.TheVariants as vp
 use Rattle.clap.specs.declared.builder.command.Command.{Command}

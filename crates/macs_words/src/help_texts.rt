@@ -273,6 +273,7 @@ pub const ABOUT: &str = "usage: macsecd about
 Prints which program this is, a line each:
   macsecd 0.1.0
   commit unknown              of the sources, or unknown
+  toolchain unknown           that built it, with its logic, or unknown
   built for x86-64-v2         the processors that it is for, or x86-64-v3
   journal writes format 2
   journal reads formats 1, 2

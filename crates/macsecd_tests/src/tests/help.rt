@@ -39,6 +39,7 @@ fn prints_its_version(rt: HostRuntime) {
 const PROGRAM: Outcome = Outcome::Done(
     "macsecd 0.1.0
 commit unknown
+toolchain unknown
 built for x86-64-v2
 journal writes format 2
 journal reads formats 1, 2

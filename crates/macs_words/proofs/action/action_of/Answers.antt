@@ -1,10 +1,9 @@
 use Rattle.std.proofs.Common.{◌≡◌, ◌∙◌, IfOk, List, Option, inl, inr, ap, subst, sym}
-use Rattle.std.proofs.lemmas.Result.{IfErr-weaker, IfOk-weaker}
+use Rattle.std.proofs.lemmas.Result.{IfErr-weaker}
 use Rattle.clap.proofs.BuiltLemmas.{on_ok_always}
 use Rattle.clap.specs.Words.{App, Row, Text, fault_of, is_simple, is_simple_and_free, subcommand_of, subcommand_rows_of}
 use Rattle.clap.specs.Words.{takes}
-use Rattle.macs_words.specs.declared.action.Action.{Action}
-use Rattle.macs_words.specs.Words.{Names, NamesNothing, NamesNoAction, macsecd, texts}
+use Rattle.macs_words.specs.Words.{Names, macsecd, texts}
 use Rattle.macs_words.proofs.Subcommands.{free, named, simple, wants_memory}
 use Rattle.macs_words.proofs.action.action_of.Goals as goal
 
