@@ -16,7 +16,7 @@ use Rattle.macs_plan.specs.LinkWords.{IsNewest}
 use Rattle.macs_plan.specs.Reading.{file_link, key_at, key_pair, key_pairs}
 use Rattle.macs_plan.specs.declared.link.KeyPair.{KeyPair}
 use Rattle.macs_plan.specs.declared.link.Link.{Link}
-use Rattle.macs_plan.proofs.LinkWords.{link-words, pair-words}
+use Rattle.macs_plan.proofs.LinkWords.{ends, last, one, pair_read, whole}
 use Rattle.macs_plan.proofs.PlanWords.{has_keys}
 use Rattle.macs_plan.proofs.Sound.{is_sound}
 
@@ -72,7 +72,7 @@ there_long name m key is = of_text (text_at name m) key is
 
 pair_long : (at : ℕ) (m : Members) (pair : KeyPair) → key_pair at m ≡ Ok pair → HasKeys pair
 pair_long at m pair is =
-    let read = pair-words.pair at m pair is in
+    let read = pair_read at m pair is in
     has_keys pair (there_long (codes "left") m pair.left read.1) (there_long (codes "right") m pair.right read.2)
 
 abbrev EachHas : List KeyPair → Type 0
@@ -81,9 +81,9 @@ EachHas (pair ∷ pairs) = HasKeys pair × EachHas pairs
 
 each_has : (at : ℕ) (items : Items) (pairs : List KeyPair) → key_pairs at items ≡ Ok pairs → EachHas pairs
 each_has at no_items pairs is =
-    subst (λ (l : List KeyPair). EachHas l) (sym (pair-words.last at pairs is)) tt
+    subst (λ (l : List KeyPair). EachHas l) (sym (last at pairs is)) tt
 each_has at (item value items) pairs is =
-    let (m, first, rest, table_is, all, here, later) = pair-words.one at value items pairs is in
+    let (m, first, rest, table_is, all, here, later) = one at value items pairs is in
     subst (λ (l : List KeyPair). EachHas l) (sym all) (pair_long at m first here, each_has (at + 1) items rest later)
 
 last_has : (front : List KeyPair) (earlier newest : KeyPair) → EachHas (front ++ earlier ∷ newest ∷ [])
@@ -101,8 +101,8 @@ newest_has pairs (Some earlier) newest (front, is) each =
 
 link_has : (members : Members) (link : Link) → file_link members ≡ Ok link → HasKeys link.newest
 link_has members link is =
-    let (left, right, items, at_left, at_right, at_key, three, tables) = link-words.whole members link is in
-    let (pairs, has_pairs, newest) = (link-words.ends left right items link tables).2 in
+    let (left, right, items, at_left, at_right, at_key, three, tables) = whole members link is in
+    let (pairs, has_pairs, newest) = (ends left right items link tables).2 in
     newest_has pairs link.before link.newest newest (each_has 1 items pairs has_pairs)
 
 pub refuses : Refuses

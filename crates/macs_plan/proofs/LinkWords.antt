@@ -4,7 +4,7 @@ use Rattle.std.proofs.Common.{None, Result, Ok, Err, bytes_eq, codes, nat_lt, re
 use Rattle.std.specs.Prelude.{option_and_then}
 use Rattle.std.proofs.lemmas.Bool.{cases_Bool, le-ltb, lt-ltb, ltb-false, ne_eqb}
 use Rattle.toml.specs.Data.{Data, Items, Members, array, as_array, as_table, boolean, datetime, float, get_member}
-use Rattle.toml.specs.Data.{integer, item, string, table}
+use Rattle.toml.specs.Data.{integer, item, no_items, string, table}
 use Rattle.macs_aes.specs.declared.keys.Key.{Key}
 use Rattle.macs_config.proofs.Channels.{bytes_eq-itself, same_octets}
 use Rattle.macs_commands.specs.CommandFiles.{count}
@@ -50,7 +50,7 @@ array_there key m items is = let (value, there, so) = and_then as_array (get_mem
 
 -- ---- the file
 
-whole : (m : Members) (link : Link) → file_link m ≡ Ok link
+pub whole : (m : Members) (link : Link) → file_link m ≡ Ok link
     → (left right : Members) × (items : Items) × (get_member (codes "left") m ≡ Some (table left))
     × (get_member (codes "right") m ≡ Some (table right)) × (get_member (codes "key") m ≡ Some (array items))
     × (count m ≡ 3) × (tables_link left right items ≡ Ok link)
@@ -131,7 +131,7 @@ newest_read left right (Some before) (pair ∷ next ∷ pairs) link is =
     let later = newest_read left right (Some pair) (next ∷ pairs) link is in
     (later.0, later.1, longer before pair next pairs link.before link.newest later.2)
 
-ends : (left right : Members) (items : Items) (link : Link) → tables_link left right items ≡ Ok link
+pub ends : (left right : Members) (items : Items) (link : Link) → tables_link left right items ≡ Ok link
     → (end_sci place.Left left ≡ Ok link.left) × (end_sci place.Right right ≡ Ok link.right)
     × ((pairs : List KeyPair) × (key_pairs 1 items ≡ Ok pairs) × IsNewest pairs link.before link.newest)
 ends left right items link is =
@@ -197,7 +197,7 @@ pair_as pair = Ok pair
 same_pair : (a b : KeyPair) → pair_as a ≡ pair_as b → a ≡ b
 same_pair a b is = cc
 
-pair_read : (at : ℕ) (m : Members) (pair : KeyPair) → key_pair at m ≡ Ok pair
+pub pair_read : (at : ℕ) (m : Members) (pair : KeyPair) → key_pair at m ≡ Ok pair
     → (an_in m ≡ Some pair.an) × (key_at (codes "left") m ≡ Some pair.left)
     × (key_at (codes "right") m ≡ Some pair.right) × (count m ≤ 3)
 pair_read at m pair is =
@@ -218,6 +218,9 @@ pairs_as l = Ok l
 same_pairs : (a b : List KeyPair) → pairs_as a ≡ pairs_as b → a ≡ b
 same_pairs a b is = cc
 
+pub last : (at : ℕ) (pairs : List KeyPair) → key_pairs at no_items ≡ Ok pairs → pairs ≡ []
+last at pairs is = sym (same_pairs [] pairs is)
+
 followed_by : (r : Result KeyPair PlanFault) (rest : Result (List KeyPair) PlanFault) (pairs : List KeyPair)
     → followed r rest ≡ Ok pairs
     → (first : KeyPair) × (others : List KeyPair) × (pairs ≡ first ∷ others) × (r ≡ Ok first) × (rest ≡ Ok others)
@@ -225,7 +228,7 @@ followed_by (Ok first) (Ok others) pairs is = (first, others, sym (same_pairs (f
 followed_by (Ok first) (Err cause) pairs is = absurd (cc)
 followed_by (Err cause) rest pairs is = absurd (cc)
 
-one : (at : ℕ) (value : Data) (items : Items) (pairs : List KeyPair) → key_pairs at (item value items) ≡ Ok pairs
+pub one : (at : ℕ) (value : Data) (items : Items) (pairs : List KeyPair) → key_pairs at (item value items) ≡ Ok pairs
     → (m : Members) × (first : KeyPair) × (rest : List KeyPair) × (value ≡ table m) × (pairs ≡ first ∷ rest)
     × (key_pair at m ≡ Ok first) × (key_pairs (at + 1) items ≡ Ok rest)
 one at (table m) items pairs is =
@@ -259,6 +262,7 @@ link-words = record {
       (λ i. with_tables (count m) (table_at (codes "left") m) (table_at (codes "right") m) (none i))
       ∙ without_array (count m) (table_at (codes "left") m) (table_at (codes "right") m);
   no_tables = no_tables;
+  none_there = refl;
   some_tables = λ first items. refl;
   other_keys = λ m other.
       no_shape (count m) (table_at (codes "left") m) (table_at (codes "right") m) (items_at (codes "key") m) other;
@@ -275,7 +279,7 @@ link-words = record {
 pub pair-words : PairWords
 pair-words = record {
   sak = λ key m. refl;
-  last = λ at pairs is. (let same : [] ≡ pairs = cc in sym same);
+  last = last;
   one = one;
   next = λ at m items first rest here later. λ i. followed (here i) (later i);
   first_fault = λ at m items cause is. ap (λ (r : Result KeyPair PlanFault). followed r (key_pairs (at + 1) items)) is;

@@ -38,6 +38,7 @@ pub record LinkWords : Type 0 where
   pub no_tables : (m left right : Members) (items : Items) → get_member (codes "left") m ≡ Some (table left)
       → get_member (codes "right") m ≡ Some (table right) → get_member (codes "key") m ≡ Some (array items)
       → count m ≡ 3 → has_tables items ≡ false → file_link m ≡ Err fault.Shape
+  pub none_there : has_tables no_items ≡ false
   pub some_tables : (first : Data) (items : Items) → has_tables (item first items) ≡ are_tables (item first items)
   pub other_keys : (m : Members) → count m ≢ 3 → file_link m ≡ Err fault.Shape
   pub ends : (left right : Members) (items : Items) (link : Link) → tables_link left right items ≡ Ok link
