@@ -1,0 +1,37 @@
+use Rattle.macs_program.proofs.asking.ask.Goals as goal
+
+pub returns-in-Show : goal.returns-in-Show
+returns-in-Show g c =
+    let said = c.ask_once.ensures in record {
+      printed = rw c.in-Show.is said.printed;
+      failed = said.failed;
+      front = rw c.in-Show.is said.silent;
+      broken = said.broken;
+    }
+
+pub returns-in-Counters : goal.returns-in-Counters
+returns-in-Counters g c =
+    let said = c.ask_once-in-Counters.ensures in record {
+      printed = rw c.in-Counters.is said.printed;
+      failed = said.failed;
+      front = rw c.in-Counters.is said.silent;
+      broken = said.broken;
+    }
+
+pub returns-in-Stop : goal.returns-in-Stop
+returns-in-Stop g c =
+    let said = c.ask_stop.ensures in record {
+      printed = rw c.in-Stop.is said.printed;
+      failed = said.failed;
+      front = rw c.in-Stop.is said.silent;
+      broken = said.broken;
+    }
+
+pub returns-in-Apply : goal.returns-in-Apply
+returns-in-Apply g c =
+    let said = c.ask_apply.ensures in record {
+      printed = rw c.in-Apply.is said.printed;
+      failed = said.failed;
+      front = rw c.in-Apply.is said.front;
+      broken = said.broken;
+    }
