@@ -15,13 +15,14 @@ use Rattle.macs_endpoint.specs.declared.fault.RefillFault.{RefillFault}
 use Rattle.macs_endpoint.specs.declared.fault.RefillFault.TheVariants as refill
 use Rattle.macs_fields.specs.First.{IsFirst}
 use Rattle.macs_words.specs.declared.action.WireEnds.{WireEnds}
+use Rattle.macs_words.specs.declared.pace.Running.{Running}
 use Rattle.macs_program.proofs.FirstFault.{first-holds}
 use Rattle.macs_program.proofs.Failures.{IsOfSocket, disk-no-output, of-opening, socket-no-output}
 use Rattle.macs_program.specs.Addresses.{AddressFaultHolds, SpellsBoth, address_faults}
 use Rattle.macs_program.specs.Endpoints.{OpeningFails}
 use Rattle.macs_program.specs.Failing.{failure_of_refill, failure_status}
 use Rattle.macs_program.specs.Relaying.{ComesTo, Course, EndsRelay, IsAfterAddresses, IsOfRelay, IsRun, RelayEndsIn}
-use Rattle.macs_program.specs.Relaying.{Relays, StopsRelay, attended, new_wire}
+use Rattle.macs_program.specs.Relaying.{Relays, StopsRelay, attended, course_of, is_attended, new_wire, turns_of}
 use Rattle.macs_program.specs.Summing.{relay_line}
 use Rattle.macs_program.specs.Tasks.{DoesRelay, IsRunIn}
 use Rattle.macs_program.specs.declared.addresses.AddressFault.{AddressFault}
@@ -219,6 +220,19 @@ module _ {D W : Type 0} (disk_of : D → Disk) (contents : W → Option (List �
       frames-relayed disk_of contents has_failed (attended turns) old before new after first second controlled common
       (Err failure) one other
       tt ended silent broken
+
+-- a relay that is run as the words want it
+pub as-wanted : {D W : Type 0} (disk_of : D → Disk) (contents : W → Option (List ℕ)) (has_failed : W → Bool)
+    (running : Running) (is : Bool) (turns : ℕ) (old : EndpointValue D) (before : W) (result : Result Status Failure)
+    (new : EndpointValue D) (after : W)
+    → is ≡ is_attended running → turns ≡ turns_of running.pace
+    → DoesRelay disk_of contents has_failed (record { attended = is; turns = turns }) old before result new after
+    → DoesRelay disk_of contents has_failed (course_of running) old before result new after
+as-wanted disk_of contents has_failed running is turns old before result new after is_so so_many does =
+    subst (λ (b : Bool). DoesRelay disk_of contents has_failed
+    (record { attended = b; turns = turns_of running.pace }) old before result new after) is_so
+    (subst (λ (n : ℕ). DoesRelay disk_of contents has_failed (record { attended = is; turns = n }) old before result new
+    after) so_many does)
 
 -- ---- what `relay` comes to
 

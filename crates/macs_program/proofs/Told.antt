@@ -1,11 +1,14 @@
--- The lines of commands that a relay was handed, one after another.
-use Rattle.std.proofs.Common.{◌≡◌, ◌∙◌, ℕ, ◌+◌, Bool, if◌then◌else◌, List, [], ◌∷◌, ◌++◌, length, Option, is_some, ap}
-use Rattle.std.proofs.Common.{subst, sym, arith}
+-- What a relay was asked, and the lines of commands that it was handed, one after another.
+use Rattle.std.proofs.Common.{◌≡◌, ◌≢◌, ◌⊎◌, ◌∙◌, inl, inr, ℕ, ◌+◌, Bool, true, if◌then◌else◌, List, [], ◌∷◌, ◌++◌}
+use Rattle.std.proofs.Common.{length, Option, is_some, Result, Ok, Err, ap, refl, subst, sym, arith}
 use Rattle.std.specs.Io.KnownBytes.{Appends}
-use Rattle.std.proofs.KnownBytes.{Appends-trans}
+use Rattle.std.proofs.KnownBytes.{Appends-nil, Appends-trans}
 use Rattle.std.proofs.lemmas.List.{length_push}
 use Rattle.macs_config.specs.declared.refusal.Refusal.{Refusal}
 use Rattle.macs_program.specs.Applying.{outcome_line, outcome_lines, outcomes_status}
+use Rattle.macs_program.specs.Asking.{AsksForText, HandsCommands, IsOfAsking}
+use Rattle.macs_program.specs.declared.failure.Failure.{Failure}
+use Rattle.macs_program.specs.declared.failure.Failure.TheVariants.{Commands, Control, Memory, Output}
 use Rattle.macs_program.specs.declared.status.Status.{Status}
 use Rattle.macs_program.specs.declared.status.Status.TheVariants.{Refused}
 use Rattle.macs_program.proofs.Applied.{lines-more, status-more}
@@ -39,3 +42,74 @@ pub front-told : (before known after : Option (List ℕ)) (count : ℕ) (status 
     → (outcomes : List (Option Refusal)) × Appends before after (outcome_lines 1 outcomes)
 front-told before known after count status (outcomes, counted, printed, status_is) same =
     (outcomes, subst (λ (k : Option (List ℕ)). Appends before k (outcome_lines 1 outcomes)) (sym same) printed)
+
+-- ---- what comes of it
+
+-- no memory, no relay, or no commands
+abbrev pub IsEarly : Failure → Type 0
+IsEarly failure = (failure ≡ Memory) ⊎ (failure ≡ Control) ⊎ (failure ≡ Commands)
+
+early-asking : (failure : Failure) → IsEarly failure → IsOfAsking failure
+early-asking failure (inl memory) = subst IsOfAsking (sym memory) tt
+early-asking failure (inr (inl control)) = subst IsOfAsking (sym control) tt
+early-asking failure (inr (inr commands)) = subst IsOfAsking (sym commands) tt
+
+early-no-output : (failure : Failure) → IsEarly failure → failure ≢ Output
+early-no-output failure (inl memory) is = let e = sym memory ∙ is in cc
+early-no-output failure (inr (inl control)) is = let e = sym control ∙ is in cc
+early-no-output failure (inr (inr commands)) is = let e = sym commands ∙ is in cc
+
+pub no-answer : (failure : Failure) → (failure ≡ Memory) ⊎ (failure ≡ Control) → IsEarly failure
+no-answer failure (inl memory) = inl memory
+no-answer failure (inr control) = inr (inl control)
+
+pub no-commands : (failure : Failure) → (failure ≡ Memory) ⊎ (failure ≡ Commands) → IsEarly failure
+no-commands failure (inl memory) = inl memory
+no-commands failure (inr commands) = inr (inr commands)
+
+module _ {W : Type 0} (contents : W → Option (List ℕ)) (has_failed : W → Bool) (before : W) where
+  -- no text comes, and nothing is printed
+  pub not-asked : (fault failure : Failure) (result : Result Status Failure) → result ≡ Err failure → failure ≡ fault
+      → IsEarly fault → AsksForText contents has_failed before result before
+  not-asked fault failure result is same early =
+      let named = subst IsEarly (sym same) early in
+      subst (λ (r : Result Status Failure). AsksForText contents has_failed before r before) (sym is) (record {
+        printed = tt;
+        failed = early-asking failure named;
+        silent = λ other. refl;
+        broken = λ output. absurd (early-no-output failure named output);
+      })
+
+  -- nothing is handed in
+  pub not-handed : (fault failure : Failure) (result : Result Status Failure) → result ≡ Err failure → failure ≡ fault
+      → IsEarly fault → HandsCommands contents has_failed before result before
+  not-handed fault failure result is same early =
+      let named = subst IsEarly (sym same) early in
+      subst (λ (r : Result Status Failure). HandsCommands contents has_failed before r before) (sym is) (record {
+        printed = tt;
+        failed = early-asking failure named;
+        front = λ other. ([], Appends-nil (contents before));
+        broken = λ output. absurd (early-no-output failure named output);
+      })
+
+  -- a command is not answered
+  pub stopped-handing : (known after : W) (count : ℕ) (status : Status) (fault failure : Failure)
+      (result : Result Status Failure)
+      → TellsSo (contents before) (contents known) count status → result ≡ Err failure → failure ≡ fault
+      → IsOfAsking fault → (fault ≢ Output → after ≡ known) → (fault ≡ Output → has_failed after ≡ true)
+      → HandsCommands contents has_failed before result after
+  stopped-handing known after count status fault failure result so_far is same ours silent broken =
+      subst (λ (r : Result Status Failure). HandsCommands contents has_failed before r after)
+      (sym (is ∙ ap Err same)) (record {
+        printed = tt;
+        failed = ours;
+        front = λ other. front-told (contents before) (contents known) (contents after) count status so_far
+            (ap contents (silent other));
+        broken = broken;
+      })
+
+  -- all are answered
+  pub all-handed : (after : W) (count : ℕ) (status : Status) → TellsSo (contents before) (contents after) count status
+      → HandsCommands contents has_failed before (Ok status) after
+  all-handed after count status (outcomes, counted, printed, status_is) =
+      record { printed = (outcomes, printed, status_is); failed = tt; front = tt; broken = tt }

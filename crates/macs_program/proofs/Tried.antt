@@ -5,7 +5,7 @@ use Rattle.std.proofs.Common.{◌==◌, codes, false, true, refl}
 use Rattle.std.specs.Borrow.{Bor}
 use Rattle.clap.specs.Words.{Text}
 use Rattle.std.proofs.Math.Seq.{drop-cons}
-use Rattle.std.proofs.lemmas.Bool.{true≢false}
+use Rattle.std.proofs.lemmas.Bool.{eqb-true, true≢false}
 use Rattle.std.proofs.lemmas.List.{append-nil, drop_all, take_more}
 use Rattle.macs_config.specs.declared.command.Command.{Command}
 use Rattle.macs_config.specs.declared.refusal.Refusal.{Refusal}
@@ -86,7 +86,9 @@ lines-end text i outcomes whole behind so_far =
 pub none-reported : (outcomes : List (Option Refusal)) → (length outcomes == 0) ≡ true
     → codes "0 commands" ++ 10 ∷ [] ≡ trial_report outcomes
 none-reported [] none = refl
-none-reported (outcome ∷ outcomes) none = absurd (true≢false (sym none))
+none-reported (outcome ∷ outcomes) none =
+    let empty : suc (length outcomes) ≡ 0 = eqb-true (length (outcome ∷ outcomes)) 0 none in
+    absurd (omega arith)
 
 pub some-reported : (outcomes : List (Option Refusal)) → (length outcomes == 0) ≡ false
     → trial_lines 1 outcomes ≡ trial_report outcomes

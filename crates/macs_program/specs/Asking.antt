@@ -1,5 +1,5 @@
 -- What `ask` prints, and how it fails.
-use Rattle.std.specs.Prelude.{◌≡◌, ◌==◌, if◌then◌else◌, ⊤, ℕ, List, Option}
+use Rattle.std.specs.Prelude.{◌≡◌, ◌≢◌, ◌==◌, if◌then◌else◌, ⊤, ℕ, Bool, true, List, Option, Result, IfErr, IfOk}
 use Rattle.std.specs.Io.KnownBytes.{Appends}
 use Rattle.macs_config.specs.declared.refusal.Refusal.{Refusal}
 use Rattle.macs_words.specs.declared.action.Question.{Question}
@@ -33,6 +33,25 @@ IsOfAsking failures.Commands = ⊤
 IsOfAsking failures.Memory = ⊤
 IsOfAsking failures.Output = ⊤
 IsOfAsking other = ⊥
+
+-- a relay is asked for a text, which is printed; or that fails, with nothing printed
+pub record AsksForText {W : Type 0} (contents : W → Option (List ℕ)) (has_failed : W → Bool) (before : W)
+    (result : Result Status Failure) (after : W) : Type 0 where
+  pub printed : IfOk result (λ status. (text : List ℕ) × Appends (contents before) (contents after) text
+      × (status ≡ ends.Done))
+  pub failed : IfErr result IsOfAsking
+  pub silent : IfErr result (λ failure. failure ≢ failures.Output → after ≡ before)
+  pub broken : IfErr result (λ failure. failure ≡ failures.Output → has_failed after ≡ true)
+
+-- a relay is handed commands, and a line is printed for each; or that fails, after the lines of those before
+pub record HandsCommands {W : Type 0} (contents : W → Option (List ℕ)) (has_failed : W → Bool) (before : W)
+    (result : Result Status Failure) (after : W) : Type 0 where
+  pub printed : IfOk result (λ status. (outcomes : List (Option Refusal))
+      × Appends (contents before) (contents after) (outcome_lines 1 outcomes) × (status ≡ outcomes_status outcomes))
+  pub failed : IfErr result IsOfAsking
+  pub front : IfErr result (λ failure. failure ≢ failures.Output → (outcomes : List (Option Refusal))
+      × Appends (contents before) (contents after) (outcome_lines 1 outcomes))
+  pub broken : IfErr result (λ failure. failure ≡ failures.Output → has_failed after ≡ true)
 
 -- what a status of an answer says where the request was not done: the relay ended, it had no memory, or it is no answer
 abbrev pub failure_in : ℕ → Failure

@@ -161,6 +161,13 @@ FailsAs state_of left_in (Plan file end stage) octets before after failure =
 FailsAs state_of left_in (Examine disk) octets before after failure = ExamineFails state_of failure
 FailsAs state_of left_in About octets before after failure = (failure ≡ Memory) ⊎ (failure ≡ Output)
 
+-- it is one that has an endpoint and hands it no frames
+abbrev pub is_on_disk : Action → Bool
+is_on_disk (Format disk sci tx_block rx_block block is_over) = true
+is_on_disk (Apply disk file) = true
+is_on_disk (Show disk) = true
+is_on_disk action = false
+
 -- it is one that hands frames to an endpoint
 abbrev pub is_on_frames : Action → Bool
 is_on_frames (Protect disk from to is_all) = true

@@ -4,8 +4,9 @@ ghost use Rattle.std.specs.Prelude.{◌≡◌, ◌≢◌, ◌⊎◌, ◌++◌, �
 ghost use Rattle.std.specs.Prelude.{IfOk, IfSome};
 ghost use Rattle.std.specs.Io.KnownBytes.{Appends};
 ghost use Rattle.macs_config.specs.declared.refusal.Refusal.{Refusal};
-ghost use Rattle.macs_program.specs.Applying.{outcome_line, outcome_lines, outcomes_status};
-ghost use Rattle.macs_program.specs.Asking.{IsOfAsking, PrintsAnswer, PrintsFront, failure_in};
+ghost use Rattle.macs_program.specs.Applying.{outcome_line};
+ghost use Rattle.macs_program.specs.Asking.{AsksForText, HandsCommands, IsOfAsking};
+ghost use Rattle.macs_program.specs.Asking.{PrintsAnswer, PrintsFront, failure_in};
 ghost use Rattle.macs_texts.specs.Refusals.{refusal_name};
 
 use crate::applying::{outcome_line, status_after};
@@ -78,13 +79,9 @@ fn failure_in(status: u8) -> Failure
 
 /// Prints the text of an answer, if the request was done.
 fn print_answer<W: Stream>(answer: &Answer, out: &mut W) -> Result<Status, Failure>
-    ensures printed { IfOk result (λ status. (text : List ℕ)
-        × Appends (W.contents out.old) (W.contents out.new) text × (status ≡ Status.Done)) }
+    ensures asked { AsksForText W.contents W.failed out.old result out.new }
     ensures text { IfOk result (λ status. (answer.now.status ≡ 0)
         × Appends (W.contents out.old) (W.contents out.new) answer.now.text.items) }
-    ensures failed { IfErr result IsOfAsking }
-    ensures silent { IfErr result (λ failure. failure ≢ Failure.Output → out.new ≡ out.old) }
-    ensures broken { IfErr result (λ failure. failure ≡ Failure.Output → W.failed out.new ≡ true) }
 {
     if answer.status != 0 {
         return Err(failure_in(answer.status));
@@ -101,11 +98,7 @@ fn ask_once<N: Net, W: Stream>(
     request: Request,
     out: &mut W,
 ) -> Result<Status, Failure>
-    ensures printed { IfOk result (λ status. (text : List ℕ)
-        × Appends (W.contents out.old) (W.contents out.new) text × (status ≡ Status.Done)) }
-    ensures failed { IfErr result IsOfAsking }
-    ensures silent { IfErr result (λ failure. failure ≢ Failure.Output → out.new ≡ out.old) }
-    ensures broken { IfErr result (λ failure. failure ≡ Failure.Output → W.failed out.new ≡ true) }
+    ensures { AsksForText W.contents W.failed out.old result out.new }
 {
     let mut asker = asker_at(net, path)?;
     let answer = answer_to(alloc, &mut asker, &request)?;
@@ -119,11 +112,7 @@ fn ask_stop<N: Net, W: Stream>(
     path: &str,
     out: &mut W,
 ) -> Result<Status, Failure>
-    ensures printed { IfOk result (λ status. (text : List ℕ)
-        × Appends (W.contents out.old) (W.contents out.new) text × (status ≡ Status.Done)) }
-    ensures failed { IfErr result IsOfAsking }
-    ensures silent { IfErr result (λ failure. failure ≢ Failure.Output → out.new ≡ out.old) }
-    ensures broken { IfErr result (λ failure. failure ≡ Failure.Output → W.failed out.new ≡ true) }
+    ensures { AsksForText W.contents W.failed out.old result out.new }
 {
     let mut asker = asker_at(net, path)?;
     let answer = answer_to(alloc, &mut asker, &Request::Stop)?;
@@ -184,14 +173,7 @@ fn apply_each<S: Connection, W: Stream>(
     commands: &[Command],
     out: &mut W,
 ) -> Result<Status, Failure>
-    ensures printed { IfOk result (λ status. (outcomes : List (Option Refusal))
-        × Appends (W.contents out.old) (W.contents out.new) (outcome_lines 1 outcomes)
-        × (status ≡ outcomes_status outcomes)) }
-    ensures failed { IfErr result IsOfAsking }
-    ensures front { IfErr result (λ failure. failure ≢ Failure.Output
-        → (outcomes : List (Option Refusal))
-        × Appends (W.contents out.old) (W.contents out.new) (outcome_lines 1 outcomes)) }
-    ensures broken { IfErr result (λ failure. failure ≡ Failure.Output → W.failed out.new ≡ true) }
+    ensures { HandsCommands W.contents W.failed out.old result out.new }
 {
     let mut status = Status::Done;
     for i in 0..commands.len() {
@@ -199,6 +181,20 @@ fn apply_each<S: Connection, W: Stream>(
         status = status_after(status, is_refused);
     }
     Ok(status)
+}
+
+/// Hands the commands of a file to a relay.
+fn apply_file<T: Files, S: Connection, W: Stream>(
+    rt: &T,
+    alloc: Global,
+    asker: &mut Asker<S>,
+    file: &str,
+    out: &mut W,
+) -> Result<Status, Failure>
+    ensures { HandsCommands W.contents W.failed out.old result out.new }
+{
+    let commands = commands_of_file(rt, alloc, file)?;
+    apply_each(alloc, asker, commands.as_slice(), out)
 }
 
 /// Has a relay apply the commands of a file.
@@ -209,18 +205,10 @@ fn ask_apply<T: Files + Net, W: Stream>(
     file: &str,
     out: &mut W,
 ) -> Result<Status, Failure>
-    ensures printed { IfOk result (λ status. (outcomes : List (Option Refusal))
-        × Appends (W.contents out.old) (W.contents out.new) (outcome_lines 1 outcomes)
-        × (status ≡ outcomes_status outcomes)) }
-    ensures failed { IfErr result IsOfAsking }
-    ensures front { IfErr result (λ failure. failure ≢ Failure.Output
-        → (outcomes : List (Option Refusal))
-        × Appends (W.contents out.old) (W.contents out.new) (outcome_lines 1 outcomes)) }
-    ensures broken { IfErr result (λ failure. failure ≡ Failure.Output → W.failed out.new ≡ true) }
+    ensures { HandsCommands W.contents W.failed out.old result out.new }
 {
     let mut asker = asker_at(rt, path)?;
-    let commands = commands_of_file(rt, alloc, file)?;
-    apply_each(alloc, &mut asker, commands.as_slice(), out)
+    apply_file(rt, alloc, &mut asker, file, out)
 }
 
 /// `ask`: asks a running relay, and prints its answer. It fails first as `Control`, where no relay

@@ -21,6 +21,23 @@ fn limit_of(pace: Pace) -> u16 {
     }
 }
 
+/// A desk over the sockets of both wires, over this place of the counters, and over the control
+/// socket, where there is to be one. It fails as `Memory`; and as `Control`, where the control
+/// socket cannot be bound.
+fn desk_over<'a, T: Files + Net + Clock>(
+    rt: &'a T,
+    alloc: Global,
+    running: &Running<'a>,
+    wires: Wires,
+    metrics: MetricsPlace<'a, T>,
+) -> Result<SystemDesk<'a, T>, Failure>
+    ensures { IfErr result (λ failure. (failure ≡ Failure.Memory) ⊎ (failure ≡ Failure.Control)) }
+{
+    let limit = limit_of(running.pace);
+    let clients = ControlSocket::bind(rt, alloc, running.control, wires, limit)?;
+    Ok(ControlDesk::new(alloc, clients, metrics))
+}
+
 /// A desk over the sockets of both wires, and over the control socket and the file of counters,
 /// where there are to be ones. It fails as `Memory`; and as `Control`, where the control socket
 /// cannot be bound.
@@ -33,9 +50,7 @@ pub fn desk_for<'a, T: Files + Net + Clock>(
     ensures { IfErr result (λ failure. (failure ≡ Failure.Memory) ⊎ (failure ≡ Failure.Control)) }
 {
     let metrics = MetricsPlace::new(rt, alloc, running.metrics)?;
-    let limit = limit_of(running.pace);
-    let clients = ControlSocket::bind(rt, alloc, running.control, wires, limit)?;
-    Ok(ControlDesk::new(alloc, clients, metrics))
+    desk_over(rt, alloc, running, wires, metrics)
 }
 
 /// Leaves the control socket: its name is removed.

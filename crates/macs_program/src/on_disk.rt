@@ -542,7 +542,7 @@ fn left_out(pace: Pace) -> u8
 
 impl Wires {
     ghost use Rattle.std.specs.Prelude.{◌≡◌, IfSome};
-    ghost use Rattle.macs_program.specs.Relaying.{attended, new_wire, unattended};
+    ghost use Rattle.macs_program.specs.Relaying.{attended, course_of, new_wire, unattended};
     ghost use Rattle.macs_program.specs.Tasks.{DoesRelay};
 
     /// What is watched of them, where a sleep is so long at most.
@@ -666,6 +666,49 @@ impl Wires {
         leave(rt, &running);
         result
     }
+
+    /// Relays frames between them at a pace, with nobody to attend.
+    fn relay_unattended<D: SectorDisk, W: Stream>(
+        mut self,
+        endpoint: &mut Endpoint<D>,
+        pace: Pace,
+        turns: u64,
+        out: &mut W,
+    ) -> Result<Status, Failure>
+        requires controlled { ⟦<UdpWire<Global, UdpSocket> as Wire>⟧.state self.controlled
+            ≡ new_wire }
+        requires common { ⟦<UdpWire<Global, UdpSocket> as Wire>⟧.state self.common ≡ new_wire }
+        ensures { DoesRelay D.disk W.contents W.failed (unattended turns) endpoint.old out.old
+            result endpoint.new out.new }
+    {
+        match pace {
+            Pace::Sleepless { .. } => self.relay(endpoint, turns, out),
+            Pace::Waiting { limit, .. } => self.relay_resting(endpoint, limit, turns, out),
+        }
+    }
+
+    /// Relays frames between them as the words want it.
+    fn run<T: Files + Net + Clock + Env, D: SectorDisk, W: Stream>(
+        self,
+        rt: &T,
+        alloc: Global,
+        endpoint: &mut Endpoint<D>,
+        running: Running,
+        out: &mut W,
+    ) -> Result<Status, Failure>
+        requires controlled { ⟦<UdpWire<Global, UdpSocket> as Wire>⟧.state self.controlled
+            ≡ new_wire }
+        requires common { ⟦<UdpWire<Global, UdpSocket> as Wire>⟧.state self.common ≡ new_wire }
+        ensures { DoesRelay D.disk W.contents W.failed (course_of running.entry) endpoint.old
+            out.old result endpoint.new out.new }
+    {
+        let turns = turns_of(running.pace);
+        if is_attended(&running) {
+            self.attend(rt, alloc, endpoint, running, turns, out)
+        } else {
+            self.relay_unattended(endpoint, running.pace, turns, out)
+        }
+    }
 }
 
 /// How many turns a relay takes: where it waits and none are given, more than a lifetime has.
@@ -703,15 +746,8 @@ impl<T: Files + Net + Clock + Env, D: SectorDisk, W: Stream> Task<D, W> for Rela
 
     #[inline(never)]
     fn run(&self, endpoint: &mut Endpoint<D>, out: &mut W) -> Result<Status, Failure> {
-        let mut wires = bind_wires(self.rt, self.alloc, self.addresses, self.running.buffer)?;
-        let turns = turns_of(self.running.pace);
-        if is_attended(&self.running) {
-            return wires.attend(self.rt, self.alloc, endpoint, self.running, turns, out);
-        }
-        match self.running.pace {
-            Pace::Sleepless { .. } => wires.relay(endpoint, turns, out),
-            Pace::Waiting { limit, .. } => wires.relay_resting(endpoint, limit, turns, out),
-        }
+        let wires = bind_wires(self.rt, self.alloc, self.addresses, self.running.buffer)?;
+        wires.run(self.rt, self.alloc, endpoint, self.running, out)
     }
 }
 

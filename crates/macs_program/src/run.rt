@@ -10,7 +10,7 @@ ghost use Rattle.macs_program.specs.Inputs.{InputRead, read_of};
 ghost use Rattle.macs_program.specs.Run.{Acts, FailsFor, HasPrinted, HasWrongValues, OpenFails};
 ghost use Rattle.macs_program.specs.Run.{Performs, PrintedBefore, Prints};
 ghost use Rattle.macs_program.specs.Run.{PrintsUnlessFailed, Replies, code_of, complaint};
-ghost use Rattle.macs_program.specs.Run.{is_on_frames};
+ghost use Rattle.macs_program.specs.Run.{is_on_disk, is_on_frames};
 ghost use Rattle.macs_words.specs.Words.{AreRefused, AsksForNothing, Names, macsecd, texts};
 ghost use Rattle.macs_words.specs.declared.action.Action.{Action};
 ghost use Rattle.macs_program.specs.declared.failure.Failure.{Failure};
@@ -96,6 +96,37 @@ where
 {
     match action {
         Action::Open => open_input(alloc, input, out),
+        Action::Format { .. } | Action::Apply { .. } | Action::Show { .. } => {
+            perform_on_disk(rt, alloc, action, out)
+        }
+        Action::Protect { .. } | Action::Validate { .. } | Action::Relay { .. } => {
+            perform_on_frames(rt, alloc, action, out)
+        }
+        Action::Ask { path, question } => ask(rt, alloc, path, question, out),
+        Action::Key { is_long } => key(rt, is_long, out),
+        Action::Inspect { input: from } => inspect(rt, alloc, from, out),
+        Action::Check { file, disk } => check(rt, alloc, file, disk, out),
+        Action::Plan { file, end, stage } => plan(rt, alloc, file, end, stage, out),
+        Action::Examine { disk } => examine(rt, alloc, disk, out),
+        Action::About => about(alloc, out),
+    }
+}
+
+/// Does what an action asks for that has an endpoint and hands it no frames.
+fn perform_on_disk<T: Files, W: Stream>(
+    rt: &T,
+    alloc: Global,
+    action: Action,
+    out: &mut W,
+) -> Result<Status, Failure>
+where
+    T::File: CaptureFile,
+    requires { is_on_disk action ≡ true }
+    ensures { (input : InputRead)
+        → Performs T.File.file T.File.remaining W.contents W.failed action.entry input out.old
+        result out.new }
+{
+    match action {
         Action::Format {
             disk,
             sci,
@@ -108,16 +139,7 @@ where
         ),
         Action::Apply { disk, file } => apply(rt, alloc, disk, file, out),
         Action::Show { disk } => show(rt, alloc, disk, out),
-        Action::Protect { .. } | Action::Validate { .. } | Action::Relay { .. } => {
-            perform_on_frames(rt, alloc, action, out)
-        }
-        Action::Ask { path, question } => ask(rt, alloc, path, question, out),
-        Action::Key { is_long } => key(rt, is_long, out),
-        Action::Inspect { input: from } => inspect(rt, alloc, from, out),
-        Action::Check { file, disk } => check(rt, alloc, file, disk, out),
-        Action::Plan { file, end, stage } => plan(rt, alloc, file, end, stage, out),
-        Action::Examine { disk } => examine(rt, alloc, disk, out),
-        Action::About => about(alloc, out),
+        _ => unreachable!(),
     }
 }
 

@@ -1,5 +1,5 @@
-use Rattle.macs_program.proofs.Performed.{applies, checks, examines, formats, inspects, keys, opens, plans, shows}
-use Rattle.macs_program.proofs.Performed.{tells}
+use Rattle.std.proofs.Common.{refl}
+use Rattle.macs_program.proofs.Performed.{asks, checks, examines, inspects, keys, opens, plans, tells}
 use Rattle.macs_program.proofs.run.perform.Goals as goal
 
 pub returns-in-Open-clause-performs : goal.returns-in-Open-clause-performs
@@ -8,19 +8,14 @@ returns-in-Open-clause-performs g c =
     c.open_input.ensures.failed c.open_input.ensures.silent c.open_input.ensures.ended c.open_input.ensures.broken)
 
 pub returns-in-Format-clause-performs : goal.returns-in-Format-clause-performs
-returns-in-Format-clause-performs g c = rw c.in-Format.is (formats _ _ _ _ _ _ _ _ _ _ _ _ _ _ c.format.ensures.printed
-    c.format.ensures.usage c.format.ensures.silent c.format.ensures.ended c.format.ensures.broken)
-
-pub returns-in-Apply-clause-performs : goal.returns-in-Apply-clause-performs
-returns-in-Apply-clause-performs g c = rw c.in-Apply.is (applies _ _ _ _ _ _ _ _ _ _ c.apply.ensures.printed
-    c.apply.ensures.failed c.apply.ensures.lines c.apply.ensures.ended c.apply.ensures.broken)
-
-pub returns-in-Show-clause-performs : goal.returns-in-Show-clause-performs
-returns-in-Show-clause-performs g c = rw c.in-Show.is (shows _ _ _ _ _ _ _ _ _ c.show.ensures.printed
-    c.show.ensures.failed c.show.ensures.silent c.show.ensures.ended c.show.ensures.broken)
+returns-in-Format-clause-performs g c = c.perform_on_disk.ensures _
 
 pub returns-in-Protect-clause-performs : goal.returns-in-Protect-clause-performs
 returns-in-Protect-clause-performs g c = c.perform_on_frames.ensures _
+
+pub returns-in-Ask-clause-performs : goal.returns-in-Ask-clause-performs
+returns-in-Ask-clause-performs g c = rw c.in-Ask.is (asks _ _ _ _ _ _ _ _ _ _ c.ask.ensures.printed c.ask.ensures.failed
+    c.ask.ensures.front c.ask.ensures.broken)
 
 pub returns-in-Key-clause-performs : goal.returns-in-Key-clause-performs
 returns-in-Key-clause-performs g c = rw c.in-Key.is
@@ -46,3 +41,35 @@ returns-in-Examine-clause-performs g c = rw c.in-Examine.is (examines _ _ _ _ _ 
 pub returns-in-About-clause-performs : goal.returns-in-About-clause-performs
 returns-in-About-clause-performs g c = rw c.in-About.is
     (tells _ _ _ _ _ _ _ _ c.about.ensures.printed c.about.ensures.ended c.about.ensures.silent c.about.ensures.broken)
+
+-- ---- the input
+
+pub returns-in-Open-clause-unread : goal.returns-in-Open-clause-unread
+returns-in-Open-clause-unread g c = λ other. absurd (other c.in-Open.is)
+
+pub returns-in-Format-clause-unread : goal.returns-in-Format-clause-unread
+returns-in-Format-clause-unread g c = λ other. refl
+
+pub returns-in-Protect-clause-unread : goal.returns-in-Protect-clause-unread
+returns-in-Protect-clause-unread g c = λ other. refl
+
+pub returns-in-Ask-clause-unread : goal.returns-in-Ask-clause-unread
+returns-in-Ask-clause-unread g c = λ other. refl
+
+pub returns-in-Key-clause-unread : goal.returns-in-Key-clause-unread
+returns-in-Key-clause-unread g c = λ other. refl
+
+pub returns-in-Inspect-clause-unread : goal.returns-in-Inspect-clause-unread
+returns-in-Inspect-clause-unread g c = λ other. refl
+
+pub returns-in-Check-clause-unread : goal.returns-in-Check-clause-unread
+returns-in-Check-clause-unread g c = λ other. refl
+
+pub returns-in-Plan-clause-unread : goal.returns-in-Plan-clause-unread
+returns-in-Plan-clause-unread g c = λ other. refl
+
+pub returns-in-Examine-clause-unread : goal.returns-in-Examine-clause-unread
+returns-in-Examine-clause-unread g c = λ other. refl
+
+pub returns-in-About-clause-unread : goal.returns-in-About-clause-unread
+returns-in-About-clause-unread g c = λ other. refl
