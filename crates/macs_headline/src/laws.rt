@@ -582,7 +582,8 @@ pub fn file_calls()
     ensures { FileCallWords }
 {}
 
-/// How a head, a gate and each kind of record are written on a disk, octet by octet.
+/// How a head, a gate and each kind of record are written on a disk, octet by octet, and which
+/// sectors are read so.
 pub fn octets()
     ensures { OctetWords }
 {}
