@@ -440,8 +440,8 @@ RefusalsAreFailures {D} disk_of = (disk : D) (before : List Life) (refused : Rec
     ⊎ IsSpentFor this_edition (now (disk_of disk)).seen refused.fault)
 
 -- What an honest disk is refused for is the one reason that holds of what reads give there, but for a device call that
--- failed; and one that is opened has none. On every disk no failed call is counted by an opening that is refused for
--- another reason than that one failed.
+-- failed; and one that is opened has none. On every disk, honest or not, one that is refused as Disk counted a failed
+-- call, or the disk is worn; and no failed call is counted by one that is refused for another reason.
 pub record RefusalsAreOne {D : Type 0} (disk_of : D → Disk) : Type 0 where
   pub refused : (disk : D) (refused : RecoverRefused D) → IsHonest (disk_of disk) → IsOpening disk_of disk (Err refused)
       → refused.fault ≢ DiskFault
@@ -456,6 +456,9 @@ pub record RefusalsAreOne {D : Type 0} (disk_of : D → Disk) : Type 0 where
   pub failures : (disk : D) (refused : RecoverRefused D) → IsOpening disk_of disk (Err refused)
       → refused.fault ≢ DiskFault
       → (disk_of refused.disk).failures ≡ (disk_of disk).failures
+  pub failed : (disk : D) (refused : RecoverRefused D) → IsOpening disk_of disk (Err refused)
+      → refused.fault ≡ DiskFault
+      → CountsOneFailure (disk_of disk) (disk_of refused.disk)
 
 -- ---- what an opening makes of a journal
 
