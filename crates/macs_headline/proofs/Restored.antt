@@ -1,17 +1,19 @@
 -- What an edition reads is a configuration of that edition, whose associations have a ceiling.
 use Rattle.std.proofs.Common.{◌≡◌, ◌≤◌, ◌<◌, ℕ, Bool, true, false, cond, nat_lt, List, [], ◌∷◌, length, take, drop}
 use Rattle.std.proofs.Common.{Option, Some, None, is_some, Result, Ok, Err, refl, sym, ◌∙◌, subst}
-use Rattle.std.specs.Prelude.{IsSomeAnd}
+use Rattle.std.specs.Prelude.{IfSome, IsSome, IsSomeAnd}
 use Rattle.std.specs.Option.{option_and_then, option_map}
 use Rattle.std.proofs.lemmas.Bool.{false≢true, ltb-true}
 use Rattle.macs_config.specs.Apply.{Reason, apply}
-use Rattle.macs_config.specs.Config.{Config, Edition, IsConfig, takes_key}
+use Rattle.macs_config.specs.Config.{Config, Edition, IsConfig, is_spent, rx_fingerprint, takes_key, tx_fingerprint}
 use Rattle.macs_config.specs.Identity.{Identity}
 use Rattle.macs_config.specs.Snapshot.{config_of_parts}
 use Rattle.macs_config.specs.declared.association.RxSa.{RxSa}
 use Rattle.macs_config.specs.declared.association.TxSa.{TxSa}
 use Rattle.macs_config.specs.declared.command.Command.{Command}
+use Rattle.macs_config.specs.declared.command.SciMode.TheVariants.{EndStation}
 use Rattle.macs_config.specs.declared.part.Part.{Part}
+use Rattle.macs_config.proofs.Channels.{same_octets}
 use Rattle.macs_config.proofs.Kept.{apply-keeps}
 use Rattle.macs_config.proofs.Replayed.{restored-is-config}
 use Rattle.macs_journal.specs.Found.{Content}
@@ -148,6 +150,22 @@ module _ (edition : Edition) (identity : Identity) where
   taken count records s is =
       let c = (restored count records s is).config in
       (c.channels_fit, c.tx_taken, c.rx_taken)
+
+  -- the association for frames that go out exists, an end station's port is 00-01, and installed keys are spent
+  pub whole : (count : ℕ) (records : List Record) (s : Standing) → replay_of edition identity count records ≡ Some s
+      → IfSome s.config.encoding (λ an. IsSome (s.config.tx an))
+      × (s.config.mode ≡ EndStation → drop 6 identity.sci ≡ 0 ∷ 1 ∷ [])
+      × ((an : ℕ) (sa : TxSa) → an < 4 → s.config.tx an ≡ Some sa
+      → is_spent s.config.spent_tx (tx_fingerprint sa.key) ≡ true)
+      × ((sci : List ℕ) (an : ℕ) (sa : RxSa) → an < 4 → s.config.rx sci an ≡ Some sa
+      → is_spent s.config.spent_rx (rx_fingerprint sci sa.key) ≡ true)
+  whole count records s is =
+      let c = (restored count records s is).config in (
+        c.encoding_stands,
+        (λ station. same_octets (drop 6 identity.sci) (0 ∷ 1 ∷ []) (c.end_station station)),
+        c.tx_spent,
+        c.rx_spent,
+      )
 
 -- a snapshot of what a content means stands for that
 pub snapshot-read : (edition : Edition) (c : Content) (s : Standing) → meaning_of edition c ≡ Some s
