@@ -56,7 +56,7 @@ ghost use Rattle.macs_headline.specs.Endings.{DroppedPassOn, EndsAreEarlier, Ima
 ghost use Rattle.macs_headline.specs.Endings.{KillingsPassOn, LosesPower, LossesSettle};
 ghost use Rattle.macs_headline.specs.Endings.{PassedOnAgain, PowerLossesPassOn, TheseAreImages};
 ghost use Rattle.macs_headline.specs.Endings.{ReadsPassOn, SyncsPassOn, TheseAreAlike};
-ghost use Rattle.macs_headline.specs.Endings.{TheseArePassedOn};
+ghost use Rattle.macs_headline.specs.Endings.{TheseArePassedOn, TheseLosePower};
 ghost use Rattle.macs_headline.specs.Endings.{WritesBackAsSyncs, WrittenBackPassOn};
 ghost use Rattle.macs_headline.specs.ExampleLives.{IsWorkedHistory};
 ghost use Rattle.macs_headline.specs.ExampleMigration.{IsWorkedMigration};
@@ -442,7 +442,8 @@ pub fn endings<D: SectorDisk>()
     ensures as_alike { TheseAreAlike }
     // The medium is passed on to each of those that may leave nothing but images of a moment since.
     ensures as_passed_on { TheseArePassedOn }
-    // Power is lost.
+    // Power is lost, so for each such disk that holds an image of a moment since.
+    ensures as_lost { TheseLosePower }
     ensures power_lost { PowerLossesPassOn }
     // The program is killed, and no power is lost.
     ensures killed { KillingsPassOn }
