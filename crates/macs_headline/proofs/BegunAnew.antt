@@ -31,6 +31,7 @@ use Rattle.macs_headline.specs.Deeds.{disk_after_opening}
 use Rattle.macs_headline.proofs.Chains.{history-covers}
 use Rattle.macs_headline.proofs.Ledger.{some_one}
 use Rattle.macs_headline.proofs.Living.{alive}
+use Rattle.macs_headline.proofs.Openings.{old-format}
 
 -- ---- nothing is written
 
@@ -65,6 +66,14 @@ none_at_last : (old : Disk) (c : Content) → HasJournal (now old).seen c → c.
     → HasNoneToMigrate old
 none_at_last old c found last other s to =
     to.next (ap (λ (c : Content). c.head.generation) (one_content (now old).seen other c to.is.found found) ∙ last)
+
+-- nor is there one where all that stand for something and are of format one are in the last generation
+none_given : (old : Disk)
+    → ((c : Content) (s : Standing) → HasJournal (now old).seen c → meaning_of this_edition c ≡ Some s
+    → c.head.format ≡ One → c.head.generation ≡ last_generation)
+    → HasNoneToMigrate old
+none_given old given c s to =
+    to.next (given c s to.is.found to.is.stands (old-format this_edition c.head.format to.is.old).0)
 
 -- ---- the journal that is rewritten
 
@@ -216,11 +225,21 @@ module _ {D : Type 0} (disk_of : D → Disk) (sound : (it : D) → IsHonest (dis
   two_unwritten disk (Err refused) was opening two =
       refused_unwritten disk refused.disk refused.fault was opening.refused (λ failed. none_of_two (disk_of disk) two)
 
+  unmoved : (disk : D) (result : Result (EndpointValue D) (RecoverRefused D)) → IsHonest (disk_of disk)
+      → IsOpening disk_of disk result
+      → ((c : Content) (s : Standing) → HasJournal (now (disk_of disk)).seen c → meaning_of this_edition c ≡ Some s
+      → c.head.format ≡ One → c.head.generation ≡ last_generation)
+      → IsUnwritten (disk_of disk) (disk_after_opening disk_of result)
+  unmoved disk (Ok e) was opening given = opened_unwritten disk e was opening (none_given (disk_of disk) given)
+  unmoved disk (Err refused) was opening given =
+      refused_unwritten disk refused.disk refused.fault was opening.refused (λ failed. none_given (disk_of disk) given)
+
   pub openings-begin-anew : OpeningsBeginAnew disk_of
   openings-begin-anew = record {
     alike = alike;
     either = either;
     unwritten = two_unwritten;
+    unmoved = unmoved;
     refused = λ disk refused was opening other.
         refused_unwritten disk refused.disk refused.fault was opening.refused (λ failed. absurd (other failed));
     refused_synced = λ disk refused was opening worked large.

@@ -1,15 +1,15 @@
 -- Disks in files, as histories have them.
-use Rattle.std.proofs.Common.{◌≡◌, ◌<◌, ◌+◌, ◌*◌, ◌-◌, ◌⊎◌, inl, inr, ℕ, true, get_or, replicate, refl, ap, ◌∙◌, arith}
-use Rattle.std.proofs.Common.{le_refl, subst, sym}
+use Rattle.std.proofs.Common.{◌≡◌, ◌<◌, ◌+◌, ◌*◌, ◌-◌, ◌⊎◌, inl, inr, ℕ, true, false, get_or, replicate, refl, ap}
+use Rattle.std.proofs.Common.{◌∙◌, arith, le_refl, subst, sym}
 use Rattle.std.proofs.lemmas.Bool.{and_parts}
-use Rattle.macs_disk.specs.Disk.{Disk, IsHonest, MayLeave}
+use Rattle.macs_disk.specs.Disk.{Disk, IsHonest, MayLeave, now}
 use Rattle.macs_disk.specs.FileDisks.{IsBlank, IsFoundAs, IsLeftAsShown, IsOpened, disk_in_file, file_lengthened}
 use Rattle.macs_disk.specs.FileDisks.{image_in_file, is_ready, keeps_disk, state_in_file}
 use Rattle.macs_disk.specs.FileEvidence.{keeps}
 use Rattle.macs_disk.specs.Files.{Behaves, FileState, HasNothingNew, IsFileImage, file_after_sync, file_after_write}
 use Rattle.macs_disk.specs.Files.{file_claimed, file_in_doubt, file_settled}
 use Rattle.macs_disk.specs.Layouts.{place, suits}
-use Rattle.macs_disk.specs.States.{Image, IsImage, settled_state, zero_sector}
+use Rattle.macs_disk.specs.States.{DiskState, Image, IsImage, settled_state, zero_sector}
 use Rattle.macs_disk.specs.declared.layout.Layout.{Layout}
 use Rattle.macs_disk.specs.declared.layout.Layout.TheVariants.{Packed, Spaced}
 use Rattle.macs_disk.specs.declared.file.FileDisk.{FileDisk}
@@ -46,6 +46,16 @@ as-settled layout file settled octets is =
     let none : place layout 0 - settled.size ≡ 0 = (let start = no-place layout in omega (arith, start)) in
     ap (λ (n : ℕ). state_in_file layout (file_after_sync (file_after_write settled settled.size (replicate n 0)))) none
     ∙ ap (λ (f : FileState). state_in_file layout (file_after_sync f)) is
+
+-- all sectors of one that is opened are durable
+pub opened-still : (file : FileState) (least : ℕ) (layout : Layout) (disk : Disk) (i : ℕ)
+    → IsOpened file least layout disk
+    → ((now disk).durable i ≡ (now disk).seen i) × ((now disk).pending i ≡ false)
+unfolding state_in_file
+opened-still file least layout disk i opened = (
+  ap (λ (s : DiskState). s.durable i) opened.state ∙ sym (ap (λ (s : DiskState). s.seen i) opened.state),
+  ap (λ (s : DiskState). s.pending i) opened.state,
+)
 
 -- the file of an honest disk is on a device whose blocks suit its layout
 pub left-suited : {F : Type 0} (file : F → FileState) (it : FileDisk F) → IsLeftAsShown file it → Behaves (file it.file)

@@ -7,8 +7,8 @@ use Rattle.macs_disk.specs.declared.disk.DeviceFault.{DeviceFault}
 use Rattle.macs_headline.specs.Deeds.{IsPassedOn}
 use Rattle.macs_headline.specs.Endings.{DroppedPassOn, EndsAreEarlier, ImagesAreWhole, KillingsPassOn, LossesSettle}
 use Rattle.macs_headline.specs.Endings.{PassedOnAgain, PowerLossesPassOn, ReadsPassOn, SyncsPassOn, TheseAreAlike}
-use Rattle.macs_headline.specs.Endings.{TheseAreImages, TheseArePassedOn, WritesBackAsSyncs, WrittenBackPassOn}
-use Rattle.macs_headline.specs.Endings.{state_written_back}
+use Rattle.macs_headline.specs.Endings.{TheseAreImages, TheseArePassedOn, TheseLosePower, WritesBackAsSyncs}
+use Rattle.macs_headline.specs.Endings.{WrittenBackPassOn, state_written_back}
 use Rattle.macs_headline.proofs.Losses.{settled-passed}
 
 pub these-are-alike : TheseAreAlike
@@ -23,6 +23,10 @@ these-are-passed-on ran new since moment from to alike images = record {
   honest = alike.honest;
   images = images;
 }
+
+pub these-lose-power : TheseLosePower
+these-lose-power ran new since image left alike settled =
+    record { image = image; left = left; alike = alike; settled = settled }
 
 pub power-losses-pass-on : PowerLossesPassOn
 power-losses-pass-on old new since lost =

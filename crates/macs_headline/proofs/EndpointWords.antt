@@ -67,6 +67,7 @@ openings-count disk_of = record {
   only_small = λ disk refused is told. is.refused.small.0 told;
   format_small = λ old new identity result is fewer. let told = is.device.small.1 fewer in
       (told, is.device.untouched told);
+  format_only_small = λ old new identity is. is.device.small.0 refl;
   names = λ disk refused is. is.refused.name;
 }
 

@@ -1,5 +1,6 @@
 -- What a call of a file that behaves may leave.
-use Rattle.std.proofs.Common.{◌≡◌, ◌↔◌, ℕ, true, false, List, [], ◌∷◌, length, take, Ok, Err, refl, ◌∙◌, ap}
+use Rattle.std.proofs.Common.{◌≡◌, ◌↔◌, ℕ, true, false, List, [], ◌∷◌, length, take, Result, Ok, Err, refl}
+use Rattle.std.proofs.Common.{◌∙◌, ap}
 use Rattle.macs_disk.specs.Files.{FileState, IsClaimed, IsFileImage, IsSure, ReadsFile, RereadsFile, SyncsFile}
 use Rattle.macs_disk.specs.Files.{WritesAll, WritesFile, WritesSome, file_after_sync, file_after_write, file_in_doubt}
 use Rattle.macs_disk.specs.Files.{file_reread, file_synced, values_from}
@@ -66,6 +67,21 @@ failed_write_all old new at error octets sure = (
   λ v. record { ok = λ again. tt; err = v.err; doubt = v.doubt },
 )
 
+-- of one in doubt it is known that it stays in doubt, and no more
+unsure_write : (old new : FileState) (at : ℕ) (octets : List ℕ) (result : Result ℕ ℕ) → old.is_sure ≡ false
+    → WritesFile old new at octets result ↔ (new.is_sure ≡ false)
+unsure_write old new at octets result unsure = (
+  λ w. w.doubt unsure,
+  λ is. record { ok = λ sure. absurd (cc); err = λ sure. absurd (cc); doubt = λ again. is },
+)
+
+unsure_write_all : (old new : FileState) (at : ℕ) (octets : List ℕ) (result : Result ℕ ℕ) → old.is_sure ≡ false
+    → WritesAll old new at octets result ↔ (new.is_sure ≡ false)
+unsure_write_all old new at octets result unsure = (
+  λ w. w.doubt unsure,
+  λ is. record { ok = λ sure. absurd (cc); err = λ sure. absurd (cc); doubt = λ again. is },
+)
+
 read : (old new : FileState) (at count : ℕ) (into : List ℕ) → IsSure old
     → ReadsFile {E = ℕ} old new at into (Ok count) ↔ ((new ≡ old) × (take count into ≡ values_from old.seen at count))
 read old new at count into sure = (λ r. (r.same, r.octets sure), λ is. record { same = is.0; octets = λ again. is.1 })
@@ -82,7 +98,8 @@ file-call-words = record {
   write_all = write_all;
   failed_write_all = failed_write_all;
   still_sure = still_sure;
-  unsure_write = λ old new at octets result w. w.doubt;
+  unsure_write = unsure_write;
+  unsure_write_all = unsure_write_all;
   read = read;
   failed_read = λ old new at error into. (λ r. r.same, λ is. record { same = is; octets = λ sure. tt });
   unsure_read = λ old at count into unsure. record { same = refl; octets = λ sure. absurd (cc) };

@@ -1,4 +1,4 @@
--- How a head, a gate and each kind of record are written.
+-- How a head, a gate and each kind of record are written, and what is read so.
 use Rattle.std.proofs.Common.{◌≡◌, ℕ, List, length, refl, ap}
 use Rattle.std.specs.Prelude.{◌==◌, if◌then◌else◌}
 use Rattle.macs_record.specs.Layout.{by_length}
@@ -27,4 +27,19 @@ octet-words = record {
   head_sector = λ head. refl;
   versions = (refl, refl);
   gates = (refl, refl, refl);
+  opened = λ sector. (λ is. is, λ is. is);
+  read_record = λ r sector. (λ is. (is.range, is.octets), λ is. record { range = is.0; octets = is.1 });
+  read_head = λ head sector. (λ is. (is.range, is.octets), λ is. record { range = is.0; octets = is.1 });
+  head_range = λ head. (
+    λ is. (is.generation, is.generations, is.some, is.few, is.sci, is.tx_block, is.rx_block),
+    λ is. record {
+      generation = is.0;
+      generations = is.1;
+      some = is.2;
+      few = is.3;
+      sci = is.4;
+      tx_block = is.5;
+      rx_block = is.6;
+    },
+  );
 }

@@ -214,4 +214,6 @@ module _ {D : Type 0} (disk_of : D → Disk) (sound : (it : D) → IsHonest (dis
     opened = opened;
     failures = λ disk refused opening worked.
         failures (disk_of disk) (disk_of refused.disk) refused.fault worked opening.refused.fails;
+    failed = λ disk refused opening is.
+        subst (λ (at : JournalFault). FailsWith (disk_of disk) (disk_of refused.disk) at) is opening.refused.fails;
   }

@@ -26,6 +26,7 @@ handed_in exchanges cut command (inr behind) = inr behind
 
 pub queue-words : QueueWords
 queue-words = record {
+  given = λ exchanges waiting is. number-words.tickets (tickets_given exchanges) is.in_order;
   kept = λ exchanges waiting is. is.kept ∙ number-words.tickets (tickets_given exchanges) is.in_order;
   handed_in = handed_in;
 }

@@ -1,23 +1,26 @@
 -- What an edition reads is a configuration of that edition, whose associations have a ceiling.
 use Rattle.std.proofs.Common.{◌≡◌, ◌≤◌, ◌<◌, ℕ, Bool, true, false, cond, nat_lt, List, [], ◌∷◌, length, take, drop}
-use Rattle.std.proofs.Common.{Option, Some, None, is_some, Result, Ok, Err, refl, sym, ◌∙◌, subst}
-use Rattle.std.specs.Prelude.{IsSomeAnd}
+use Rattle.std.proofs.Common.{Option, Some, None, is_some, map, Result, Ok, Err, inl, inr, refl, sym, ◌∙◌, ap, subst}
+use Rattle.std.specs.Prelude.{Contains, IfSome, IsSome, IsSomeAnd}
 use Rattle.std.specs.Option.{option_and_then, option_map}
 use Rattle.std.proofs.lemmas.Bool.{false≢true, ltb-true}
 use Rattle.macs_config.specs.Apply.{Reason, apply}
-use Rattle.macs_config.specs.Config.{Config, Edition, IsConfig, takes_key}
+use Rattle.macs_config.specs.Config.{Config, Edition, IsConfig, is_spent, rx_fingerprint, takes_key, tx_fingerprint}
 use Rattle.macs_config.specs.Identity.{Identity}
-use Rattle.macs_config.specs.Snapshot.{config_of_parts}
+use Rattle.macs_config.specs.Snapshot.{all_parts, config_of_parts}
 use Rattle.macs_config.specs.declared.association.RxSa.{RxSa}
 use Rattle.macs_config.specs.declared.association.TxSa.{TxSa}
 use Rattle.macs_config.specs.declared.command.Command.{Command}
+use Rattle.macs_config.specs.declared.command.SciMode.TheVariants.{EndStation}
 use Rattle.macs_config.specs.declared.part.Part.{Part}
+use Rattle.macs_config.proofs.Channels.{same_octets}
 use Rattle.macs_config.proofs.Kept.{apply-keeps}
 use Rattle.macs_config.proofs.Replayed.{restored-is-config}
 use Rattle.macs_journal.specs.Found.{Content}
 use Rattle.macs_record.specs.declared.record.Record.{Record}
+use Rattle.macs_record.specs.declared.record.Record.TheVariants as kept
 use Rattle.macs_record.specs.declared.record.Record.TheVariants.{RxCeiling, TxCeiling}
-use Rattle.macs_store.specs.Commands.{command_of}
+use Rattle.macs_store.specs.Commands.{command_of, part_of}
 use Rattle.macs_store.specs.Replay.{accepted_standing, ceilings_with_records, is_raise, meaning_of, replay_of}
 use Rattle.macs_store.specs.Replay.{snapshot_of, snapshot_parts, standing_after_command, standing_after_record}
 use Rattle.macs_store.specs.Replay.{standing_after_records}
@@ -29,6 +32,7 @@ use Rattle.macs_store.proofs.Formats.{read-meaning}
 use Rattle.macs_store.proofs.Replaying.{accepted-stands, restored-stands, rx-raised, tx-raised}
 use Rattle.macs_store.proofs.Snapshots.{snapshot-stands}
 use Rattle.macs_headline.proofs.Ledger.{some_one}
+use Rattle.macs_headline.proofs.Lists.{contains-cases, contains-none}
 use Rattle.macs_headline.proofs.LookUps.{none-some, then-some}
 
 -- what is made of what there is
@@ -54,6 +58,36 @@ pub rises : (o : Option ℕ) (ceiling : ℕ) (s after : Standing) → cond (is_r
 rises None ceiling s after made = absurd (none-some after made)
 rises (Some old) ceiling s after made = above_by old ceiling (nat_lt old ceiling) s after refl made
 
+-- ---- records out of place
+
+-- a part of a snapshot is refused after it
+pub part-after : (s : Standing) (r : Record) (part : Part) → part_of r ≡ Some part → standing_after_record s r ≡ None
+part-after s (kept.Settings validate replay mode encoding) part is = refl
+part-after s (kept.TxSa an sa ceiling) part is = refl
+part-after s (kept.Channel sci) part is = refl
+part-after s (kept.RxSa sci an sa ceiling) part is = refl
+part-after s (kept.Spent role fingerprints) part is = refl
+part-after s r part is = absurd (none-some part is)
+
+-- where no parts come later, there are none
+none_later : (o : Option Part)
+    → option_and_then (λ (part : Part). option_map (λ (parts : List Part). part ∷ parts) None) o ≡ None
+none_later None = refl
+none_later (Some part) = refl
+
+-- a record that is no part is refused in a snapshot
+no_parts : (records : List Record) (r : Record) → Contains records r → part_of r ≡ None
+    → snapshot_parts records ≡ None
+no_parts [] r among none = absurd (contains-none r among)
+no_parts (first ∷ rs) r among none = elim (contains-cases first rs r among) [
+  | inl is ↦ ap (λ (x : Record). all_parts (part_of x ∷ map part_of rs)) (sym is)
+      ∙ ap (λ (o : Option Part). all_parts (o ∷ map part_of rs)) none
+  | inr later ↦ ap (λ (o : Option (List Part)).
+      option_and_then (λ (part : Part). option_map (λ (parts : List Part). part ∷ parts) o) (part_of first))
+      (no_parts rs r later none)
+      ∙ none_later (part_of first)
+]
+
 -- ---- what is read
 
 module _ (edition : Edition) (identity : Identity) where
@@ -66,6 +100,13 @@ module _ (edition : Edition) (identity : Identity) where
 
   abbrev standing_by : Ceilings → Config → Standing
   standing_by ceilings config = record { edition = edition; identity = identity; config = config; ceilings = ceilings }
+
+  pub no-part : (records : List Record) (r : Record) → Contains records r → part_of r ≡ None
+      → snapshot_of edition identity records ≡ None
+  no-part records r among none =
+      ap (λ (o : Option (List Part)). option_map (standing_by (ceilings_with_records no_ceilings records))
+      (option_and_then (λ (parts : List Part). config_of_parts edition identity parts) o))
+      (no_parts records r among none)
 
   by_snapshot : (records : List Record) (s : Standing) → snapshot_of edition identity records ≡ Some s → IsRestored s
   by_snapshot records s is =
@@ -148,6 +189,22 @@ module _ (edition : Edition) (identity : Identity) where
   taken count records s is =
       let c = (restored count records s is).config in
       (c.channels_fit, c.tx_taken, c.rx_taken)
+
+  -- the association for frames that go out exists, an end station's port is 00-01, and installed keys are spent
+  pub whole : (count : ℕ) (records : List Record) (s : Standing) → replay_of edition identity count records ≡ Some s
+      → IfSome s.config.encoding (λ an. IsSome (s.config.tx an))
+      × (s.config.mode ≡ EndStation → drop 6 identity.sci ≡ 0 ∷ 1 ∷ [])
+      × ((an : ℕ) (sa : TxSa) → an < 4 → s.config.tx an ≡ Some sa
+      → is_spent s.config.spent_tx (tx_fingerprint sa.key) ≡ true)
+      × ((sci : List ℕ) (an : ℕ) (sa : RxSa) → an < 4 → s.config.rx sci an ≡ Some sa
+      → is_spent s.config.spent_rx (rx_fingerprint sci sa.key) ≡ true)
+  whole count records s is =
+      let c = (restored count records s is).config in (
+        c.encoding_stands,
+        (λ station. same_octets (drop 6 identity.sci) (0 ∷ 1 ∷ []) (c.end_station station)),
+        c.tx_spent,
+        c.rx_spent,
+      )
 
 -- a snapshot of what a content means stands for that
 pub snapshot-read : (edition : Edition) (c : Content) (s : Standing) → meaning_of edition c ≡ Some s

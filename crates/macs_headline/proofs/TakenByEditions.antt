@@ -14,7 +14,7 @@ use Rattle.macs_store.specs.Replay.{accepted_standing, replay_of}
 use Rattle.macs_headline.specs.Editions.{EditionsTake}
 use Rattle.macs_headline.proofs.Ledger.{some_one}
 use Rattle.macs_headline.proofs.ReadByEditions.{all-short, kept-records, one-long, short-keys, short-taken}
-use Rattle.macs_headline.proofs.Restored.{taken}
+use Rattle.macs_headline.proofs.Restored.{no-part, part-after, taken, whole}
 
 -- ---- the test of the first reason
 
@@ -111,7 +111,10 @@ editions-take = record {
   one_format = λ edition identity count records one.
       ap (λ (b : Bool). cond (b && true) (replay_of edition identity count records) None) one;
   kept = kept-records;
+  part_after = part-after;
+  no_part = no-part;
   tx_kept = λ s after an sa start made. ap accepted_standing made;
   rx_kept = λ s after sci an sa start made. ap accepted_standing made;
   replayed = taken;
+  whole = whole;
 }

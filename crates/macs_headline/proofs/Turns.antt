@@ -137,4 +137,5 @@ turns-are-built {D} = record {
   not_reserved = λ turn turns made spent filled later. (is_not_reserved turn.reply made spent filled, later);
   encoding = λ e an is numbered. (is, numbered);
   queue = λ e sound. (sound.few, sound.tickets);
+  identity = λ e sound. (sound.identity.sci.size, sound.identity.tx_block, sound.identity.rx_block);
 }

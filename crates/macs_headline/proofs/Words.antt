@@ -1,14 +1,15 @@
 -- The words of the laws that say what may be say no more.
 use Rattle.std.proofs.Common.{◌≡◌, ◌⊎◌, ◌+◌, inl, inr, ℕ, Bool, true, false, List, [], Result, Ok, refl, sym, ◌∙◌, ap}
 use Rattle.std.proofs.Common.{subst}
-use Rattle.std.specs.Prelude.{Option, Some}
+use Rattle.std.specs.Prelude.{◌<◌, ◌^◌, All, Option, Some, length}
 use Rattle.std.proofs.lemmas.Bool.{false≢true}
+use Rattle.macs_aes.specs.Keys.{octets_of_key}
 use Rattle.macs_aes.specs.declared.keys.Key.{Key}
 use Rattle.macs_frame.specs.Tag.{changed, control, tag_of}
 use Rattle.macs_frame.specs.declared.tag.TagFault.TheVariants.{Runt as IsRunt, Oversize as IsOversize}
 use Rattle.macs_frame.specs.declared.tag.TagFault.TheVariants.{NoTag as HasNoTag, BadTag as HasBadTag}
 use Rattle.macs_frame.specs.declared.tag.TagFault.TheVariants.{ForKay as IsForKay}
-use Rattle.macs_config.specs.Apply.{Reason as RefusalReason}
+use Rattle.macs_config.specs.Apply.{IsKey, Reason as RefusalReason}
 use Rattle.macs_config.specs.Config.{Config}
 use Rattle.macs_config.specs.declared.command.Command.{Command}
 use Rattle.macs_config.specs.declared.command.Command.TheVariants.{RxAdd, RxDrop, RxInstall, RxRemove, SetReplay}
@@ -111,6 +112,12 @@ sets_numbers c sci an old later (inr (inl (inr is, is_later))) =
     inl (subst (λ (c : Command). IsOnRx c sci an) (sym is) refl)
 sets_numbers c sci an old later (inr (inr (on, window, is, is_later))) = inr (subst IsOnReplay (sym is) tt)
 
+-- the octets of a key
+key_range : (key : List ℕ) → IsKey key
+    → ((length key ≡ 16) ⊎ (length key ≡ 32)) × All (λ octet. octet < 2 ^ 8) key
+key_range key (inl short) = (inl short.size, short.each)
+key_range key (inr long) = (inr long.size, long.each)
+
 pub command-words : CommandWords
 command-words = record {
   validate = on_validate;
@@ -125,6 +132,8 @@ command-words = record {
   window = λ on window is. is;
   tx_start = λ an key start confidential offset is. is.2;
   rx_start = λ sci an key start offset is. is.3;
+  tx_key = λ an key start confidential offset is. key_range (octets_of_key key) is.1;
+  rx_key = λ sci an key start offset is. key_range (octets_of_key key) is.2;
   install_range = λ an key start confidential offset is. (is.0, is.3);
   use_range = λ an is. is;
   remove_range = λ an is. is;

@@ -16,6 +16,7 @@ use Rattle.macs_journal.specs.declared.fault.JournalFault.{JournalFault}
 use Rattle.macs_journal.specs.declared.fault.JournalFault.TheVariants.{Disk as DiskFault, NotFormatted, TooSmall}
 use Rattle.macs_journal.specs.declared.recovery.RecoverRefused.{RecoverRefused}
 use Rattle.macs_store.specs.Found.{IsUnfitTo, StandingIs, StandsFor}
+use Rattle.macs_store.specs.Replay.{meaning_of}
 use Rattle.macs_store.specs.Snapshot.{snapshot}
 use Rattle.macs_store.specs.Standing.{Standing}
 use Rattle.macs_store.specs.Value.{IsIdle, generation, standing_in, used_slots}
@@ -440,8 +441,8 @@ RefusalsAreFailures {D} disk_of = (disk : D) (before : List Life) (refused : Rec
     ⊎ IsSpentFor this_edition (now (disk_of disk)).seen refused.fault)
 
 -- What an honest disk is refused for is the one reason that holds of what reads give there, but for a device call that
--- failed; and one that is opened has none. On every disk no failed call is counted by an opening that is refused for
--- another reason than that one failed.
+-- failed; and one that is opened has none. On every disk, honest or not, one that is refused as Disk counted a failed
+-- call, or the disk is worn; and no failed call is counted by one that is refused for another reason.
 pub record RefusalsAreOne {D : Type 0} (disk_of : D → Disk) : Type 0 where
   pub refused : (disk : D) (refused : RecoverRefused D) → IsHonest (disk_of disk) → IsOpening disk_of disk (Err refused)
       → refused.fault ≢ DiskFault
@@ -456,6 +457,9 @@ pub record RefusalsAreOne {D : Type 0} (disk_of : D → Disk) : Type 0 where
   pub failures : (disk : D) (refused : RecoverRefused D) → IsOpening disk_of disk (Err refused)
       → refused.fault ≢ DiskFault
       → (disk_of refused.disk).failures ≡ (disk_of disk).failures
+  pub failed : (disk : D) (refused : RecoverRefused D) → IsOpening disk_of disk (Err refused)
+      → refused.fault ≡ DiskFault
+      → CountsOneFailure (disk_of disk) (disk_of refused.disk)
 
 -- ---- what an opening makes of a journal
 
@@ -482,9 +486,9 @@ StandsAsRead old image = (s : Standing) × StandsFor this_edition (now old).seen
 -- left could be left before, or stands for the same; and where a journal of format one was there, and has a next
 -- generation, that one is left, or the one that was rewritten. An opening of a journal of format two writes nothing,
 -- nor does one that is refused for what is on the disk; but for a disk that is too small, that one leaves it as a sync
--- does. After Ok nothing is pending, each image is in format two, and a journal of format one was rewritten, which was
--- not in the last generation. Each image is in format two after a `format` that answers Ok, too, and after each call of
--- an endpoint.
+-- does. Nor does one of a disk with no journal to rewrite, whatever it answers. After Ok nothing is pending, each image
+-- is in format two, and a journal of format one was rewritten, which was not in the last generation. Each image is in
+-- format two after a `format` that answers Ok, too, and after each call of an endpoint.
 pub record OpeningsBeginAnew {D : Type 0} (disk_of : D → Disk) : Type 0 where
   pub alike : (disk : D) (result : Result (EndpointValue D) (RecoverRefused D)) → IsHonest (disk_of disk)
       → IsOpening disk_of disk result
@@ -501,6 +505,11 @@ pub record OpeningsBeginAnew {D : Type 0} (disk_of : D → Disk) : Type 0 where
   pub unwritten : (disk : D) (result : Result (EndpointValue D) (RecoverRefused D)) → IsHonest (disk_of disk)
       → IsOpening disk_of disk result
       → HasFormat (now (disk_of disk)).seen Two → IsUnwritten (disk_of disk) (disk_after_opening disk_of result)
+  pub unmoved : (disk : D) (result : Result (EndpointValue D) (RecoverRefused D)) → IsHonest (disk_of disk)
+      → IsOpening disk_of disk result
+      → ((c : Content) (s : Standing) → HasJournal (now (disk_of disk)).seen c → meaning_of this_edition c ≡ Some s
+      → c.head.format ≡ One → c.head.generation ≡ 2 ^ 64 - 1)
+      → IsUnwritten (disk_of disk) (disk_after_opening disk_of result)
   pub refused : (disk : D) (refused : RecoverRefused D) → IsHonest (disk_of disk) → IsOpening disk_of disk (Err refused)
       → refused.fault ≢ DiskFault
       → IsUnwritten (disk_of disk) (disk_of refused.disk)

@@ -1,16 +1,18 @@
 -- The headline on editions: what an endpoint of one edition does, one of an edition that takes as much or more does
 -- too.
-use Rattle.std.specs.Prelude.{◌≡◌, ◌≢◌, ◌<◌, ◌≤◌, ◌⊎◌, true, false, ℕ, List, Contains, length, Option, Some, None}
-use Rattle.std.specs.Prelude.{IfSome, IsSomeAnd, Ok, Err}
+use Rattle.std.specs.Prelude.{◌≡◌, ◌≢◌, ◌<◌, ◌≤◌, ◌⊎◌, true, false, ℕ, List, [], ◌∷◌, Contains, length}
+use Rattle.std.specs.Prelude.{Option, Some, None, IfSome, IsSome, IsSomeAnd, Ok, Err, drop}
 use Rattle.macs_aes.specs.Keys.{octets_of_key}
 use Rattle.macs_config.specs.Apply.{IsCommand, LongKey, Named, Reason, apply, refusal_of}
-use Rattle.macs_config.specs.Config.{Config, Edition, IsUpTo, takes_key}
+use Rattle.macs_config.specs.Config.{Config, Edition, IsUpTo, is_spent, rx_fingerprint, takes_key, tx_fingerprint}
 use Rattle.macs_config.specs.Identity.{Identity}
 use Rattle.macs_config.specs.Judged.{rx_install, tx_install}
 use Rattle.macs_config.specs.declared.association.RxSa.{RxSa}
 use Rattle.macs_config.specs.declared.association.TxSa.{TxSa}
 use Rattle.macs_config.specs.declared.command.Command.{Command}
 use Rattle.macs_config.specs.declared.command.Command.TheVariants.{RxAdd, RxInstall, TxInstall}
+use Rattle.macs_config.specs.declared.command.SciMode.TheVariants.{EndStation}
+use Rattle.macs_config.specs.declared.part.Part.{Part}
 use Rattle.macs_config.specs.declared.refusal.Refusal.TheVariants.{ChannelsFull}
 use Rattle.macs_disk.specs.States.{Image, put_sector}
 use Rattle.macs_record.specs.Heads.{head_sector_of}
@@ -22,7 +24,7 @@ use Rattle.macs_journal.specs.Areas.{head_body, least_sectors}
 use Rattle.macs_journal.specs.Formatting.{first_content, first_head}
 use Rattle.macs_journal.specs.Found.{Content, HasJournal, content_with_record}
 use Rattle.macs_journal.specs.Renewal.{compacted}
-use Rattle.macs_store.specs.Commands.{command_of}
+use Rattle.macs_store.specs.Commands.{command_of, part_of}
 use Rattle.macs_store.specs.Found.{StandingIs}
 use Rattle.macs_store.specs.Replay.{meaning_of, reading_of, replay_of, snapshot_of, standing_after_record}
 use Rattle.macs_store.specs.Snapshot.{snapshot}
@@ -88,8 +90,10 @@ HasLongKey r = ⊥
 -- taken has 16 octets, or 32 where long keys are taken. Areas of format two are read by their records alone, where the
 -- edition reads them, so as those of format one where no record is of a long key, and else not; an area of format one
 -- with a record of a long key stands for nothing. A record of a command that it accepts stands for what the command
--- makes, whatever is installed; so does one of an association that a command asks for. What it reads, in a snapshot or
--- after it, has no more channels than it takes, and no key that it does not take.
+-- makes, whatever is installed; so does one of an association that a command asks for. A part of a snapshot is refused
+-- after it, and each other record in it. What it reads, in a snapshot or after it, has no more channels than it takes,
+-- and no key that it does not take; the association for frames that go out exists, an end station's port is 00-01, and
+-- installed keys are spent.
 pub record EditionsTake : Type 0 where
   pub channels : (edition : Edition) (identity : Identity) (c : Config) (sci : List ℕ)
       → length c.channels < edition.channels
@@ -124,6 +128,10 @@ pub record EditionsTake : Type 0 where
   pub kept : (s after : Standing) (record_kept : Record) (command : Command) → command_of record_kept ≡ Some command
       → accept s command ≡ Ok after
       → standing_after_record s record_kept ≡ Some after
+  pub part_after : (s : Standing) (r : Record) (part : Part) → part_of r ≡ Some part
+      → standing_after_record s r ≡ None
+  pub no_part : (edition : Edition) (identity : Identity) (records : List Record) (r : Record) → Contains records r
+      → part_of r ≡ None → snapshot_of edition identity records ≡ None
   pub tx_kept : (s after : Standing) (an : ℕ) (sa : TxSa) (start : ℕ) → accept s (tx_install an sa start) ≡ Ok after
       → standing_after_record s (recorded.TxInstall an sa start) ≡ Some after
   pub rx_kept : (s after : Standing) (sci : List ℕ) (an : ℕ) (sa : RxSa) (start : ℕ)
@@ -133,6 +141,14 @@ pub record EditionsTake : Type 0 where
       → replay_of edition identity count records ≡ Some s → (length s.config.channels ≤ edition.channels)
       × ((an : ℕ) (sa : TxSa) → s.config.tx an ≡ Some sa → takes_key edition sa.key ≡ true)
       × ((sci : List ℕ) (an : ℕ) (sa : RxSa) → s.config.rx sci an ≡ Some sa → takes_key edition sa.key ≡ true)
+  pub whole : (edition : Edition) (identity : Identity) (count : ℕ) (records : List Record) (s : Standing)
+      → replay_of edition identity count records ≡ Some s
+      → IfSome s.config.encoding (λ an. IsSome (s.config.tx an))
+      × (s.config.mode ≡ EndStation → drop 6 identity.sci ≡ 0 ∷ 1 ∷ [])
+      × ((an : ℕ) (sa : TxSa) → an < 4 → s.config.tx an ≡ Some sa
+      → is_spent s.config.spent_tx (tx_fingerprint sa.key) ≡ true)
+      × ((sci : List ℕ) (an : ℕ) (sa : RxSa) → an < 4 → s.config.rx sci an ≡ Some sa
+      → is_spent s.config.spent_rx (rx_fingerprint sci sa.key) ≡ true)
 
 -- the same content, in an area of this format
 abbrev pub content_in : Format → Content → Content

@@ -28,6 +28,11 @@ pub record LosesPower (ran : Disk) (since : ℕ) (new : Disk) : Type 0 where
   pub alike : IsAlike ran new
   pub settled : now new ≡ settled_state image
 
+-- So it goes for each such disk that holds an image of a moment since, with nothing pending.
+abbrev pub TheseLosePower : Type 0
+TheseLosePower = (ran new : Disk) (since : ℕ) (image : Image) → LeftSince ran since image → IsAlike ran new
+    → now new ≡ settled_state image → LosesPower ran since new
+
 -- Power is lost.
 abbrev pub PowerLossesPassOn : Type 0
 PowerLossesPassOn = (old new : Disk) (since : ℕ) → LosesPower old since new → IsPassedOn old since new

@@ -85,6 +85,8 @@ pub record OpeningsCount {D : Type 0} (disk_of : D → Disk) : Type 0 where
   pub format_small : (old new : D) (identity : Identity) (result : Result (Unit {0}) JournalFault)
       → IsFormat disk_of old identity result new
       → (disk_of old).sectors < least_sectors → (result ≡ Err TooSmall) × (new ≡ old)
+  pub format_only_small : (old new : D) (identity : Identity) → IsFormat disk_of old identity (Err TooSmall) new
+      → (disk_of old).sectors < least_sectors
   pub names : (disk : D) (refused : RecoverRefused D) → IsOpening disk_of disk (Err refused)
       → IsOpenName refused.fault
 

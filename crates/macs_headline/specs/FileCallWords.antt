@@ -8,12 +8,12 @@ use Rattle.macs_disk.specs.Files.{file_showing, file_synced, values_from}
 
 -- After a sync that fails the file is in doubt, and shows, has durably and has pending what it did: so it may show what
 -- no power loss leaves. A sync that succeeds makes durable what is shown where the file was sure, and where it was in
--- doubt any of its images, and the file stays in doubt. So it does through writes; of one in doubt a read gives
--- anything. A write of one that is sure writes the first of its octets, as many as it answers; one that fails any
--- octets there, no more than as many, maybe none. A read changes nothing, and gives what is shown. A claim that fails,
--- too, changes nothing. A rereading that fails may leave anything shown, and nothing else changed. Only a clean file
--- that is claimed shows what is durable once it is read again. A power loss leaves what is durable in a block that is
--- not pending, and any octets in one that is.
+-- doubt any of its images, and the file stays in doubt. So it does through writes, which may leave it any; of one in
+-- doubt a read gives anything. A write of one that is sure writes the first of its octets, as many as it answers; one
+-- that fails any octets there, no more than as many, maybe none. A read changes nothing, and gives what is shown. A
+-- claim that fails, too, changes nothing. A rereading that fails may leave anything shown, and nothing else changed.
+-- Only a clean file that is claimed shows what is durable once it is read again. A power loss leaves what is durable in
+-- a block that is not pending, and any octets in one that is.
 pub record FileCallWords : Type 0 where
   pub failed_sync : (old new : FileState) (error : ℕ) → SyncsFile {T = ℕ} {E = ℕ} old new (Err error)
       ↔ (new ≡ file_in_doubt old)
@@ -38,7 +38,9 @@ pub record FileCallWords : Type 0 where
       → WritesAll {T = ℕ} {E = ℕ} old new at octets (Err error) ↔ WritesFile {E = ℕ} old new at octets (Err error)
   pub still_sure : (old : FileState) (at : ℕ) (octets : List ℕ) → (file_after_write old at octets).is_sure ≡ old.is_sure
   pub unsure_write : (old new : FileState) (at : ℕ) (octets : List ℕ) (result : Result ℕ ℕ)
-      → WritesFile old new at octets result → old.is_sure ≡ false → new.is_sure ≡ false
+      → old.is_sure ≡ false → WritesFile old new at octets result ↔ (new.is_sure ≡ false)
+  pub unsure_write_all : (old new : FileState) (at : ℕ) (octets : List ℕ) (result : Result ℕ ℕ)
+      → old.is_sure ≡ false → WritesAll old new at octets result ↔ (new.is_sure ≡ false)
   pub read : (old new : FileState) (at count : ℕ) (into : List ℕ) → IsSure old
       → ReadsFile {E = ℕ} old new at into (Ok count) ↔ ((new ≡ old) × (take count into ≡ values_from old.seen at count))
   pub failed_read : (old new : FileState) (at error : ℕ) (into : List ℕ)

@@ -1,7 +1,9 @@
--- The headline on the octets of a disk: how a head, a gate and each kind of record are written.
-use Rattle.std.specs.Prelude.{◌≡◌, ◌++◌, ◌∷◌, [], ℕ, true, false, List, length, map, Option, Some, None}
+-- The headline on the octets of a disk: how a head, a gate and each kind of record are written, and what is read so.
+use Rattle.std.specs.Prelude.{◌≡◌, ◌↔◌, ◌<◌, ◌≤◌, ◌^◌, ◌++◌, ◌∷◌, [], ℕ, true, false, List, length, map, Option, Some}
+use Rattle.std.specs.Prelude.{None}
 use Rattle.std.specs.Int.{to_be_bytes, w32, w64}
 use Rattle.std.specs.List.{concat}
+use Rattle.macs_config.specs.Identity.{IsBlock}
 use Rattle.macs_config.specs.declared.association.Protection.TheVariants.{Integrity, Confidentiality}
 use Rattle.macs_config.specs.declared.association.RxSa.{RxSa}
 use Rattle.macs_config.specs.declared.association.TxSa.{TxSa}
@@ -11,12 +13,14 @@ use Rattle.macs_config.specs.declared.command.SciMode.{SciMode}
 use Rattle.macs_config.specs.declared.command.SciMode.TheVariants.{Explicit, EndStation, Implicit}
 use Rattle.macs_config.specs.declared.command.Validate.{Validate}
 use Rattle.macs_config.specs.declared.command.Validate.TheVariants.{Strict, Check}
-use Rattle.macs_fields.specs.Fields.{octets_of}
+use Rattle.macs_fields.specs.Fields.{IsSci, octets_of}
 use Rattle.macs_fields.specs.declared.fields.Offset.{Offset}
-use Rattle.macs_record.specs.Gates.{closed_gate, open_gate, open_mark}
-use Rattle.macs_record.specs.Heads.{Head, head_octets, head_sector_of, version_of}
-use Rattle.macs_record.specs.Layout.{by_length, encoding_octet, fields_of, flag_octet, kind_number, mode_octet}
-use Rattle.macs_record.specs.Layout.{kind_of, protection_octets, replay_octets, role_octet, sector_of, validate_octet}
+use Rattle.macs_record.specs.Decoding.{IsSectorOf}
+use Rattle.macs_record.specs.Gates.{IsOpen, closed_gate, open_gate, open_mark}
+use Rattle.macs_record.specs.Heads.{Head, IsHead, IsHeadOf, head_octets, head_sector_of, version_of}
+use Rattle.macs_record.specs.Layout.{IsRecord, by_length, encoding_octet, fields_of, flag_octet, kind_number}
+use Rattle.macs_record.specs.Layout.{kind_of, mode_octet, protection_octets, replay_octets, role_octet, sector_of}
+use Rattle.macs_record.specs.Layout.{validate_octet}
 use Rattle.macs_record.specs.Sectors.{padded_sector}
 use Rattle.macs_record.specs.declared.format.Format.TheVariants.{One, Two}
 use Rattle.macs_record.specs.declared.kind.Kind.{Kind}
@@ -27,7 +31,9 @@ use Rattle.macs_record.specs.declared.record.Record.TheVariants as records
 -- Each kind of record has its own number, and the two kinds of a record with a key are told apart by whether that has
 -- 16 octets. A sector is a mark, the number, the fields in order, and zeros; numbers are big-endian. A head has its own
 -- mark, the version of its format, its generation, how many records its snapshot has, the SCI and both blocks. A gate
--- is open by its mark, and closed as zeros.
+-- is open by its mark, and closed as zeros. Read as open is each gate that begins with that mark, whatever follows, and
+-- no other one; as a record or a head each sector that is written so, with fields in their ranges, and no other one. A
+-- head's generation is 1 to 2^64 - 1, its count 1 to 256, its SCI has 8 octets, and its blocks are in their range.
 pub record OctetWords : Type 0 where
   pub numbers : map kind_number (kinds.Settings ∷ kinds.TxSa ∷ kinds.Channel ∷ kinds.RxSa ∷ kinds.Spent
       ∷ kinds.SetValidate ∷ kinds.SetReplay ∷ kinds.SetSciMode ∷ kinds.TxInstall ∷ kinds.TxUse ∷ kinds.TxRemove
@@ -82,3 +88,12 @@ pub record OctetWords : Type 0 where
   pub versions : (version_of One ≡ 1) × (version_of Two ≡ 2)
   pub gates : (open_mark ≡ 0x4d ∷ 0x53 ∷ 0x45 ∷ 0x43 ∷ 0x4f ∷ 0x50 ∷ 0x45 ∷ 0x4e ∷ [])
       × (open_gate ≡ padded_sector open_mark) × (closed_gate ≡ padded_sector [])
+  pub opened : (sector : List ℕ) → IsOpen sector
+      ↔ ((rest : List ℕ) × (sector ≡ (0x4d ∷ 0x53 ∷ 0x45 ∷ 0x43 ∷ 0x4f ∷ 0x50 ∷ 0x45 ∷ 0x4e ∷ []) ++ rest))
+  pub read_record : (r : Record) (sector : List ℕ) → IsSectorOf r sector ↔ (IsRecord r × (sector_of r ≡ sector))
+  pub read_head : (head : Head) (sector : List ℕ) → IsHeadOf head sector
+      ↔ (IsHead head × (head_sector_of head ≡ sector))
+  pub head_range : (head : Head) → IsHead head
+      ↔ ((0 < head.generation) × (head.generation < 2 ^ 64) × (1 ≤ head.count) × (head.count ≤ 256)
+      × IsSci head.identity.sci
+      × IsBlock head.identity.tx_block × IsBlock head.identity.rx_block)

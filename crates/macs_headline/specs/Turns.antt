@@ -53,7 +53,8 @@ pub record TurnsAreCounted (D : Type 0) : Type 0 where
 -- Work lasts over no calls, and over one more before which it is under way, and after which the endpoint runs. No
 -- command is done with, a ceiling is needed, and none is raised, by no calls, and by one more whose answer says so, or
 -- before which one is needed. An association is the one that frames go out under where it is so configured and has a
--- number. Of an endpoint that is sound 16 commands wait at most, and 2^64 - 1 tickets were given at most.
+-- number. Of an endpoint that is sound 16 commands wait at most, 2^64 - 1 tickets were given at most, its SCI has 8
+-- octets, and its blocks are of 1 to 65,536 numbers.
 pub record TurnsAreBuilt (D : Type 0) : Type 0 where
   pub tx_none : (an : ℕ) (e : EndpointValue D) → TxStays an e []
   pub tx_stays : (an : ℕ) (e : EndpointValue D) (turn : Transition D) (turns : List (Transition D))
@@ -87,3 +88,6 @@ pub record TurnsAreBuilt (D : Type 0) : Type 0 where
   pub encoding : (e : EndpointValue D) (an : ℕ) → (standing_in e.store).config.encoding ≡ Some an
       → IsSome ((state_of e no_logs).next an) → IsEncodingAn e an
   pub queue : (e : EndpointValue D) → IsSoundEndpoint e → (length e.waiting ≤ 16) × (e.tickets ≤ 2 ^ 64 - 1)
+  pub identity : (e : EndpointValue D) → IsSoundEndpoint e → (length (standing_in e.store).identity.sci ≡ 8)
+      × ((1 ≤ (standing_in e.store).identity.tx_block) × ((standing_in e.store).identity.tx_block ≤ 65536))
+      × ((1 ≤ (standing_in e.store).identity.rx_block) × ((standing_in e.store).identity.rx_block ≤ 65536))

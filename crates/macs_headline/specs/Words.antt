@@ -2,6 +2,7 @@
 -- they say this and no more.
 use Rattle.std.specs.Prelude.{◌≡◌, ◌≢◌, ◌⊎◌, ◌<◌, ◌+◌, ◌^◌, false, ℕ, Bool, List, [], Option, Some, None, Result, Ok}
 use Rattle.std.specs.Prelude.{length, All}
+use Rattle.macs_aes.specs.Keys.{octets_of_key}
 use Rattle.macs_aes.specs.declared.keys.Key.{Key}
 use Rattle.macs_frame.specs.Tag.{tag_of}
 use Rattle.macs_config.specs.Apply.{apply}
@@ -63,7 +64,7 @@ pub record EditionWords : Type 0 where
 -- out under, on a transmit association, on a receive channel, and on a receive association: it names that, and no other
 -- command is. What sets a packet number is on its association, or is a window. A window and the number that an
 -- association begins with, of a command that is given, are below 2^32; an association's number is below 4, an SCI has 8
--- octets, and an offset is below 256. That is so of a command that is handed in to wait, too.
+-- octets, a key 16 or 32, and an offset is below 256. That is so of a command that is handed in to wait, too.
 pub record CommandWords : Type 0 where
   pub validate : (c : Command) → IsOnValidate c → (to : Validate) × (c ≡ SetValidate to)
   pub replay : (c : Command) → IsOnReplay c → (on : Bool) × (window : ℕ) × (c ≡ SetReplay on window)
@@ -84,6 +85,14 @@ pub record CommandWords : Type 0 where
       → start < 2 ^ 32
   pub rx_start : (sci : List ℕ) (an : ℕ) (key : Key) (start offset : ℕ)
       → IsInRange (Commands (RxInstall sci an key start offset)) → start < 2 ^ 32
+  pub tx_key : (an : ℕ) (key : Key) (start : ℕ) (confidential : Bool) (offset : ℕ)
+      → IsInRange (Commands (TxInstall an key start confidential offset))
+      → ((length (octets_of_key key) ≡ 16) ⊎ (length (octets_of_key key) ≡ 32))
+      × All (λ octet. octet < 2 ^ 8) (octets_of_key key)
+  pub rx_key : (sci : List ℕ) (an : ℕ) (key : Key) (start offset : ℕ)
+      → IsInRange (Commands (RxInstall sci an key start offset))
+      → ((length (octets_of_key key) ≡ 16) ⊎ (length (octets_of_key key) ≡ 32))
+      × All (λ octet. octet < 2 ^ 8) (octets_of_key key)
   pub install_range : (an : ℕ) (key : Key) (start : ℕ) (confidential : Bool) (offset : ℕ)
       → IsInRange (Commands (TxInstall an key start confidential offset))
       → (an < 4) × (offset < 2 ^ 8)

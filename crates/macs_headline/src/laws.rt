@@ -1,6 +1,7 @@
 //! The laws, and that what a program does is what they speak of.
 
-ghost use Rattle.std.specs.Prelude.{◌≡◌, ◌≤◌, ◌<◌, ◌%◌, ℕ, max, Bool, true, List, [], ◌∷◌, IsTrue};
+ghost use Rattle.std.specs.Prelude.{◌≡◌, ◌≤◌, ◌<◌, ◌%◌, ℕ, max, Bool, true, false, List, [], ◌∷◌};
+ghost use Rattle.std.specs.Prelude.{IsTrue};
 ghost use Rattle.macs_disk.specs.Disk.{Disk, IsHonest, LeftSince, MayLeave, disk_after_loss, now};
 ghost use Rattle.macs_disk.specs.FileDisks.{IsBlank, IsFoundAgain, IsFoundAs, IsLeftAsShown};
 ghost use Rattle.macs_disk.specs.FileDisks.{IsOpened, disk_in_file};
@@ -56,7 +57,7 @@ ghost use Rattle.macs_headline.specs.Endings.{DroppedPassOn, EndsAreEarlier, Ima
 ghost use Rattle.macs_headline.specs.Endings.{KillingsPassOn, LosesPower, LossesSettle};
 ghost use Rattle.macs_headline.specs.Endings.{PassedOnAgain, PowerLossesPassOn, TheseAreImages};
 ghost use Rattle.macs_headline.specs.Endings.{ReadsPassOn, SyncsPassOn, TheseAreAlike};
-ghost use Rattle.macs_headline.specs.Endings.{TheseArePassedOn};
+ghost use Rattle.macs_headline.specs.Endings.{TheseArePassedOn, TheseLosePower};
 ghost use Rattle.macs_headline.specs.Endings.{WritesBackAsSyncs, WrittenBackPassOn};
 ghost use Rattle.macs_headline.specs.ExampleLives.{IsWorkedHistory};
 ghost use Rattle.macs_headline.specs.ExampleMigration.{IsWorkedMigration};
@@ -442,7 +443,8 @@ pub fn endings<D: SectorDisk>()
     ensures as_alike { TheseAreAlike }
     // The medium is passed on to each of those that may leave nothing but images of a moment since.
     ensures as_passed_on { TheseArePassedOn }
-    // Power is lost.
+    // Power is lost, so for each such disk that holds an image of a moment since.
+    ensures as_lost { TheseLosePower }
     ensures power_lost { PowerLossesPassOn }
     // The program is killed, and no power is lost.
     ensures killed { KillingsPassOn }
@@ -582,7 +584,8 @@ pub fn file_calls()
     ensures { FileCallWords }
 {}
 
-/// How a head, a gate and each kind of record are written on a disk, octet by octet.
+/// How a head, a gate and each kind of record are written on a disk, octet by octet, and which
+/// sectors are read so.
 pub fn octets()
     ensures { OctetWords }
 {}
@@ -625,6 +628,14 @@ pub fn files<F: DiskFile>()
     // Its first 1,028 are zeros.
     ensures zeros { (old new : FileState) (layout : Layout) (disk : Disk) (i : ℕ)
         → IsBlank old new layout disk → i < 1028 → (now disk).seen i ≡ zero_sector }
+    // All of them are durable, and none is pending.
+    ensures durable { (old new : FileState) (layout : Layout) (disk : Disk) (i : ℕ)
+        → IsBlank old new layout disk
+        → ((now disk).durable i ≡ (now disk).seen i) × ((now disk).pending i ≡ false) }
+    // So are those of a file that is opened, which has as many as were asked for.
+    ensures opened { (file : FileState) (least : ℕ) (layout : Layout) (disk : Disk) (i : ℕ)
+        → IsOpened file least layout disk → (least ≤ disk.sectors)
+        × ((now disk).durable i ≡ (now disk).seen i) × ((now disk).pending i ≡ false) }
     // A file that is opened has whole sectors.
     ensures whole_sectors { (file : FileState) (least : ℕ) (layout : Layout) (disk : Disk)
         → IsOpened file least layout disk → file.size % 512 ≡ 0 }

@@ -1,6 +1,6 @@
-use Rattle.std.proofs.Common.{ap, ◌∙◌}
+use Rattle.std.proofs.Common.{ap, ◌∙◌, arith}
 use Rattle.macs_disk.specs.Files.{FileState}
-use Rattle.macs_headline.proofs.DiskFiles.{blank-file-is-new, left-suited, let-go, opened-again}
+use Rattle.macs_headline.proofs.DiskFiles.{blank-file-is-new, left-suited, let-go, opened-again, opened-still}
 use Rattle.macs_headline.proofs.laws.files.Goals as goal
 
 pub returns-clause-new : goal.returns-clause-new
@@ -23,6 +23,15 @@ returns-clause-sectors g c = λ old new layout disk blank. blank.sectors
 
 pub returns-clause-zeros : goal.returns-clause-zeros
 returns-clause-zeros g c = λ old new layout disk i blank within. blank.zeros i within
+
+pub returns-clause-durable : goal.returns-clause-durable
+returns-clause-durable g c = λ old new layout disk i blank. (blank.durable i, blank.clean i)
+
+pub returns-clause-opened : goal.returns-clause-opened
+returns-clause-opened g c = λ file least layout disk i opened.
+    let count = opened.sectors in
+    let still = opened-still file least layout disk i opened in
+    (omega (arith, count), still.0, still.1)
 
 pub returns-clause-whole_sectors : goal.returns-clause-whole_sectors
 returns-clause-whole_sectors g c = λ file least layout disk opened. opened.whole
