@@ -5,9 +5,9 @@ use Rattle.std.proofs.lemmas.List.{take_all}
 use Rattle.macs_plan.specs.declared.link.End.{End}
 use Rattle.macs_plan.specs.declared.planning.Stage.{Stage}
 use Rattle.macs_program.specs.Checking.{Complains}
-use Rattle.macs_program.specs.Plans.{IsSaidOfLink, PlansFile}
+use Rattle.macs_program.specs.Plans.{IsSaidOfLink, PlanFails, PlansFile}
 use Rattle.macs_program.specs.declared.failure.Failure.{Failure}
-use Rattle.macs_program.proofs.Checked.{complains-weaker, short-whole}
+use Rattle.macs_program.proofs.Checked.{EndsOfFile, complains-weaker, short-whole}
 
 module _ (end : End) (stage : Stage) where
   -- a file that says a link was read whole
@@ -48,3 +48,9 @@ module _ (end : End) (stage : Stage) where
   link-read (Some octets) input failure read complains =
       complains-weaker (IsSaidOfLink end stage input) (IsSaidOfLink end stage octets) failure
       (λ said is. link-whole input octets said read is) complains
+
+  -- nothing is planned of a file, and nothing was printed
+  pub not-planned : {F : Type 0} (left_in : F → Option (List ℕ)) (failure : Failure)
+      → EndsOfFile (IsSaidOfLink end stage) left_in failure → PlanFails left_in end stage failure
+  not-planned left_in failure (inl unread) = inl unread
+  not-planned left_in failure (inr said) = inr (inr said)
