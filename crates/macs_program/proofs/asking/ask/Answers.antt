@@ -18,7 +18,8 @@ returns-in-Counters g c =
       printed = rw c.in-Counters.is said.printed;
       failed = said.failed;
       front = rw c.in-Counters.is
-          (IfErr-weaker c.ask_once-in-Counters.result _ _ (λ failure same other. ap g.W.Stream.contents (same other)) said.silent);
+          (IfErr-weaker c.ask_once-in-Counters.result _ _ (λ failure same other. ap g.W.Stream.contents (same other))
+          said.silent);
       broken = said.broken;
     }
 
