@@ -22,6 +22,31 @@ fn with_value<'a>(
     words?.arg(value)
 }
 
+/// The same with a value that has to be given.
+fn with_required<'a>(
+    words: Result<Command<'a>, AllocError>,
+    alloc: Global,
+    name: &'a str,
+) -> Result<Command<'a>, AllocError>
+    ensures { (app : App) → IfOk words.entry (λ command. IsClapCommand command app)
+        → IfOk result
+        (λ command. IsClapCommand command (with_rule app (value_rule name.entry.now))) }
+{
+    with_value(words, value(alloc, name))
+}
+
+/// The words of a subcommand over a file, which is its first value.
+pub fn file_words<'a>(
+    alloc: Global,
+    name: &'a str,
+    file: &'a str,
+) -> Result<Command<'a>, AllocError>
+    ensures { IfOk result (λ command. IsClapCommand command (with_rule
+        (new_app name.entry.now) (value_rule file.entry.now))) }
+{
+    with_value(Ok(Command::new(alloc, name)), value(alloc, file))
+}
+
 /// The words of `open`: none of its own.
 pub fn open_words<'a>(alloc: Global) -> Command<'a>
     ensures { IsClapCommand result (new_app (codes "open")) }
@@ -38,8 +63,8 @@ pub fn format_words<'a>(alloc: Global) -> Result<Command<'a>, AllocError>
         (number_rule (codes "TX"))) (number_rule (codes "RX"))) (option_rule (codes "block")))
         (flag_rule (codes "over")))) }
 {
-    let words = with_value(Ok(Command::new(alloc, "format")), value(alloc, "DISK"));
-    let words = with_value(words, value(alloc, "SCI"));
+    let words = file_words(alloc, "format", "DISK");
+    let words = with_required(words, alloc, "SCI");
     let words = with_value(words, number(alloc, "TX"));
     let words = with_value(words, number(alloc, "RX"));
     let words = with_value(words, option(alloc, "block"));
@@ -51,8 +76,7 @@ pub fn apply_words<'a>(alloc: Global) -> Result<Command<'a>, AllocError>
     ensures { IfOk result (λ command. IsClapCommand command (with_rule (with_rule
         (new_app (codes "apply")) (value_rule (codes "DISK"))) (value_rule (codes "FILE")))) }
 {
-    let words = with_value(Ok(Command::new(alloc, "apply")), value(alloc, "DISK"));
-    with_value(words, value(alloc, "FILE"))
+    with_required(file_words(alloc, "apply", "DISK"), alloc, "FILE")
 }
 
 /// The words of `show`.
@@ -60,7 +84,7 @@ pub fn show_words<'a>(alloc: Global) -> Result<Command<'a>, AllocError>
     ensures { IfOk result (λ command. IsClapCommand command (with_rule
         (new_app (codes "show")) (value_rule (codes "DISK")))) }
 {
-    with_value(Ok(Command::new(alloc, "show")), value(alloc, "DISK"))
+    file_words(alloc, "show", "DISK")
 }
 
 /// The words of a subcommand over a disk and two captures.
@@ -70,9 +94,9 @@ pub fn capture_words<'a>(alloc: Global, name: &'a str) -> Result<Command<'a>, Al
         (new_app name.entry.now) (value_rule (codes "DISK"))) (value_rule (codes "INPUT")))
         (value_rule (codes "OUTPUT"))) (flag_rule (codes "all")))) }
 {
-    let words = with_value(Ok(Command::new(alloc, name)), value(alloc, "DISK"));
-    let words = with_value(words, value(alloc, "INPUT"));
-    let words = with_value(words, value(alloc, "OUTPUT"));
+    let words = file_words(alloc, name, "DISK");
+    let words = with_required(words, alloc, "INPUT");
+    let words = with_required(words, alloc, "OUTPUT");
     with_value(words, flag(alloc, "all"))
 }
 
@@ -95,11 +119,11 @@ fn wire_words<'a>(alloc: Global) -> Result<Command<'a>, AllocError>
         (value_rule (codes "PEER1"))) (value_rule (codes "OWN2"))) (value_rule (codes "PEER2")))
         (count_rule (codes "turns"))) (wait_rule (codes "wait")))) }
 {
-    let words = with_value(Ok(Command::new(alloc, "relay")), value(alloc, "DISK"));
-    let words = with_value(words, value(alloc, "OWN1"));
-    let words = with_value(words, value(alloc, "PEER1"));
-    let words = with_value(words, value(alloc, "OWN2"));
-    let words = with_value(words, value(alloc, "PEER2"));
+    let words = file_words(alloc, "relay", "DISK");
+    let words = with_required(words, alloc, "OWN1");
+    let words = with_required(words, alloc, "PEER1");
+    let words = with_required(words, alloc, "OWN2");
+    let words = with_required(words, alloc, "PEER2");
     let words = with_value(words, count(alloc, "turns"));
     with_value(words, wait(alloc, "wait"))
 }
@@ -126,8 +150,7 @@ pub fn ask_words<'a>(alloc: Global) -> Result<Command<'a>, AllocError>
         (new_app (codes "ask")) (value_rule (codes "PATH"))) (value_rule (codes "WORD")))
         (last_rule (codes "FILE")))) }
 {
-    let words = with_value(Ok(Command::new(alloc, "ask")), value(alloc, "PATH"));
-    let words = with_value(words, value(alloc, "WORD"));
+    let words = with_required(file_words(alloc, "ask", "PATH"), alloc, "WORD");
     with_value(words, last(alloc, "FILE"))
 }
 
@@ -137,18 +160,6 @@ pub fn key_words<'a>(alloc: Global) -> Result<Command<'a>, AllocError>
         (new_app (codes "key")) (flag_rule (codes "long")))) }
 {
     with_value(Ok(Command::new(alloc, "key")), flag(alloc, "long"))
-}
-
-/// The words of a subcommand over one file alone.
-pub fn file_words<'a>(
-    alloc: Global,
-    name: &'a str,
-    file: &'a str,
-) -> Result<Command<'a>, AllocError>
-    ensures { IfOk result (λ command. IsClapCommand command (with_rule
-        (new_app name.entry.now) (value_rule file.entry.now))) }
-{
-    with_value(Ok(Command::new(alloc, name)), value(alloc, file))
 }
 
 /// The words of `check`.
@@ -165,9 +176,8 @@ pub fn plan_words<'a>(alloc: Global) -> Result<Command<'a>, AllocError>
         (new_app (codes "plan")) (value_rule (codes "FILE"))) (value_rule (codes "END")))
         (value_rule (codes "STAGE")))) }
 {
-    let words = with_value(Ok(Command::new(alloc, "plan")), value(alloc, "FILE"));
-    let words = with_value(words, value(alloc, "END"));
-    with_value(words, value(alloc, "STAGE"))
+    let words = with_required(file_words(alloc, "plan", "FILE"), alloc, "END");
+    with_required(words, alloc, "STAGE")
 }
 
 /// The words of `about`: none of its own.

@@ -1,9 +1,4 @@
-use Rattle.std.proofs.Common.{codes}
-use Rattle.macs_words.proofs.Subcommands.{no_values}
 use Rattle.macs_words.proofs.subcommand_words.apply_words.Goals as goal
 
 pub returns : goal.returns
-returns c =
-    let with-1 = c.with_value-words.ensures _ _ (no_values c.new.result (codes "apply") c.new.ensures.app
-    c.new.ensures.local) c.value.ensures.rule c.value.ensures.local in
-    c.with_value.ensures _ _ with-1 c.value-2.ensures.rule c.value-2.ensures.local
+returns c = c.with_required.ensures _ c.file_words.ensures

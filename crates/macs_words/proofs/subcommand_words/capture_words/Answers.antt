@@ -1,10 +1,7 @@
-use Rattle.macs_words.proofs.Subcommands.{no_values}
 use Rattle.macs_words.proofs.subcommand_words.capture_words.Goals as goal
 
 pub returns : goal.returns
 returns c =
-    let with-1 = c.with_value-words.ensures _ _ (no_values c.new.result c.args.name.now c.new.ensures.app
-    c.new.ensures.local) c.value.ensures.rule c.value.ensures.local in
-    let with-2 = c.with_value-words-2.ensures _ _ with-1 c.value-2.ensures.rule c.value-2.ensures.local in
-    let with-3 = c.with_value-words-3.ensures _ _ with-2 c.value-3.ensures.rule c.value-3.ensures.local in
-    c.with_value.ensures _ _ with-3 c.flag.ensures.rule c.flag.ensures.local
+    let with-1 = c.with_required-words.ensures _ c.file_words-words.ensures in
+    let with-2 = c.with_required-words-2.ensures _ with-1 in
+    c.with_value.ensures _ _ with-2 c.flag.ensures.rule c.flag.ensures.local

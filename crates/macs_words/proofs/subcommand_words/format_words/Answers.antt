@@ -1,13 +1,9 @@
-use Rattle.std.proofs.Common.{codes}
-use Rattle.macs_words.proofs.Subcommands.{no_values}
 use Rattle.macs_words.proofs.subcommand_words.format_words.Goals as goal
 
 pub returns : goal.returns
 returns c =
-    let with-1 = c.with_value-words.ensures _ _ (no_values c.new.result (codes "format") c.new.ensures.app
-    c.new.ensures.local) c.value.ensures.rule c.value.ensures.local in
-    let with-2 = c.with_value-words-2.ensures _ _ with-1 c.value-2.ensures.rule c.value-2.ensures.local in
-    let with-3 = c.with_value-words-3.ensures _ _ with-2 c.number.ensures.rule c.number.ensures.local in
-    let with-4 = c.with_value-words-4.ensures _ _ with-3 c.number-2.ensures.rule c.number-2.ensures.local in
-    let with-5 = c.with_value-words-5.ensures _ _ with-4 c.option.ensures.rule c.option.ensures.local in
-    c.with_value.ensures _ _ with-5 c.flag.ensures.rule c.flag.ensures.local
+    let with-1 = c.with_required-words.ensures _ c.file_words-words.ensures in
+    let with-2 = c.with_value-words.ensures _ _ with-1 c.number.ensures.rule c.number.ensures.local in
+    let with-3 = c.with_value-words-2.ensures _ _ with-2 c.number-2.ensures.rule c.number-2.ensures.local in
+    let with-4 = c.with_value-words-3.ensures _ _ with-3 c.option.ensures.rule c.option.ensures.local in
+    c.with_value.ensures _ _ with-4 c.flag.ensures.rule c.flag.ensures.local
