@@ -1,15 +1,11 @@
 -- What is said of a command file that was read.
-use Rattle.std.proofs.Common.{◌≡◌, ◌⊎◌, ℕ, ◌++◌, ◌<◌, ◌≤◌, List, [], length, take, Option, Some, None, IfSome}
+use Rattle.std.proofs.Common.{◌≡◌, ◌⊎◌, ℕ, ◌++◌, ◌≤◌, List, [], length, take, Option, Some, None, IfSome}
 use Rattle.std.proofs.Common.{option_map, inl, inr, length-take, ap, subst, sym, ◌∙◌, arith, string_bytes}
 use Rattle.std.proofs.Common.{Result, Ok, Err, IfErr}
 use Rattle.std.proofs.lemmas.List.{take_all}
-use Rattle.toml.specs.Data.{Members}
-use Rattle.toml.specs.Parse.{parse_document}
-use Rattle.macs_commands.specs.CommandFiles.{file_commands}
-use Rattle.macs_commands.specs.declared.config_fault.ConfigFault.{ConfigFault}
 use Rattle.macs_config.specs.declared.command.Command.{Command}
 use Rattle.macs_program.specs.Applying.{SaidByFile, longest_file}
-use Rattle.macs_program.specs.Checking.{Complains, ComplainsOfFile, HasFault, IsSaidOfFile, IsSaidOfText}
+use Rattle.macs_program.specs.Checking.{Complains, ComplainsOfFile, IsSaidOfFile}
 use Rattle.macs_program.specs.declared.failure.Failure.{Failure}
 use Rattle.macs_program.specs.declared.failure.Failure.TheVariants.{Commands, Memory}
 

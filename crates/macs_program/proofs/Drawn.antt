@@ -1,12 +1,9 @@
 -- All that is to be drawn from words of the program's contracts.
-use Rattle.std.proofs.Common.{◌≡◌, ◌≢◌, ◌⊎◌, inl, inr, ◌+◌, ◌/◌, ℕ, Bool, true, false, List, [], ◌∷◌, length, Option}
+use Rattle.std.proofs.Common.{◌≡◌, ◌⊎◌, inl, inr, ◌/◌, ℕ, Bool, true, false, List, [], ◌∷◌, length, Option}
 use Rattle.std.proofs.Common.{Some, None, Result, Ok, Err, refl, sym, ◌∙◌, ap, subst, arith}
 use Rattle.std.specs.Prelude.{IfSome, codes, get_or, take}
 use Rattle.hex.specs.Hex.{decode_of}
-use Rattle.toml.specs.Data.{Members}
 use Rattle.macs_aes.specs.Keys.{octets_of_key}
-use Rattle.macs_config.specs.Apply.{Named, apply}
-use Rattle.macs_config.specs.Config.{Config}
 use Rattle.macs_config.specs.declared.command.Command.{Command}
 use Rattle.macs_config.specs.declared.refusal.Refusal.{Refusal}
 use Rattle.macs_disk.specs.Disk.{Disk}

@@ -1,7 +1,7 @@
 -- The lines of verdicts, one after another.
-use Rattle.std.proofs.Common.{◌≡◌, ◌≢◌, ◌≤◌, ◌<◌, ◌⊎◌, ◌∙◌, ◌+◌, ◌++◌, ◌^◌, ℕ, Bool, true, false, List, [], ◌∷◌, length}
+use Rattle.std.proofs.Common.{◌≡◌, ◌≤◌, ◌<◌, ◌⊎◌, ◌∙◌, ◌+◌, ◌^◌, ℕ, Bool, true, false, List, [], ◌∷◌, length}
 use Rattle.std.proofs.Common.{codes}
-use Rattle.std.proofs.Common.{Option, Result, Ok, Err, IfErr, IfOk, inl, inr, ap, arith, append_assoc, refl, subst, sym}
+use Rattle.std.proofs.Common.{Option, Result, Ok, Err, IfErr, inl, inr, ap, arith, refl, subst, sym}
 use Rattle.std.proofs.KnownBytes.{Appends-nil, Appends-trans}
 use Rattle.std.specs.Io.KnownBytes.{Appends}
 use Rattle.macs_disk.specs.Disk.{Disk}

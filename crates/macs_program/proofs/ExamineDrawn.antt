@@ -1,5 +1,5 @@
 -- All that is to be drawn from the words on what `examine` and `about` print.
-use Rattle.std.proofs.Common.{◌≡◌, inl, inr, ℕ, List, Option, ap, refl}
+use Rattle.std.proofs.Common.{inl, inr, ℕ, Option, ap, refl}
 use Rattle.macs_program.specs.ExamineTexts.{AboutTexts, ExamineTexts}
 use Rattle.macs_program.specs.Examining.{rx_ceiling_line, tx_ceiling_line}
 

@@ -1,5 +1,5 @@
 -- Faults of a journal.
-use Rattle.std.proofs.Common.{◌≡◌, ◌<◌, ◌⊎◌, ◌↔◌, ◌+◌, inl, inr, ℕ, Bool, true, false, IsTrue, List, Result, Ok, Err}
+use Rattle.std.proofs.Common.{◌≡◌, ◌<◌, ◌⊎◌, ◌↔◌, inl, inr, ℕ, Bool, IsTrue, List, Result, Ok, Err}
 use Rattle.std.proofs.Common.{Option, Some, None, IfSome, ap, arith, refl, subst, sym}
 use Rattle.std.proofs.lemmas.Bool.{cases_eq, cases_lt}
 use Rattle.std.specs.Result.{is_ok}
@@ -9,8 +9,8 @@ use Rattle.macs_record.specs.Heads.{Head, IsHeadOf}
 use Rattle.macs_record.specs.declared.record.Record.{Record}
 use Rattle.macs_record.specs.declared.record.RecordFault.{RecordFault}
 use Rattle.macs_record.proofs.OneHead.{one_head}
-use Rattle.macs_journal.specs.Areas.{IsArea, head_body, other_area, slots}
-use Rattle.macs_journal.specs.Found.{AreAtOdds, HasGap, HasHead, HasUnreadable, IsBadJournal, IsBroken, IsCurrent}
+use Rattle.macs_journal.specs.Areas.{IsArea, head_body, other_area}
+use Rattle.macs_journal.specs.Found.{AreAtOdds, HasGap, HasHead, HasUnreadable, IsBadJournal, IsCurrent}
 use Rattle.macs_journal.specs.Found.{IsHeadless, IsPast}
 use Rattle.macs_journal.proofs.Current.{earlier, one_current}
 use Rattle.macs_program.specs.FirstFault.{IsFaultless, IsHeadFault}

@@ -1,6 +1,6 @@
 -- The frames of a capture that are inspected, one after another.
-use Rattle.std.proofs.Common.{◌≡◌, ◌≢◌, ◌⊎◌, ◌+◌, ◌<◌, ◌≤◌, ◌++◌, if◌then◌else◌, ℕ, Bool, true, false, List, [], ◌∷◌}
-use Rattle.std.proofs.Common.{length, Option, Some, None, Result, Ok, Err, IfErr, inl, inr, refl, sym, ap, ◌∙◌, subst}
+use Rattle.std.proofs.Common.{◌≡◌, ◌≢◌, ◌+◌, ◌<◌, ◌≤◌, ◌++◌, if◌then◌else◌, ℕ, Bool, true, false, List, [], ◌∷◌}
+use Rattle.std.proofs.Common.{length, Option, Some, None, Result, Ok, inl, inr, refl, sym, ap, ◌∙◌, subst}
 use Rattle.std.proofs.Common.{arith, append_assoc, append-nil}
 use Rattle.std.specs.Io.KnownBytes.{Appends}
 use Rattle.std.proofs.KnownBytes.{Appends-nil, Appends-trans}
@@ -18,14 +18,13 @@ use Rattle.macs_pcap.specs.declared.fault.PcapFault.TheVariants as pcap
 use Rattle.macs_pcap.specs.declared.header.Header.{Header}
 use Rattle.macs_edge.proofs.Behind.{left-more, longer}
 use Rattle.macs_program.specs.Failing.{failure_of_capture}
-use Rattle.macs_program.specs.Inspecting.{AreLinesOf, HasInspected, InspectFails, Inspects, InspectsNext}
+use Rattle.macs_program.specs.Inspecting.{AreLinesOf, HasInspected, InspectsNext}
 use Rattle.macs_program.specs.Inspecting.{InspectsRecords, IsLineOf, IsOfInspecting, IsSaidOf, PrintsFrames}
 use Rattle.macs_program.specs.Inspecting.{PrintsLines, RunsCapture, RunsRecords, StopsCapture, StopsNext, StopsRecords}
 use Rattle.macs_program.specs.Inspecting.{tag_text}
 use Rattle.macs_program.specs.declared.failure.Failure.{Failure}
 use Rattle.macs_program.specs.declared.failure.Failure.TheVariants as failures
 use Rattle.macs_program.specs.declared.status.Status.{Status}
-use Rattle.macs_program.specs.declared.status.Status.TheVariants as ends
 
 -- ---- lines
 

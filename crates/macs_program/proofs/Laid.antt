@@ -1,14 +1,12 @@
 -- How the disk in a file lies there, and a copy of its sectors.
-use Rattle.std.proofs.Common.{◌≡◌, ◌≢◌, ◌∙◌, ◌↔◌, ◌⊎◌, ◌≤◌, ◌<◌, ◌+◌, ◌/◌, ◌==◌, inl, inr, ℕ, Bool, true, false, IsTrue}
-use Rattle.std.proofs.Common.{if◌then◌else◌, List, drop, length, ap, arith, refl, subst, sym}
+use Rattle.std.proofs.Common.{◌≡◌, ◌≢◌, ◌∙◌, ◌↔◌, ◌≤◌, ◌<◌, ◌+◌, ◌/◌, ◌==◌, inl, inr, ℕ, Bool, true, false, IsTrue}
+use Rattle.std.proofs.Common.{if◌then◌else◌, List, drop, length, ap, arith, refl, sym}
 use Rattle.std.proofs.lemmas.Bool.{cases_lt, le-leb, lt-leb}
 use Rattle.std.proofs.lemmas.Slice.Eq.{starts_is}
 use Rattle.std.specs.Cmp.{unsigned_Decides}
-use Rattle.macs_disk.specs.Disk.{Disk, now}
 use Rattle.macs_disk.specs.Files.{FileState, values_from}
 use Rattle.macs_disk.specs.Layouts.{is_marked, layout_in, place, spaced_mark}
-use Rattle.macs_disk.specs.States.{DiskState, put_sector, state_after_write}
-use Rattle.macs_disk.specs.declared.layout.Layout.{Layout}
+use Rattle.macs_disk.specs.States.{DiskState, state_after_write}
 use Rattle.macs_disk.specs.declared.layout.Layout.TheVariants.{Packed, Spaced}
 use Rattle.macs_record.specs.Sectors.{Begins}
 use Rattle.macs_program.specs.Contents.{HasFront}

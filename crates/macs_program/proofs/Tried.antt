@@ -18,7 +18,7 @@ use Rattle.macs_journal.specs.declared.fault.JournalFault.TheVariants as journal
 use Rattle.macs_program.specs.Applying.{Applies, SaidByFile, SaysCommands, answer_of, outcomes_status}
 use Rattle.macs_program.specs.Checking.{CheckEnds}
 use Rattle.macs_program.specs.Copying.{CopyFails}
-use Rattle.macs_program.specs.Trying.{EndsOn, EndsTrial, StopsAt, TrialEnds, TrialFails, failure_in_memory, trial_line}
+use Rattle.macs_program.specs.Trying.{EndsOn, EndsTrial, TrialEnds, TrialFails, failure_in_memory, trial_line}
 use Rattle.macs_program.specs.Trying.{trial_lines, trial_report}
 use Rattle.macs_program.specs.declared.failure.DiskFault.{DiskFault}
 use Rattle.macs_program.specs.declared.failure.DiskFault.TheVariants as disk
@@ -26,7 +26,7 @@ use Rattle.macs_program.specs.declared.failure.Failure.{Failure}
 use Rattle.macs_program.specs.declared.failure.Failure.TheVariants.{Memory, Output}
 use Rattle.macs_program.proofs.Applied.{applies-more, parted, status-more}
 use Rattle.macs_program.specs.declared.status.Status.{Status}
-use Rattle.macs_program.specs.declared.status.Status.TheVariants.{Done, Refused}
+use Rattle.macs_program.specs.declared.status.Status.TheVariants.{Refused}
 use Rattle.macs_program.proofs.Failures.{IsOfDisk, of-file}
 
 -- ---- one command more

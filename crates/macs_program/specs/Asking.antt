@@ -3,7 +3,7 @@ use Rattle.std.specs.Prelude.{◌≡◌, ◌≢◌, ◌==◌, if◌then◌else�
 use Rattle.std.specs.Io.KnownBytes.{Appends}
 use Rattle.macs_config.specs.declared.refusal.Refusal.{Refusal}
 use Rattle.macs_words.specs.declared.action.Question.{Question}
-use Rattle.macs_words.specs.declared.action.Question.TheVariants.{Show, Counters, Stop, Apply}
+use Rattle.macs_words.specs.declared.action.Question.TheVariants.{Apply}
 use Rattle.macs_program.specs.Applying.{outcome_lines, outcomes_status}
 use Rattle.macs_program.specs.declared.failure.DiskFault.TheVariants as disk
 use Rattle.macs_program.specs.declared.failure.Failure.{Failure}

@@ -1,6 +1,6 @@
 -- What is to be drawn from words of the program's contracts: of answers, of commands that are given, of new disks, of
 -- captures and of lines.
-use Rattle.std.specs.Prelude.{◌≡◌, ◌≢◌, ◌≤◌, ◌⊎◌, ◌↔◌, ◌+◌, ◌/◌, ◌++◌, true, false, ℕ, Bool, List, [], ◌∷◌, length}
+use Rattle.std.specs.Prelude.{◌≡◌, ◌≢◌, ◌≤◌, ◌⊎◌, ◌↔◌, ◌/◌, ◌++◌, true, false, ℕ, Bool, List, [], ◌∷◌, length}
 use Rattle.std.specs.Prelude.{codes, map, replicate, slice_index_or, take, Contains, Option, Some, None, IfSome, Result}
 use Rattle.std.specs.Prelude.{Ok, Err}
 use Rattle.std.specs.Borrow.{Bor}
@@ -50,15 +50,15 @@ use Rattle.macs_program.specs.Applying.{Applies, AppliesAll, AppliesSome, EndsRu
 use Rattle.macs_program.specs.Applying.{commit_fault}
 use Rattle.macs_program.specs.Applying.{outcome_lines, outcomes_status}
 use Rattle.macs_program.specs.CaptureFiles.{Asked, Asks, AsksInOrder, Makes, Opens as OpensCapture}
-use Rattle.macs_program.specs.Capturing.{EndsPass, EndsWith, IsFlushed, PassesCapture}
+use Rattle.macs_program.specs.Capturing.{EndsPass, IsFlushed, PassesCapture}
 use Rattle.macs_program.specs.Contents.{HasOpenGate, IsBlankFile}
 use Rattle.macs_program.specs.Endpoints.{AppliesFile, AppliesIn, BreaksOff, BreaksOffIn, IsDiskIn, IsEndpointIn}
-use Rattle.macs_program.specs.Endpoints.{IsRefusedIn, OpeningFails, PassesIn, ShowsIn, shown_text}
+use Rattle.macs_program.specs.Endpoints.{OpeningFails, PassesIn, ShowsIn, shown_text}
 use Rattle.macs_program.specs.Failing.{failure_of_file, failure_of_journal, failure_of_run, failure_status}
 use Rattle.macs_program.specs.Failing.{failure_text}
 use Rattle.macs_program.specs.Inputs.{InputRead}
 use Rattle.macs_program.specs.Lines.{line_at, lines, trimmed_line}
-use Rattle.macs_program.specs.NewDisks.{BlankFails, FormatFails, Formats, IsTaken, Permits}
+use Rattle.macs_program.specs.NewDisks.{BlankFails, FormatFails, Formats, IsTaken}
 use Rattle.macs_program.specs.OpenInput.{IsFourLines, Spells, SpellsKey, SpellsSci, offset_text}
 use Rattle.macs_program.specs.Run.{HasPrinted, OpenFails, Prints, PrintsUnlessFailed, code_of, complaint}
 use Rattle.macs_program.specs.Values.{SpellsIdentity, SpellsLayout}

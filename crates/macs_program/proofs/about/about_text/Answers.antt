@@ -1,4 +1,3 @@
-use Rattle.std.proofs.Common.{string_bytes}
 use Rattle.macs_program.proofs.about.about_text.Goals as goal
 
 pub returns : goal.returns

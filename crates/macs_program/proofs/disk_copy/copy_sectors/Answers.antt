@@ -1,4 +1,4 @@
-use Rattle.std.proofs.Common.{◌≡◌, ◌∙◌, List, ℕ, arith, refl, subst}
+use Rattle.std.proofs.Common.{◌≡◌, ◌∙◌, ℕ, arith, refl, subst}
 use Rattle.macs_disk.specs.Disk.{now}
 use Rattle.macs_disk.specs.Files.{FileState}
 use Rattle.macs_disk.specs.MemDisks.{disk_of}

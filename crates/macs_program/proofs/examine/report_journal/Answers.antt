@@ -1,5 +1,4 @@
-use Rattle.std.proofs.Common.{inl, refl}
-use Rattle.std.proofs.lemmas.Result.{err_from_is_err_and}
+use Rattle.std.proofs.Common.{refl}
 use Rattle.macs_disk.specs.MemDisks.{disk_of}
 use Rattle.macs_store.specs.Value.{standing_in}
 use Rattle.macs_program.proofs.Examined.{refused-so}

@@ -1,4 +1,4 @@
-use Rattle.std.proofs.Common.{◌≡◌, List, ℕ, subst, sym}
+use Rattle.std.proofs.Common.{List, ℕ, subst, sym}
 use Rattle.macs_record.specs.Decoding.{HasRecord}
 use Rattle.macs_program.proofs.Faults.{read-or-not}
 use Rattle.macs_program.proofs.first_fault.has_record.Goals as goal

@@ -1,4 +1,3 @@
-use Rattle.std.proofs.Common.{inl}
 use Rattle.macs_program.proofs.Inspected.{capture-run}
 use Rattle.macs_program.proofs.inspect.inspect_capture.Goals as goal
 
