@@ -2,6 +2,7 @@
 
 ghost use Rattle.std.specs.Prelude.{◌≡◌, ◌⊎◌, IfErr};
 
+use crate::counters_name::refuse_other_file;
 use crate::failure::Failure;
 use macs_control::{ControlSocket, MetricsPlace, Wires, remove_name};
 use macs_desk::ControlDesk;
@@ -38,9 +39,25 @@ fn desk_over<'a, T: Files + Net + Clock>(
     Ok(ControlDesk::new(alloc, clients, metrics))
 }
 
+/// Where the counters are written to, if they are. It fails as `Memory`; and as `Control`, where
+/// another file has the name.
+fn place_for<'a, T: Files + Clock>(
+    rt: &'a T,
+    alloc: Global,
+    path: Option<&'a str>,
+) -> Result<MetricsPlace<'a, T>, Failure>
+    ensures { IfErr result (λ failure. (failure ≡ Failure.Memory) ⊎ (failure ≡ Failure.Control)) }
+{
+    if let Some(name) = path {
+        refuse_other_file(rt, alloc, name)?;
+    }
+    let place = MetricsPlace::new(rt, alloc, path)?;
+    Ok(place)
+}
+
 /// A desk over the sockets of both wires, and over the control socket and the file of counters,
 /// where there are to be ones. It fails as `Memory`; and as `Control`, where the control socket
-/// cannot be bound.
+/// cannot be bound, or another file has the name of that of the counters.
 pub fn desk_for<'a, T: Files + Net + Clock>(
     rt: &'a T,
     alloc: Global,
@@ -49,7 +66,7 @@ pub fn desk_for<'a, T: Files + Net + Clock>(
 ) -> Result<SystemDesk<'a, T>, Failure>
     ensures { IfErr result (λ failure. (failure ≡ Failure.Memory) ⊎ (failure ≡ Failure.Control)) }
 {
-    let metrics = MetricsPlace::new(rt, alloc, running.metrics)?;
+    let metrics = place_for(rt, alloc, running.metrics)?;
     desk_over(rt, alloc, running, wires, metrics)
 }
 

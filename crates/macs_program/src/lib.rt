@@ -12,6 +12,7 @@ mod captures;
 mod capturing;
 mod check;
 mod contents;
+mod counters_name;
 mod disk_copy;
 mod examine;
 mod examined_text;

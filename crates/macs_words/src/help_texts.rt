@@ -143,7 +143,8 @@ it prints 'sent 6 delivered 0 dropped 0 faults 0'.
   --control PATH    a local socket for its owner alone, at which it is asked while
                     it runs: see 'macsecd ask --help'
   --metrics FILE    a file that the counters are written to, once a second, as
-                    a text for Prometheus
+                    a text for Prometheus; another file of this name, or of
+                    this name and .new, is left alone, and refused
   --buffer OCTETS   how much the system is asked to keep for each wire of what
                     waits: 1 to 1073741823
 Without --wait no turn waits for a frame: one processor is busy until the last.

@@ -14,13 +14,24 @@ use clap::ArgMatches;
 use clap::error::ErrorKind;
 use std::alloc::{AllocError, Global};
 
-/// What an error says first, in one line. It repeats the words, so control characters are replaced.
+/// The reason that an error gives: all of it, or up to an empty line, after which usage is
+/// explained.
+fn reason_of(text: &str) -> &str {
+    match text.split_once("\n\n") {
+        Some((reason, _)) => reason,
+        None => text.strip_suffix("\n").unwrap_or(text),
+    }
+}
+
+/// The reason that an error gives, in one line: what is missing has lines of its own there. It
+/// repeats the words, so control characters are replaced.
 fn cause_of(alloc: Global, error: &clap::Error) -> Result<String, AllocError>
     ensures { IfOk result (λ cause. IsPrintable (string_bytes cause)) }
 {
     let text = error.to_string(alloc)?;
-    let line = text.lines().next().unwrap_or("");
-    printable(alloc, line.strip_prefix("error: ").unwrap_or(line))
+    let reason = reason_of(text.as_str());
+    let line = reason.replace(alloc, "\n ", "")?;
+    printable(alloc, line.strip_prefix("error: ").unwrap_or(line.as_str()))
 }
 
 /// The fault that an error of the library is.
@@ -35,8 +46,8 @@ fn usage_fault_of(alloc: Global, error: &clap::Error) -> Result<UsageFault, Allo
 }
 
 /// What is said where the words of a subcommand name no action: of `ask` what it may be asked, of
-/// `plan` its ends and stages, and of a relay that has neither `--turns` nor `--wait` what clap
-/// says where a value is missing.
+/// `plan` its ends and stages, and of a relay that has neither `--turns` nor `--wait`, as clap says
+/// it, that one is missing.
 fn missing_cause(alloc: Global, matches: &ArgMatches) -> Result<String, AllocError>
     ensures { IfOk result (λ cause. IsPrintable (string_bytes cause)) }
 {
@@ -46,7 +57,10 @@ fn missing_cause(alloc: Global, matches: &ArgMatches) -> Result<String, AllocErr
             alloc,
             "plan FILE left or right, then first, receive, send or remove",
         ),
-        _ => printable(alloc, "the following required arguments were not provided:"),
+        _ => printable(
+            alloc,
+            "the following required arguments were not provided: --turns n or --wait MS",
+        ),
     }
 }
 

@@ -36,7 +36,7 @@ const OTHER_WORDS: &[Row] = &[
     ),
     (
         &["frob\nnicate"],
-        Outcome::Usage("macsecd: unrecognized subcommand 'frob\n"),
+        Outcome::Usage("macsecd: unrecognized subcommand 'frob?nicate'\n"),
     ),
     (
         &["help"],
@@ -86,33 +86,112 @@ fn refuses_other_words(rt: HostRuntime) {
     expect_each(&rt, rt.alloc(), OTHER_WORDS);
 }
 
-/// Words with a value too few, and the line that says so.
-const TOO_FEW: Outcome = Outcome::Usage(
-    "macsecd: the following required arguments were not provided:\n",
-);
-
-const WORDS_TOO_FEW: &[&[&str]] = &[
-    &["format"],
-    &["format", "left.disk"],
-    &["format", "left.disk", "0200000000010001"],
-    &["format", "left.disk", "0200000000010001", "1024"],
-    &["apply"],
-    &["apply", "left.disk"],
-    &["show"],
-    &["protect"],
-    &["protect", "left.disk"],
-    &["protect", "left.disk", "plain.pcap"],
-    &["validate"],
-    &["validate", "left.disk"],
-    &["validate", "left.disk", "protected.pcap"],
-    &["ask"],
-    &["ask", "control"],
-    &["inspect"],
-    &["check"],
-    &["plan"],
-    &["plan", "link.toml"],
-    &["plan", "link.toml", "left"],
-    &["examine"],
+/// Words with values too few, and the line that says which are missing.
+const WORDS_TOO_FEW: &[Row] = &[
+    (
+        &["format"],
+        Outcome::Usage(
+            "macsecd: the following required arguments were not provided: <DISK> <SCI> <TX> <RX>\n",
+        ),
+    ),
+    (
+        &["format", "left.disk"],
+        Outcome::Usage(
+            "macsecd: the following required arguments were not provided: <SCI> <TX> <RX>\n",
+        ),
+    ),
+    (
+        &["format", "left.disk", "0200000000010001"],
+        Outcome::Usage("macsecd: the following required arguments were not provided: <TX> <RX>\n"),
+    ),
+    (
+        &["format", "left.disk", "0200000000010001", "1024"],
+        Outcome::Usage("macsecd: the following required arguments were not provided: <RX>\n"),
+    ),
+    (
+        &["apply"],
+        Outcome::Usage(
+            "macsecd: the following required arguments were not provided: <DISK> <FILE>\n",
+        ),
+    ),
+    (
+        &["apply", "left.disk"],
+        Outcome::Usage("macsecd: the following required arguments were not provided: <FILE>\n"),
+    ),
+    (
+        &["show"],
+        Outcome::Usage("macsecd: the following required arguments were not provided: <DISK>\n"),
+    ),
+    (
+        &["protect"],
+        Outcome::Usage(
+            "macsecd: the following required arguments were not provided: <DISK> <INPUT> <OUTPUT>\n",
+        ),
+    ),
+    (
+        &["protect", "left.disk"],
+        Outcome::Usage(
+            "macsecd: the following required arguments were not provided: <INPUT> <OUTPUT>\n",
+        ),
+    ),
+    (
+        &["protect", "left.disk", "plain.pcap"],
+        Outcome::Usage("macsecd: the following required arguments were not provided: <OUTPUT>\n"),
+    ),
+    (
+        &["validate"],
+        Outcome::Usage(
+            "macsecd: the following required arguments were not provided: <DISK> <INPUT> <OUTPUT>\n",
+        ),
+    ),
+    (
+        &["validate", "left.disk"],
+        Outcome::Usage(
+            "macsecd: the following required arguments were not provided: <INPUT> <OUTPUT>\n",
+        ),
+    ),
+    (
+        &["validate", "left.disk", "protected.pcap"],
+        Outcome::Usage("macsecd: the following required arguments were not provided: <OUTPUT>\n"),
+    ),
+    (
+        &["ask"],
+        Outcome::Usage(
+            "macsecd: the following required arguments were not provided: <PATH> <WORD>\n",
+        ),
+    ),
+    (
+        &["ask", "control"],
+        Outcome::Usage("macsecd: the following required arguments were not provided: <WORD>\n"),
+    ),
+    (
+        &["inspect"],
+        Outcome::Usage("macsecd: the following required arguments were not provided: <INPUT>\n"),
+    ),
+    (
+        &["check"],
+        Outcome::Usage("macsecd: the following required arguments were not provided: <FILE>\n"),
+    ),
+    (
+        &["plan"],
+        Outcome::Usage(
+            "macsecd: the following required arguments were not provided: <FILE> <END> <STAGE>\n",
+        ),
+    ),
+    (
+        &["plan", "link.toml"],
+        Outcome::Usage(
+            "macsecd: the following required arguments were not provided: <END> <STAGE>\n",
+        ),
+    ),
+    (
+        &["plan", "link.toml", "left"],
+        Outcome::Usage("macsecd: the following required arguments were not provided: <STAGE>\n"),
+    ),
+    (
+        &["examine"],
+        Outcome::Usage("macsecd: the following required arguments were not provided: <DISK>\n"),
+    ),
 ];
 
 /// Words that ask nothing that a relay is asked, and the line that says what it is asked.
@@ -152,7 +231,7 @@ fn refuses_a_plan_that_is_none(rt: HostRuntime) {
 /// Each value is required.
 #[test]
 fn refuses_a_value_too_few(rt: HostRuntime) {
-    expect_all(&rt, rt.alloc(), WORDS_TOO_FEW, TOO_FEW);
+    expect_each(&rt, rt.alloc(), WORDS_TOO_FEW);
 }
 
 /// Words with one value too many.
@@ -421,8 +500,8 @@ fn refuses_a_file_that_begins_with_a_hyphen(rt: HostRuntime) {
     expect_each(&rt, rt.alloc(), HYPHENS);
 }
 
-/// Words with characters that a terminal obeys, and the line that says why they are refused: it
-/// ends at a line feed of theirs, and has `?` in the place of each other one.
+/// Words with characters that a terminal obeys, and the line that says why they are refused: it has
+/// `?` in the place of each.
 const CONTROL_WORDS: &[Row] = &[
     (
         &["\x1b[31mred"],
@@ -450,7 +529,7 @@ const CONTROL_WORDS: &[Row] = &[
     ),
     (
         &["\x1b[31m\r\t\u{9b}\nmacsecd: input"],
-        Outcome::Usage("macsecd: unrecognized subcommand '?[31m???\n"),
+        Outcome::Usage("macsecd: unrecognized subcommand '?[31m????macsecd: input'\n"),
     ),
 ];
 

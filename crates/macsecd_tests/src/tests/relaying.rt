@@ -1,7 +1,7 @@
 //! Relays: their words, what they find first, and what they print. No frame comes to these.
 
 use super::Outcome::{Disk, Done, Fault, Usage};
-use super::stories::Step::{IsMissing, Run};
+use super::stories::Step::{IsMissing, Keeping, Run, Text};
 use super::stories::{Step, play};
 use std::test::Fail;
 
@@ -33,6 +33,14 @@ const NO: &str = "story-relay/no";
 const DISK: &str = "story-relay/disk";
 
 const CONTROL: &str = "story-relay/control";
+
+/// A file of counters, and the new one that takes its place.
+const COUNTERS: &str = "story-relay/counters";
+
+const NEW_COUNTERS: &str = "story-relay/counters.new";
+
+/// Another endpoint.
+const OTHER: &str = "story-relay/other";
 
 /// What its endpoint is: no command and no frame came to it.
 const SHOWN: &str = "sci 12153524c0895e81
@@ -147,6 +155,138 @@ const RELAYS: &[Step] = &[
         ],
         Fault("macsecd: control\n"),
     ),
+    Run(
+        &["format", OTHER, "12153524c0895e81", "4", "4"],
+        Done("formatted\n"),
+    ),
+    Keeping(
+        &[DISK, OTHER],
+        &[
+            "relay",
+            DISK,
+            ANY,
+            NOBODY,
+            ANY,
+            NOBODY,
+            "--turns",
+            "5",
+            "--metrics",
+            OTHER,
+        ],
+        Fault("macsecd: control\n"),
+    ),
+    Keeping(
+        &[DISK, OTHER],
+        &[
+            "relay",
+            DISK,
+            ANY,
+            NOBODY,
+            ANY,
+            NOBODY,
+            "--turns",
+            "5",
+            "--metrics",
+            DISK,
+        ],
+        Fault("macsecd: control\n"),
+    ),
+    Run(
+        &[
+            "relay",
+            DISK,
+            ANY,
+            NOBODY,
+            ANY,
+            NOBODY,
+            "--turns",
+            "5",
+            "--metrics",
+            "story-relay",
+        ],
+        Fault("macsecd: control\n"),
+    ),
+    Run(
+        &[
+            "relay",
+            DISK,
+            ANY,
+            NOBODY,
+            ANY,
+            NOBODY,
+            "--turns",
+            "5",
+            "--metrics",
+            COUNTERS,
+        ],
+        Done(NOTHING),
+    ),
+    Run(
+        &[
+            "relay",
+            DISK,
+            ANY,
+            NOBODY,
+            ANY,
+            NOBODY,
+            "--turns",
+            "5",
+            "--metrics",
+            COUNTERS,
+        ],
+        Done(NOTHING),
+    ),
+    Text(COUNTERS, "# HELP mac"),
+    Run(
+        &[
+            "relay",
+            DISK,
+            ANY,
+            NOBODY,
+            ANY,
+            NOBODY,
+            "--turns",
+            "5",
+            "--metrics",
+            COUNTERS,
+        ],
+        Done(NOTHING),
+    ),
+    Text(COUNTERS, "# HELP macsec is on page 1\n"),
+    Keeping(
+        &[COUNTERS],
+        &[
+            "relay",
+            DISK,
+            ANY,
+            NOBODY,
+            ANY,
+            NOBODY,
+            "--turns",
+            "5",
+            "--metrics",
+            COUNTERS,
+        ],
+        Fault("macsecd: control\n"),
+    ),
+    Text(COUNTERS, ""),
+    Text(NEW_COUNTERS, "notes"),
+    Keeping(
+        &[COUNTERS, NEW_COUNTERS],
+        &[
+            "relay",
+            DISK,
+            ANY,
+            NOBODY,
+            ANY,
+            NOBODY,
+            "--turns",
+            "5",
+            "--metrics",
+            COUNTERS,
+        ],
+        Fault("macsecd: control\n"),
+    ),
     Run(&["ask", CONTROL, "show"], Fault("macsecd: control\n")),
     Run(&["ask", DISK, "stop"], Fault("macsecd: control\n")),
     Run(
@@ -165,11 +305,13 @@ fn each_line_of_a_relay_is_told(rt: HostRuntime) -> Result<(), Fail> {
 const WORDS: &[Step] = &[
     Run(
         &["relay", NO, ANY, ANY, ANY, ANY],
-        Usage("macsecd: the following required arguments were not provided:\n"),
+        Usage(
+            "macsecd: the following required arguments were not provided: --turns n or --wait MS\n",
+        ),
     ),
     Run(
         &["relay", NO, ANY, ANY, ANY, "--turns", "5"],
-        Usage("macsecd: the following required arguments were not provided:\n"),
+        Usage("macsecd: the following required arguments were not provided: <PEER2>\n"),
     ),
     Run(
         &["relay", NO, ANY, ANY, ANY, ANY, ANY, "--turns", "5"],
@@ -206,11 +348,13 @@ const WORDS: &[Step] = &[
     ),
     Run(
         &["relay", NO, ANY, ANY, ANY, "--wait", "5"],
-        Usage("macsecd: the following required arguments were not provided:\n"),
+        Usage("macsecd: the following required arguments were not provided: <PEER2>\n"),
     ),
     Run(
         &["relay", "--", NO, ANY, ANY, ANY, "--wait"],
-        Usage("macsecd: the following required arguments were not provided:\n"),
+        Usage(
+            "macsecd: the following required arguments were not provided: --turns n or --wait MS\n",
+        ),
     ),
     Run(
         &["relay", NO, ANY, ANY, ANY, ANY, "--wait", "0"],
@@ -240,7 +384,9 @@ const WORDS: &[Step] = &[
     ),
     Run(
         &["relay", NO, ANY, ANY, ANY, ANY, "--control", NO],
-        Usage("macsecd: the following required arguments were not provided:\n"),
+        Usage(
+            "macsecd: the following required arguments were not provided: --turns n or --wait MS\n",
+        ),
     ),
     Run(
         &["relay", NO, ANY, ANY, ANY, ANY, "--turns", "1", "--control"],

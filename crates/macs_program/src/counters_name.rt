@@ -1,0 +1,50 @@
+//! The name of the file that a relay writes its counters to.
+
+ghost use Rattle.std.specs.Prelude.{◌≡◌, ◌⊎◌, IfErr};
+
+use crate::failure::Failure;
+use std::alloc::Global;
+use std::fs;
+use std::io::{ErrorKind, Read};
+use std::rt::Files;
+
+/// How each file of counters begins.
+const FIRST_OCTETS: &[u8] = b"# HELP macsec_";
+
+/// How many octets that is.
+const LENGTH: usize = 14;
+
+/// Whether the octets that are left are counters so far: none, or the first of such a file.
+fn are_counters<R: Read>(file: &mut R) -> bool {
+    let mut octets = [0; LENGTH];
+    match file.read(&mut octets) {
+        Ok(count) => FIRST_OCTETS.starts_with(&octets[..count]),
+        Err(_) => false,
+    }
+}
+
+/// Whether no file but one of counters has this name. One that a killed relay left half written is
+/// such a file.
+fn is_free<T: Files>(rt: &T, path: &str) -> bool {
+    match rt.metadata(path) {
+        Ok(about) if about.is_file() => match fs::open(rt, path) {
+            Ok(mut file) => are_counters(&mut file),
+            Err(_) => false,
+        },
+        Ok(_) => false,
+        Err(error) => error.kind() == ErrorKind::NotFound,
+    }
+}
+
+/// Refuses a name that another file than one of counters has, and one whose new file, of this name
+/// and `.new`, would take the place of another: a disk file would be lost. It fails as `Control`
+/// then, and as `Memory`.
+pub fn refuse_other_file<T: Files>(rt: &T, alloc: Global, path: &str) -> Result<(), Failure>
+    ensures { IfErr result (λ failure. (failure ≡ Failure.Memory) ⊎ (failure ≡ Failure.Control)) }
+{
+    let new = format!(in alloc; "{path}.new")?;
+    if is_free(rt, path) && is_free(rt, new.as_str()) {
+        return Ok(());
+    }
+    Err(Failure::Control)
+}
