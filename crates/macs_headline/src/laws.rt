@@ -584,8 +584,8 @@ pub fn file_calls()
     ensures { FileCallWords }
 {}
 
-/// How a head, a gate and each kind of record are written on a disk, octet by octet, and which
-/// sectors are read so.
+/// How a head, a gate and each kind of record are written on a disk, octet by octet, which sectors
+/// are read so, and what each record says.
 pub fn octets()
     ensures { OctetWords }
 {}
