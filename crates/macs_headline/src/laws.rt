@@ -1,6 +1,7 @@
 //! The laws, and that what a program does is what they speak of.
 
-ghost use Rattle.std.specs.Prelude.{◌≡◌, ◌≤◌, ◌<◌, ◌%◌, ℕ, max, Bool, true, false, List, [], ◌∷◌};
+ghost use Rattle.std.specs.Prelude.{◌≡◌, ◌≤◌, ◌<◌, ◌/◌, ◌%◌, ℕ, max, Bool, true, false, List, []};
+ghost use Rattle.std.specs.Prelude.{◌∷◌};
 ghost use Rattle.std.specs.Prelude.{IsTrue};
 ghost use Rattle.macs_disk.specs.Disk.{Disk, IsHonest, LeftSince, MayLeave, disk_after_loss, now};
 ghost use Rattle.macs_disk.specs.FileDisks.{IsBlank, IsFoundAgain, IsFoundAs, IsLeftAsShown};
@@ -636,6 +637,11 @@ pub fn files<F: DiskFile>()
     ensures opened { (file : FileState) (least : ℕ) (layout : Layout) (disk : Disk) (i : ℕ)
         → IsOpened file least layout disk → (least ≤ disk.sectors)
         × ((now disk).durable i ≡ (now disk).seen i) × ((now disk).pending i ≡ false) }
+    // It has no more: those of its file, or as many as were asked for, where these are more.
+    ensures counted { (file : FileState) (least : ℕ) (layout : Layout) (disk : Disk)
+        → IsOpened file least layout disk
+        → (layout ≡ Packed → disk.sectors ≡ max (file.size / 512) least)
+        × (layout ≡ Spaced → disk.sectors ≡ max 1028 least) }
     // A file that is opened has whole sectors.
     ensures whole_sectors { (file : FileState) (least : ℕ) (layout : Layout) (disk : Disk)
         → IsOpened file least layout disk → file.size % 512 ≡ 0 }

@@ -1,5 +1,7 @@
-use Rattle.std.proofs.Common.{ap, ◌∙◌, arith}
+use Rattle.std.proofs.Common.{◌≡◌, max, ap, ◌∙◌, arith}
 use Rattle.macs_disk.specs.Files.{FileState}
+use Rattle.macs_disk.specs.Layouts.{sectors_in}
+use Rattle.macs_disk.specs.declared.layout.Layout.{Layout}
 use Rattle.macs_headline.proofs.DiskFiles.{blank-file-is-new, left-suited, let-go, opened-again, opened-still}
 use Rattle.macs_headline.proofs.laws.files.Goals as goal
 
@@ -32,6 +34,15 @@ returns-clause-opened g c = λ file least layout disk i opened.
     let count = opened.sectors in
     let still = opened-still file least layout disk i opened in
     (omega (arith, count), still.0, still.1)
+
+pub returns-clause-counted : goal.returns-clause-counted
+returns-clause-counted g c = λ file least layout disk opened.
+    let all : disk.sectors ≡ max (sectors_in layout file.size) least =
+    opened.sectors ∙ ap (λ (f : FileState). max (sectors_in layout f.size) least) opened.settles.3 in
+    (
+      λ is. all ∙ ap (λ (l : Layout). max (sectors_in l file.size) least) is,
+      λ is. all ∙ ap (λ (l : Layout). max (sectors_in l file.size) least) is,
+    )
 
 pub returns-clause-whole_sectors : goal.returns-clause-whole_sectors
 returns-clause-whole_sectors g c = λ file least layout disk opened. opened.whole
