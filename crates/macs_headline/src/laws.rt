@@ -52,6 +52,7 @@ ghost use Rattle.macs_headline.specs.CountWords.{CountsAreNamed, CountsRiseAlone
 ghost use Rattle.macs_headline.specs.NeedWords.{NeedsAreInOrder, TurnsAreUsed};
 ghost use Rattle.macs_headline.specs.FailureWords.{FailureWords};
 ghost use Rattle.macs_headline.specs.FileCallWords.{FileCallWords};
+ghost use Rattle.macs_headline.specs.LayoutWords.{LayoutWords};
 ghost use Rattle.macs_headline.specs.OctetWords.{OctetWords};
 ghost use Rattle.macs_headline.specs.StandWords.{CallsLeave, ServedEnds};
 ghost use Rattle.macs_headline.specs.Endings.{DroppedPassOn, EndsAreEarlier, ImagesAreWhole};
@@ -645,6 +646,8 @@ pub fn files<F: DiskFile>()
     // A file that is opened has whole sectors.
     ensures whole_sectors { (file : FileState) (least : ℕ) (layout : Layout) (disk : Disk)
         → IsOpened file least layout disk → file.size % 512 ≡ 0 }
+    // Where its sectors are in the file, and how that is found.
+    ensures layouts { LayoutWords }
     // Blocks of 512 octets suit both layouts, and those of 4,096 the one in which sectors lie
     // apart.
     ensures blocks { (suits Packed 512 ≡ true) × (suits Spaced 512 ≡ true)

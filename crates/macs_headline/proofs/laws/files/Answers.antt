@@ -3,6 +3,7 @@ use Rattle.macs_disk.specs.Files.{FileState}
 use Rattle.macs_disk.specs.Layouts.{sectors_in}
 use Rattle.macs_disk.specs.declared.layout.Layout.{Layout}
 use Rattle.macs_headline.proofs.DiskFiles.{blank-file-is-new, left-suited, let-go, opened-again, opened-still}
+use Rattle.macs_headline.proofs.LayoutWords.{layout-words}
 use Rattle.macs_headline.proofs.laws.files.Goals as goal
 
 pub returns-clause-new : goal.returns-clause-new
@@ -46,6 +47,9 @@ returns-clause-counted g c = λ file least layout disk opened.
 
 pub returns-clause-whole_sectors : goal.returns-clause-whole_sectors
 returns-clause-whole_sectors g c = λ file least layout disk opened. opened.whole
+
+pub returns-clause-layouts : goal.returns-clause-layouts
+returns-clause-layouts g c = layout-words
 
 pub returns-clause-settled : goal.returns-clause-settled
 returns-clause-settled g c = λ old new is. (
