@@ -1,10 +1,11 @@
 -- Where the sectors of a disk are in its file.
-use Rattle.std.proofs.Common.{◌≡◌, ◌∙◌, ◌≤◌, ◌<◌, ◌+◌, ◌*◌, ◌/◌, ◌++◌, inl, inr, ℕ, if◌then◌else◌, Bool, true, false}
-use Rattle.std.proofs.Common.{List, drop, length, arith, refl, sym}
+use Rattle.std.proofs.Common.{◌≡◌, ◌∙◌, ◌⊎◌, ◌≤◌, ◌<◌, ◌+◌, ◌*◌, ◌/◌, ◌++◌, ◌==◌, ◌||◌, inl, inr, ℕ, Bool, true, false}
+use Rattle.std.proofs.Common.{if◌then◌else◌, List, drop, length, arith, refl, sym}
 use Rattle.std.proofs.lemmas.Bool.{cases_lt, le-leb, lt-leb}
 use Rattle.std.proofs.lemmas.Slice.Eq.{starts_is}
 use Rattle.std.specs.Cmp.{unsigned_Decides}
 use Rattle.macs_disk.specs.FileDisks.{state_in_file}
+use Rattle.macs_disk.specs.FileEvidence.{is_same}
 use Rattle.macs_disk.specs.Files.{FileState, values_from}
 use Rattle.macs_disk.specs.Layouts.{is_marked, layout_in, place, spaced_mark}
 use Rattle.macs_disk.specs.declared.layout.Layout.{Layout}
@@ -65,6 +66,12 @@ has_mark file found = go (is_marked (mark_in file)) refl where
 is_long : (file : FileState) → layout_in file ≡ Spaced → 4211200 ≤ file.size
 is_long file found = let room = has_room file found in omega (arith, room)
 
+-- the block of a device that suits a spaced disk
+either-block : (block : ℕ) (is_small : Bool) → (block == 512) ≡ is_small → (is_small || (block == 4096)) ≡ true
+    → (block ≡ 512) ⊎ (block ≡ 4096)
+either-block block true is suited = inl (is_same block 512 is)
+either-block block false is suited = inr (is_same block 4096 suited)
+
 pub layout-words : LayoutWords
 layout-words = record {
   packed = packed;
@@ -73,4 +80,5 @@ layout-words = record {
     λ is. (is_long file is, drop (length spaced_mark) (mark_in file), front-marked (mark_in file) (has_mark file is)),
     λ has. is_spaced file has.1 has.0 has.2,
   );
+  suited = λ block. (is_same block 512, either-block block (block == 512) refl);
 }

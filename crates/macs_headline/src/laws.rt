@@ -646,7 +646,8 @@ pub fn files<F: DiskFile>()
     // A file that is opened has whole sectors.
     ensures whole_sectors { (file : FileState) (least : ℕ) (layout : Layout) (disk : Disk)
         → IsOpened file least layout disk → file.size % 512 ≡ 0 }
-    // Where its sectors are in the file, and how that is found.
+    // Where its sectors are in the file, how that is found, and that no other blocks than those
+    // below suit.
     ensures layouts { LayoutWords }
     // Blocks of 512 octets suit both layouts, and those of 4,096 the one in which sectors lie
     // apart.
