@@ -89,10 +89,11 @@ read old new at count into sure = (λ r. (r.same, r.octets sure), λ is. record 
 pub file-call-words : FileCallWords
 file-call-words = record {
   failed_sync = failed_sync;
-  in_doubt = λ old. (refl, refl, refl, refl, refl);
+  in_doubt = λ old. refl;
   sync = sync;
   unsure_sync = unsure_sync;
-  still_unsure = λ old image. refl;
+  synced = λ old image. refl;
+  after_sync = λ old. refl;
   write = write;
   failed_write = failed_write;
   write_all = write_all;
@@ -107,7 +108,8 @@ file-call-words = record {
   unclean_reread = λ old new value unclean. record { ok = λ clean claimed. absurd (cc); err = tt };
   unclaimed_reread = λ old new value unclaimed. record { ok = λ clean claimed. absurd (cc); err = tt };
   failed_reread = λ old new error. (λ r. r.err, λ is. record { ok = λ clean claimed. tt; err = is });
-  showing = λ old octets. (refl, refl, refl, refl, refl);
+  again = λ old. refl;
+  showing = λ old octets. refl;
   claim = λ old new value. (λ c. c.ok, λ is. record { ok = is; err = tt });
   failed_claim = λ old new error. (λ c. c.err, λ is. record { ok = tt; err = is });
   image = λ file image. (λ is. (is.kept, is.octets), λ is. record { kept = is.0; octets = is.1 });

@@ -106,4 +106,5 @@ mod WorkedWords
 mod OnceWords
 mod RefusedWords
 mod FileCallWords
+mod LayoutWords
 mod OctetWords

@@ -1,4 +1,4 @@
--- How a head, a gate and each kind of record are written, and what is read so.
+-- How a head, a gate and each kind of record are written, what is read so, and what each record says.
 use Rattle.std.proofs.Common.{◌≡◌, ℕ, List, length, refl, ap}
 use Rattle.std.specs.Prelude.{◌==◌, if◌then◌else◌}
 use Rattle.macs_record.specs.Layout.{by_length}
@@ -42,4 +42,9 @@ octet-words = record {
       rx_block = is.6;
     },
   );
+  keeps = λ validate replay mode sci an. (refl, refl, refl, refl, refl, refl, refl, refl);
+  installs = λ sci an start tx rx. (refl, refl);
+  holds = λ validate replay mode encoding sci an ceiling tx rx role prints. (refl, refl, refl, refl, refl);
+  adds = λ c validate replay mode encoding sci an tx rx prints. (refl, refl, refl, refl, refl, refl);
+  adds_ceiling = λ c sci an ceiling tx rx. (refl, refl);
 }

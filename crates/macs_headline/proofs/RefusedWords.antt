@@ -1,4 +1,5 @@
 -- What the contracts of the example programs say where an opening is refused.
+use Rattle.std.proofs.Common.{refl}
 use Rattle.macs_disk.specs.Disk.{Disk}
 use Rattle.macs_headline.specs.RefusedWords.{RefusedWords}
 
@@ -7,7 +8,7 @@ refused-words disk_of = record {
   day = λ old identity refused i. (i.chain, i.history);
   evening = λ old identity refused e. (e.day, e.failed);
   morning = λ old identity an key evening out refused i. (i.for_disk, i.called, i.loses, i.chain);
-  watch = λ old identity sci an key frame out refused i. (i.for_disk, i.served, i.loses, i.chain);
+  watch = λ old identity sci an key frame out refused i. (i.for_disk, i.served, refl, i.loses, i.chain);
   either_night = λ old identity an key evening out refused is. is;
   either_watch = λ old identity sci an key frame out refused is. is;
 }

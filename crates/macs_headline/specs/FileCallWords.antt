@@ -6,26 +6,27 @@ use Rattle.macs_disk.specs.Files.{SyncsFile}
 use Rattle.macs_disk.specs.Files.{WritesAll, WritesFile, file_after_sync, file_after_write, file_in_doubt, file_reread}
 use Rattle.macs_disk.specs.Files.{file_showing, file_synced, values_from}
 
--- After a sync that fails the file is in doubt, and shows, has durably and has pending what it did: so it may show what
--- no power loss leaves. A sync that succeeds makes durable what is shown where the file was sure, and where it was in
--- doubt any of its images, and the file stays in doubt. So it does through writes, which may leave it any; of one in
--- doubt a read gives anything. A write of one that is sure writes the first of its octets, as many as it answers; one
--- that fails any octets there, no more than as many, maybe none. A read changes nothing, and gives what is shown. A
--- claim that fails, too, changes nothing. A rereading that fails may leave anything shown, and nothing else changed.
--- Only a clean file that is claimed shows what is durable once it is read again. A power loss leaves what is durable in
--- a block that is not pending, and any octets in one that is.
+-- After a sync that fails the file is in doubt, and nothing else of it is changed: so it may show what no power loss
+-- leaves. A sync that succeeds makes durable what is shown where the file was sure, and where it was in doubt any of
+-- its images, and the file stays in doubt; the size is durable, and nothing is pending. The file stays in doubt through
+-- writes, too, which may leave it any; of one in doubt a read gives anything. A write of one that is sure writes the
+-- first of its octets, as many as it answers; one that fails any octets there, no more than as many, maybe none. A read
+-- changes nothing, and gives what is shown. A claim that fails, too, changes nothing. A rereading that fails may leave
+-- anything shown, and nothing else changed. Only a clean file that is claimed shows what is durable once it is read
+-- again, and is sure; the rest of it is as it was. A power loss leaves what is durable in a block that is not pending,
+-- and any octets in one that is.
 pub record FileCallWords : Type 0 where
   pub failed_sync : (old new : FileState) (error : ℕ) → SyncsFile {T = ℕ} {E = ℕ} old new (Err error)
       ↔ (new ≡ file_in_doubt old)
-  pub in_doubt : (old : FileState) → ((file_in_doubt old).is_sure ≡ false) × ((file_in_doubt old).seen ≡ old.seen)
-      × ((file_in_doubt old).durable ≡ old.durable) × ((file_in_doubt old).pending ≡ old.pending)
-      × ((file_in_doubt old).is_clean ≡ old.is_clean)
+  pub in_doubt : (old : FileState) → file_in_doubt old ≡ record old { is_sure = false }
   pub sync : (old new : FileState) (value : ℕ) → IsSure old → SyncsFile {T = ℕ} {E = ℕ} old new (Ok value)
       ↔ (new ≡ file_after_sync old)
   pub unsure_sync : (old new : FileState) (value : ℕ) → old.is_sure ≡ false
       → SyncsFile {T = ℕ} {E = ℕ} old new (Ok value)
       ↔ ((image : ℕ → ℕ) × IsFileImage old image × (new ≡ file_synced old image))
-  pub still_unsure : (old : FileState) (image : ℕ → ℕ) → (file_synced old image).is_sure ≡ old.is_sure
+  pub synced : (old : FileState) (image : ℕ → ℕ) → file_synced old image
+      ≡ record old { is_size_durable = true; durable = image; pending = λ _. false; is_clean = true }
+  pub after_sync : (old : FileState) → file_after_sync old ≡ file_synced old old.seen
   pub write : (old new : FileState) (at count : ℕ) (octets : List ℕ) → IsSure old
       → WritesFile {E = ℕ} old new at octets (Ok count) ↔ (new ≡ file_after_write old at (take count octets))
   pub failed_write : (old new : FileState) (at error : ℕ) (octets : List ℕ) → IsSure old
@@ -55,9 +56,8 @@ pub record FileCallWords : Type 0 where
       → RereadsFile {T = ℕ} {E = ℕ} old new (Ok value)
   pub failed_reread : (old new : FileState) (error : ℕ) → RereadsFile {T = ℕ} {E = ℕ} old new (Err error)
       ↔ ((octets : ℕ → ℕ) × (new ≡ file_showing old octets))
-  pub showing : (old : FileState) (octets : ℕ → ℕ) → ((file_showing old octets).seen ≡ octets)
-      × ((file_showing old octets).durable ≡ old.durable) × ((file_showing old octets).pending ≡ old.pending)
-      × ((file_showing old octets).is_sure ≡ old.is_sure) × ((file_showing old octets).is_clean ≡ old.is_clean)
+  pub again : (old : FileState) → file_reread old ≡ record old { seen = old.durable; is_sure = true }
+  pub showing : (old : FileState) (octets : ℕ → ℕ) → file_showing old octets ≡ record old { seen = octets }
   pub claim : (old new : FileState) (value : ℕ) → ClaimsFile {T = ℕ} {E = ℕ} old new (Ok value)
       ↔ (new ≡ record old { is_claimed = true })
   pub failed_claim : (old new : FileState) (error : ℕ) → ClaimsFile {T = ℕ} {E = ℕ} old new (Err error) ↔ (new ≡ old)

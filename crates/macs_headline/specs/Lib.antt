@@ -61,4 +61,5 @@ pub mod WorkedWords
 pub mod OnceWords
 pub mod RefusedWords
 pub mod FileCallWords
+pub mod LayoutWords
 pub mod OctetWords

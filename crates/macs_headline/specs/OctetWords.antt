@@ -1,18 +1,27 @@
--- The headline on the octets of a disk: how a head, a gate and each kind of record are written, and what is read so.
+-- The headline on the octets of a disk: how a head, a gate and each kind of record are written, what is read so, and
+-- what each record says.
 use Rattle.std.specs.Prelude.{◌≡◌, ◌↔◌, ◌<◌, ◌≤◌, ◌^◌, ◌++◌, ◌∷◌, [], ℕ, true, false, List, length, map, Option, Some}
 use Rattle.std.specs.Prelude.{None}
 use Rattle.std.specs.Int.{to_be_bytes, w32, w64}
 use Rattle.std.specs.List.{concat}
+use Rattle.macs_aes.specs.Keys.{key_of_octets}
+use Rattle.macs_config.specs.Association.{is_confidential, offset_of}
+use Rattle.macs_config.specs.Config.{Config, put_among}
 use Rattle.macs_config.specs.Identity.{IsBlock}
+use Rattle.macs_config.specs.Snapshot.{config_with_part}
+use Rattle.macs_config.specs.Tables.{put, put_at}
 use Rattle.macs_config.specs.declared.association.Protection.TheVariants.{Integrity, Confidentiality}
 use Rattle.macs_config.specs.declared.association.RxSa.{RxSa}
 use Rattle.macs_config.specs.declared.association.TxSa.{TxSa}
+use Rattle.macs_config.specs.declared.command.Command.TheVariants as asked
 use Rattle.macs_config.specs.declared.command.Replay.{Replay}
+use Rattle.macs_config.specs.declared.command.Role.{Role}
 use Rattle.macs_config.specs.declared.command.Role.TheVariants.{Transmit, Receive}
 use Rattle.macs_config.specs.declared.command.SciMode.{SciMode}
 use Rattle.macs_config.specs.declared.command.SciMode.TheVariants.{Explicit, EndStation, Implicit}
 use Rattle.macs_config.specs.declared.command.Validate.{Validate}
 use Rattle.macs_config.specs.declared.command.Validate.TheVariants.{Strict, Check}
+use Rattle.macs_config.specs.declared.part.Part.TheVariants as part
 use Rattle.macs_fields.specs.Fields.{IsSci, octets_of}
 use Rattle.macs_fields.specs.declared.fields.Offset.{Offset}
 use Rattle.macs_record.specs.Decoding.{IsSectorOf}
@@ -27,6 +36,9 @@ use Rattle.macs_record.specs.declared.kind.Kind.{Kind}
 use Rattle.macs_record.specs.declared.kind.Kind.TheVariants as kinds
 use Rattle.macs_record.specs.declared.record.Record.{Record}
 use Rattle.macs_record.specs.declared.record.Record.TheVariants as records
+use Rattle.macs_store.specs.Commands.{command_of, part_of}
+use Rattle.macs_store.specs.Replay.{ceilings_with_record}
+use Rattle.macs_store.specs.Standing.{Ceilings, ceilings_with_rx, ceilings_with_tx}
 
 -- Each kind of record has its own number, and the two kinds of a record with a key are told apart by whether that has
 -- 16 octets. A sector is a mark, the number, the fields in order, and zeros; numbers are big-endian. A head has its own
@@ -34,6 +46,10 @@ use Rattle.macs_record.specs.declared.record.Record.TheVariants as records
 -- is open by its mark, and closed as zeros. Read as open is each gate that begins with that mark, whatever follows, and
 -- no other one; as a record or a head each sector that is written so, with fields in their ranges, and no other one. A
 -- head's generation is 1 to 2^64 - 1, its count 1 to 256, its SCI has 8 octets, and its blocks are in their range.
+--
+-- A record that keeps a command keeps the one of its name, with its own fields; an install has the key whose octets it
+-- has. A record of a snapshot is the part of its name. What that adds to a configuration is its settings, its
+-- association, its channel, or its fingerprints on its side; and that of an association adds its ceiling.
 pub record OctetWords : Type 0 where
   pub numbers : map kind_number (kinds.Settings ∷ kinds.TxSa ∷ kinds.Channel ∷ kinds.RxSa ∷ kinds.Spent
       ∷ kinds.SetValidate ∷ kinds.SetReplay ∷ kinds.SetSciMode ∷ kinds.TxInstall ∷ kinds.TxUse ∷ kinds.TxRemove
@@ -97,3 +113,37 @@ pub record OctetWords : Type 0 where
       ↔ ((0 < head.generation) × (head.generation < 2 ^ 64) × (1 ≤ head.count) × (head.count ≤ 256)
       × IsSci head.identity.sci
       × IsBlock head.identity.tx_block × IsBlock head.identity.rx_block)
+  pub keeps : (validate : Validate) (replay : Replay) (mode : SciMode) (sci : List ℕ) (an : ℕ)
+      → (command_of (records.SetValidate validate) ≡ Some (asked.SetValidate validate))
+      × (command_of (records.SetReplay replay) ≡ Some (asked.SetReplay replay.on replay.window))
+      × (command_of (records.SetSciMode mode) ≡ Some (asked.SetSciMode mode))
+      × (command_of (records.TxUse an) ≡ Some (asked.TxUse an))
+      × (command_of (records.TxRemove an) ≡ Some (asked.TxRemove an))
+      × (command_of (records.RxAdd sci) ≡ Some (asked.RxAdd sci))
+      × (command_of (records.RxDrop sci) ≡ Some (asked.RxDrop sci))
+      × (command_of (records.RxRemove sci an) ≡ Some (asked.RxRemove sci an))
+  pub installs : (sci : List ℕ) (an start : ℕ) (tx : TxSa) (rx : RxSa)
+      → (command_of (records.TxInstall an tx start)
+      ≡ Some (asked.TxInstall an (key_of_octets tx.key) start (is_confidential tx.protection)
+      (octets_of (offset_of tx.protection))))
+      × (command_of (records.RxInstall sci an rx start)
+      ≡ Some (asked.RxInstall sci an (key_of_octets rx.key) start (octets_of rx.offset)))
+  pub holds : (validate : Validate) (replay : Replay) (mode : SciMode) (encoding : Option ℕ) (sci : List ℕ)
+      (an ceiling : ℕ) (tx : TxSa) (rx : RxSa) (role : Role) (prints : List (List ℕ))
+      → (part_of (records.Settings validate replay mode encoding) ≡ Some (part.Settings validate replay mode encoding))
+      × (part_of (records.TxSa an tx ceiling) ≡ Some (part.TxSa an tx))
+      × (part_of (records.Channel sci) ≡ Some (part.Channel sci))
+      × (part_of (records.RxSa sci an rx ceiling) ≡ Some (part.RxSa sci an rx))
+      × (part_of (records.Spent role prints) ≡ Some (part.Spent role prints))
+  pub adds : (c : Config) (validate : Validate) (replay : Replay) (mode : SciMode) (encoding : Option ℕ) (sci : List ℕ)
+      (an : ℕ) (tx : TxSa) (rx : RxSa) (prints : List (List ℕ))
+      → (config_with_part c (part.Settings validate replay mode encoding)
+      ≡ record c { validate = validate; replay = replay; mode = mode; encoding = encoding })
+      × (config_with_part c (part.TxSa an tx) ≡ record c { tx = put c.tx an (Some tx) })
+      × (config_with_part c (part.Channel sci) ≡ record c { channels = put_among sci c.channels })
+      × (config_with_part c (part.RxSa sci an rx) ≡ record c { rx = put_at c.rx sci (put (c.rx sci) an (Some rx)) })
+      × (config_with_part c (part.Spent Transmit prints) ≡ record c { spent_tx = c.spent_tx ++ prints })
+      × (config_with_part c (part.Spent Receive prints) ≡ record c { spent_rx = c.spent_rx ++ prints })
+  pub adds_ceiling : (c : Ceilings) (sci : List ℕ) (an ceiling : ℕ) (tx : TxSa) (rx : RxSa)
+      → (ceilings_with_record c (records.TxSa an tx ceiling) ≡ ceilings_with_tx c an (Some ceiling))
+      × (ceilings_with_record c (records.RxSa sci an rx ceiling) ≡ ceilings_with_rx c sci an (Some ceiling))

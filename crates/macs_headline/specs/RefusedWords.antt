@@ -3,12 +3,12 @@ use Rattle.std.specs.Prelude.{◌≡◌, ◌⊎◌, ◌<◌, ℕ, true, is_ok, L
 use Rattle.macs_aes.specs.declared.keys.Key.{Key}
 use Rattle.macs_config.specs.Config.{this_edition}
 use Rattle.macs_config.specs.Identity.{Identity}
-use Rattle.macs_config.specs.declared.command.Command.TheVariants.{TxInstall, TxUse}
+use Rattle.macs_config.specs.declared.command.Command.TheVariants.{RxAdd, RxInstall, TxInstall, TxUse}
 use Rattle.macs_disk.specs.Disk.{Disk, now}
 use Rattle.macs_journal.specs.declared.fault.JournalFault.TheVariants.{Disk as DiskFault}
 use Rattle.macs_journal.specs.declared.recovery.RecoverRefused.{RecoverRefused}
 use Rattle.macs_endpoint.specs.Lives.{exchange_of}
-use Rattle.macs_endpoint.specs.State.{Commands, Protected, Protects, Ran}
+use Rattle.macs_endpoint.specs.State.{Commands, Protected, Protects, Ran, Received, Receives, Refilled, Refills}
 use Rattle.macs_headline.specs.Binding.{HasHistory}
 use Rattle.macs_headline.specs.Days.{IsRefusedDay, exchange_with, link_of}
 use Rattle.macs_headline.specs.Deeds.{Chain, Formatting, Living, PassingOn, Refusing}
@@ -19,8 +19,9 @@ use Rattle.macs_headline.specs.Watches.{IsEvening, IsRefusedWatch, IsRefusedWatc
 
 -- A day that is refused is a `format` and an opening that is refused, and so is its history; in the evening a device
 -- call failed then, or the disk is worn. An opening of the morning is refused as Disk alone, after the calls of the
--- evening, each answered, and the power loss. A night and a watch are refused in the evening or in the morning, and so
--- in no other way.
+-- evening, each answered, and the power loss: of a watch these are a channel that is added, an association that is
+-- installed from packet number 1, the frame, a refill, and the frame once more. A night and a watch are refused in the
+-- evening or in the morning, and so in no other way.
 pub record RefusedWords {D : Type 0} (disk_of : D → Disk) : Type 0 where
   pub day : (old : D) (identity : Identity) (refused : RecoverRefused D) (i : IsRefusedDay disk_of old identity refused)
       → Chain disk_of old (link_of (Formatting identity i.formatted) i.between
@@ -47,6 +48,12 @@ pub record RefusedWords {D : Type 0} (disk_of : D → Disk) : Type 0 where
       (i : IsRefusedWatchMorning disk_of old identity sci an key frame out refused)
       → (refused.fault ≡ DiskFault)
       × (s : IsEvening disk_of i.start sci an key frame out i.evening i.left)
+      × (map exchange_of (evening_turns sci an key frame s.early out i.evening s.one s.two s.three s.four s.last)
+      ≡ exchange_with (Commands (RxAdd sci)) (Ran i.evening.added)
+      ∷ exchange_with (Commands (RxInstall sci an key 1 0)) (Ran i.evening.installed)
+      ∷ exchange_with (Receives frame) (Received i.evening.tried s.early)
+      ∷ exchange_with Refills (Refilled i.evening.refilled)
+      ∷ exchange_with (Receives frame) (Received i.evening.received out) ∷ [])
       × LosesPower (disk_of i.left) (disk_of i.left).clock (disk_of i.lost)
       × Chain disk_of old (link_of (Formatting identity i.formatted) i.between
       ∷ link_of (Living i.start

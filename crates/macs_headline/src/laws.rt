@@ -1,6 +1,7 @@
 //! The laws, and that what a program does is what they speak of.
 
-ghost use Rattle.std.specs.Prelude.{◌≡◌, ◌≤◌, ◌<◌, ◌%◌, ℕ, max, Bool, true, false, List, [], ◌∷◌};
+ghost use Rattle.std.specs.Prelude.{◌≡◌, ◌≤◌, ◌<◌, ◌/◌, ◌%◌, ℕ, max, Bool, true, false, List, []};
+ghost use Rattle.std.specs.Prelude.{◌∷◌};
 ghost use Rattle.std.specs.Prelude.{IsTrue};
 ghost use Rattle.macs_disk.specs.Disk.{Disk, IsHonest, LeftSince, MayLeave, disk_after_loss, now};
 ghost use Rattle.macs_disk.specs.FileDisks.{IsBlank, IsFoundAgain, IsFoundAs, IsLeftAsShown};
@@ -51,6 +52,7 @@ ghost use Rattle.macs_headline.specs.CountWords.{CountsAreNamed, CountsRiseAlone
 ghost use Rattle.macs_headline.specs.NeedWords.{NeedsAreInOrder, TurnsAreUsed};
 ghost use Rattle.macs_headline.specs.FailureWords.{FailureWords};
 ghost use Rattle.macs_headline.specs.FileCallWords.{FileCallWords};
+ghost use Rattle.macs_headline.specs.LayoutWords.{LayoutWords};
 ghost use Rattle.macs_headline.specs.OctetWords.{OctetWords};
 ghost use Rattle.macs_headline.specs.StandWords.{CallsLeave, ServedEnds};
 ghost use Rattle.macs_headline.specs.Endings.{DroppedPassOn, EndsAreEarlier, ImagesAreWhole};
@@ -584,8 +586,8 @@ pub fn file_calls()
     ensures { FileCallWords }
 {}
 
-/// How a head, a gate and each kind of record are written on a disk, octet by octet, and which
-/// sectors are read so.
+/// How a head, a gate and each kind of record are written on a disk, octet by octet, which sectors
+/// are read so, and what each record says.
 pub fn octets()
     ensures { OctetWords }
 {}
@@ -636,9 +638,17 @@ pub fn files<F: DiskFile>()
     ensures opened { (file : FileState) (least : ℕ) (layout : Layout) (disk : Disk) (i : ℕ)
         → IsOpened file least layout disk → (least ≤ disk.sectors)
         × ((now disk).durable i ≡ (now disk).seen i) × ((now disk).pending i ≡ false) }
+    // It has no more: those of its file, or as many as were asked for, where these are more.
+    ensures counted { (file : FileState) (least : ℕ) (layout : Layout) (disk : Disk)
+        → IsOpened file least layout disk
+        → (layout ≡ Packed → disk.sectors ≡ max (file.size / 512) least)
+        × (layout ≡ Spaced → disk.sectors ≡ max 1028 least) }
     // A file that is opened has whole sectors.
     ensures whole_sectors { (file : FileState) (least : ℕ) (layout : Layout) (disk : Disk)
         → IsOpened file least layout disk → file.size % 512 ≡ 0 }
+    // Where its sectors are in the file, how that is found, and that no other blocks than those
+    // below suit.
+    ensures layouts { LayoutWords }
     // Blocks of 512 octets suit both layouts, and those of 4,096 the one in which sectors lie
     // apart.
     ensures blocks { (suits Packed 512 ≡ true) × (suits Spaced 512 ≡ true)

@@ -1,6 +1,9 @@
-use Rattle.std.proofs.Common.{ap, ◌∙◌, arith}
+use Rattle.std.proofs.Common.{◌≡◌, max, ap, ◌∙◌, arith}
 use Rattle.macs_disk.specs.Files.{FileState}
+use Rattle.macs_disk.specs.Layouts.{sectors_in}
+use Rattle.macs_disk.specs.declared.layout.Layout.{Layout}
 use Rattle.macs_headline.proofs.DiskFiles.{blank-file-is-new, left-suited, let-go, opened-again, opened-still}
+use Rattle.macs_headline.proofs.LayoutWords.{layout-words}
 use Rattle.macs_headline.proofs.laws.files.Goals as goal
 
 pub returns-clause-new : goal.returns-clause-new
@@ -33,8 +36,20 @@ returns-clause-opened g c = λ file least layout disk i opened.
     let still = opened-still file least layout disk i opened in
     (omega (arith, count), still.0, still.1)
 
+pub returns-clause-counted : goal.returns-clause-counted
+returns-clause-counted g c = λ file least layout disk opened.
+    let all : disk.sectors ≡ max (sectors_in layout file.size) least =
+    opened.sectors ∙ ap (λ (f : FileState). max (sectors_in layout f.size) least) opened.settles.3 in
+    (
+      λ is. all ∙ ap (λ (l : Layout). max (sectors_in l file.size) least) is,
+      λ is. all ∙ ap (λ (l : Layout). max (sectors_in l file.size) least) is,
+    )
+
 pub returns-clause-whole_sectors : goal.returns-clause-whole_sectors
 returns-clause-whole_sectors g c = λ file least layout disk opened. opened.whole
+
+pub returns-clause-layouts : goal.returns-clause-layouts
+returns-clause-layouts g c = layout-words
 
 pub returns-clause-settled : goal.returns-clause-settled
 returns-clause-settled g c = λ old new is. (
