@@ -39,8 +39,7 @@ returns-clause-opened g c = λ file least layout disk i opened.
 pub returns-clause-counted : goal.returns-clause-counted
 returns-clause-counted g c = λ file least layout disk opened.
     let all : disk.sectors ≡ max (sectors_in layout file.size) least =
-    opened.sectors ∙ ap (λ (f : FileState). max (sectors_in layout f.size) least) opened.settles.3 in
-    (
+    opened.sectors ∙ ap (λ (f : FileState). max (sectors_in layout f.size) least) opened.settles.3 in (
       λ is. all ∙ ap (λ (l : Layout). max (sectors_in l file.size) least) is,
       λ is. all ∙ ap (λ (l : Layout). max (sectors_in l file.size) least) is,
     )
