@@ -205,9 +205,12 @@ def page_of_program(given):
         [".SH CHOOSING BLOCKS", *roff(section("docs/OPERATIONS.md", "## Choosing blocks"))],
         [".SH AFTER A POWER LOSS", *roff(without(section("docs/OPERATIONS.md", "### After a power loss"), "**Tried.**", "- Each time the", "Neither shows"))],
         [".SH A FILE OF AN OLDER PROGRAM", *roff(without(section("docs/OPERATIONS.md", "### A file of an older program"), "**Tried.**"))],
+        [".SH A FAILED SYNC", *roff(section("docs/OPERATIONS.md", "### A failed sync"))],
         [".SH DISK FILES", *roff(section("docs/OPERATIONS.md", "### Devices and file systems"))],
+        [".SH OCTETS THAT ROT", *roff(section("docs/OPERATIONS.md", "### Octets that rot"))],
         [".SH WHAT NEVER TO DO WITH A DISK FILE", *roff(section("docs/OPERATIONS.md", "### What never to do with a disk file"))],
         [".SH A LOST DISK FILE", *roff(section("docs/OPERATIONS.md", "### A lost disk file"))],
+        [".SH INSTALLING, UPGRADING, REMOVING", *roff(section("docs/PACKAGE.md", "## Installing, upgrading, removing"))],
         [".SH FILES", *roff(section("docs/PACKAGE.md", "## Files"))],
         [".SH SEE ALSO", r"\fBmacsecd\-link\fR(5), \fBsystemd.service\fR(5), \fBip\-macsec\fR(8), \fBsocat\fR(1)"],
     ]
