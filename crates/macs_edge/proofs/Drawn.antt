@@ -369,6 +369,8 @@ module _ {D : Type 0} (disk_of : D → Disk) where
 
   pub turn-words : TurnWords disk_of
   turn-words = record {
+    no_turn = λ old new is. is;
+    one_turn = λ turns old new is. is;
     turn = λ answer old new (late, (middle, controlled, common, out, back), sound, call).
         (late, middle, controlled, common, out, back, call);
     fills = λ from from' lane lane' fills is. asked lane.waiting from from' lane lane' fills is;
@@ -447,6 +449,11 @@ desk-words disk_of = record {
   handed = λ old new events summary a. submitted-by disk_of old new events summary a;
   each = λ old new events summary a. each-answered disk_of old new events summary a;
   once = λ old new events summary a. a.once;
+  each_handed = λ old new events summary a. a.handed;
+  each_told = λ old new events summary a. a.told;
+  each_ended = λ old new events summary a. a.ended;
+  extracts = λ quiet c answer ticket what. (refl, refl, refl, refl, refl);
+  extracts_done = λ ticket result. refl;
   answered = λ turns old events summary endpoint controlled common (
     to_common,
     to_controlled,

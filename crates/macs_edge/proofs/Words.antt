@@ -76,10 +76,21 @@ flow-words disk_of = record {
   took = λ old new taken missed is. (is.frames, is.failed);
   sent = λ old new all frames lost is. (is.all_but, is.gained, is.failed);
   all_turns = λ turns old summary endpoint controlled common is. is;
+  failed = λ turns old at endpoint controlled common (out, back, relays, told). (out, back, relays);
   at_fault = λ turns old new at is. is;
   passes = λ records passed s is. is;
   named = (refl, refl, refl);
+  lived = λ old new is. is;
   whole = λ old new summary f. (f.lives, f.out.took, f.out.sent, f.back.took, f.back.sent);
+  balance = λ old new summary f. (f.out.became.all, f.back.became.all);
+  tallied = λ old new summary f. (
+    f.out.became.passed,
+    f.out.became.dropped,
+    f.out.became.faults,
+    f.back.became.passed,
+    f.back.became.dropped,
+    f.back.became.faults,
+  );
   none_given = λ side. refl;
   protected = λ turn turns plain out pn called answered.
       given_so Controlled turn turns (Protects plain) (Protected (Ok pn) out) called answered;

@@ -41,7 +41,8 @@ use Rattle.macs_endpoint.specs.declared.progress.Step.TheVariants as step
 use Rattle.macs_endpoint.specs.declared.queue.Waiting.{Waiting}
 use Rattle.macs_edge.specs.Attending.{AttendsTurns, Does, EndsAt, IsAttended, TakesAllAttended, TakesAttended}
 use Rattle.macs_edge.specs.Attending.{answers_of, failed_of}
-use Rattle.macs_edge.specs.Commanding.{Ended, IsAttendedFlow, ended_by, ticket_in, told_by}
+use Rattle.macs_edge.specs.Commanding.{Ended, IsAttendedFlow, answered_to, done_by, ended_by, handed_in_by}
+use Rattle.macs_edge.specs.Commanding.{submitted_by, ticket_in, told_by}
 use Rattle.macs_edge.specs.Counts.{CountsReceive, counts_after_send, with_buffer}
 use Rattle.macs_edge.specs.Datagrams.{Datagram, GivesDatagram, SocketState, TakesDatagram}
 use Rattle.macs_edge.specs.FaultWires.{CallsValue, FailsNext, FaultWireValue, asked_once_more, failed_among}
@@ -50,7 +51,8 @@ use Rattle.macs_edge.specs.Flows.{IsFlow}
 use Rattle.macs_edge.specs.CaptureRuns.{BecomesCapture, HandsAllIn, HasPassed, Passes, Run, RunsOver, RunsRecords}
 use Rattle.macs_edge.specs.CaptureRuns.{Stops}
 use Rattle.macs_edge.specs.CaptureRuns.{TakesRecord, WritesCapture}
-use Rattle.macs_edge.specs.Relaying.{Carries, Fills, Forwards, HandsOver, LaneValue, Relay, Relays, TakesTurn, Way}
+use Rattle.macs_edge.specs.Relaying.{Carries, Fills, Forwards, HandsOver, LaneValue, Relay, Relays, TakesTurn}
+use Rattle.macs_edge.specs.Relaying.{TakesTurns, Way}
 use Rattle.macs_edge.specs.Relaying.{filled, one_dropped, one_fault, relay_of, summary_of, way_of}
 use Rattle.macs_edge.specs.Resting.{IsQuiet, IsRelayedResting, RelaysResting, TakesTurnsResting}
 use Rattle.macs_edge.specs.Settling.{Halts, HandsIn, Settles, Waits, call_on}
@@ -278,10 +280,14 @@ pub record CountWords : Type 0 where
 
 -- In a turn plain frames are carried first, and then frames from the common side; a step of the endpoint ends it. An
 -- empty lane takes the frame that its wire gives, if it gives one; one that is too long is counted as dropped, and a
--- failed receive as a fault; a wire is not asked where the lane is full. A
--- full lane is handed in: its frame passes and is sent once, or is left out and counted so, and the lane is empty; or
--- it waits, or finds the endpoint stopped, and stays.
+-- failed receive as a fault; a wire is not asked where the lane is full. A full lane is handed in: its frame passes and
+-- is sent once, or is left out and counted so, and the lane is empty; or it waits, or finds the endpoint stopped, and
+-- stays. Turns follow one another with nothing between them, and each has a step that is answered Ok.
 pub record TurnWords {D : Type 0} (disk_of : D → Disk) : Type 0 where
+  pub no_turn : (old new : Relay D) → TakesTurns disk_of 0 old new → new ≡ old
+  pub one_turn : (turns : ℕ) (old new : Relay D) → TakesTurns disk_of (suc turns) old new
+      → (between : Relay D) × (progress : Progress) × TakesTurns disk_of turns old between
+      × TakesTurn disk_of (Ok progress) between new
   pub turn : (answer : Result Progress StepFault) (old new : Relay D) → TakesTurn disk_of answer old new
       → (late : EndpointValue D) × (middle : EndpointValue D)
       × (controlled : WireState) × (common : WireState)
@@ -323,7 +329,9 @@ pub record TurnWords {D : Type 0} (disk_of : D → Disk) : Type 0 where
 -- are, or fewer, and it wanted the end; what still waits has failed. A relay that ends in a fault has the name of the
 -- fault of its last turn's step. Over a whole relay: a command is answered as kept, or as refused, only where a step is
 -- done with its ticket so; what is noted of a command that was handed in is what `submit` answered; each that it wants
--- is submitted; and each that was taken is answered: once, in the order of tickets, after those that waited before.
+-- is submitted; and each that was taken is answered: once, in the order of tickets, after those that waited before. In
+-- order, and each as often as it comes: what it handed in is what was submitted, what it was told is what was answered
+-- to that, and the ends that it was given are what steps were done with, and then those that still wait as failed.
 pub record DeskWords {D : Type 0} (disk_of : D → Disk) : Type 0 where
   pub none : (old new : Relay D) (events : List DeskEvent) (quiet : Bool)
       → TakesAllAttended disk_of 0 old events quiet new
@@ -388,6 +396,23 @@ pub record DeskWords {D : Type 0} (disk_of : D → Disk) : Type 0 where
       → IsAttendedFlow disk_of old events new summary
       → map (λ (e : Ended). e.ticket) (flat_map ended_by events)
       ≡ map (λ (w : Waiting). w.ticket) old.endpoint.waiting ++ flat_map ticket_in (flat_map told_by events)
+  pub each_handed : (old new : Relay D) (events : List DeskEvent) (summary : RelaySummary)
+      (a : IsAttendedFlow disk_of old events new summary)
+      → flat_map handed_in_by events ≡ flat_map (λ (t : Transition D). submitted_by t.call) a.flow.calls
+  pub each_told : (old new : Relay D) (events : List DeskEvent) (summary : RelaySummary)
+      (a : IsAttendedFlow disk_of old events new summary)
+      → flat_map told_by events ≡ flat_map (λ (t : Transition D). answered_to t.call t.reply) a.flow.calls
+  pub each_ended : (old new : Relay D) (events : List DeskEvent) (summary : RelaySummary)
+      (a : IsAttendedFlow disk_of old events new summary)
+      → flat_map ended_by events ≡ flat_map (λ (t : Transition D). done_by t.call t.reply) a.flow.calls
+      ++ map (λ (w : Waiting). record { ticket = w.ticket; end = end.Failed }) new.endpoint.waiting
+  pub extracts : (quiet : Bool) (c : Command) (answer : Result ℕ SubmitFault) (ticket : ℕ) (what : CommandEnd)
+      → (handed_in_by (Wanted quiet (Submit c)) ≡ c ∷ []) × (told_by (Took answer) ≡ answer ∷ [])
+      × (ended_by (Answered ticket what) ≡ record { ticket = ticket; end = what } ∷ [])
+      × (submitted_by (Submits c) ≡ c ∷ []) × (answered_to (Submits c) (Submitted answer) ≡ answer ∷ [])
+  pub extracts_done : (ticket : ℕ) (result : Result (Unit {0}) CommandFault)
+      → done_by Advances (Advanced (Ok (step.Done ticket result)))
+      ≡ record { ticket = ticket; end = end.Done result } ∷ []
   pub answered : (turns : ℕ) (old : Relay D) (events : List DeskEvent) (summary : RelaySummary)
       (endpoint : EndpointValue D) (controlled common : WireState)
       → IsAttended disk_of turns old events (Ok summary) endpoint controlled common → (to_common : LaneValue)

@@ -13,7 +13,7 @@ use Rattle.macs_pcap.specs.Records.{CaptureRecord}
 use Rattle.macs_pcap.specs.declared.fault.PcapFault.{PcapFault}
 use Rattle.macs_pcap.specs.declared.header.Header.{Header}
 use Rattle.macs_endpoint.specs.Faults.{refill_fault_named}
-use Rattle.macs_endpoint.specs.Lives.{Lives, Transition}
+use Rattle.macs_endpoint.specs.Lives.{Lives, LivesOn, Transition}
 use Rattle.macs_endpoint.specs.State.{Call, Protected, Protects, Received, Receives as ReceivesFrame, Refilled, Refills}
 use Rattle.macs_endpoint.specs.State.{Reply, State}
 use Rattle.macs_endpoint.specs.Step.{IsStopped}
@@ -25,7 +25,8 @@ use Rattle.macs_endpoint.specs.declared.fault.StepFault.{StepFault}
 use Rattle.macs_endpoint.specs.declared.fault.StepFault.TheVariants as step
 use Rattle.macs_edge.specs.Flows.{AllBut, IsFlow, Sent, TakenOff, Took, given}
 use Rattle.macs_edge.specs.CaptureRuns.{BecomesCapture, Counts, Passes}
-use Rattle.macs_edge.specs.Relaying.{IsRelayed, LaneValue, Relay, Relays, TakesTurn, TakesTurns, relay_of, summary_of}
+use Rattle.macs_edge.specs.Relaying.{IsRelayed, LaneValue, Relay, Relays, TakesTurn, TakesTurns, one_left, relay_of}
+use Rattle.macs_edge.specs.Relaying.{summary_of}
 use Rattle.macs_edge.specs.Settling.{Halts, HaltsIn, HandsIn, IsSettled, Settles, Waits, call_on}
 use Rattle.macs_edge.specs.Wires.{Receives, Sends, WireState}
 use Rattle.macs_edge.specs.declared.capture_runs.Summary.{Summary}
@@ -43,10 +44,12 @@ use Rattle.macs_edge.specs.declared.wire.WireFault.TheVariants as fault
 -- sends rise by what is missed and lost, as far as the numbers go. A summary counts what was sent each way and what was
 -- missed and lost; and what it has as dropped are the other frames that were taken. A relay takes all its turns, and
 -- answers what its two lanes make; or fewer, and then one whose step is answered with the fault, which has the name of
--- that step's. A run counts what passes, and the other records that were taken. Of a flow: its calls link the earlier
--- endpoint to the later one; each way, what was taken came off the one wire, and what was sent on the other is what the
--- calls gave. They give each frame that `protect` answered with its number, and each that `receive` delivered, in
--- order, and nothing else.
+-- that step's. A run counts what passes, and the other records that were taken. An endpoint that lives on goes by
+-- calls, one after another. Of a flow: its calls link the earlier endpoint to the later one; each way, what was taken
+-- came off the one wire, and what was sent on the other is what the calls gave. Each frame that was taken one way was
+-- sent, lost or left out, or is the one that is left in the lane, and the lane counts these as far as the numbers go.
+-- The calls give each frame that `protect` answered with its number, and each that `receive` delivered, in order, and
+-- nothing else.
 pub record FlowWords {D : Type 0} (disk_of : D → Disk) : Type 0 where
   pub none_of : (frames : List (List ℕ)) (lost : ℕ) → AllBut lost [] frames → (frames ≡ []) × (lost ≡ 0)
   pub one_of : (lost : ℕ) (frame : List ℕ) (all frames : List (List ℕ)) → AllBut lost (frame ∷ all) frames
@@ -68,6 +71,12 @@ pub record FlowWords {D : Type 0} (disk_of : D → Disk) : Type 0 where
       → (to_common : LaneValue) × (to_controlled : LaneValue)
       × TakesTurns disk_of turns old (relay_of endpoint controlled common to_common to_controlled)
       × (summary ≡ summary_of to_common to_controlled)
+  pub failed : (turns : ℕ) (old : Relay D) (at : RefillFault) (endpoint : EndpointValue D)
+      (controlled common : WireState)
+      → IsRelayed disk_of turns old (Err at) endpoint controlled common
+      → (to_common : LaneValue) × (to_controlled : LaneValue)
+      × Relays {T = RelaySummary} disk_of turns old (Err at)
+      (relay_of endpoint controlled common to_common to_controlled)
   pub at_fault : (turns : ℕ) (old new : Relay D) (at : RefillFault)
       → Relays {T = RelaySummary} disk_of turns old (Err at) new
       → (done : ℕ) × (between : Relay D) × (step : StepFault) × (at ≡ refill_fault_named step) × (done < turns)
@@ -79,12 +88,24 @@ pub record FlowWords {D : Type 0} (disk_of : D → Disk) : Type 0 where
   pub named : (refill_fault_named step.Stopped ≡ refill.Stopped)
       × (refill_fault_named step.GenerationsSpent ≡ refill.GenerationsSpent)
       × (refill_fault_named step.Disk ≡ refill.Disk)
+  pub lived : (old new : EndpointValue D) → LivesOn disk_of old new
+      → (turns : List (Transition D)) × Lives disk_of old turns new
   pub whole : (old new : Relay D) (summary : RelaySummary) (f : IsFlow disk_of old new summary)
       → Lives disk_of old.endpoint f.calls new.endpoint
       × Took old.controlled new.controlled f.out.taken f.out.missed
       × Sent old.common new.common (given Controlled f.calls) f.out.frames f.out.lost
       × Took old.common new.common f.back.taken f.back.missed
       × Sent old.controlled new.controlled (given Common f.calls) f.back.frames f.back.lost
+  pub balance : (old new : Relay D) (summary : RelaySummary) (f : IsFlow disk_of old new summary)
+      → (f.out.taken ≡ length f.out.frames + f.out.lost + f.out.left_out + one_left new.to_common.waiting)
+      × (f.back.taken ≡ length f.back.frames + f.back.lost + f.back.left_out + one_left new.to_controlled.waiting)
+  pub tallied : (old new : Relay D) (summary : RelaySummary) (f : IsFlow disk_of old new summary)
+      → (new.to_common.tally.passed ≡ min (length f.out.frames) (2 ^ 64 - 1))
+      × (new.to_common.tally.dropped ≡ min f.out.left_out (2 ^ 64 - 1))
+      × (new.to_common.tally.faults ≡ min (f.out.missed + f.out.lost) (2 ^ 64 - 1))
+      × (new.to_controlled.tally.passed ≡ min (length f.back.frames) (2 ^ 64 - 1))
+      × (new.to_controlled.tally.dropped ≡ min f.back.left_out (2 ^ 64 - 1))
+      × (new.to_controlled.tally.faults ≡ min (f.back.missed + f.back.lost) (2 ^ 64 - 1))
   pub none_given : (side : Side) → given {D = D} side [] ≡ []
   pub protected : (turn : Transition D) (turns : List (Transition D)) (plain out : List ℕ) (pn : ℕ)
       → turn.call ≡ Protects plain

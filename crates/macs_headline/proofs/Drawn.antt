@@ -160,6 +160,8 @@ pub number-words : NumberWords
 number-words = record {
   tickets = λ tickets is. in_order 0 tickets is;
   moved = moved_to;
+  skipped = λ block next later is. is;
+  moved_far = λ block old new m. (m.rises, m.unseen, m.seen);
   window = λ n is. let low = is.0 in let high = is.1 in omega (arith, low, high);
   windows = λ window n is. is;
   widened = λ window n. refl;

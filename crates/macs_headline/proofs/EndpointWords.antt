@@ -232,6 +232,20 @@ module _ {D : Type 0} (disk_of : D → Disk) where
         omega (arith, four, most),
       )
 
+  -- each raise takes a slot
+  each_slot : (old : EndpointValue D) (new : StoreValue D) → Spends disk_of old (Ok tt) new
+      → generation new ≡ generation_then old.store
+      → (raises : List Raise)
+      × Raises (tx_side (state_of old no_logs)) (rx_side (state_of old no_logs)) (reserved_in old) raises
+      (standing_in new)
+      × (used_slots new ≡ slots_then old.store + length raises)
+  each_slot old new (raises, has) same = (
+    raises,
+    has.raised,
+    has.slots ∙ (raised_so (slots_then old.store) (generation_then old.store) (reserved_in old) raises
+        (sym has.generation ∙ same)).0,
+  )
+
   -- a reservation that fails where none is under way
   refill_fault : (old new : EndpointValue D) → IsCall disk_of old Refills (Refilled (Err refill.Disk)) new
       → old.reserving ≡ None
@@ -265,6 +279,20 @@ module _ {D : Type 0} (disk_of : D → Disk) where
       subst (λ (s : Standing). IsRefilled (tx_side (state_of old no_logs)) (rx_side (state_of old no_logs)) s
       (standing_in new.store) None)
       (reserved_some (standing_in old.store) old.reserving raise is) call.behaves.ceilings
+
+  ended_behind : (old new : EndpointValue D) (raise : Raise)
+      → IsCall disk_of old Refills (Refilled (Err refill.GenerationsSpent)) new → old.reserving ≡ Some raise
+      → (next : Raise)
+      × IsRefilled (tx_side (state_of old no_logs)) (rx_side (state_of old no_logs))
+      (standing_with_raise (standing_in old.store) raise)
+      (standing_in new.store) (Some next)
+  ended_behind old new raise call is =
+      let left = call.behaves.ceilings in (
+        left.0,
+        subst (λ (s : Standing). IsRefilled (tx_side (state_of old no_logs)) (rx_side (state_of old no_logs)) s
+            (standing_in new.store) (Some left.0))
+            (reserved_some (standing_in old.store) old.reserving raise is) left.1,
+      )
 
   spends_so : (old : EndpointValue D) (new : StoreValue D) → Spends disk_of old (Ok tt) new → old.reserving ≡ None
       → (next : Option Raise)
@@ -305,6 +333,12 @@ module _ {D : Type 0} (disk_of : D → Disk) where
         ∙ reserved_some (standing_in old.store) old.reserving raise is;
     fault = refill_fault;
     ended = λ old new call. let left = call.behaves.ceilings in (left.0, left.1.is_next);
+    ended_behind = ended_behind;
+    step_failed = λ old new call. call.behaves.ceilings;
+    reserved = λ old. (
+      reserved_none (standing_in old.store) old.reserving,
+      reserved_some (standing_in old.store) old.reserving,
+    );
     kept = λ old new command call. call.behaves.ceilings;
     done = λ old new ticket first rest call is.
         subst (λ (waiting : List Waiting). StandsAfter (first_command waiting) (standing_in old.store)
@@ -312,6 +346,7 @@ module _ {D : Type 0} (disk_of : D → Disk) where
     refilled = refilled;
     refilled_behind = refilled_behind;
     spends = spends_so;
+    each_slot = each_slot;
     refill = refill_calls;
     refill_behind = refill_behind;
     command_behind = command_behind;

@@ -3,10 +3,13 @@ use Rattle.std.proofs.Common.{◌≡◌, ◌⊎◌, ◌+◌, inl, inr, ℕ, List
 use Rattle.std.specs.Prelude.{Option, Some, None}
 use Rattle.std.specs.Option.{option_map}
 use Rattle.std.proofs.lemmas.Bool.{cases_eq}
+use Rattle.macs_config.specs.Apply.{config_after}
+use Rattle.macs_config.specs.Config.{Config}
+use Rattle.macs_config.specs.Tables.{put}
 use Rattle.macs_config.specs.declared.command.Command.{Command}
 use Rattle.macs_config.specs.declared.command.Command.TheVariants.{RxDrop, RxInstall, RxRemove, SetReplay, TxInstall}
 use Rattle.macs_config.specs.declared.command.Command.TheVariants.{TxRemove}
-use Rattle.macs_rxsc.specs.Receive.{Numbers, first_numbers}
+use Rattle.macs_rxsc.specs.Receive.{Numbers, first_numbers, numbers_under_window}
 use Rattle.macs_rxsc.specs.declared.verdict.Verdict.{Verdict}
 use Rattle.macs_endpoint.specs.Queue.{first_command}
 use Rattle.macs_endpoint.specs.declared.fault.CommandFault.{CommandFault}
@@ -33,10 +36,12 @@ use Rattle.macs_endpoint.specs.Restart.{Restart, RxRises, TxRises, opened_state}
 use Rattle.macs_headline.specs.NumbersMoved.{AreSet, FramesChangeFew, IsFrameCall, MovesOnlyThese, NoneAppear}
 use Rattle.macs_headline.specs.NumbersMoved.{NumbersAreSet, NumbersMove, SetsNext, SetsNumbers, SidesAreConfigured}
 use Rattle.macs_headline.specs.NumbersMoved.{TakesEffect, state_but_numbers}
+use Rattle.macs_headline.proofs.Accepted.{accepted}
 use Rattle.macs_headline.proofs.Effects.{outgoing_is}
 use Rattle.macs_headline.proofs.Histories.{fits-restart}
 use Rattle.macs_headline.proofs.Ledger.{some_one}
-use Rattle.macs_headline.proofs.Places.{cases_place, cases_sci, put-that, put-this, put_at-that, put_at-this}
+use Rattle.macs_headline.proofs.LookUps.{none-some}
+use Rattle.macs_headline.proofs.Places.{cases_place, cases_sci, put-that, put-this, put_at-that, put_at-this, put_rx}
 use Rattle.macs_headline.proofs.Places.{put_rx-that, put_rx-this}
 
 -- ---- commands
@@ -370,9 +375,66 @@ by_restart s found (inl up) idle = (
 by_restart s found (inr (c, mid, hand, makes, up)) idle = let both : ◌≡◌ {A = Option Command} None (Some c) = sym idle
     ∙ hand in absurd (cc)
 
+-- what a command installs is there after it
+put_none : {X : Type 0} (f : ℕ → Option X) (at : ℕ) (x : X) → put f at (Some x) at ≡ None → ⊥
+put_none f at x is = none-some x (sym is ∙ put-this f at at (Some x) refl)
+
+put_rx_none : {X : Type 0} (f : List ℕ → ℕ → Option X) (sci : List ℕ) (at : ℕ) (x : X)
+    → put_rx f sci at (Some x) sci at ≡ None → ⊥
+put_rx_none f sci at x is = none-some x (sym is ∙ put_rx-this f sci at sci at (Some x) refl refl)
+
+tx_gone : (old : Config) (c : Command) (an : ℕ) (before later : Option ℕ) → (later ≡ before) ⊎ SetsNext c an later
+    → before ≡ None → (config_after old c).tx an ≡ None → later ≡ None
+tx_gone old c an before later (inl same) none gone = same ∙ none
+tx_gone old c an before later (inr (inl (key, start, confidential, offset, is, set))) none gone =
+    absurd (put_none old.tx an _ (ap (λ (k : Command). (config_after old k).tx an) (sym is) ∙ gone))
+tx_gone old c an before later (inr (inr (is, set))) none gone = set
+
+rx_gone : (old : Config) (c : Command) (sci : List ℕ) (an : ℕ) (before later : Option Numbers)
+    → (later ≡ before) ⊎ SetsNumbers c sci an before later
+    → before ≡ None → (config_after old c).rx sci an ≡ None → later ≡ None
+rx_gone old c sci an before later (inl same) none gone = same ∙ none
+rx_gone old c sci an before later (inr (inl (key, start, offset, is, set))) none gone =
+    absurd (put_rx_none old.rx sci an _ (ap (λ (k : Command). (config_after old k).rx sci an) (sym is) ∙ gone))
+rx_gone old c sci an before later (inr (inr (inl (is, set)))) none gone = set
+rx_gone old c sci an before later (inr (inr (inr (on, window, is, set)))) none gone =
+    set ∙ ap (option_map (numbers_under_window window)) none
+
+-- with a command under way or not
+by_restart_so : (s : State) (found : Standing) → Restart s (opened_state found s.logs)
+    → ((an : ℕ) → s.next an ≡ None → found.config.tx an ≡ None → found.ceilings.tx an ≡ None)
+    × ((sci : List ℕ) (an : ℕ) → s.numbers sci an ≡ None → found.config.rx sci an ≡ None
+    → found.ceilings.rx sci an ≡ None)
+by_restart_so s found (inl up) = (
+  λ an none gone. no_next s.identity.tx_block (s.next an) (found.ceilings.tx an) none (up.next an),
+  λ sci an none gone. no_ceiling (found.ceilings.rx sci an)
+      (no_numbers s.identity.rx_block (s.numbers sci an) (option_map first_numbers (found.ceilings.rx sci an)) none
+      (up.numbers sci an)),
+)
+by_restart_so s found (inr (c, mid, hand, makes, up)) =
+    let a = accepted s.edition s.identity s.config c makes.0 makes.1 in
+    let config : found.config ≡ config_after s.config c = up.config ∙ ap (λ (t : State). t.config) makes.2 ∙ a.1 in (
+      λ an none gone.
+          let left : (config_after s.config c).tx an ≡ None = ap (λ (k : Config). k.tx an) (sym config) ∙ gone in
+          let still : mid.next an ≡ None = ap (λ (t : State). t.next an) makes.2
+          ∙ tx_gone s.config c an (s.next an) (next_after c s.next an) (sets_next c s.next an) none left in
+          no_next mid.identity.tx_block (mid.next an) (found.ceilings.tx an) still (up.next an),
+      λ sci an none gone.
+          let left : (config_after s.config c).rx sci an ≡ None = ap (λ (k : Config). k.rx sci an) (sym config)
+          ∙ gone in
+          let still : mid.numbers sci an ≡ None = ap (λ (t : State). t.numbers sci an) makes.2
+          ∙ rx_gone s.config c sci an (s.numbers sci an) (numbers_after c s.numbers sci an)
+          (sets_numbers c s.numbers sci an) none left in
+          no_ceiling (found.ceilings.rx sci an)
+          (no_numbers mid.identity.rx_block (mid.numbers sci an)
+          (option_map first_numbers (found.ceilings.rx sci an)) still (up.numbers sci an)),
+    )
+
 pub none-appear : (sectors : ℕ) → NoneAppear sectors
 none-appear sectors s edition image found fits is =
-    by_restart s found (fits-restart edition sectors image s found fits is)
+    let restart = fits-restart edition sectors image s found fits is in
+    let so = by_restart_so s found restart in
+    (by_restart s found restart, so.0, so.1)
 
 -- ---- the two sides
 

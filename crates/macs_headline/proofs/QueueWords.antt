@@ -1,14 +1,14 @@
 -- What is to be drawn from words on commands that wait, and on their tickets.
-use Rattle.std.proofs.Common.{◌≡◌, ◌⊎◌, inl, inr, List, [], ◌∷◌, refl, ◌∙◌}
+use Rattle.std.proofs.Common.{◌≡◌, ◌⊎◌, ◌++◌, inl, inr, List, [], ◌∷◌, refl, ◌∙◌, ap}
 use Rattle.std.specs.Prelude.{Contains, Option, Some}
 use Rattle.macs_config.specs.declared.command.Command.{Command}
 use Rattle.macs_endpoint.specs.Queue.{first_command}
-use Rattle.macs_endpoint.specs.State.{Call, Commands}
+use Rattle.macs_endpoint.specs.State.{Call, Commands, Reply}
 use Rattle.macs_endpoint.specs.Step.{Exchange}
 use Rattle.macs_endpoint.specs.declared.queue.Waiting.{Waiting}
 use Rattle.macs_headline.specs.Commands.{WasHandedIn, failing, waiting_at_end}
 use Rattle.macs_headline.specs.QueueWords.{QueueWords}
-use Rattle.macs_headline.specs.Tickets.{tickets_given}
+use Rattle.macs_headline.specs.Tickets.{done_by, given_by, tickets_done, tickets_given}
 use Rattle.macs_headline.proofs.Drawn.{number-words}
 use Rattle.macs_headline.proofs.Ledger.{some_one}
 use Rattle.macs_headline.proofs.LookUps.{none-some}
@@ -28,5 +28,9 @@ pub queue-words : QueueWords
 queue-words = record {
   given = λ exchanges waiting is. number-words.tickets (tickets_given exchanges) is.in_order;
   kept = λ exchanges waiting is. is.kept ∙ number-words.tickets (tickets_given exchanges) is.in_order;
+  each_given = λ e exchanges ticket is. ap (λ (r : Reply). given_by r ++ tickets_given exchanges) is;
+  each_done = λ e exchanges ticket result is. ap (λ (r : Reply). done_by r ++ tickets_done exchanges) is;
+  each_done_long = λ e exchanges ticket is. ap (λ (r : Reply). done_by r ++ tickets_done exchanges) is;
+  each_waits = λ w waiting. refl;
   handed_in = handed_in;
 }

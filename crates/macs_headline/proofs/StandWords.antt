@@ -67,6 +67,18 @@ module _ {D : Type 0} (disk_of : D → Disk) where
         omega (arith, calls, four, most),
       )
 
+  -- the same behind work that is under way
+  command_anew_behind : (old new : EndpointValue D) (command : Command) → KeepsCommand disk_of old command (Ok tt) new
+      → slots_then old.store ≡ 256
+      → (generation new.store ≡ generation_then old.store + 1)
+      × (used_slots new.store ≡ length (snapshot (reserved_in old)) + 1)
+  command_anew_behind old new command keeps full =
+      let all : (slots_then old.store == 256) ≡ true = eq-eqb (slots_then old.store) 256 full in
+      let (used, next, four) =
+      at_end (slots_then old.store == 256) (slots_then old.store) (generation_then old.store)
+      (reserved_in old) all in
+      (keeps.generation ∙ next, keeps.slots ∙ used)
+
   command_calls : (old new : EndpointValue D) (command : Command) (result : Result (Unit {0}) CommandFault)
       → KeepsCommand disk_of old command result new
       → (disk_in disk_of new).clock
@@ -85,6 +97,9 @@ module _ {D : Type 0} (disk_of : D → Disk) where
       ap (λ (s : State). s.waiting) (is.state no_logs),
       ap (λ (s : State). s.tickets) (is.state no_logs),
     );
+    opened_settled = λ disk first i is honest.
+        let settled = is.device.settled honest in
+        (settled.clean i, settled.fresh i);
     format_names = λ old new identity fault is. format_named fault is.device.names;
     format_taken = λ old new identity is honest. let taken = is.device.taken refl honest in (taken.0, taken.2);
     format_fails = λ old new identity result is. is.device.work.fails;
@@ -99,6 +114,7 @@ module _ {D : Type 0} (disk_of : D → Disk) where
     reserved = λ old new call. call.behaves.ceilings;
     command_failed = λ old new command call. call.behaves.ceilings;
     command_anew = command_anew;
+    command_anew_behind = command_anew_behind;
     command_calls = command_calls;
     command_spent = λ old new command keeps. keeps.spent refl;
     refill_failed = λ old new spends. elim spends [

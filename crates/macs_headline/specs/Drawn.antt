@@ -1,6 +1,6 @@
 -- The headline on words in what its clauses conclude: what is to be drawn from each of them.
-use Rattle.std.specs.Prelude.{◌≡◌, ◌≢◌, ◌⊎◌, ◌↔◌, ◌≤◌, ◌+◌, ◌++◌, ◌-◌, ◌^◌, ℕ, true, false, List, [], ◌∷◌, length, map}
-use Rattle.std.specs.Prelude.{max, Bool, Contains, Option, Some, None, Ok}
+use Rattle.std.specs.Prelude.{◌≡◌, ◌≢◌, ◌⊎◌, ◌↔◌, ◌≤◌, ◌+◌, ◌++◌, ◌-◌, ◌/◌, ◌^◌, ℕ, true, false, List, [], ◌∷◌, length}
+use Rattle.std.specs.Prelude.{map, max, min, Bool, Contains, Option, Some, None, Ok}
 use Rattle.std.specs.List.{range_with_len}
 use Rattle.macs_config.specs.Config.{Config, Edition, default, this_edition}
 use Rattle.macs_config.specs.Identity.{Identity}
@@ -35,7 +35,7 @@ use Rattle.macs_headline.specs.History.{FitsPast, Formats, Life, Past, Refuses, 
 use Rattle.macs_headline.specs.AnsweredLogs.{AreAnswers, WasDelivered, WasWritten}
 use Rattle.macs_headline.specs.Moments.{Moment}
 use Rattle.macs_headline.specs.NumbersMoved.{AreSet}
-use Rattle.macs_headline.specs.Numbers.{AreHeldIn, HasNoneTwice, IsMoved}
+use Rattle.macs_headline.specs.Numbers.{AreHeldIn, HasNoneTwice, IsMoved, IsSkipped}
 use Rattle.macs_headline.specs.Openings.{AreAsBefore}
 use Rattle.macs_headline.specs.Received.{IsSeenBy}
 use Rattle.macs_headline.specs.Refused.{refusal_at}
@@ -85,14 +85,21 @@ pub record LogWords (sectors : ℕ) : Type 0 where
       ∷ was.later ≡ lives)
       × Step was.at e.call e.reply was.after × AreHeldIn was.after.logs logs × Contains (exchanges_of_lives lives) e
 
--- Tickets in order are 1, 2, and so on. A restart makes one number of next and lowest. Within a window the lowest
--- acceptable number is not above the next one, and no further below it than the window is wide; within one of 0 it is
--- the next one. A command on replay protection moves it up into the window, and no other number. A number that was seen
--- is that of a frame which the call was given, and which is not one that does not verify.
+-- Tickets in order are 1, 2, and so on. A restart skips a block and half a block of numbers to transmit at most. Of
+-- receive numbers it makes one number of next and lowest, which is no smaller than next was, and is that where none was
+-- seen; else it is at most that, or a block beyond the greatest one that was seen, as far as 2^32. Within a window the
+-- lowest acceptable number is not above the next one, and no further below it than the window is wide; within one of 0
+-- it is the next one. A command on replay protection moves it up into the window, and no other number. A number that
+-- was seen is that of a frame which the call was given, and which is not one that does not verify.
 pub record NumberWords : Type 0 where
   pub tickets : (tickets : List ℕ) → AreInOrder 0 tickets → tickets ≡ range_with_len 1 (length tickets)
   pub moved : (block : ℕ) (old new : Numbers) → IsMoved block old new
       → new ≡ record { next = new.next; lowest = new.next; seen = None }
+  pub skipped : (block next later : ℕ) → IsSkipped block next later
+      → (next ≤ later) × (later ≤ next + (block + block / 2))
+  pub moved_far : (block : ℕ) (old new : Numbers) → IsMoved block old new
+      → (old.next ≤ new.next) × (old.seen ≡ None → new.next ≡ old.next)
+      × ((last : ℕ) → old.seen ≡ Some last → new.next ≤ max old.next (min (last + block) (2 ^ 32)))
   pub window : (n : Numbers) → IsWithinWindow 0 n → n.lowest ≡ n.next
   pub windows : (window : ℕ) (n : Numbers) → IsWithinWindow window n
       → (n.lowest ≤ n.next) × (n.next ≤ n.lowest + window)

@@ -29,7 +29,7 @@ use Rattle.macs_store.specs.Value.{IsIdle, StoreValue, calls_left, generation, g
 use Rattle.macs_store.specs.Value.{used_slots}
 use Rattle.macs_store.specs.Value as store
 use Rattle.macs_endpoint.specs.Calls.{IsCall}
-use Rattle.macs_endpoint.specs.Ceilings.{IsRefilled, Raise, RaiseRx, RaiseTx, first_raise, standing_with_raise}
+use Rattle.macs_endpoint.specs.Ceilings.{IsRefilled, Raise, RaiseRx, RaiseTx, Raises, first_raise, standing_with_raise}
 use Rattle.macs_endpoint.specs.Counting.{new_channel_counters}
 use Rattle.macs_endpoint.specs.Formatting.{IsFormat}
 use Rattle.macs_endpoint.specs.KeptCommands.{KeepsCommand}
@@ -55,6 +55,7 @@ use Rattle.macs_endpoint.specs.declared.fault.ProtectFault.TheVariants.{Tx}
 use Rattle.macs_endpoint.specs.declared.fault.RefillFault.{RefillFault}
 use Rattle.macs_endpoint.specs.declared.fault.RefillFault.TheVariants as refill
 use Rattle.macs_endpoint.specs.declared.fault.StepFault.{StepFault}
+use Rattle.macs_endpoint.specs.declared.fault.StepFault.TheVariants as step
 use Rattle.macs_endpoint.specs.declared.fault.Stopped.{Stopped}
 use Rattle.macs_endpoint.specs.declared.fault.SubmitFault.{SubmitFault}
 use Rattle.macs_endpoint.specs.declared.progress.Step.{Step as Progress}
@@ -96,12 +97,13 @@ pub record OpeningsCount {D : Type 0} (disk_of : D → Disk) : Type 0 where
 -- that, and then the others so. A command that is answered as GenerationsSpent leaves the standing, with the
 -- reservation that was under way; and a refill that is answered as Disk, where none was under way, what was raised so.
 -- One that is answered as Ok leaves what was raised so, the reservation under way first, until none is needed; and its
--- slots and device calls are those of ceilings that were raised so. After one that is answered as GenerationsSpent a
--- ceiling is still needed. What a command that is answered as Ok makes, it makes of the standing with the reservation
--- that was under way; and one that waited, once it is done, of the standing. A refill, and a command that is kept, of
--- an endpoint with no work under way, make four device calls at most for each slot that they use, where the journal
--- does not start over; and the command uses one. Where work is under way its slot and its device calls come before
--- these.
+-- slots and device calls are those of ceilings that were raised so: each takes a slot, where the journal does not start
+-- over. After one that is answered as GenerationsSpent a ceiling is still needed, and what was raised comes after the
+-- reservation that was under way, which is done. A step that a device call fails leaves the standing. What a command
+-- that is answered as Ok makes, it makes of the standing with the reservation that was under way; and one that waited,
+-- once it is done, of the standing. A refill, and a command that is kept, of an endpoint with no work under way, make
+-- four device calls at most for each slot that they use, where the journal does not start over; and the command uses
+-- one. Where work is under way its slot and its device calls come before these.
 pub record CeilingsAreRaised {D : Type 0} (disk_of : D → Disk) : Type 0 where
   pub none : (t : TxSide) (r : RxSide) (old new : Standing) (next : Option Raise) → IsRefilled t r old new next
       → first_raise old t r ≡ None → new ≡ old
@@ -137,6 +139,17 @@ pub record CeilingsAreRaised {D : Type 0} (disk_of : D → Disk) : Type 0 where
       → (raise : Raise)
       × (first_raise (standing_in new.store) (tx_side (state_of old no_logs)) (rx_side (state_of old no_logs))
       ≡ Some raise)
+  pub ended_behind : (old new : EndpointValue D) (raise : Raise)
+      → IsCall disk_of old Refills (Refilled (Err refill.GenerationsSpent)) new → old.reserving ≡ Some raise
+      → (next : Raise)
+      × IsRefilled (tx_side (state_of old no_logs)) (rx_side (state_of old no_logs))
+      (standing_with_raise (standing_in old.store) raise)
+      (standing_in new.store) (Some next)
+  pub step_failed : (old new : EndpointValue D) → IsCall disk_of old Advances (Advanced (Err step.Disk)) new
+      → standing_in new.store ≡ standing_in old.store
+  pub reserved : (old : EndpointValue D) → (old.reserving ≡ None → reserved_in old ≡ standing_in old.store)
+      × ((raise : Raise) → old.reserving ≡ Some raise
+      → reserved_in old ≡ standing_with_raise (standing_in old.store) raise)
   pub kept : (old new : EndpointValue D) (command : Command) → IsCall disk_of old (Commands command) (Ran (Ok tt)) new
       → accept (reserved_in old) command ≡ Ok (standing_in new.store)
   pub done : (old new : EndpointValue D) (ticket : ℕ) (first : Waiting) (rest : List Waiting)
@@ -154,6 +167,12 @@ pub record CeilingsAreRaised {D : Type 0} (disk_of : D → Disk) : Type 0 where
       → (next : Option Raise)
       × IsRefilled (tx_side (state_of old no_logs)) (rx_side (state_of old no_logs)) (standing_in old.store)
       (standing_in new) next
+  pub each_slot : (old : EndpointValue D) (new : StoreValue D) → Spends disk_of old (Ok tt) new
+      → generation new ≡ generation_then old.store
+      → (raises : List Raise)
+      × Raises (tx_side (state_of old no_logs)) (rx_side (state_of old no_logs)) (reserved_in old) raises
+      (standing_in new)
+      × (used_slots new ≡ slots_then old.store + length raises)
   pub refill : (old : EndpointValue D) (new : StoreValue D) → Spends disk_of old (Ok tt) new → IsIdle old.store
       → generation new ≡ generation old.store
       → (store.disk_in disk_of new).clock ≤ (disk_in disk_of old).clock + 4 * (used_slots new - used_slots old.store)

@@ -111,13 +111,16 @@ FramesChangeFew sectors = (s : State) → Moment sectors s → (call : Call) (re
 -- ---- over a restart
 
 -- Where nothing is under way, an association that has no packet number has none after a restart, whatever opens the
--- disk.
+-- disk. Where a command is under way, so it is of each association that does not exist after the restart.
 abbrev pub NoneAppear : ℕ → Type 0
 NoneAppear sectors = (s : State) (edition : Edition) (image : Image) (found : Standing) → Fits edition sectors image s
     → StandingIs edition sectors image (Ok found)
-    → s.in_hand ≡ None
+    → (s.in_hand ≡ None
     → ((an : ℕ) → s.next an ≡ None → found.ceilings.tx an ≡ None)
-    × ((sci : List ℕ) (an : ℕ) → s.numbers sci an ≡ None → found.ceilings.rx sci an ≡ None)
+    × ((sci : List ℕ) (an : ℕ) → s.numbers sci an ≡ None → found.ceilings.rx sci an ≡ None))
+    × ((an : ℕ) → s.next an ≡ None → found.config.tx an ≡ None → found.ceilings.tx an ≡ None)
+    × ((sci : List ℕ) (an : ℕ) → s.numbers sci an ≡ None → found.config.rx sci an ≡ None
+    → found.ceilings.rx sci an ≡ None)
 
 -- ---- the two sides
 

@@ -22,7 +22,8 @@ use Rattle.macs_store.specs.Found.{IsToMigrate}
 use Rattle.macs_store.specs.Keeps.{most_with_change}
 use Rattle.macs_store.specs.Snapshot.{snapshot}
 use Rattle.macs_store.specs.Standing.{Standing}
-use Rattle.macs_store.specs.Value.{IsIdle, StoreValue, calls_left, generation, slots_then, standing_in, used_slots}
+use Rattle.macs_store.specs.Value.{IsIdle, StoreValue, calls_left, generation, generation_then, slots_then, standing_in}
+use Rattle.macs_store.specs.Value.{used_slots}
 use Rattle.macs_store.specs.Value as store
 use Rattle.macs_endpoint.specs.Calls.{IsCall}
 use Rattle.macs_endpoint.specs.Ceilings.{Raise, standing_with_raise}
@@ -41,22 +42,27 @@ use Rattle.macs_endpoint.specs.declared.fault.CommandFault.TheVariants as ran
 use Rattle.macs_endpoint.specs.declared.fault.RefillFault.TheVariants as refill
 use Rattle.macs_endpoint.specs.declared.progress.Step.TheVariants.{Reserved}
 
--- After an opening nothing is under way, nothing waits, no ticket is given, and no ceiling is being raised. A `format`
--- that is refused is so for a disk that is too small, for a failed device call, or for an open head gate; that leaves
--- the disk as a sync does. A step that ends a reservation raises the ceiling that was under way. A command that a
--- device call fails leaves the standing before, with the reservation under way or without. One that is kept where all
--- 256 slots are used is in the next generation, after a snapshot; where no more is kept, the calls of the reservation
--- under way are all, and whatever it is answered, those and the 523 of a journal that starts over, with one for each
--- record of a snapshot. Of a refill that a device call fails those calls are all, or the ceilings before it are raised;
--- of one that is not all the work, as many as that takes. A `format` that is answered Ok counts no failed device call.
--- One leaves each sector alone but those that it writes to, and all of them where a head gate reads open. So does an
--- opening that starts the journal over, in its other area, done or refused, and so does each compaction; and until that
--- writes the new head gate a power loss leaves the journal as it was. No failed device call that was counted is ever
--- taken back: by a call, by a `format` or by an opening that is refused.
+-- After an opening nothing is under way, nothing waits, no ticket is given, and no ceiling is being raised; on an
+-- honest disk no sector is pending, and what is seen of each is durable. A `format` that is refused is so for a disk
+-- that is too small, for a failed device call, or for an open head gate; that leaves the disk as a sync does. A step
+-- that ends a reservation raises the ceiling that was under way. A command that a device call fails leaves the standing
+-- before, with the reservation under way or without. One that is kept where all 256 slots are used is in the next
+-- generation, after a snapshot, also where the last one is that of work under way; where no more is kept, the calls of
+-- the reservation under way are all, and whatever it is answered, those and the 523 of a journal that starts over, with
+-- one for each record of a snapshot. Of a refill that a device call fails those calls are all, or the ceilings before
+-- it are raised; of one that is not all the work, as many as that takes. A `format` that is answered Ok counts no
+-- failed device call. One leaves each sector alone but those that it writes to, and all of them where a head gate reads
+-- open. So does an opening that starts the journal over, in its other area, done or refused, and so does each
+-- compaction; and until that writes the new head gate a power loss leaves the journal as it was. No failed device call
+-- that was counted is ever taken back: by a call, by a `format` or by an opening that is refused.
 pub record CallsLeave {D : Type 0} (disk_of : D → Disk) : Type 0 where
   pub opened : (disk : D) (first : EndpointValue D) → IsOpening disk_of disk (Ok first) → IsIdle first.store
       × (first.reserving ≡ None) × (first.in_hand ≡ None)
       × (first.waiting ≡ []) × (first.tickets ≡ 0)
+  pub opened_settled : (disk : D) (first : EndpointValue D) (i : ℕ) → IsOpening disk_of disk (Ok first)
+      → IsHonest (disk_in disk_of first)
+      → ((now (disk_in disk_of first)).pending i ≡ false)
+      × ((now (disk_in disk_of first)).seen i ≡ (now (disk_in disk_of first)).durable i)
   pub format_names : (old new : D) (identity : Identity) (fault : JournalFault)
       → IsFormat disk_of old identity (Err fault) new
       → (fault ≡ TooSmall) ⊎ ((fault ≡ DiskFault) ⊎ (fault ≡ AlreadyFormatted))
@@ -109,6 +115,10 @@ pub record CallsLeave {D : Type 0} (disk_of : D → Disk) : Type 0 where
       → used_slots old.store ≡ 256 → (generation new.store ≡ generation old.store + 1)
       × (used_slots new.store ≡ length (snapshot (reserved_in old)) + 1)
       × ((disk_in disk_of new).clock ≤ (disk_in disk_of old).clock + 523 + length (snapshot (reserved_in old)))
+  pub command_anew_behind : (old new : EndpointValue D) (command : Command)
+      → KeepsCommand disk_of old command (Ok tt) new
+      → slots_then old.store ≡ 256 → (generation new.store ≡ generation_then old.store + 1)
+      × (used_slots new.store ≡ length (snapshot (reserved_in old)) + 1)
   pub command_calls : (old new : EndpointValue D) (command : Command) (result : Result (Unit {0}) CommandFault)
       → KeepsCommand disk_of old command result new
       → (disk_in disk_of new).clock

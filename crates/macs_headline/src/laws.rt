@@ -236,7 +236,8 @@ pub fn headline()
     ensures numbers_are_set { (sectors : ℕ) → NumbersAreSet sectors }
     // A frame changes nothing but packet numbers, and what was used and delivered.
     ensures frames_change_few { (sectors : ℕ) → FramesChangeFew sectors }
-    // And a restart gives none to an association that had none.
+    // And a restart gives none to an association that had none, but what a command under way
+    // installs.
     ensures none_appear { (sectors : ℕ) → NoneAppear sectors }
     // What stands for a state's configuration, with numbers that moved no further, fits it, in
     // programs of any edition.

@@ -327,6 +327,10 @@ capture-words disk_of = record {
   not_passed = λ side old new source left sink after failure (between, answer, runs, ends).
       (between, answer, runs, ends_by answer failure between after ends);
   ends = λ side old new source left sink after failure is. is;
+  judged = λ old new source left sink after summary verdicts is. is;
+  not_judged = λ old new source left sink after failure verdicts (between, answer, runs, ends).
+      (between, answer, runs, ends_by answer failure between after ends);
+  ends_each = λ old new source left sink after failure is. is;
 }
 
 -- ---- disks in files

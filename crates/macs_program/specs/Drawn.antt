@@ -25,9 +25,11 @@ use Rattle.macs_disk.specs.declared.file_fault.FileFault.{FileFault}
 use Rattle.macs_disk.specs.declared.layout.Layout.{Layout}
 use Rattle.macs_disk.specs.declared.layout.Layout.TheVariants.{Packed, Spaced}
 use Rattle.macs_edge.specs.CaptureRuns.{RunsOver, run_of}
+use Rattle.macs_edge.specs.Telling.{JudgesRun}
 use Rattle.macs_edge.specs.declared.capture_runs.RunFault.{RunFault}
 use Rattle.macs_edge.specs.declared.capture_runs.Summary.{Summary}
 use Rattle.macs_edge.specs.declared.settling.Side.{Side}
+use Rattle.macs_edge.specs.declared.settling.Side.TheVariants.{Common}
 use Rattle.macs_endpoint.specs.Calls.{IsCall}
 use Rattle.macs_endpoint.specs.Formatting.{IsFormat}
 use Rattle.macs_endpoint.specs.Opening.{Opens, RefusesOpening}
@@ -44,6 +46,7 @@ use Rattle.macs_frame.specs.declared.opening.OpenFault.{OpenFault}
 use Rattle.macs_journal.specs.declared.fault.JournalFault.{JournalFault}
 use Rattle.macs_journal.specs.declared.fault.JournalFault.TheVariants as journal
 use Rattle.macs_pcap.specs.States.{SinkState, SourceState}
+use Rattle.macs_rxsc.specs.declared.verdict.Verdict.{Verdict}
 use Rattle.macs_program.specs.Addresses.{SpellsBoth, SpellsNone}
 use Rattle.macs_program.specs.Opened.{Answers, answer_status, answer_text}
 use Rattle.macs_program.specs.Applying.{Applies, AppliesAll, AppliesSome, EndsRun, SaidByFile, SaysCommands}
@@ -57,6 +60,7 @@ use Rattle.macs_program.specs.Endpoints.{OpeningFails, PassesIn, ShowsIn, shown_
 use Rattle.macs_program.specs.Failing.{failure_of_file, failure_of_journal, failure_of_run, failure_status}
 use Rattle.macs_program.specs.Failing.{failure_text}
 use Rattle.macs_program.specs.Inputs.{InputRead}
+use Rattle.macs_program.specs.Judging.{EndsEach, JudgesCapture}
 use Rattle.macs_program.specs.Lines.{line_at, lines, trimmed_line}
 use Rattle.macs_program.specs.NewDisks.{BlankFails, FormatFails, Formats, IsTaken}
 use Rattle.macs_program.specs.OpenInput.{IsFourLines, Spells, SpellsKey, SpellsSci, offset_text}
@@ -191,7 +195,9 @@ pub record ApplyWords {D F : Type 0} (disk_of : D → Disk) (left_in : F → Opt
 
 -- A run asks for its INPUT, then for its OUTPUT, and for no other; where it fails, for as much as it came to. All that
 -- a sink took is handed on at the end, or a flush failed, and it keeps what it took; a run that went to its end fails
--- for that alone, and one that did not with its own fault.
+-- for that alone, and one that did not with its own fault. So it is where each verdict is said too: the verdicts are
+-- those of that run. With a line of its own, or with one for each verdict, a run fails as it does without, or a line
+-- could not be written.
 pub record CaptureWords {D : Type 0} (disk_of : D → Disk) : Type 0 where
   pub asks : (before : List Asked) (after : Option (List Asked)) (more : List Asked) → Asks (Some before) after more
       ↔ (after ≡ Some (before ++ more))
@@ -224,6 +230,27 @@ pub record CaptureWords {D : Type 0} (disk_of : D → Disk) : Type 0 where
       → PassesCapture disk_of side (run_of old source sink) (Err failure) (run_of new left after)
       ⊎ ((failure ≡ failures.Output) × (summary : Summary)
       × PassesCapture disk_of side (run_of old source sink) (Ok summary) (run_of new left after))
+  pub judged : (old new : EndpointValue D) (source left : SourceState) (sink after : SinkState) (summary : Summary)
+      (verdicts : List Verdict)
+      → JudgesCapture disk_of (run_of old source sink) (Ok summary) verdicts (run_of new left after)
+      → (between : SinkState)
+      × JudgesRun disk_of Common (run_of old source sink) (Ok summary) verdicts (run_of new left between)
+      × IsFlushed between after
+  pub not_judged : (old new : EndpointValue D) (source left : SourceState) (sink after : SinkState) (failure : Failure)
+      (verdicts : List Verdict)
+      → JudgesCapture disk_of (run_of old source sink) (Err failure) verdicts (run_of new left after)
+      → (between : SinkState) × (answer : Result Summary RunFault)
+      × JudgesRun disk_of Common (run_of old source sink) answer verdicts (run_of new left between)
+      × (((summary : Summary) × (answer ≡ Ok summary) × (failure ≡ failures.Capture) × (after.failed ≡ true)
+      × Keeps between.held after.held)
+      ⊎ ((fault : RunFault) × (answer ≡ Err fault) × (failure ≡ failure_of_run fault) × (IsFlushed between after
+      ⊎ ((after.failed ≡ true) × Keeps between.held after.held))))
+  pub ends_each : (old new : EndpointValue D) (source left : SourceState) (sink after : SinkState) (failure : Failure)
+      → EndsEach disk_of (run_of old source sink) failure (run_of new left after)
+      → ((verdicts : List Verdict)
+      × JudgesCapture disk_of (run_of old source sink) (Err failure) verdicts (run_of new left after))
+      ⊎ ((failure ≡ failures.Output) × (answer : Result Summary Failure) × (verdicts : List Verdict)
+      × JudgesCapture disk_of (run_of old source sink) answer verdicts (run_of new left after))
 
 -- ---- disks in files
 
