@@ -213,8 +213,9 @@ fn find_own<S: Connection>(
     ensures { IfErr result IsBeforeCommands }
 {
     let answer = answer_to(alloc, asker, &Request::Show)?;
-    if answer.status != 0 {
-        return Err(failure_in(answer.status));
+    let status = answer.status;
+    if status != 0 {
+        return Err(failure_in(status));
     }
     if !is_shown(alloc, &answer, sci)? {
         return Err(Failure::Commands);
