@@ -1,5 +1,6 @@
 -- What `check` says of a command file that others can read.
-use Rattle.std.specs.Prelude.{◌+◌, ◌/◌, ◌%◌, ◌==◌, ◌++◌, ◌∷◌, [], ℕ, List, codes, if◌then◌else◌, Bool, Option, Some, None}
+use Rattle.std.specs.Prelude.{◌+◌, ◌/◌, ◌%◌, ◌==◌, ◌++◌, ◌∷◌, [], ℕ, List, codes, if◌then◌else◌, Bool, Option, Some}
+use Rattle.std.specs.Prelude.{None}
 use Rattle.macs_texts.specs.Lines.{line}
 
 -- the last octal digit of a number, as it is written

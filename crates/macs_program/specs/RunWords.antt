@@ -109,15 +109,15 @@ use Rattle.macs_program.specs.declared.values.ValueFault.{ValueFault}
 -- action does this: `open` prints the answer to its input; `format` makes a file a disk that, when it was settled, was
 -- one that may be written over, blanks it in the layout of its words and formats it with the identity of its words;
 -- `apply` gives the commands that a file says to an endpoint in a file, whose SCI the file names, or none, and prints a
--- line for each; `show` prints its text, as it was opened; `examine` prints what the journal is that is found on a copy of the disk in a file, and what
--- its records stand for, or the sector of its first fault; `protect` and `validate` take a capture through it, each
--- from its own side, and `validate --each` prints the line of each verdict before its own; `relay` prints what it came
--- to; `ask` prints lines of outcomes, or a text; `key` prints as many octets as it is to, in hex; `inspect` prints a
--- line for each record of a capture, up to its end; `about` prints one text; `check` prints how many commands a file
--- says, or, with a disk, a line for each: what the endpoint on a copy of the disk in a file answers to it, where each
--- sector of the copy is that of the disk; `plan` prints a text that is read as just the commands that are planned, for
--- the end and the stage of its words, of a link that a file says. Of a capture that is given, and a key that is
--- given, it is this one.
+-- line for each; `show` prints its text, as it was opened; `examine` prints what the journal is that is found on a copy
+-- of the disk in a file, and what its records stand for, or the sector of its first fault; `protect` and `validate`
+-- take a capture through it, each from its own side, and `validate --each` prints the line of each verdict before its
+-- own; `relay` prints what it came to; `ask` prints lines of outcomes, or a text; `key` prints as many octets as it is
+-- to, in hex; `inspect` prints a line for each record of a capture, up to its end; `about` prints one text; `check`
+-- prints how many commands a file says, or, with a disk that is the end which the file is for, a line for each: what
+-- the endpoint on a copy of the disk in a file answers to it, where each sector of the copy is that of the disk; `plan`
+-- prints a text that is read as just the commands that are planned, for the end and the stage of its words, of a link
+-- that a file says. Of a capture that is given, and a key that is given, it is this one.
 pub record ReplyWords {F : Type 0} (file : F → FileState) (left_in : F → Option (List ℕ)) : Type 0 where
   pub replied : (words : List Text) (input : InputRead) (before after : Option (List ℕ)) (status : Status)
       → Replies file left_in words input before after status

@@ -261,11 +261,11 @@ pub record FrameTexts : Type 0 where
       × (name_text EndStation ≡ codes " es") × (name_text Implicit ≡ [])
 
 -- `check` says how many commands there are, or that the file is too long, no text, no TOML, or that its `sci` is none,
--- or the first fault of its commands: that of its tables, of a command's word, of a key, by its name and what it is not, or that there is a key
--- too many. With a disk the line of a command has its number and says `would be ok`, or `would be refused` with the
--- name of its refusal; the lines follow each other, numbered on. Of a file that others can read it prints the mode too,
--- in three octal digits, and a fourth in front that is no zero; of another file, or where the system says no mode,
--- nothing.
+-- or the first fault of its commands: that of its tables, of a command's word, of a key, by its name and what it is
+-- not, or that there is a key too many. With a disk the line of a command has its number and says `would be ok`, or
+-- `would be refused` with the name of its refusal; the lines follow each other, numbered on. Of a file that others can
+-- read it prints the mode too, in three octal digits, and a fourth in front that is no zero; of another file, or where
+-- the system says no mode, nothing.
 pub record CheckTexts : Type 0 where
   pub one : count_line 1 ≡ (decimal 1 ++ codes " command") ++ 10 ∷ []
   pub none : count_line 0 ≡ (decimal 0 ++ codes " commands") ++ 10 ∷ []

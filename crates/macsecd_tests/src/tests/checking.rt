@@ -180,25 +180,56 @@ const WRONG: &str = "story-ends/wrong.toml";
 
 const DISK: &str = "story-ends/disk";
 
+const OWN_TEXT: &str = "sci = '12153524C0895e81'
+[[command]]
+do = 'tx-use'
+an = 0
+";
+
+const OTHER_TEXT: &str = "sci = '12153524c0895e82'
+[[command]]
+do = 'rx-add'
+sci = '12153524c0895e83'
+";
+
+const WRONG_TEXT: &str = "sci = '12153524c0895e8'
+[[command]]
+do = 'rx-add'
+sci = '12153524c0895e83'
+";
+
 /// Files that name an end are for that end alone.
 const ENDS: &[Step] = &[
     Run(
         &["format", DISK, "12153524c0895e81", "4", "4"],
         Outcome::Done("formatted\n"),
     ),
-    Text(OWN, "sci = '12153524C0895e81'\n[[command]]\ndo = 'tx-use'\nan = 0\n"),
-    Text(OTHER, "sci = '12153524c0895e82'\n[[command]]\ndo = 'rx-add'\nsci = '12153524c0895e83'\n"),
-    Text(WRONG, "sci = '12153524c0895e8'\n[[command]]\ndo = 'rx-add'\nsci = '12153524c0895e83'\n"),
+    Text(OWN, OWN_TEXT),
+    Text(OTHER, OTHER_TEXT),
+    Text(WRONG, WRONG_TEXT),
     Run(&["check", OWN], Outcome::Done("1 command\n")),
     Run(&["check", OTHER], Outcome::Done("1 command\n")),
     Run(
         &["check", OWN, DISK],
         Outcome::Refused("1 would be refused SlotEmpty\n"),
     ),
-    Keeping(&[DISK], &["check", OTHER, DISK], Outcome::Fault("macsecd: commands\n")),
-    Run(&["apply", DISK, OWN], Outcome::Refused("1 refused SlotEmpty\n")),
-    Run(&["apply", DISK, OTHER], Outcome::Fault("macsecd: commands\n")),
-    Run(&["apply", DISK, WRONG], Outcome::Fault("macsecd: commands\n")),
+    Keeping(
+        &[DISK],
+        &["check", OTHER, DISK],
+        Outcome::Fault("macsecd: commands\n"),
+    ),
+    Run(
+        &["apply", DISK, OWN],
+        Outcome::Refused("1 refused SlotEmpty\n"),
+    ),
+    Run(
+        &["apply", DISK, OTHER],
+        Outcome::Fault("macsecd: commands\n"),
+    ),
+    Run(
+        &["apply", DISK, WRONG],
+        Outcome::Fault("macsecd: commands\n"),
+    ),
     Run(
         &["show", DISK],
         Outcome::Done(
