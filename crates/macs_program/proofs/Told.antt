@@ -87,6 +87,15 @@ by_status false false = (tt, λ e. cc)
 pub not-shown : (status : ℕ) → IsBeforeCommands (failure_in status)
 not-shown status = by_status (status == 4) (status == 5)
 
+not_commands_by : (a b : Bool)
+    → (if a then failures.Disk (disk.Journal journal.Stopped) else (if b then Memory else Control)) ≢ Commands
+not_commands_by true b = λ e. cc
+not_commands_by false true = λ e. cc
+not_commands_by false false = λ e. cc
+
+pub not-commands : (status : ℕ) → failure_in status ≢ Commands
+not-commands status = not_commands_by (status == 4) (status == 5)
+
 pub no-answer : (failure : Failure) → (failure ≡ Memory) ⊎ (failure ≡ Control) → IsEarly failure
 no-answer failure (inl memory) = inl memory
 no-answer failure (inr control) = inr (inl control)

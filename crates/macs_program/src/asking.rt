@@ -1,7 +1,7 @@
 //! `ask`: what a running relay is asked over its control socket, and what it answers.
 
 ghost use Rattle.std.specs.Prelude.{◌≡◌, ◌≢◌, ◌⊎◌, ◌↔◌, ◌++◌, ℕ, List, Option, None, is_some, true};
-ghost use Rattle.std.specs.Prelude.{IfErr, IfOk, IfSome, IsTrue, Ok, codes, string_bytes};
+ghost use Rattle.std.specs.Prelude.{IfErr, IfOk, IfSome, IsTrue, Ok, OnOk, string_bytes};
 ghost use Rattle.std.specs.Io.KnownBytes.{Appends};
 ghost use Rattle.macs_config.specs.declared.refusal.Refusal.{Refusal};
 ghost use Rattle.macs_program.specs.Applying.{outcome_line};
@@ -203,6 +203,25 @@ fn is_shown(alloc: Global, answer: &Answer, sci: Sci) -> Result<bool, AllocError
     Ok(answer.text.as_slice().starts_with(line.as_str().as_bytes()))
 }
 
+/// Refuses an answer that is not the text of the endpoint with this SCI. It fails as `Commands`
+/// where it is that of another.
+fn refuse_other(alloc: Global, answer: &Answer, sci: Sci) -> Result<(), Failure>
+    ensures own { OnOk result
+        ((answer.now.status ≡ 0) × Begins (sci_line sci) answer.now.text.items) }
+    ensures other { IfErr result (λ failure. failure ≡ Failure.Commands
+        → ¬ Begins (sci_line sci) answer.now.text.items) }
+    ensures failed { IfErr result IsBeforeCommands }
+{
+    let status = answer.status;
+    if status != 0 {
+        return Err(failure_in(status));
+    }
+    if !is_shown(alloc, answer, sci)? {
+        return Err(Failure::Commands);
+    }
+    Ok(())
+}
+
 /// Asks a relay for the text of its endpoint, which has to have this SCI. It fails as `Commands`
 /// where that has another.
 fn find_own<S: Connection>(
@@ -213,14 +232,7 @@ fn find_own<S: Connection>(
     ensures { IfErr result IsBeforeCommands }
 {
     let answer = answer_to(alloc, asker, &Request::Show)?;
-    let status = answer.status;
-    if status != 0 {
-        return Err(failure_in(status));
-    }
-    if !is_shown(alloc, &answer, sci)? {
-        return Err(Failure::Commands);
-    }
-    Ok(())
+    refuse_other(alloc, &answer, sci)
 }
 
 /// Looks whether a command file is for the endpoint of a relay, which is asked only where the file
