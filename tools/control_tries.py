@@ -245,6 +245,21 @@ def a_command_file_that_is_wrong():
 
 
 @a_try
+def a_command_file_for_one_end():
+    with link() as it:
+        file = command_file(it.folder, install(1, KEYS[0]))
+        with open(file, encoding="ascii") as given:
+            commands = given.read()
+        for sci, told in (("0200000000020001", (5, "", "macsecd: commands\n")), ("0200000000010001", (0, "1 ok\n", ""))):
+            with open(file, "w", encoding="ascii") as named:
+                named.write(f'sci = "{sci}"\n' + commands)
+            asked = it.ask("apply", file)
+            assert (asked.returncode, asked.stdout, asked.stderr) == told, asked
+        it.stop()
+        assert "tx 1 " in run("show", it.disk).stdout
+
+
+@a_try
 def clients_that_say_nothing():
     with link() as it:
         silent = [it.connect() for _ in range(4)]

@@ -18,10 +18,10 @@ complains-weaker P Q failure weaker (inr (text, is, holds)) = inr (text, is, wea
 -- ---- of a file that was opened
 
 -- the same commands under another name
-pub said-of : {F : Type 0} (left_in : F → Option (List ℕ)) (given said : List Command) → given ≡ said
-    → SaidByFile left_in said → SaidByFile left_in given
-said-of left_in given said same by_file =
-    subst (λ (commands : List Command). SaidByFile left_in commands) (sym same) by_file
+pub said-of : {F : Type 0} (left_in : F → Option (List ℕ)) (end : Option (List ℕ)) (given said : List Command)
+    → given ≡ said → SaidByFile left_in end said → SaidByFile left_in end given
+said-of left_in end given said same by_file =
+    subst (λ (commands : List Command). SaidByFile left_in end commands) (sym same) by_file
 
 module _ (IsSaid : List ℕ → List ℕ → Type 0) where
   -- nothing could be read of it; or this is said of its octets

@@ -30,6 +30,8 @@ use Rattle.macs_frame.proofs.Readings.{verified_once}
 use Rattle.macs_journal.specs.declared.fault.JournalFault.TheVariants as journal
 use Rattle.macs_pcap.specs.States.{SinkState}
 use Rattle.macs_program.specs.Opened.{Answers, AnswersRequest, answer_status, answer_text, refusal_text, valid_text}
+use Rattle.macs_program.proofs.OwnEnds.{own-end}
+use Rattle.macs_program.specs.Applying.{own_sci}
 use Rattle.macs_program.specs.Applying.{Applies, EndsRun, SaysCommands, answer_of, commit_fault, outcome_lines}
 use Rattle.macs_program.specs.Capturing.{EndsWith, IsFlushed}
 use Rattle.macs_program.specs.Contents.{HasOpenGate, IsBlankFile}
@@ -262,14 +264,17 @@ module _ {D : Type 0} (disk_of : D → Disk) where
   breaks old new command failure (inl (fault, answer, commit, is, call)) = inl (fault, answer, is, commit, call)
   breaks old new command failure (inr (is, outcome, call)) = inr (is, by_line old new command outcome call)
 
-says_once : (octets : List ℕ) (a b : List Command) → SaysCommands octets a → SaysCommands octets b → a ≡ b
-says_once octets a b x y =
+says_once : (octets : List ℕ) (one other : Option (List ℕ)) (a b : List Command) → SaysCommands octets one a
+    → SaysCommands octets other b → (one ≡ other) × (a ≡ b)
+says_once octets one other a b x y =
     let parsed = x.parsed in
     let parsed' = y.parsed in
     let same : x.members ≡ y.members = cc in
+    let named = x.named in
+    let named' = y.named in
     let said = x.said in
     let said' = y.said in
-    cc
+    (cc, cc)
 
 fault_of : (fault : DiskFault) (answer : CommandFault) → commit_fault fault answer
     → ((answer ≡ ran.Stopped) × (fault ≡ disk.Journal journal.Stopped))
@@ -289,10 +294,10 @@ apply-words disk_of left_in = record {
   refused = refused disk_of;
   as_many = as_many disk_of;
   all = λ old new commands before after status a. (a.applied, a.printed, a.status_is);
-  file = λ old new before after status f. (f.says, f.by_file, f.applies);
-  by_file = λ commands s. s.said;
+  file = λ old new before after status f. (f.says, f.by_file, own-end f.end (own_sci old) f.own, f.applies);
+  by_file = λ end commands s. s.said;
   one_file = says_once;
-  says = λ octets commands s. (s.short, s.utf8, s.members, s.parsed, s.said);
+  says = λ octets end commands s. (s.short, s.utf8, s.members, s.parsed, s.named, s.said);
   done = refl;
   done_more = λ rest. refl;
   refused_status = λ at rest. refl;
@@ -301,7 +306,15 @@ apply-words disk_of left_in = record {
   some = λ old new commands before after failure a. (a.all, a.applied, a.ends, a.printed);
   broken = λ old new before after failure is. elim is [
     | inl early ↦ inl early
-    | inr front ↦ inr (front.octets, front.commands, front.says, front.by_file, front.applies)
+    | inr front ↦ inr (
+      front.octets,
+      front.end,
+      front.commands,
+      front.says,
+      front.by_file,
+      own-end front.end (own_sci old) front.own,
+      front.applies,
+    )
   ];
 }
 

@@ -21,7 +21,7 @@ use Rattle.macs_program.proofs.NoneWaits.{opened-none}
 use Rattle.macs_program.proofs.Failures.{MemoryOr, capture-no-output, capture-no-usage, commands-no-output}
 use Rattle.macs_program.proofs.Failures.{commands-no-usage, disk-no-output, disk-no-usage, of-opening, output-no-usage}
 use Rattle.macs_program.specs.Applying.{AppliesAll, AppliesSome, EndsRun, SaidByFile, SaysCommands}
-use Rattle.macs_program.specs.Applying.{outcome_lines}
+use Rattle.macs_program.specs.Applying.{is_for, outcome_lines, own_sci}
 use Rattle.macs_program.specs.Capturing.{EndsPass, PassesCapture}
 use Rattle.macs_program.specs.Endpoints.{AppliesIn, BreaksOff, BreaksOffIn, IsDiskIn, IsOpeningIn, OpeningFails}
 use Rattle.macs_program.specs.Endpoints.{PassEndsIn, PassesIn, ShowsIn, shown_text}
@@ -108,30 +108,40 @@ module _ {F D W : Type 0} (left_in : F → Option (List ℕ)) (disk_of : D → D
         broken = λ output. absurd (commands-no-output failure named output);
       })
 
-  pub file-applied : (new : EndpointValue D) (after : W) (said given : List Command) (result : Result Status Failure)
-      → ((octets : List ℕ) × SaysCommands octets said) → SaidByFile left_in said → given ≡ said
+  -- a file for another end is not applied
+  pub other-applied : DoesApply left_in disk_of contents has_failed old before (Err Commands) old before
+  other-applied = none-applied Commands Commands (Err Commands) refl refl (inr refl)
+
+  pub file-applied : (new : EndpointValue D) (after : W) (end : Option (List ℕ)) (said given : List Command)
+      (result : Result Status Failure)
+      → ((octets : List ℕ) × SaysCommands octets end said) → SaidByFile left_in end said
+      → is_for end (own_sci old) ≡ true → given ≡ said
       → IfOk result (λ status. AppliesAll disk_of old given (contents before) (contents after) status new)
       → IfErr result (λ failure. AppliesSome disk_of old given (contents before) (contents after) failure new)
       → IfErr result (λ failure. failure ≡ Output → has_failed after ≡ true)
       → DoesApply left_in disk_of contents has_failed old before result new after
-  file-applied new after said given (Ok status) (octets, says) by_file same applied ended broken = record {
+  file-applied new after end said given (Ok status) (octets, says) by_file own same applied ended broken = record {
     printed = record {
       octets = octets;
+      end = end;
       commands = given;
-      says = subst (λ (commands : List Command). SaysCommands octets commands) (sym same) says;
-      by_file = subst (λ (commands : List Command). SaidByFile left_in commands) (sym same) by_file;
+      says = subst (λ (commands : List Command). SaysCommands octets end commands) (sym same) says;
+      by_file = subst (λ (commands : List Command). SaidByFile left_in end commands) (sym same) by_file;
+      own = own;
       applies = applied;
     };
     ended = tt;
     broken = tt;
   }
-  file-applied new after said given (Err failure) (octets, says) by_file same applied ended broken = record {
+  file-applied new after end said given (Err failure) (octets, says) by_file own same applied ended broken = record {
     printed = tt;
     ended = inr (record {
       octets = octets;
+      end = end;
       commands = given;
-      says = subst (λ (commands : List Command). SaysCommands octets commands) (sym same) says;
-      by_file = subst (λ (commands : List Command). SaidByFile left_in commands) (sym same) by_file;
+      says = subst (λ (commands : List Command). SaysCommands octets end commands) (sym same) says;
+      by_file = subst (λ (commands : List Command). SaidByFile left_in end commands) (sym same) by_file;
+      own = own;
       applies = ended;
     });
     broken = broken;

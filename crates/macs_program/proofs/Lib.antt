@@ -22,6 +22,7 @@ pub mod Looks
 pub mod Made
 pub mod NoneWaits
 pub mod OpenedFrames
+pub mod OwnEnds
 pub mod Performed
 pub mod Planned
 pub mod Printing

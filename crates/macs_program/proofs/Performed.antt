@@ -39,7 +39,7 @@ use Rattle.macs_words.specs.declared.action.Question.TheVariants as question
 use Rattle.macs_words.specs.declared.pace.Running.{Running}
 use Rattle.macs_program.proofs.Examined.{examining-no-usage, said-status}
 use Rattle.macs_program.proofs.Failures.{disk-no-usage, output-no-usage}
-use Rattle.macs_program.proofs.Tried.{of-trial}
+use Rattle.macs_program.proofs.Tried.{of-trial, trial-no-usage}
 
 -- a failure of the disk is not one of the output
 of-disk : (failure : Failure) → failure_status failure ≡ ends.Disk → failure ≢ Output
@@ -366,8 +366,8 @@ module _ {F W : Type 0} (state_of : F → FileState) (left_in : F → Option (Li
       → failure_status failure ≢ ends.Usage
   check-no-usage None failure is = (checking-no-usage left_in failure is).0
   check-no-usage (Some disk) failure (inl is) = (checking-no-usage left_in failure is).0
-  check-no-usage (Some disk) failure (inr (octets, commands, says, by_file, fails)) =
-      disk-no-usage failure (of-trial state_of commands failure fails)
+  check-no-usage (Some disk) failure (inr (octets, end, commands, says, by_file, fails)) =
+      trial-no-usage failure (of-trial state_of end commands failure fails)
 
   pub checks : (file : Bor (List ℕ)) (disk : Option (Bor (List ℕ)))
       → IfOk result (Checks state_of left_in disk (contents old) (contents new))

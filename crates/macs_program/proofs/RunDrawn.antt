@@ -27,12 +27,14 @@ use Rattle.macs_pcap.specs.declared.header.Header.{Header}
 use Rattle.macs_rxsc.specs.declared.verdict.Verdict.{Verdict}
 use Rattle.macs_program.specs.Addresses.{AddressFaultHolds}
 use Rattle.macs_program.specs.Asking.{IsOfAsking}
-use Rattle.macs_program.specs.Applying.{SaidByFile, SaysCommands}
+use Rattle.macs_program.specs.Applying.{SaidByFile, SaysCommands, own_sci}
 use Rattle.macs_program.specs.Checking.{CheckFails, Complains, IsSaidOfFile, PrintsCount, count_line}
 use Rattle.macs_program.specs.Capturing.{EndsPass, PassesCapture}
 use Rattle.macs_program.specs.Contents.{number_of, sector_in}
 use Rattle.macs_program.specs.Endpoints.{IsEndpointIn, PassEnds, PassesIn}
+use Rattle.macs_program.specs.FileModes.{mode_warning}
 use Rattle.macs_program.specs.Inspecting.{AreLinesOf, InspectsCapture}
+use Rattle.macs_program.proofs.OwnEnds.{other-end, own-end}
 use Rattle.macs_program.specs.Judging.{EndsEach, JudgesCapture, JudgesIn, JudgingEnds, verdict_lines}
 use Rattle.macs_program.specs.Keys.{IsOfKey}
 use Rattle.macs_plan.specs.declared.link.End.{End}
@@ -58,10 +60,12 @@ use Rattle.macs_words.specs.declared.pace.Running.{Running}
 
 counted : {F : Type 0} (left_in : F → Option (List ℕ)) (before after : Option (List ℕ)) (status : Status)
     → PrintsCount left_in before after × (status ≡ ends.Done)
-    → (octets : List ℕ) × (commands : List Command) × SaysCommands octets commands × SaidByFile left_in commands
-    × Appends before after (count_line (length commands)) × (status ≡ ends.Done)
-counted left_in before after status ((octets, commands, says, by_file, printed), done) =
-    (octets, commands, says, by_file, printed, done)
+    → (octets : List ℕ) × (end : Option (List ℕ)) × (commands : List Command) × SaysCommands octets end commands
+    × SaidByFile left_in end commands
+    × (mode : Option ℕ) × Appends before after (count_line (length commands) ++ mode_warning mode)
+    × (status ≡ ends.Done)
+counted left_in before after status ((octets, end, commands, says, by_file, mode, printed), done) =
+    (octets, end, commands, says, by_file, mode, printed, done)
 
 -- a sector of the copy is the disk's
 seen-in : (file : FileState) (layout : Layout) (at : ℕ)
@@ -161,9 +165,11 @@ reply-words file left_in = record {
     is.new,
     is.endpoint,
     is.applies.octets,
+    is.applies.end,
     is.applies.commands,
     is.applies.says,
     is.applies.by_file,
+    own-end is.applies.end (own_sci is.old) is.applies.own,
     is.applies.applies.outcomes,
     is.applies.applies.applied,
     is.applies.applies.printed,
@@ -241,6 +247,7 @@ reply-words file left_in = record {
   stops = λ old new before after failure is. is.stopped;
   tried = λ from path input before after status is. (
     is.octets,
+    is.end,
     is.commands,
     is.says,
     is.by_file,
@@ -250,8 +257,10 @@ reply-words file left_in = record {
     is.tries.tries.old,
     is.tries.tries.new,
     is.tries.tries.opens,
+    own-end is.end (own_sci is.tries.tries.old) is.tries.tries.own,
     is.outcomes,
     is.tries.tries.applied,
+    is.mode,
     is.printed,
     is.status_is,
   );
@@ -359,26 +368,32 @@ fail-words file left_in = record {
       of_plan left_in (end_of end) (stage_of stage) failure is;
   of_trial = λ from path input before after failure is. is;
   copying = λ disk_file failure is. is;
-  trying = λ copy commands failure is. elim is [
+  trying = λ copy end commands failure is. elim is [
     | inl refused ↦ inl refused
-    | inr (old, opens, inl memory) ↦ inr (old, opens, inl memory)
-    | inr (opened, opens, inr stops) ↦ inr (
+    | inr (old, opens, inl (is_commands, other)) ↦
+        inr (old, opens, inl (is_commands, other-end end (own_sci old) other))
+    | inr (old, opens, inr (own, inl memory)) ↦
+        inr (old, opens, inr (own-end end (own_sci old) own, inl memory))
+    | inr (opened, opens, inr (own, inr stops)) ↦ inr (
       opened,
       opens,
       inr (
-        stops.done,
-        stops.next,
-        stops.left,
-        stops.all,
-        stops.outcomes,
-        stops.between,
-        stops.applied,
-        stops.ends.0,
-        stops.ends.1,
-        stops.ends.2,
-        stops.ends.3,
-        stops.ends.4,
-        stops.ends.5,
+        own-end end (own_sci opened) own,
+        inr (
+          stops.done,
+          stops.next,
+          stops.left,
+          stops.all,
+          stops.outcomes,
+          stops.between,
+          stops.applied,
+          stops.ends.0,
+          stops.ends.1,
+          stops.ends.2,
+          stops.ends.3,
+          stops.ends.4,
+          stops.ends.5,
+        ),
       ),
     )
   ];

@@ -1,7 +1,14 @@
 -- All that is to be drawn from words on texts.
 use Rattle.std.proofs.Common.{◌≡◌, ◌≢◌, ◌<◌, ◌+◌, ◌++◌, ◌∷◌, [], ◌∙◌, ℕ, Bool, true, false, List, Option, Some, None}
-use Rattle.std.proofs.Common.{refl, sym, ap, append_assoc}
-use Rattle.std.specs.Prelude.{◌==◌, codes, drop, if◌then◌else◌, nat_lt}
+use Rattle.std.proofs.Common.{◌⊎◌, ◌≤◌, inl, inr, length, Ok, Err, refl, sym, ap, append_assoc}
+use Rattle.std.specs.Prelude.{◌==◌, ◌/◌, ◌%◌, codes, drop, if◌then◌else◌, nat_lt}
+use Rattle.std.specs.Str.{IsUtf8}
+use Rattle.toml.specs.Data.{Members}
+use Rattle.toml.specs.Parse.{parse_document}
+use Rattle.macs_commands.specs.Ends.{HasFileFault, end_commands, end_in}
+use Rattle.macs_commands.specs.declared.config_fault.ConfigFault.{ConfigFault}
+use Rattle.macs_commands.specs.declared.ends.CommandFileFault.{CommandFileFault}
+use Rattle.macs_commands.specs.declared.ends.CommandFileFault.TheVariants as told
 use Rattle.std.proofs.lemmas.Bool.{lt-ltb, ne_eqb}
 use Rattle.std.proofs.Common.{arith}
 use Rattle.std.proofs.lemmas.List.{append-nil}
@@ -22,7 +29,8 @@ use Rattle.macs_program.specs.ShowTexts.{ShowTexts}
 use Rattle.macs_journal.specs.declared.fault.JournalFault.TheVariants as journal
 use Rattle.macs_program.specs.Applying.{outcome_line, outcome_lines}
 use Rattle.macs_program.specs.Asking.{failure_in}
-use Rattle.macs_program.specs.Checking.{count_line}
+use Rattle.macs_program.specs.Checking.{IsSaidOfFile, count_line, fault_text, file_fault_text}
+use Rattle.macs_program.specs.FileModes.{mode_line, mode_warning, octal_digit, three_digits}
 use Rattle.macs_program.specs.Summing.{pass_status}
 use Rattle.macs_program.specs.TextWords.{CheckTexts, FailureTexts, FaultOrders, FrameTexts, LineTexts}
 use Rattle.macs_program.specs.Trying.{trial_line, trial_lines}
@@ -141,12 +149,56 @@ several n =
     let other : (n + 2 == 1) ≡ false = ne_eqb (n + 2) 1 (λ one. omega (arith, one)) in
     ap (λ (b : Bool). (decimal (n + 2) ++ (if b then codes " command" else codes " commands")) ++ 10 ∷ []) other
 
+-- what is said of a file's first fault
+fault_said : (members : Members) (said : List ℕ) (fault : CommandFileFault) → HasFileFault members fault
+    → said ≡ file_fault_text fault
+    → ((end_in members ≡ Err told.Sci) × (said ≡ codes "command file sci: not 16 hex digits"))
+    ⊎ ((end : Option (List ℕ)) × (cause : ConfigFault) × (end_in members ≡ Ok end)
+    × (end_commands members ≡ Err cause) × (said ≡ fault_text cause))
+fault_said members said told.Sci has is = inl (has, is)
+fault_said members said (told.Commands cause) (end, named, has) is = inr (end, cause, named, has, is)
+
+said_of : (octets said : List ℕ) → IsSaidOfFile octets said
+    → ((1048576 < length octets) × (said ≡ codes "command file: more than 1048576 octets"))
+    ⊎ ((length octets ≤ 1048576) × (¬ IsUtf8 octets) × (said ≡ codes "command file: not UTF-8"))
+    ⊎ ((length octets ≤ 1048576) × IsUtf8 octets × (((parse_document octets ≡ None)
+    × (said ≡ codes "command file: not TOML")) ⊎ ((members : Members) × (parse_document octets ≡ Some members)
+    × (((end_in members ≡ Err told.Sci) × (said ≡ codes "command file sci: not 16 hex digits"))
+    ⊎ ((end : Option (List ℕ)) × (cause : ConfigFault) × (end_in members ≡ Ok end)
+    × (end_commands members ≡ Err cause) × (said ≡ fault_text cause))))))
+said_of octets said (inl long) = inl long
+said_of octets said (inr (inl other)) = inr (inl other)
+said_of octets said (inr (inr (short, utf8, inl none))) = inr (inr (short, utf8, inl none))
+said_of octets said (inr (inr (short, utf8, inr (members, parsed, fault, has, is)))) =
+    inr (inr (short, utf8, inr (members, parsed, fault_said members said fault has is)))
+
+-- ---- the mode of a file
+
+abbrev warning_by : Bool → List ℕ → List ℕ
+warning_by b text = if b then text else []
+
+unread : (mode : ℕ) → mode / 4 % 2 ≢ 1 → mode_warning (Some mode) ≡ []
+unread mode other = ap (λ (b : Bool). warning_by b (mode_line mode)) (ne_eqb (mode / 4 % 2) 1 other)
+
+read_as : (mode : ℕ) → mode / 4 % 2 ≡ 1 → mode_warning (Some mode) ≡ mode_line mode
+read_as mode is = ap (λ (n : ℕ). warning_by (n == 1) (mode_line mode)) is
+
+short_mode : (mode : ℕ) → mode / 512 % 8 ≡ 0 → mode_line mode
+    ≡ codes "mode " ++ (48 + mode / 64 % 8 ∷ 48 + mode / 8 % 8 ∷ 48 + mode % 8 ∷ 10 ∷ [])
+short_mode mode is = ap (λ (n : ℕ). line (codes "mode " ++ (if n == 0 then three_digits mode
+    else octal_digit (mode / 512) ∷ three_digits mode))) is
+
+long_mode : (mode : ℕ) → mode / 512 % 8 ≢ 0 → mode_line mode
+    ≡ codes "mode " ++ (48 + mode / 512 % 8 ∷ 48 + mode / 64 % 8 ∷ 48 + mode / 8 % 8 ∷ 48 + mode % 8 ∷ 10 ∷ [])
+long_mode mode other = ap (λ (b : Bool). line (codes "mode " ++ (if b then three_digits mode
+    else octal_digit (mode / 512) ∷ three_digits mode))) (ne_eqb (mode / 512 % 8) 0 other)
+
 pub check-texts : CheckTexts
 check-texts = record {
   one = refl;
   none = refl;
   several = several;
-  said = λ octets said is. is;
+  said = said_of;
   shape = refl;
   word = λ at. refl;
   of_key = λ at name. refl;
@@ -161,6 +213,10 @@ check-texts = record {
   refused = λ at r. refused_as at (codes " would be refused ") r;
   more_tried = λ at outcome outcomes.
       ap (λ (l : List ℕ). l ++ trial_lines (at + 1) outcomes) (sym (append-nil (trial_line at outcome)));
+  no_mode = refl;
+  unread = unread;
+  mode = λ mode others few. read_as mode others ∙ short_mode mode few;
+  long_mode = λ mode others more. read_as mode others ∙ long_mode mode more;
 }
 
 -- ---- `show`

@@ -1,17 +1,22 @@
 -- What a relay was asked, and the lines of commands that it was handed, one after another.
-use Rattle.std.proofs.Common.{◌≡◌, ◌≢◌, ◌⊎◌, ◌∙◌, inl, inr, ℕ, ◌+◌, Bool, true, if◌then◌else◌, List, [], ◌∷◌, ◌++◌}
-use Rattle.std.proofs.Common.{length, Option, is_some, Result, Ok, Err, ap, refl, subst, sym, arith}
+use Rattle.std.proofs.Common.{◌≡◌, ◌≢◌, ◌⊎◌, ◌∙◌, inl, inr, ℕ, ◌+◌, ◌==◌, Bool, true, false, if◌then◌else◌, List, []}
+use Rattle.std.proofs.Common.{◌∷◌, ◌++◌}
+use Rattle.std.proofs.Common.{◌↔◌, IsTrue, drop, length, Option, is_some, Result, Ok, Err, ap, refl, subst, sym, arith}
 use Rattle.std.specs.Io.KnownBytes.{Appends}
 use Rattle.std.proofs.KnownBytes.{Appends-nil, Appends-trans}
 use Rattle.std.proofs.lemmas.List.{length_push}
 use Rattle.macs_config.specs.declared.refusal.Refusal.{Refusal}
 use Rattle.macs_program.specs.Applying.{outcome_line, outcome_lines, outcomes_status}
-use Rattle.macs_program.specs.Asking.{AsksForText, HandsCommands, IsOfAsking}
+use Rattle.macs_program.specs.Asking.{AsksForText, HandsCommands, IsBeforeCommands, IsOfAsking, failure_in}
+use Rattle.macs_journal.specs.declared.fault.JournalFault.TheVariants as journal
+use Rattle.macs_program.specs.declared.failure.DiskFault.TheVariants as disk
+use Rattle.macs_program.specs.declared.failure.Failure.TheVariants as failures
 use Rattle.macs_program.specs.declared.failure.Failure.{Failure}
 use Rattle.macs_program.specs.declared.failure.Failure.TheVariants.{Commands, Control, Memory, Output}
 use Rattle.macs_program.specs.declared.status.Status.{Status}
 use Rattle.macs_program.specs.declared.status.Status.TheVariants.{Refused}
 use Rattle.macs_program.proofs.Applied.{lines-more, status-more}
+use Rattle.macs_record.specs.Sectors.{Begins}
 
 -- so many lines were printed, and this is the status of them all
 abbrev pub TellsSo : Option (List ℕ) → Option (List ℕ) → ℕ → Status → Type 0
@@ -43,6 +48,16 @@ pub front-told : (before known after : Option (List ℕ)) (count : ℕ) (status 
 front-told before known after count status (outcomes, counted, printed, status_is) same =
     (outcomes, subst (λ (k : Option (List ℕ)). Appends before k (outcome_lines 1 outcomes)) (sym same) printed)
 
+-- a text begins with a line
+pub shown-by : (line text front octets : List ℕ) (is : Bool) → front ≡ line → octets ≡ text
+    → (is ≡ true → octets ≡ front ++ drop (length front) octets)
+    → ((rest : List ℕ) → octets ≡ front ++ rest → is ≡ true) → IsTrue is ↔ Begins line text
+shown-by line text front octets is same whole yes back = (
+  λ held. (drop (length front) octets, sym whole ∙ yes held
+      ∙ ap (λ (l : List ℕ). l ++ drop (length front) octets) same),
+  λ begins. back begins.0 (whole ∙ begins.1 ∙ ap (λ (l : List ℕ). l ++ begins.0) (sym same)),
+)
+
 -- ---- what comes of it
 
 -- no memory, no relay, or no commands
@@ -58,6 +73,28 @@ early-no-output : (failure : Failure) → IsEarly failure → failure ≢ Output
 early-no-output failure (inl memory) is = let e = sym memory ∙ is in cc
 early-no-output failure (inr (inl control)) is = let e = sym control ∙ is in cc
 early-no-output failure (inr (inr commands)) is = let e = sym commands ∙ is in cc
+
+pub before-commands : (failure : Failure) → IsEarly failure → IsBeforeCommands failure
+before-commands failure early = (early-asking failure early, early-no-output failure early)
+
+by_status : (a b : Bool) → IsBeforeCommands
+    (if a then failures.Disk (disk.Journal journal.Stopped) else (if b then Memory else Control))
+by_status true b = (tt, λ e. cc)
+by_status false true = (tt, λ e. cc)
+by_status false false = (tt, λ e. cc)
+
+-- a status of an answer says none of these but for the relay, or its memory
+pub not-shown : (status : ℕ) → IsBeforeCommands (failure_in status)
+not-shown status = by_status (status == 4) (status == 5)
+
+not_commands_by : (a b : Bool)
+    → (if a then failures.Disk (disk.Journal journal.Stopped) else (if b then Memory else Control)) ≢ Commands
+not_commands_by true b = λ e. cc
+not_commands_by false true = λ e. cc
+not_commands_by false false = λ e. cc
+
+pub not-commands : (status : ℕ) → failure_in status ≢ Commands
+not-commands status = not_commands_by (status == 4) (status == 5)
 
 pub no-answer : (failure : Failure) → (failure ≡ Memory) ⊎ (failure ≡ Control) → IsEarly failure
 no-answer failure (inl memory) = inl memory
@@ -78,6 +115,18 @@ module _ {W : Type 0} (contents : W → Option (List ℕ)) (has_failed : W → B
         failed = early-asking failure named;
         silent = λ other. refl;
         broken = λ output. absurd (early-no-output failure named output);
+      })
+
+  -- nothing is handed in, since the file is for another end, or the relay does not say
+  pub not-found : (fault failure : Failure) (result : Result Status Failure) → result ≡ Err failure → failure ≡ fault
+      → IsBeforeCommands fault → HandsCommands contents has_failed before result before
+  not-found fault failure result is same early =
+      let named = subst IsBeforeCommands (sym same) early in
+      subst (λ (r : Result Status Failure). HandsCommands contents has_failed before r before) (sym is) (record {
+        printed = tt;
+        failed = named.0;
+        front = λ other. ([], Appends-nil (contents before));
+        broken = λ output. absurd (named.1 output);
       })
 
   -- nothing is handed in

@@ -1,7 +1,7 @@
 -- Commands that were given to an endpoint in memory, and how that fails.
 use Rattle.std.proofs.Common.{◌≡◌, ◌⊎◌, ◌∙◌, ◌+◌, ◌<◌, ◌≤◌, ◌++◌, inl, inr, ℕ, suc, Bool, if◌then◌else◌, is_some, List}
 use Rattle.std.proofs.Common.{[], ◌∷◌, length, take, drop, get_or, Option, Some, append_assoc, ap, subst, sym, arith}
-use Rattle.std.proofs.Common.{◌==◌, codes, false, true, refl}
+use Rattle.std.proofs.Common.{◌≢◌, ◌==◌, codes, false, true, refl, None, Result, Ok, Err, IfOk}
 use Rattle.std.specs.Borrow.{Bor}
 use Rattle.clap.specs.Words.{Text}
 use Rattle.std.proofs.Math.Seq.{drop-cons}
@@ -23,11 +23,12 @@ use Rattle.macs_program.specs.Trying.{trial_lines, trial_report}
 use Rattle.macs_program.specs.declared.failure.DiskFault.{DiskFault}
 use Rattle.macs_program.specs.declared.failure.DiskFault.TheVariants as disk
 use Rattle.macs_program.specs.declared.failure.Failure.{Failure}
-use Rattle.macs_program.specs.declared.failure.Failure.TheVariants.{Memory, Output}
+use Rattle.macs_program.specs.declared.failure.Failure.TheVariants.{Commands as OfCommands, Memory, Output}
 use Rattle.macs_program.proofs.Applied.{applies-more, parted, status-more}
 use Rattle.macs_program.specs.declared.status.Status.{Status}
-use Rattle.macs_program.specs.declared.status.Status.TheVariants.{Refused}
-use Rattle.macs_program.proofs.Failures.{IsOfDisk, of-file}
+use Rattle.macs_program.specs.declared.status.Status.TheVariants.{Refused, Usage}
+use Rattle.macs_program.proofs.Failures.{IsOfDisk, disk-no-output, disk-no-usage, of-file}
+use Rattle.macs_program.specs.Failing.{failure_status}
 
 -- ---- one command more
 
@@ -108,6 +109,12 @@ status-next outcomes i d outcome status new refused within next is new_is so_far
     ∙ ap (λ (last : Option Refusal). outcomes_status (take i outcomes ++ last ∷ [])) next
     ∙ ap outcomes_status (sym (take_more outcomes i d within))
 
+-- both hold of what is answered
+pub IfOk-both : {T E : Type 0} (result : Result T E) (P Q : T → Type 0) → IfOk result P → IfOk result Q
+    → IfOk result (λ value. P value × Q value)
+IfOk-both (Ok value) P Q p q = (p, q)
+IfOk-both (Err fault) P Q p q = tt
+
 -- ---- how it fails: for want of memory, or with a fault of the disk
 
 in-memory : (fault : DiskFault) (failure : Failure) → failure ≡ failure_in_memory fault → IsOfDisk failure
@@ -121,32 +128,50 @@ in-memory (disk.Journal journal.NotFormatted) failure is = inr (disk.Journal jou
 in-memory (disk.Journal journal.BadJournal) failure is = inr (disk.Journal journal.BadJournal, is)
 in-memory (disk.Journal journal.GenerationsSpent) failure is = inr (disk.Journal journal.GenerationsSpent, is)
 
-ends-on : {D : Type 0} (disk_of : D → Disk) (copy : D) (commands : List Command) (failure : Failure)
-    → EndsOn disk_of copy commands failure
-    → IsOfDisk failure
-ends-on disk_of copy commands failure (inl (left, fault, refuses, is)) = in-memory (disk.Journal fault) failure is
-ends-on disk_of copy commands failure (inr (old, opens, inl memory)) = inl memory
-ends-on disk_of copy commands failure (inr (old, opens, inr stops)) = in-memory stops.ends.0 failure stops.ends.5
+-- that, or it is for another end than the file's
+abbrev pub IsOfTrial : Failure → Type 0
+IsOfTrial failure = IsOfDisk failure ⊎ (failure ≡ OfCommands)
+
+pub trial-no-output : (failure : Failure) → IsOfTrial failure → failure ≢ Output
+trial-no-output failure (inl ours) is = disk-no-output failure ours is
+trial-no-output failure (inr commands) is = let e = sym commands ∙ is in cc
+
+pub trial-no-usage : (failure : Failure) → IsOfTrial failure → failure_status failure ≢ Usage
+trial-no-usage failure (inl ours) is = disk-no-usage failure ours is
+trial-no-usage failure (inr commands) is = let e = ap failure_status (sym commands) ∙ is in cc
+
+ends-on : {D : Type 0} (disk_of : D → Disk) (copy : D) (end : Option (List ℕ)) (commands : List Command)
+    (failure : Failure)
+    → EndsOn disk_of copy end commands failure
+    → IsOfTrial failure
+ends-on disk_of copy end commands failure (inl (left, fault, refuses, is)) =
+    inl (in-memory (disk.Journal fault) failure is)
+ends-on disk_of copy end commands failure (inr (old, opens, inl (other, named))) = inr other
+ends-on disk_of copy end commands failure (inr (old, opens, inr (own, inl memory))) = inl (inl memory)
+ends-on disk_of copy end commands failure (inr (old, opens, inr (own, inr stops))) =
+    inl (in-memory stops.ends.0 failure stops.ends.5)
 
 copy-fails : (file : FileState) (failure : Failure) → CopyFails file failure → IsOfDisk failure
 copy-fails file failure (inl (fault, is, length)) = of-file fault failure is
 copy-fails file failure (inr (is, few)) = inr (disk.Journal journal.TooSmall, is)
 
-pub of-trial : {F : Type 0} (state_of : F → FileState) (commands : List Command) (failure : Failure)
-    → TrialFails state_of commands failure
-    → IsOfDisk failure
-of-trial state_of commands failure (inl (fault, is, whole, device)) = of-file fault failure is
-of-trial state_of commands failure (inr (inl (file, fails))) = copy-fails (state_of file) failure fails
-of-trial state_of commands failure (inr (inr (file, copy, is_copy, ends))) = ends-on _ copy commands failure ends
+pub of-trial : {F : Type 0} (state_of : F → FileState) (end : Option (List ℕ)) (commands : List Command)
+    (failure : Failure)
+    → TrialFails state_of end commands failure
+    → IsOfTrial failure
+of-trial state_of end commands failure (inl (fault, is, whole, device)) = inl (of-file fault failure is)
+of-trial state_of end commands failure (inr (inl (file, fails))) = inl (copy-fails (state_of file) failure fails)
+of-trial state_of end commands failure (inr (inr (file, copy, is_copy, ends))) =
+    ends-on _ copy end commands failure ends
 
 -- what is to be printed of a trial is not
 pub trial-ended : {F : Type 0} (state_of : F → FileState) (left_in : F → Option (List ℕ)) (given : Bor Text)
-    (octets : List ℕ) (commands : List Command) (failure : Failure)
-    → SaysCommands octets commands → SaidByFile left_in commands
-    → (failure ≡ Output) ⊎ (failure ≡ Memory) ⊎ TrialFails state_of commands failure
+    (octets : List ℕ) (end : Option (List ℕ)) (commands : List Command) (failure : Failure)
+    → SaysCommands octets end commands → SaidByFile left_in end commands
+    → (failure ≡ Output) ⊎ (failure ≡ Memory) ⊎ TrialFails state_of end commands failure
     → CheckEnds state_of left_in (Some given) failure
-trial-ended state_of left_in given octets commands failure says by_file (inl output) = inl (inr (inl output))
-trial-ended state_of left_in given octets commands failure says by_file (inr (inl memory)) =
+trial-ended state_of left_in given octets end commands failure says by_file (inl output) = inl (inr (inl output))
+trial-ended state_of left_in given octets end commands failure says by_file (inr (inl memory)) =
     inl (inr (inr (octets, inl memory, inl memory)))
-trial-ended state_of left_in given octets commands failure says by_file (inr (inr fails)) =
-    inr (octets, commands, says, by_file, fails)
+trial-ended state_of left_in given octets end commands failure says by_file (inr (inr fails)) =
+    inr (octets, end, commands, says, by_file, fails)

@@ -1,19 +1,19 @@
 -- What `apply` does with a command file, and the lines that it prints.
 use Rattle.std.specs.Prelude.{◌≡◌, ◌≢◌, ◌⊎◌, ◌≤◌, ◌+◌, ℕ, List, [], ◌∷◌, ◌++◌, length, codes, if◌then◌else◌, Option}
-use Rattle.std.specs.Prelude.{Some, None, IfSome, is_some, Result, Ok, Err}
+use Rattle.std.specs.Prelude.{Some, None, IfSome, is_some, Result, Ok, Err, Bool, true}
 use Rattle.std.specs.Fmt.{decimal}
 use Rattle.std.specs.Io.KnownBytes.{Appends}
 use Rattle.std.specs.List.{list_any}
-use Rattle.std.specs.Str.{IsUtf8}
+use Rattle.std.specs.Str.{IsUtf8, bytes_eq}
 use Rattle.toml.specs.Data.{Members}
 use Rattle.toml.specs.Parse.{parse_document}
 use Rattle.macs_config.specs.declared.command.Command.{Command}
 use Rattle.macs_config.specs.declared.refusal.Refusal.{Refusal}
 use Rattle.macs_disk.specs.Disk.{Disk}
-use Rattle.macs_commands.specs.CommandFiles.{file_commands}
+use Rattle.macs_commands.specs.Ends.{end_commands, end_in}
 use Rattle.macs_endpoint.specs.Calls.{IsCall}
-use Rattle.macs_endpoint.specs.State.{Commands, Ran}
-use Rattle.macs_endpoint.specs.Value.{EndpointValue}
+use Rattle.macs_endpoint.specs.State.{Commands, Ran, no_logs}
+use Rattle.macs_endpoint.specs.Value.{EndpointValue, state_of}
 use Rattle.macs_endpoint.specs.declared.fault.CommandFault.{CommandFault}
 use Rattle.macs_endpoint.specs.declared.fault.CommandFault.TheVariants as ran
 use Rattle.macs_journal.specs.declared.fault.JournalFault.TheVariants as journal
@@ -32,18 +32,31 @@ use Rattle.macs_program.specs.declared.status.Status.TheVariants as ends
 abbrev pub longest_file : ℕ
 longest_file = 1048576
 
--- a file of TOML that is not too long says these commands
-pub record SaysCommands (octets : List ℕ) (commands : List Command) : Type 0 where
+-- a file of TOML that is not too long says these commands, and names the end that they are for, or none
+pub record SaysCommands (octets : List ℕ) (end : Option (List ℕ)) (commands : List Command) : Type 0 where
   pub short : length octets ≤ longest_file
   pub utf8 : IsUtf8 octets
   pub members : Members
   pub parsed : parse_document octets ≡ Some members
-  pub said : file_commands members ≡ Ok commands
+  pub named : end_in members ≡ Ok end
+  pub said : end_commands members ≡ Ok commands
 
 -- some file says these commands, where it is known what it has
-pub record SaidByFile {F : Type 0} (remaining : F → Option (List ℕ)) (commands : List Command) : Type 0 where
+pub record SaidByFile {F : Type 0} (remaining : F → Option (List ℕ)) (end : Option (List ℕ))
+    (commands : List Command) : Type 0 where
   pub file : F
-  pub said : IfSome (remaining file) (λ octets. SaysCommands octets commands)
+  pub said : IfSome (remaining file) (λ octets. SaysCommands octets end commands)
+
+-- ---- the end
+
+-- a file is for the end with this SCI: it names that, or none
+abbrev pub is_for : Option (List ℕ) → List ℕ → Bool
+is_for None sci = true
+is_for (Some end) sci = bytes_eq end sci
+
+-- the SCI of an endpoint
+abbrev pub own_sci : {D : Type 0} → EndpointValue D → List ℕ
+own_sci endpoint = (state_of endpoint no_logs).identity.sci
 
 -- ---- lines
 

@@ -1,6 +1,8 @@
 -- What `ask` prints, and how it fails.
 use Rattle.std.specs.Prelude.{◌≡◌, ◌≢◌, ◌==◌, if◌then◌else◌, ⊤, ℕ, Bool, true, List, Option, Result, IfErr, IfOk}
+use Rattle.std.specs.Prelude.{◌++◌, codes}
 use Rattle.std.specs.Io.KnownBytes.{Appends}
+use Rattle.hex.specs.Hex.{encode_lower}
 use Rattle.macs_config.specs.declared.refusal.Refusal.{Refusal}
 use Rattle.macs_words.specs.declared.action.Question.{Question}
 use Rattle.macs_words.specs.declared.action.Question.TheVariants.{Apply}
@@ -11,6 +13,7 @@ use Rattle.macs_program.specs.declared.failure.Failure.TheVariants as failures
 use Rattle.macs_program.specs.declared.status.Status.{Status}
 use Rattle.macs_program.specs.declared.status.Status.TheVariants as ends
 use Rattle.macs_journal.specs.declared.fault.JournalFault.TheVariants as journal
+use Rattle.macs_texts.specs.Lines.{line}
 
 -- a line a command, with its number, and the status of them all; or the text of the answer
 abbrev pub PrintsAnswer : Question → Option (List ℕ) → Option (List ℕ) → Status → Type 0
@@ -33,6 +36,14 @@ IsOfAsking failures.Commands = ⊤
 IsOfAsking failures.Memory = ⊤
 IsOfAsking failures.Output = ⊤
 IsOfAsking other = ⊥
+
+-- they are these but for the output before a command is handed in
+abbrev pub IsBeforeCommands : Failure → Type 0
+IsBeforeCommands failure = IsOfAsking failure × (failure ≢ failures.Output)
+
+-- the line by which the text of an endpoint with this SCI begins
+abbrev pub sci_line : List ℕ → List ℕ
+sci_line sci = line (codes "sci " ++ encode_lower sci)
 
 -- a relay is asked for a text, which is printed; or that fails, with nothing printed
 pub record AsksForText {W : Type 0} (contents : W → Option (List ℕ)) (has_failed : W → Bool) (before : W)

@@ -1,6 +1,6 @@
 -- What `check` says of a command file, and of the commands on a disk.
 use Rattle.std.specs.Prelude.{◌≡◌, ◌⊎◌, ◌<◌, ◌≤◌, ◌==◌, ◌++◌, if◌then◌else◌, ℕ, List, length, codes, Option, Some}
-use Rattle.std.specs.Prelude.{None, Err, IfSome, string_bytes}
+use Rattle.std.specs.Prelude.{None, IfSome, string_bytes}
 use Rattle.std.specs.Fmt.{decimal}
 use Rattle.std.specs.Io.KnownBytes.{Appends}
 use Rattle.std.specs.Borrow.{Bor}
@@ -9,14 +9,17 @@ use Rattle.clap.specs.Words.{Text}
 use Rattle.toml.specs.Data.{Members}
 use Rattle.toml.specs.Parse.{parse_document}
 use Rattle.macs_config.specs.declared.command.Command.{Command}
-use Rattle.macs_commands.specs.CommandFiles.{file_commands}
+use Rattle.macs_commands.specs.Ends.{HasFileFault}
 use Rattle.macs_commands.specs.declared.config_fault.ConfigFault.{ConfigFault}
 use Rattle.macs_commands.specs.declared.config_fault.ConfigFault.TheVariants as config
 use Rattle.macs_commands.specs.declared.config_fault.KeyName.{KeyName}
 use Rattle.macs_commands.specs.declared.config_fault.KeyName.TheVariants as name
+use Rattle.macs_commands.specs.declared.ends.CommandFileFault.{CommandFileFault}
+use Rattle.macs_commands.specs.declared.ends.CommandFileFault.TheVariants as told
 use Rattle.macs_disk.specs.Files.{FileState}
 use Rattle.macs_texts.specs.Lines.{line}
 use Rattle.macs_program.specs.Applying.{SaidByFile, SaysCommands, longest_file}
+use Rattle.macs_program.specs.FileModes.{mode_warning}
 use Rattle.macs_program.specs.declared.failure.Failure.{Failure}
 use Rattle.macs_program.specs.declared.failure.Failure.TheVariants as failures
 use Rattle.macs_program.specs.declared.status.Status.{Status}
@@ -62,15 +65,20 @@ fault_text (config.Key at name) =
 fault_text (config.Extra at) = codes "command " ++ (decimal at ++ codes ": a key that it does not have")
 fault_text config.Memory = codes "memory"
 
+-- the first fault of a file: that of its end, or of its commands
+abbrev pub file_fault_text : CommandFileFault → List ℕ
+file_fault_text told.Sci = codes "command file sci: not 16 hex digits"
+file_fault_text (told.Commands cause) = fault_text cause
+
 -- ---- of the octets of a file
 
--- a text says commands whose first fault this is
+-- a text says a command file whose first fault this is
 abbrev pub HasFault : List ℕ → List ℕ → Type 0
 HasFault text said =
     (members : Members) × (parse_document text ≡ Some members)
-    × (fault : ConfigFault) × (file_commands members ≡ Err fault) × (said ≡ fault_text fault)
+    × (fault : CommandFileFault) × HasFileFault members fault × (said ≡ file_fault_text fault)
 
--- this is said of a text: that it is no TOML, or the fault of its commands
+-- this is said of a text: that it is no TOML, or the fault of its end or of its commands
 abbrev pub IsSaidOfText : List ℕ → List ℕ → Type 0
 IsSaidOfText text said = ((parse_document text ≡ None) × (said ≡ codes "command file: not TOML")) ⊎ HasFault text said
 
@@ -88,11 +96,12 @@ Complains Holds failure =
 
 -- ---- of a file, where `left_in` says what is left to read of one, where that is known
 
--- the number of commands is printed that a file says
+-- the number of commands is printed that a file says, and what is said of its mode
 abbrev pub PrintsCount : {F : Type 0} → (F → Option (List ℕ)) → Option (List ℕ) → Option (List ℕ) → Type 0
 PrintsCount left_in before after =
-    (octets : List ℕ) × (commands : List Command) × SaysCommands octets commands × SaidByFile left_in commands
-    × Appends before after (count_line (length commands))
+    (octets : List ℕ) × (end : Option (List ℕ)) × (commands : List Command) × SaysCommands octets end commands
+    × SaidByFile left_in end commands
+    × (mode : Option ℕ) × Appends before after (count_line (length commands) ++ mode_warning mode)
 
 -- a failure says something of a file, which is said of its octets
 abbrev pub ComplainsOfFile : {F : Type 0} → (List ℕ → List ℕ → Type 0) → (F → Option (List ℕ)) → Failure → Type 0

@@ -13,7 +13,7 @@ use Rattle.hex.specs.Hex.{decode_of}
 use Rattle.toml.specs.Data.{Members}
 use Rattle.toml.specs.Parse.{parse_document}
 use Rattle.macs_aes.specs.Keys.{octets_of_key}
-use Rattle.macs_commands.specs.CommandFiles.{file_commands}
+use Rattle.macs_commands.specs.Ends.{end_commands, end_in}
 use Rattle.macs_config.specs.Identity.{Identity, IsBlock}
 use Rattle.macs_config.specs.declared.command.Command.{Command}
 use Rattle.macs_config.specs.declared.refusal.Refusal.{Refusal}
@@ -33,8 +33,8 @@ use Rattle.macs_edge.specs.declared.settling.Side.TheVariants.{Common}
 use Rattle.macs_endpoint.specs.Calls.{IsCall}
 use Rattle.macs_endpoint.specs.Formatting.{IsFormat}
 use Rattle.macs_endpoint.specs.Opening.{Opens, RefusesOpening}
-use Rattle.macs_endpoint.specs.State.{Commands, Ran}
-use Rattle.macs_endpoint.specs.Value.{EndpointValue}
+use Rattle.macs_endpoint.specs.State.{Commands, Ran, no_logs}
+use Rattle.macs_endpoint.specs.Value.{EndpointValue, state_of}
 use Rattle.macs_endpoint.specs.declared.fault.CommandFault.{CommandFault}
 use Rattle.macs_endpoint.specs.declared.fault.CommandFault.TheVariants as ran
 use Rattle.macs_fields.specs.Fields.{octets_of}
@@ -160,14 +160,17 @@ pub record ApplyWords {D F : Type 0} (disk_of : D → Disk) (left_in : F → Opt
       × Appends before after (outcome_lines 1 a.outcomes) × (status ≡ outcomes_status a.outcomes)
   pub file : (old new : EndpointValue D) (before after : Option (List ℕ)) (status : Status)
       (f : AppliesFile left_in disk_of old before after status new)
-      → SaysCommands f.octets f.commands × SaidByFile left_in f.commands
+      → SaysCommands f.octets f.end f.commands × SaidByFile left_in f.end f.commands
+      × ((f.end ≡ None) ⊎ (f.end ≡ Some (state_of old no_logs).identity.sci))
       × AppliesAll disk_of old f.commands before after status new
-  pub by_file : (commands : List Command) (s : SaidByFile left_in commands)
-      → IfSome (left_in s.file) (λ octets. SaysCommands octets commands)
-  pub one_file : (octets : List ℕ) (a b : List Command) → SaysCommands octets a → SaysCommands octets b → a ≡ b
-  pub says : (octets : List ℕ) (commands : List Command) → SaysCommands octets commands → (length octets ≤ 1048576)
-      × IsUtf8 octets
-      × (members : Members) × (parse_document octets ≡ Some members) × (file_commands members ≡ Ok commands)
+  pub by_file : (end : Option (List ℕ)) (commands : List Command) (s : SaidByFile left_in end commands)
+      → IfSome (left_in s.file) (λ octets. SaysCommands octets end commands)
+  pub one_file : (octets : List ℕ) (one other : Option (List ℕ)) (a b : List Command) → SaysCommands octets one a
+      → SaysCommands octets other b → (one ≡ other) × (a ≡ b)
+  pub says : (octets : List ℕ) (end : Option (List ℕ)) (commands : List Command) → SaysCommands octets end commands
+      → (length octets ≤ 1048576) × IsUtf8 octets
+      × (members : Members) × (parse_document octets ≡ Some members) × (end_in members ≡ Ok end)
+      × (end_commands members ≡ Ok commands)
   pub done : outcomes_status [] ≡ ends.Done
   pub done_more : (rest : List (Option Refusal)) → outcomes_status (None ∷ rest) ≡ outcomes_status rest
   pub refused_status : (at : Refusal) (rest : List (Option Refusal)) → outcomes_status (Some at ∷ rest) ≡ ends.Refused
@@ -188,7 +191,8 @@ pub record ApplyWords {D F : Type 0} (disk_of : D → Disk) (left_in : F → Opt
   pub broken : (old new : EndpointValue D) (before after : Option (List ℕ)) (failure : Failure)
       → BreaksOff left_in disk_of old before after failure new
       → (((failure ≡ failures.Memory) ⊎ (failure ≡ failures.Commands)) × (new ≡ old) × (after ≡ before))
-      ⊎ ((octets : List ℕ) × (commands : List Command) × SaysCommands octets commands × SaidByFile left_in commands
+      ⊎ ((octets : List ℕ) × (end : Option (List ℕ)) × (commands : List Command) × SaysCommands octets end commands
+      × SaidByFile left_in end commands × ((end ≡ None) ⊎ (end ≡ Some (state_of old no_logs).identity.sci))
       × AppliesSome disk_of old commands before after failure new)
 
 -- ---- captures

@@ -1,5 +1,5 @@
 -- The endpoint that a subcommand opens on a disk in a file, and what it does with it.
-use Rattle.std.specs.Prelude.{◌≡◌, ◌⊎◌, ℕ, List, Option, Result, Ok}
+use Rattle.std.specs.Prelude.{◌≡◌, ◌⊎◌, ℕ, true, List, Option, Result, Ok}
 use Rattle.std.specs.Io.KnownBytes.{Appends}
 use Rattle.macs_config.specs.declared.command.Command.{Command}
 use Rattle.macs_disk.specs.Disk.{Disk}
@@ -16,7 +16,7 @@ use Rattle.macs_endpoint.specs.Value.{EndpointValue, state_of}
 use Rattle.macs_journal.specs.declared.fault.JournalFault.{JournalFault}
 use Rattle.macs_journal.specs.declared.recovery.RecoverRefused.{RecoverRefused}
 use Rattle.macs_pcap.specs.States.{SinkState, SourceState}
-use Rattle.macs_program.specs.Applying.{AppliesAll, AppliesSome, SaidByFile, SaysCommands}
+use Rattle.macs_program.specs.Applying.{AppliesAll, AppliesSome, SaidByFile, SaysCommands, is_for, own_sci}
 use Rattle.macs_program.specs.Capturing.{EndsPass, PassesCapture}
 use Rattle.macs_program.specs.Failing.{failure_of_file, failure_of_journal}
 use Rattle.macs_texts.specs.Showing.{show_text}
@@ -60,25 +60,31 @@ OpeningFails file failure = ((fault : FileFault) × (failure ≡ failure_of_file
 
 -- ---- the commands of a file, where `left_in` says what is left to read of one, where that is known
 
--- the commands that some command file says are given to an endpoint, all of them, and a line is printed for each
+-- the commands that some command file says are given to an endpoint that the file is for, all of them, and a line is
+-- printed for each
 pub record AppliesFile {F D : Type 0} (left_in : F → Option (List ℕ)) (disk_of : D → Disk) (old : EndpointValue D)
     (before after : Option (List ℕ)) (status : Status) (new : EndpointValue D) : Type 0 where
   pub octets : List ℕ
+  pub end : Option (List ℕ)
   pub commands : List Command
-  pub says : SaysCommands octets commands
-  pub by_file : SaidByFile left_in commands
+  pub says : SaysCommands octets end commands
+  pub by_file : SaidByFile left_in end commands
+  pub own : is_for end (own_sci old) ≡ true
   pub applies : AppliesAll disk_of old commands before after status new
 
--- the commands of some command file end at one of them
+-- the commands of some command file that is for the endpoint end at one of them
 pub record AppliesFront {F D : Type 0} (left_in : F → Option (List ℕ)) (disk_of : D → Disk) (old : EndpointValue D)
     (before after : Option (List ℕ)) (failure : Failure) (new : EndpointValue D) : Type 0 where
   pub octets : List ℕ
+  pub end : Option (List ℕ)
   pub commands : List Command
-  pub says : SaysCommands octets commands
-  pub by_file : SaidByFile left_in commands
+  pub says : SaysCommands octets end commands
+  pub by_file : SaidByFile left_in end commands
+  pub own : is_for end (own_sci old) ≡ true
   pub applies : AppliesSome disk_of old commands before after failure new
 
--- there is no command file, or no memory, and nothing is done and printed; or the commands of one end at one of them
+-- there is no command file that is for the endpoint, or no memory, and nothing is done and printed; or the commands of
+-- one end at one of them
 abbrev pub BreaksOff : {F D : Type 0} → (F → Option (List ℕ)) → (D → Disk) → EndpointValue D → Option (List ℕ)
     → Option (List ℕ) → Failure → EndpointValue D → Type 0
 BreaksOff left_in disk_of old before after failure new =

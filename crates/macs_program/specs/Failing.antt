@@ -2,8 +2,9 @@
 use Rattle.std.specs.Prelude.{◌≢◌, ℕ, List, codes, string_bytes}
 use Rattle.macs_disk.specs.declared.file_fault.FileFault.{FileFault}
 use Rattle.macs_disk.specs.declared.file_fault.FileFault.TheVariants as file
-use Rattle.macs_commands.specs.declared.config_fault.ConfigFault.{ConfigFault}
 use Rattle.macs_commands.specs.declared.config_fault.ConfigFault.TheVariants as config
+use Rattle.macs_commands.specs.declared.ends.CommandFileFault.{CommandFileFault}
+use Rattle.macs_commands.specs.declared.ends.CommandFileFault.TheVariants as told
 use Rattle.macs_edge.specs.declared.udp_wire.BindFault.{BindFault}
 use Rattle.macs_edge.specs.declared.udp_wire.BindFault.TheVariants as bind
 use Rattle.macs_edge.specs.declared.capture_runs.RunFault.{RunFault}
@@ -52,8 +53,8 @@ failure_of_file file.Device = failure_of_journal journal.Disk
 failure_of_file file.Memory = failure.Memory
 
 -- a command file that is wrong, or want of memory
-abbrev pub failure_of_commands : ConfigFault → Failure
-failure_of_commands config.Memory = failure.Memory
+abbrev pub failure_of_commands : CommandFileFault → Failure
+failure_of_commands (told.Commands config.Memory) = failure.Memory
 failure_of_commands fault = failure.Commands
 
 -- a refill is not refused for a command that waits

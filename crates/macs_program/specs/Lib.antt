@@ -22,6 +22,7 @@ pub mod Keys
 pub mod Inspecting
 pub mod Copying
 pub mod Trying
+pub mod FileModes
 pub mod FirstFault
 pub mod Examining
 pub mod About

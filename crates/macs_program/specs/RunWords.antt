@@ -78,6 +78,7 @@ use Rattle.macs_program.specs.Copying.{CopyFails, IsCopy}
 use Rattle.macs_program.specs.Endpoints.{BreaksOffIn, IsEndpointIn, OpeningFails, PassEndsIn}
 use Rattle.macs_program.specs.Examining.{examined_text, fault_line, figures_of}
 use Rattle.macs_program.specs.Failing.{failure_of_capture, failure_of_file, failure_of_words}
+use Rattle.macs_program.specs.FileModes.{mode_warning}
 use Rattle.macs_program.specs.FirstFault.{IsFirstFault}
 use Rattle.macs_program.specs.Inputs.{InputRead}
 use Rattle.macs_program.specs.Inspecting.{AreLinesOf, InspectsCapture, RunsCapture, StopsCapture}
@@ -107,16 +108,16 @@ use Rattle.macs_program.specs.declared.values.ValueFault.{ValueFault}
 -- A run that replies was asked for help and prints it, or its words are taken and name the action that it does. Each
 -- action does this: `open` prints the answer to its input; `format` makes a file a disk that, when it was settled, was
 -- one that may be written over, blanks it in the layout of its words and formats it with the identity of its words;
--- `apply` gives the commands that a file says to an endpoint in a file, and prints a line for each; `show` prints its
--- text, as it was opened; `examine` prints what the journal is that is found on a copy of the disk in a file, and what
--- its records stand for, or the sector of its first fault; `protect` and `validate` take a capture through it, each
--- from its own side, and `validate --each` prints the line of each verdict before its own; `relay` prints what it came
--- to; `ask` prints lines of outcomes, or a text; `key` prints as many octets as it is to, in hex; `inspect` prints a
--- line for each record of a capture, up to its end; `about` prints one text; `check` prints how many commands a file
--- says, or, with a disk, a line for each: what the endpoint on a copy of the disk in a file answers to it, where each
--- sector of the copy is that of the disk; `plan` prints a text that is read as just the commands that are planned, for
--- the end and the stage of its words, of a link that a file says. Of a capture that is given, and a key that is
--- given, it is this one.
+-- `apply` gives the commands that a file says to an endpoint in a file, whose SCI the file names, or none, and prints a
+-- line for each; `show` prints its text, as it was opened; `examine` prints what the journal is that is found on a copy
+-- of the disk in a file, and what its records stand for, or the sector of its first fault; `protect` and `validate`
+-- take a capture through it, each from its own side, and `validate --each` prints the line of each verdict before its
+-- own; `relay` prints what it came to; `ask` prints lines of outcomes, or a text; `key` prints as many octets as it is
+-- to, in hex; `inspect` prints a line for each record of a capture, up to its end; `about` prints one text; `check`
+-- prints how many commands a file says, or, with a disk that is the end which the file is for, a line for each: what
+-- the endpoint on a copy of the disk in a file answers to it, where each sector of the copy is that of the disk; `plan`
+-- prints a text that is read as just the commands that are planned, for the end and the stage of its words, of a link
+-- that a file says. Of a capture that is given, and a key that is given, it is this one.
 pub record ReplyWords {F : Type 0} (file : F → FileState) (left_in : F → Option (List ℕ)) : Type 0 where
   pub replied : (words : List Text) (input : InputRead) (before after : Option (List ℕ)) (status : Status)
       → Replies file left_in words input before after status
@@ -141,7 +142,8 @@ pub record ReplyWords {F : Type 0} (file : F → FileState) (left_in : F → Opt
   pub applied : (path from : Bor Text) (input : InputRead) (before after : Option (List ℕ)) (status : Status)
       → Does file left_in (Apply path from) input before after status
       → (old : EndpointValue (FileDisk F)) × (new : EndpointValue (FileDisk F)) × IsEndpointIn file old
-      × (octets : List ℕ) × (commands : List Command) × SaysCommands octets commands × SaidByFile left_in commands
+      × (octets : List ℕ) × (end : Option (List ℕ)) × (commands : List Command) × SaysCommands octets end commands
+      × SaidByFile left_in end commands × ((end ≡ None) ⊎ (end ≡ Some (state_of old no_logs).identity.sci))
       × (outcomes : List (Option Refusal)) × Applies (disk_in_file file) old commands outcomes new
       × Appends before after (outcome_lines 1 outcomes) × (status ≡ outcomes_status outcomes)
   pub shown : (path : Bor Text) (input : InputRead) (before after : Option (List ℕ)) (status : Status)
@@ -216,9 +218,11 @@ pub record ReplyWords {F : Type 0} (file : F → FileState) (left_in : F → Opt
   pub about : (input : InputRead) (before after : Option (List ℕ)) (status : Status)
       → Does file left_in About input before after status → Appends before after about_text × (status ≡ ends.Done)
   pub checked : (from : Bor Text) (input : InputRead) (before after : Option (List ℕ)) (status : Status)
-      → Does file left_in (Check from None) input before after status → (octets : List ℕ) × (commands : List Command)
-      × SaysCommands octets commands × SaidByFile left_in commands
-      × Appends before after (count_line (length commands)) × (status ≡ ends.Done)
+      → Does file left_in (Check from None) input before after status
+      → (octets : List ℕ) × (end : Option (List ℕ)) × (commands : List Command)
+      × SaysCommands octets end commands × SaidByFile left_in end commands
+      × (mode : Option ℕ) × Appends before after (count_line (length commands) ++ mode_warning mode)
+      × (status ≡ ends.Done)
   pub planned : (from : Bor Text) (end : PlanEnd) (stage : PlanStage) (input : InputRead)
       (before after : Option (List ℕ)) (status : Status)
       → Does file left_in (Plan from end stage) input before after status
@@ -243,13 +247,15 @@ pub record ReplyWords {F : Type 0} (file : F → FileState) (left_in : F → Opt
       → RunsCapture old before (Err failure) new after → StopsCapture old before failure new after
   pub tried : (from path : Bor Text) (input : InputRead) (before after : Option (List ℕ)) (status : Status)
       → Does file left_in (Check from (Some path)) input before after status
-      → (octets : List ℕ) × (commands : List Command) × SaysCommands octets commands × SaidByFile left_in commands
-      × (disk_file : F) × (copy : MemDisk Global)
+      → (octets : List ℕ) × (end : Option (List ℕ)) × (commands : List Command) × SaysCommands octets end commands
+      × SaidByFile left_in end commands × (disk_file : F) × (copy : MemDisk Global)
       × (Behaves (file disk_file) → ((file disk_file).size % 512 ≡ 0) × (1028 ≤ (file disk_file).size / 512)
       × (IsSure (file disk_file) → IsCopy (file disk_file) (disk_of copy)))
       × (old : EndpointValue (MemDisk Global)) × (new : EndpointValue (MemDisk Global)) × Opens disk_of copy old
+      × ((end ≡ None) ⊎ (end ≡ Some (state_of old no_logs).identity.sci))
       × (outcomes : List (Option Refusal)) × Applies disk_of old commands outcomes new
-      × Appends before after (trial_report outcomes) × (status ≡ outcomes_status outcomes)
+      × (mode : Option ℕ) × Appends before after (trial_report outcomes ++ mode_warning mode)
+      × (status ≡ outcomes_status outcomes)
   pub copied : (disk_file : FileState) (copy : Disk) → IsCopy disk_file copy → (copy.sectors ≡ 1028) × IsHonest copy
       × ((at : ℕ) → at < 1028 → (now copy).seen at ≡ (state_in_file (layout_in disk_file) disk_file).seen at)
 
@@ -367,30 +373,32 @@ pub record FailWords {F : Type 0} (file : F → FileState) (left_in : F → Opti
   pub of_trial : (from path : Bor Text) (input : InputRead) (before after : Option (List ℕ)) (failure : Failure)
       → FailsAs file left_in (Check from (Some path)) input before after failure
       → FailsAs file left_in (Check from None) input before after failure
-      ⊎ ((octets : List ℕ) × (commands : List Command) × SaysCommands octets commands × SaidByFile left_in commands
-      × (((fault : FileFault) × (failure ≡ failure_of_file fault)
+      ⊎ ((octets : List ℕ) × (end : Option (List ℕ)) × (commands : List Command) × SaysCommands octets end commands
+      × SaidByFile left_in end commands × (((fault : FileFault) × (failure ≡ failure_of_file fault)
       × (fault ≢ file_fault.Length) × (fault ≢ file_fault.Device))
       ⊎ ((disk_file : F) × CopyFails (file disk_file) failure)
       ⊎ ((disk_file : F) × (copy : MemDisk Global)
       × (Behaves (file disk_file) → ((file disk_file).size % 512 ≡ 0) × (1028 ≤ (file disk_file).size / 512)
       × (IsSure (file disk_file) → IsCopy (file disk_file) (disk_of copy)))
-      × EndsOn disk_of copy commands failure)))
+      × EndsOn disk_of copy end commands failure)))
   pub copying : (disk_file : FileState) (failure : Failure) → CopyFails disk_file failure
       → ((fault : FileFault) × (failure ≡ failure_of_file fault)
       × (fault ≡ file_fault.Length → Behaves disk_file → disk_file.size % 512 ≢ 0))
       ⊎ ((failure ≡ failures.Disk (disk.Journal journal.TooSmall))
       × (Behaves disk_file → (disk_file.size % 512 ≡ 0) × (disk_file.size / 512 < 1028)))
-  pub trying : (copy : MemDisk Global) (commands : List Command) (failure : Failure)
-      → EndsOn disk_of copy commands failure
+  pub trying : (copy : MemDisk Global) (end : Option (List ℕ)) (commands : List Command) (failure : Failure)
+      → EndsOn disk_of copy end commands failure
       → ((left : MemDisk Global) × (fault : JournalFault) × RefusesOpening disk_of copy left fault
       × (failure ≡ failure_in_memory (disk.Journal fault)))
-      ⊎ ((old : EndpointValue (MemDisk Global)) × Opens disk_of copy old × ((failure ≡ failures.Memory)
+      ⊎ ((old : EndpointValue (MemDisk Global)) × Opens disk_of copy old × (((failure ≡ failures.Commands)
+      × (named : List ℕ) × (end ≡ Some named) × (named ≢ (state_of old no_logs).identity.sci))
+      ⊎ (((end ≡ None) ⊎ (end ≡ Some (state_of old no_logs).identity.sci)) × ((failure ≡ failures.Memory)
       ⊎ ((done : List Command) × (next : Command) × (left : List Command) × (commands ≡ done ++ next ∷ left)
       × (outcomes : List (Option Refusal)) × (between : EndpointValue (MemDisk Global))
       × Applies disk_of old done outcomes between
       × (fault : DiskFault) × (answer : CommandFault) × commit_fault fault answer
       × (new : EndpointValue (MemDisk Global)) × IsCall disk_of between (Commands next) (Ran (Err answer)) new
-      × (failure ≡ failure_in_memory fault))))
+      × (failure ≡ failure_in_memory fault))))))
 
 -- Before a failure nothing was printed, or what the action that the words name had printed: `ask PATH apply` lines of
 -- outcomes, from the first one on, and another `ask` nothing; `inspect` the lines of some records; `validate --each`

@@ -1,19 +1,20 @@
 -- What is to be drawn from words on texts, in the order in which an operator meets them: the lines of answers and
 -- outcomes, the names of failures and their statuses, and what `inspect` and `check` say.
-use Rattle.std.specs.Prelude.{◌≡◌, ◌≢◌, ◌⊎◌, ◌<◌, ◌≤◌, ◌+◌, ◌++◌, ◌∷◌, [], true, false, ℕ, List, length, map, codes}
-use Rattle.std.specs.Prelude.{replicate, string_bytes}
-use Rattle.std.specs.Prelude.{Option, Some, None, Err}
+use Rattle.std.specs.Prelude.{◌≡◌, ◌≢◌, ◌⊎◌, ◌<◌, ◌≤◌, ◌+◌, ◌/◌, ◌%◌, ◌++◌, ◌∷◌, [], true, false, ℕ, List, length, map}
+use Rattle.std.specs.Prelude.{codes, replicate, string_bytes}
+use Rattle.std.specs.Prelude.{Option, Some, None, Ok, Err}
 use Rattle.std.specs.Fmt.{decimal}
 use Rattle.std.specs.Int.{w32, to_be_bytes}
 use Rattle.std.specs.Str.{IsUtf8}
 use Rattle.hex.specs.Hex.{encode_lower}
 use Rattle.toml.specs.Data.{Members}
 use Rattle.toml.specs.Parse.{parse_document}
-use Rattle.macs_commands.specs.CommandFiles.{file_commands}
+use Rattle.macs_commands.specs.Ends.{end_commands, end_in}
 use Rattle.macs_commands.specs.declared.config_fault.ConfigFault.{ConfigFault}
 use Rattle.macs_commands.specs.declared.config_fault.ConfigFault.TheVariants as config
 use Rattle.macs_commands.specs.declared.config_fault.KeyName.{KeyName}
 use Rattle.macs_commands.specs.declared.config_fault.KeyName.TheVariants as key
+use Rattle.macs_commands.specs.declared.ends.CommandFileFault.TheVariants as told
 use Rattle.macs_config.specs.Identity.{IsBlock}
 use Rattle.macs_config.specs.declared.refusal.Refusal.{Refusal}
 use Rattle.macs_config.specs.declared.refusal.Refusal.TheVariants as refusal
@@ -56,6 +57,7 @@ use Rattle.macs_program.specs.Failing.{address_fault_text, disk_fault_text, fail
 use Rattle.macs_program.specs.Failing.{failure_of_capture, failure_of_commands, failure_of_control, failure_of_file}
 use Rattle.macs_program.specs.Failing.{failure_of_journal, failure_of_run, failure_of_words, failure_status}
 use Rattle.macs_program.specs.Failing.{failure_text, input_fault_text, value_fault_text}
+use Rattle.macs_program.specs.FileModes.{mode_warning}
 use Rattle.macs_program.specs.Inspecting.{AreLinesOf, IsLineOf, IsSaidOf, bit_text, bits_text, name_text}
 use Rattle.macs_program.specs.Inspecting.{numbers_text, tag_text}
 use Rattle.macs_program.specs.Judging.{verdict_lines}
@@ -178,9 +180,11 @@ pub record FailureTexts : Type 0 where
       ∷ failures.Disk (disk.Journal journal.GenerationsSpent) ∷ failures.Disk (disk.Journal journal.Disk) ∷ []
   pub of_words : (cause : _) → (failure_of_words (usage.Usage cause) ≡ failures.Usage cause)
       × (failure_of_words usage.Memory ≡ failures.Memory)
-  pub of_commands : (at : ℕ) (name : KeyName) → map failure_of_commands (config.Shape ∷ config.Word at
-      ∷ config.Key at name ∷ config.Extra at ∷ config.Memory ∷ [])
-      ≡ failures.Commands ∷ failures.Commands ∷ failures.Commands ∷ failures.Commands ∷ failures.Memory ∷ []
+  pub of_commands : (at : ℕ) (name : KeyName) → map failure_of_commands (told.Sci ∷ told.Commands config.Shape
+      ∷ told.Commands (config.Word at) ∷ told.Commands (config.Key at name) ∷ told.Commands (config.Extra at)
+      ∷ told.Commands config.Memory ∷ [])
+      ≡ failures.Commands ∷ failures.Commands ∷ failures.Commands ∷ failures.Commands ∷ failures.Commands
+      ∷ failures.Memory ∷ []
   pub wires : (failure_of_bind bind.Memory ≡ failures.Memory) × (failure_of_bind bind.Bind ≡ failures.Wire)
       × (failure_of_control control.Memory ≡ failures.Memory) × (failure_of_control control.Bind ≡ failures.Control)
       × (failure_of_asking asking.Memory ≡ failures.Memory) × (failure_of_asking asking.Gone ≡ failures.Control)
@@ -256,10 +260,12 @@ pub record FrameTexts : Type 0 where
   pub names : (sci : List ℕ) → (name_text (Explicit sci) ≡ codes " sci=" ++ encode_lower sci)
       × (name_text EndStation ≡ codes " es") × (name_text Implicit ≡ [])
 
--- `check` says how many commands there are, or that the file is too long, no text, no TOML, or the first fault of its
--- commands: that of its tables, of a command's word, of a key, by its name and what it is not, or that there is a key
--- too many. With a disk the line of a command has its number and says `would be ok`, or `would be refused` with the
--- name of its refusal; the lines follow each other, numbered on.
+-- `check` says how many commands there are, or that the file is too long, no text, no TOML, or that its `sci` is none,
+-- or the first fault of its commands: that of its tables, of a command's word, of a key, by its name and what it is
+-- not, or that there is a key too many. With a disk the line of a command has its number and says `would be ok`, or
+-- `would be refused` with the name of its refusal; the lines follow each other, numbered on. Of a file that others can
+-- read it prints the mode too, in three octal digits, and a fourth in front that is no zero; of another file, or where
+-- the system says no mode, nothing.
 pub record CheckTexts : Type 0 where
   pub one : count_line 1 ≡ (decimal 1 ++ codes " command") ++ 10 ∷ []
   pub none : count_line 0 ≡ (decimal 0 ++ codes " commands") ++ 10 ∷ []
@@ -269,7 +275,9 @@ pub record CheckTexts : Type 0 where
       ⊎ ((length octets ≤ 1048576) × (¬ IsUtf8 octets) × (said ≡ codes "command file: not UTF-8"))
       ⊎ ((length octets ≤ 1048576) × IsUtf8 octets × (((parse_document octets ≡ None)
       × (said ≡ codes "command file: not TOML")) ⊎ ((members : Members) × (parse_document octets ≡ Some members)
-      × (fault : ConfigFault) × (file_commands members ≡ Err fault) × (said ≡ fault_text fault))))
+      × (((end_in members ≡ Err told.Sci) × (said ≡ codes "command file sci: not 16 hex digits"))
+      ⊎ ((end : Option (List ℕ)) × (fault : ConfigFault) × (end_in members ≡ Ok end)
+      × (end_commands members ≡ Err fault) × (said ≡ fault_text fault))))))
   pub shape : fault_text config.Shape ≡ codes "command file: not tables [[command]] alone"
   pub word : (at : ℕ) → fault_text (config.Word at) ≡ codes "command " ++ (decimal at ++ codes " do: not a command")
   pub of_key : (at : ℕ) (name : KeyName) → fault_text (config.Key at name)
@@ -295,3 +303,9 @@ pub record CheckTexts : Type 0 where
       ≡ decimal at ++ (codes " would be refused " ++ (refusal_name r ++ 10 ∷ []))
   pub more_tried : (at : ℕ) (outcome : Option Refusal) (outcomes : List (Option Refusal))
       → trial_lines at (outcome ∷ outcomes) ≡ trial_lines at (outcome ∷ []) ++ trial_lines (at + 1) outcomes
+  pub no_mode : mode_warning None ≡ []
+  pub unread : (mode : ℕ) → mode / 4 % 2 ≢ 1 → mode_warning (Some mode) ≡ []
+  pub mode : (mode : ℕ) → mode / 4 % 2 ≡ 1 → mode / 512 % 8 ≡ 0 → mode_warning (Some mode)
+      ≡ codes "mode " ++ (48 + mode / 64 % 8 ∷ 48 + mode / 8 % 8 ∷ 48 + mode % 8 ∷ 10 ∷ [])
+  pub long_mode : (mode : ℕ) → mode / 4 % 2 ≡ 1 → mode / 512 % 8 ≢ 0 → mode_warning (Some mode)
+      ≡ codes "mode " ++ (48 + mode / 512 % 8 ∷ 48 + mode / 64 % 8 ∷ 48 + mode / 8 % 8 ∷ 48 + mode % 8 ∷ 10 ∷ [])

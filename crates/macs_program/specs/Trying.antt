@@ -1,6 +1,7 @@
 -- What `check FILE DISK` does: the commands are given to the endpoint on a copy in memory of the disk, as `apply` gives
 -- them.
 use Rattle.std.specs.Prelude.{◌≡◌, ◌⊎◌, ◌≤◌, ◌+◌, ◌/◌, ◌%◌, ◌++◌, ℕ, List, [], ◌∷◌, codes, Option, Some, None, Err}
+use Rattle.std.specs.Prelude.{false, true}
 use Rattle.std.specs.Fmt.{decimal}
 use Rattle.std.specs.Io.KnownBytes.{Appends}
 use Rattle.std.specs.declared.alloc.Global.{Global}
@@ -20,8 +21,10 @@ use Rattle.macs_journal.specs.declared.fault.JournalFault.{JournalFault}
 use Rattle.macs_journal.specs.declared.fault.JournalFault.TheVariants as journal
 use Rattle.macs_texts.specs.Lines.{line}
 use Rattle.macs_texts.specs.Refusals.{refusal_name}
-use Rattle.macs_program.specs.Applying.{Applies, SaidByFile, SaysCommands, commit_fault, outcomes_status}
+use Rattle.macs_program.specs.Applying.{Applies, SaidByFile, SaysCommands, commit_fault, is_for, outcomes_status}
+use Rattle.macs_program.specs.Applying.{own_sci}
 use Rattle.macs_program.specs.Copying.{CopyFails, IsCopy, IsNotRead}
+use Rattle.macs_program.specs.FileModes.{mode_warning}
 use Rattle.macs_program.specs.declared.failure.DiskFault.{DiskFault}
 use Rattle.macs_program.specs.declared.failure.DiskFault.TheVariants as disk
 use Rattle.macs_program.specs.declared.failure.Failure.{Failure}
@@ -79,20 +82,28 @@ pub record StopsAt {D : Type 0} (disk_of : D → Disk) (old : EndpointValue D) (
 abbrev pub TrialEnds : {D : Type 0} → (D → Disk) → EndpointValue D → List Command → Failure → Type 0
 TrialEnds disk_of old commands failure = (failure ≡ failures.Memory) ⊎ StopsAt disk_of old commands failure
 
--- an endpoint is opened on a disk, and these commands are given to it, one after another
-pub record TriesOn {D : Type 0} (disk_of : D → Disk) (copy : D) (commands : List Command)
+-- the file that says them is for another end; or it is for this one, and not all commands are kept or refused
+abbrev pub OwnEnds : {D : Type 0} → (D → Disk) → EndpointValue D → Option (List ℕ) → List Command → Failure → Type 0
+OwnEnds disk_of old end commands failure =
+    ((failure ≡ failures.Commands) × (is_for end (own_sci old) ≡ false))
+    ⊎ ((is_for end (own_sci old) ≡ true) × TrialEnds disk_of old commands failure)
+
+-- an endpoint is opened on a disk, and these commands are given to it, one after another: it is the end that the file
+-- is for which says them
+pub record TriesOn {D : Type 0} (disk_of : D → Disk) (copy : D) (end : Option (List ℕ)) (commands : List Command)
     (outcomes : List (Option Refusal)) : Type 0 where
   pub old : EndpointValue D
   pub new : EndpointValue D
   pub opens : Opens disk_of copy old
+  pub own : is_for end (own_sci old) ≡ true
   pub applied : Applies disk_of old commands outcomes new
 
--- no endpoint is opened there, or not all commands are given to it
-abbrev pub EndsOn : {D : Type 0} → (D → Disk) → D → List Command → Failure → Type 0
-EndsOn {D} disk_of copy commands failure =
+-- no endpoint is opened there, or the commands are for another one, or not all of them are given to it
+abbrev pub EndsOn : {D : Type 0} → (D → Disk) → D → Option (List ℕ) → List Command → Failure → Type 0
+EndsOn {D} disk_of copy end commands failure =
     ((left : D) × (fault : JournalFault) × RefusesOpening disk_of copy left fault
     × (failure ≡ failure_in_memory (disk.Journal fault)))
-    ⊎ ((old : EndpointValue D) × Opens disk_of copy old × TrialEnds disk_of old commands failure)
+    ⊎ ((old : EndpointValue D) × Opens disk_of copy old × OwnEnds disk_of old end commands failure)
 
 -- ---- on a disk in a file
 
@@ -103,38 +114,40 @@ IsCopyIn state_of file copy =
     × (IsSure (state_of file) → IsCopy (state_of file) (disk_of copy))
 
 -- the commands are given to the endpoint on a copy of the disk in a file
-pub record TriesIn {F : Type 0} (state_of : F → FileState) (commands : List Command)
+pub record TriesIn {F : Type 0} (state_of : F → FileState) (end : Option (List ℕ)) (commands : List Command)
     (outcomes : List (Option Refusal)) : Type 0 where
   pub file : F
   pub copy : MemDisk Global
   pub is_copy : IsCopyIn state_of file copy
-  pub tries : TriesOn disk_of copy commands outcomes
+  pub tries : TriesOn disk_of copy end commands outcomes
 
--- they are not, or not all of them: the file is not opened; or there is no copy; or it has no endpoint, or one of the
--- commands ends the run
-abbrev pub TrialFails : {F : Type 0} → (F → FileState) → List Command → Failure → Type 0
-TrialFails {F} state_of commands failure =
+-- they are not, or not all of them: the file is not opened; or there is no copy; or it has no endpoint, or another one,
+-- or one of the commands ends the run
+abbrev pub TrialFails : {F : Type 0} → (F → FileState) → Option (List ℕ) → List Command → Failure → Type 0
+TrialFails {F} state_of end commands failure =
     IsNotRead failure
     ⊎ ((file : F) × CopyFails (state_of file) failure)
-    ⊎ ((file : F) × (copy : MemDisk Global) × IsCopyIn state_of file copy × EndsOn disk_of copy commands failure)
+    ⊎ ((file : F) × (copy : MemDisk Global) × IsCopyIn state_of file copy × EndsOn disk_of copy end commands failure)
 
 -- ---- whole
 
--- The lines of the commands that a file says are printed, with what each would be answered. What is left to read of a
--- file is said by `left_in`, where it is known
+-- The lines of the commands that a file says are printed, with what each would be answered, and what is said of its
+-- mode. What is left to read of a file is said by `left_in`, where it is known
 pub record PrintsTrial {F : Type 0} (state_of : F → FileState) (left_in : F → Option (List ℕ))
     (before after : Option (List ℕ)) (status : Status) : Type 0 where
   pub octets : List ℕ
+  pub end : Option (List ℕ)
   pub commands : List Command
-  pub says : SaysCommands octets commands
-  pub by_file : SaidByFile left_in commands
+  pub says : SaysCommands octets end commands
+  pub by_file : SaidByFile left_in end commands
   pub outcomes : List (Option Refusal)
-  pub tries : TriesIn state_of commands outcomes
-  pub printed : Appends before after (trial_report outcomes)
+  pub tries : TriesIn state_of end commands outcomes
+  pub mode : Option ℕ
+  pub printed : Appends before after (trial_report outcomes ++ mode_warning mode)
   pub status_is : status ≡ outcomes_status outcomes
 
 -- they cannot be tried
 abbrev pub TrialStops : {F : Type 0} → (F → FileState) → (F → Option (List ℕ)) → Failure → Type 0
 TrialStops state_of left_in failure =
-    (octets : List ℕ) × (commands : List Command) × SaysCommands octets commands × SaidByFile left_in commands
-    × TrialFails state_of commands failure
+    (octets : List ℕ) × (end : Option (List ℕ)) × (commands : List Command) × SaysCommands octets end commands
+    × SaidByFile left_in end commands × TrialFails state_of end commands failure

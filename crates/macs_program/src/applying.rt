@@ -1,6 +1,6 @@
 //! `apply`: the commands of a file, one after another.
 
-ghost use Rattle.std.specs.Prelude.{◌≡◌, ◌≢◌, ◌+◌, ◌⊎◌, List, [], Option, is_some, true};
+ghost use Rattle.std.specs.Prelude.{◌≡◌, ◌≢◌, ◌+◌, ◌⊎◌, ℕ, List, [], Option, is_some, true};
 ghost use Rattle.std.specs.Prelude.{if◌then◌else◌};
 ghost use Rattle.std.specs.Prelude.{IfErr, IfOk, OnOk, Ok, Err};
 ghost use Rattle.std.specs.Io.KnownBytes.{Appends};
@@ -9,23 +9,24 @@ ghost use Rattle.toml.specs.Parse.{parse_document};
 ghost use Rattle.toml.specs.View.{table_view};
 ghost use Rattle.macs_config.specs.declared.command.Command.{Command};
 ghost use Rattle.macs_config.specs.declared.refusal.Refusal.{Refusal};
-ghost use Rattle.macs_commands.specs.CommandFiles.{file_commands};
+ghost use Rattle.macs_commands.specs.Ends.{end_commands, end_in};
 ghost use Rattle.macs_endpoint.specs.Calls.{IsCall};
 ghost use Rattle.macs_endpoint.specs.State.{Commands, Ran};
 ghost use Rattle.macs_endpoint.specs.declared.fault.CommandFault.{CommandFault};
 ghost use Rattle.macs_program.specs.Applying.{AppliesAll, AppliesSome, EndsRun, SaysCommands};
-ghost use Rattle.macs_program.specs.Applying.{IsNotBusyCommand, answer_of, commit_fault};
-ghost use Rattle.macs_program.specs.Applying.{outcome_line};
+ghost use Rattle.macs_program.specs.Applying.{IsNotBusyCommand, answer_of, commit_fault, is_for};
+ghost use Rattle.macs_program.specs.Applying.{outcome_line, own_sci};
 
 use crate::failure::{DiskFault, Failure};
 use crate::output::{Line, print_octets};
 use crate::status::Status;
 use crate::stream::Stream;
 use itoa::Buffer;
+use macs_commands::{CommandFile, command_file};
 use macs_config::{Command, Refusal};
 use macs_disk::SectorDisk;
-use macs_edge::commands_of;
 use macs_endpoint::{CommandFault, Endpoint};
+use macs_fields::Sci;
 use macs_journal::JournalFault;
 use macs_texts::refusal_name;
 use std::alloc::Global;
@@ -47,25 +48,27 @@ fn table_of(alloc: Global, text: &str) -> Result<Table, Failure>
     }
 }
 
-/// The commands of a table.
-fn commands_told(alloc: Global, table: &Table) -> Result<Vec<Command>, Failure>
+/// What a table says: its commands, and the end that they are for, where it names one.
+fn commands_told(alloc: Global, table: &Table) -> Result<CommandFile<Global>, Failure>
+    ensures named { IfOk result (λ told. end_in (table_view table.now) ≡ Ok told.end) }
     ensures said { IfOk result
-        (λ commands. file_commands (table_view table.now) ≡ Ok commands.items) }
+        (λ told. end_commands (table_view table.now) ≡ Ok told.commands.items) }
     ensures fault { IfErr result (λ failure. (failure ≡ Failure.Memory)
-        ⊎ ((failure ≡ Failure.Commands)
-        × ((commands : List Command) → ¬ (file_commands (table_view table.now) ≡ Ok commands)))) }
+        ⊎ ((failure ≡ Failure.Commands) × ((end : Option (List ℕ)) (commands : List Command)
+        → end_in (table_view table.now) ≡ Ok end
+        → ¬ (end_commands (table_view table.now) ≡ Ok commands)))) }
 {
-    let commands = commands_of(alloc, table)?;
-    Ok(commands)
+    let told = command_file(alloc, table)?;
+    Ok(told)
 }
 
-/// The commands that a file says. It fails as `Memory`, or as `Commands` where it says none: it is
-/// too long, no text, no TOML, or has a fault of its own.
-pub fn commands_in(alloc: Global, octets: &[u8]) -> Result<Vec<Command>, Failure>
-    ensures said { IfOk result (λ commands. SaysCommands octets.now commands.items) }
+/// What a command file says. It fails as `Memory`, or as `Commands` where it says no commands: it
+/// is too long, no text, no TOML, or has a fault of its own.
+pub fn commands_in(alloc: Global, octets: &[u8]) -> Result<CommandFile<Global>, Failure>
+    ensures said { IfOk result (λ told. SaysCommands octets.now told.end told.commands.items) }
     ensures fault { IfErr result (λ failure. (failure ≡ Failure.Memory)
-        ⊎ ((failure ≡ Failure.Commands)
-        × ((commands : List Command) → ¬ SaysCommands octets.now commands))) }
+        ⊎ ((failure ≡ Failure.Commands) × ((end : Option (List ℕ)) (commands : List Command)
+        → ¬ SaysCommands octets.now end commands))) }
 {
     if octets.len() > MAX_FILE {
         return Err(Failure::Commands);
@@ -75,6 +78,23 @@ pub fn commands_in(alloc: Global, octets: &[u8]) -> Result<Vec<Command>, Failure
     };
     let table = table_of(alloc, text)?;
     commands_told(alloc, &table)
+}
+
+/// Whether a command file is for the end with this SCI: it names that, or none.
+fn is_for(end: Option<Sci>, sci: Sci) -> bool
+    ensures { result ≡ is_for end sci }
+{
+    match end {
+        Some(end) => end == sci,
+        None => true,
+    }
+}
+
+/// Whether it is for this endpoint.
+pub fn is_own<D: SectorDisk>(endpoint: &Endpoint<D>, end: Option<Sci>) -> bool
+    ensures { result ≡ is_for end (own_sci endpoint.now) }
+{
+    is_for(end, endpoint.identity().sci())
 }
 
 /// The line of a command by its number, which was kept or refused.

@@ -1,12 +1,14 @@
 //! `ask`: what a running relay is asked over its control socket, and what it answers.
 
-ghost use Rattle.std.specs.Prelude.{◌≡◌, ◌≢◌, ◌⊎◌, ◌++◌, ℕ, List, Option, is_some, true, IfErr};
-ghost use Rattle.std.specs.Prelude.{IfOk, IfSome};
+ghost use Rattle.std.specs.Prelude.{◌≡◌, ◌≢◌, ◌⊎◌, ◌↔◌, ◌++◌, ℕ, List, Option, None, is_some, true};
+ghost use Rattle.std.specs.Prelude.{IfErr, IfOk, IfSome, IsTrue, Ok, OnOk, string_bytes};
 ghost use Rattle.std.specs.Io.KnownBytes.{Appends};
 ghost use Rattle.macs_config.specs.declared.refusal.Refusal.{Refusal};
 ghost use Rattle.macs_program.specs.Applying.{outcome_line};
-ghost use Rattle.macs_program.specs.Asking.{AsksForText, HandsCommands, IsOfAsking};
-ghost use Rattle.macs_program.specs.Asking.{PrintsAnswer, PrintsFront, failure_in};
+ghost use Rattle.macs_program.specs.Asking.{AsksForText, HandsCommands, IsBeforeCommands};
+ghost use Rattle.macs_program.specs.Asking.{IsOfAsking, PrintsAnswer, PrintsFront, failure_in};
+ghost use Rattle.macs_program.specs.Asking.{sci_line};
+ghost use Rattle.macs_record.specs.Sectors.{Begins};
 ghost use Rattle.macs_texts.specs.Refusals.{refusal_name};
 
 use crate::applying::{outcome_line, status_after};
@@ -17,11 +19,12 @@ use crate::status::Status;
 use crate::stream::Stream;
 use macs_config::{Command, Refusal};
 use macs_control::{Answer, Asker, Connection, PatientStream};
+use macs_fields::Sci;
 use macs_journal::JournalFault;
 use macs_requests::{Request, line_of_request};
-use macs_texts::refusal_name;
+use macs_texts::{ended, refusal_name};
 use macs_words::Question;
-use std::alloc::Global;
+use std::alloc::{AllocError, Global};
 use std::net::Net;
 use std::rt::Files;
 
@@ -183,7 +186,72 @@ fn apply_each<S: Connection, W: Stream>(
     Ok(status)
 }
 
-/// Hands the commands of a file to a relay.
+/// The line by which the text of an endpoint begins that has this SCI.
+fn sci_line(alloc: Global, sci: Sci) -> Result<String, AllocError>
+    ensures { IfOk result (λ text. string_bytes text ≡ sci_line sci) }
+{
+    let sci = hex::encode(alloc, sci.get())?;
+    ended(format!(in alloc; "sci {sci}")?)
+}
+
+/// Whether an answer is the text of the endpoint with this SCI.
+fn is_shown(alloc: Global, answer: &Answer, sci: Sci) -> Result<bool, AllocError>
+    ensures { IfOk result
+        (λ is. IsTrue is ↔ Begins (sci_line sci) answer.now.text.items) }
+{
+    let line = sci_line(alloc, sci)?;
+    Ok(answer.text.as_slice().starts_with(line.as_str().as_bytes()))
+}
+
+/// Refuses an answer that is not the text of the endpoint with this SCI. It fails as `Commands`
+/// where it is that of another.
+fn refuse_other(alloc: Global, answer: &Answer, sci: Sci) -> Result<(), Failure>
+    ensures own { OnOk result
+        ((answer.now.status ≡ 0) × Begins (sci_line sci) answer.now.text.items) }
+    ensures other { IfErr result (λ failure. failure ≡ Failure.Commands
+        → ¬ Begins (sci_line sci) answer.now.text.items) }
+    ensures failed { IfErr result IsBeforeCommands }
+{
+    let status = answer.status;
+    if status != 0 {
+        return Err(failure_in(status));
+    }
+    if !is_shown(alloc, answer, sci)? {
+        return Err(Failure::Commands);
+    }
+    Ok(())
+}
+
+/// Asks a relay for the text of its endpoint, which has to have this SCI. It fails as `Commands`
+/// where that has another.
+fn find_own<S: Connection>(
+    alloc: Global,
+    asker: &mut Asker<S>,
+    sci: Sci,
+) -> Result<(), Failure>
+    ensures { IfErr result IsBeforeCommands }
+{
+    let answer = answer_to(alloc, asker, &Request::Show)?;
+    refuse_other(alloc, &answer, sci)
+}
+
+/// Looks whether a command file is for the endpoint of a relay, which is asked only where the file
+/// names an end.
+fn find_end<S: Connection>(
+    alloc: Global,
+    asker: &mut Asker<S>,
+    end: Option<Sci>,
+) -> Result<(), Failure>
+    ensures any { end ≡ None → (result ≡ Ok tt) × (asker.new ≡ asker.old) }
+    ensures failed { IfErr result IsBeforeCommands }
+{
+    match end {
+        Some(sci) => find_own(alloc, asker, sci),
+        None => Ok(()),
+    }
+}
+
+/// Hands the commands of a file to a relay, if the file is for its endpoint.
 fn apply_file<T: Files, S: Connection, W: Stream>(
     rt: &T,
     alloc: Global,
@@ -193,8 +261,9 @@ fn apply_file<T: Files, S: Connection, W: Stream>(
 ) -> Result<Status, Failure>
     ensures { HandsCommands W.contents W.failed out.old result out.new }
 {
-    let commands = commands_of_file(rt, alloc, file)?;
-    apply_each(alloc, asker, commands.as_slice(), out)
+    let told = commands_of_file(rt, alloc, file)?;
+    find_end(alloc, asker, told.end)?;
+    apply_each(alloc, asker, told.commands.as_slice(), out)
 }
 
 /// Has a relay apply the commands of a file.
@@ -212,8 +281,9 @@ fn ask_apply<T: Files + Net, W: Stream>(
 }
 
 /// `ask`: asks a running relay, and prints its answer. It fails first as `Control`, where no relay
-/// is at the socket; then for the command file; as `Disk` with `Stopped`, where the relay ended
-/// before it answered a command; and as `Control`, where it went away.
+/// is at the socket; then for the command file, as `Commands` also where that is for another end
+/// than the relay's, which is asked for its text first; as `Disk` with `Stopped`, where the relay
+/// ended before it answered a command; and as `Control`, where it went away.
 pub fn ask<T: Files + Net, W: Stream>(
     rt: &T,
     alloc: Global,

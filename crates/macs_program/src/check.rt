@@ -8,24 +8,30 @@ ghost use Rattle.toml.specs.Data.{Members};
 ghost use Rattle.toml.specs.View.{table_view};
 ghost use Rattle.toml.specs.Parse.{parse_document};
 ghost use Rattle.macs_config.specs.declared.refusal.Refusal.{Refusal};
-ghost use Rattle.macs_commands.specs.CommandFiles.{file_commands};
+ghost use Rattle.macs_commands.specs.Ends.{end_commands, end_in};
+ghost use Rattle.macs_commands.specs.declared.config_fault.ConfigFault.TheVariants as config;
+ghost use Rattle.macs_commands.specs.declared.ends.CommandFileFault.TheVariants as told;
 ghost use Rattle.std.specs.Prelude.{Ok, Some};
 ghost use Rattle.macs_program.specs.Applying.{SaidByFile, SaysCommands, outcomes_status};
 ghost use Rattle.macs_program.specs.Checking.{CheckEnds, Checks, Complains, ComplainsOfFile};
 ghost use Rattle.macs_program.specs.Checking.{HasFault, IsSaidOfFile, IsSaidOfText};
-ghost use Rattle.macs_program.specs.Checking.{count_line, fault_text, key_reason, key_word};
+ghost use Rattle.macs_program.specs.Checking.{count_line, fault_text, file_fault_text, key_reason};
+ghost use Rattle.macs_program.specs.Checking.{key_word};
+ghost use Rattle.macs_program.specs.FileModes.{mode_warning};
 ghost use Rattle.macs_program.specs.Trying.{TrialFails, TriesIn, trial_report};
 
 use crate::applying::MAX_FILE;
 use crate::capture_file::CaptureFile;
 use crate::failure::Failure;
+use crate::file_mode::{mode_of, print_mode};
 use crate::files::failure_of;
 use crate::output::{Line, append_count, print, print_octets};
 use crate::status::Status;
 use crate::stream::Stream;
 use crate::trial::{outcomes_status, trial_report, try_in};
+use macs_commands::{CommandFile, CommandFileFault, ConfigFault, KeyName, command_file};
 use macs_config::Command;
-use macs_edge::{ConfigFault, KeyName, commands_of};
+use macs_fields::Sci;
 use std::alloc::{AllocError, Global};
 use std::fs;
 use std::io::Read;
@@ -99,26 +105,49 @@ pub fn failure_saying(text: Result<String, AllocError>) -> Failure
     }
 }
 
-/// The commands that a table of TOML says.
-fn commands_in_table(alloc: Global, table: &Table) -> Result<Vec<Command>, Failure>
-    ensures said { IfOk result
-        (λ commands. file_commands (table_view table.now) ≡ Ok commands.items) }
-    ensures fault { (text : List ℕ) → parse_document text ≡ Some (table_view table.now)
-        → IfErr result (Complains (HasFault text)) }
+/// The failure that says the first fault of the commands of a file, unless that is `Memory`.
+fn failure_of_cause(alloc: Global, cause: ConfigFault) -> Failure
+    ensures { Complains (λ t. (cause ≢ config.Memory) × (t ≡ fault_text cause)) result }
 {
-    match commands_of(alloc, table) {
-        Ok(commands) => Ok(commands),
-        Err(fault) => match fault {
-            ConfigFault::Memory => Err(Failure::Memory),
-            _ => Err(failure_saying(fault_text(alloc, fault))),
-        },
+    match cause {
+        ConfigFault::Memory => Failure::Memory,
+        _ => failure_saying(fault_text(alloc, cause)),
     }
 }
 
-/// The commands that a text says.
-fn commands_in_text(alloc: Global, text: &str) -> Result<Vec<Command>, Failure>
-    ensures said { IfOk result (λ commands. (members : Members)
-        × (parse_document text.now ≡ Some members) × (file_commands members ≡ Ok commands.items)) }
+/// The failure that says the first fault of a command file, unless that is want of memory.
+fn failure_of_fault(alloc: Global, fault: CommandFileFault) -> Failure
+    ensures { Complains
+        (λ t. (fault ≢ told.Commands config.Memory) × (t ≡ file_fault_text fault)) result }
+{
+    match fault {
+        CommandFileFault::Commands(cause) => failure_of_cause(alloc, cause),
+        CommandFileFault::Sci => {
+            let text = String::from_str(alloc, "command file sci: not 16 hex digits");
+            failure_saying(text)
+        }
+    }
+}
+
+/// What a table of TOML says.
+fn commands_in_table(alloc: Global, table: &Table) -> Result<CommandFile<Global>, Failure>
+    ensures named { IfOk result (λ told. end_in (table_view table.now) ≡ Ok told.end) }
+    ensures said { IfOk result
+        (λ told. end_commands (table_view table.now) ≡ Ok told.commands.items) }
+    ensures fault { (text : List ℕ) → parse_document text ≡ Some (table_view table.now)
+        → IfErr result (Complains (HasFault text)) }
+{
+    match command_file(alloc, table) {
+        Ok(told) => Ok(told),
+        Err(fault) => Err(failure_of_fault(alloc, fault)),
+    }
+}
+
+/// What a text says.
+fn commands_in_text(alloc: Global, text: &str) -> Result<CommandFile<Global>, Failure>
+    ensures said { IfOk result (λ told. (members : Members)
+        × (parse_document text.now ≡ Some members) × (end_in members ≡ Ok told.end)
+        × (end_commands members ≡ Ok told.commands.items)) }
     ensures fault { IfErr result (Complains (IsSaidOfText text.now)) }
 {
     match toml::table_from_str(alloc, text) {
@@ -128,9 +157,9 @@ fn commands_in_text(alloc: Global, text: &str) -> Result<Vec<Command>, Failure>
     }
 }
 
-/// The commands that the octets of a file say.
-fn commands_said(alloc: Global, octets: &[u8]) -> Result<Vec<Command>, Failure>
-    ensures said { IfOk result (λ commands. SaysCommands octets.now commands.items) }
+/// What the octets of a command file say.
+fn commands_said(alloc: Global, octets: &[u8]) -> Result<CommandFile<Global>, Failure>
+    ensures said { IfOk result (λ told. SaysCommands octets.now told.end told.commands.items) }
     ensures fault { IfErr result (Complains (IsSaidOfFile octets.now)) }
 {
     if octets.len() > MAX_FILE {
@@ -144,13 +173,13 @@ fn commands_said(alloc: Global, octets: &[u8]) -> Result<Vec<Command>, Failure>
     commands_in_text(alloc, text)
 }
 
-/// The commands that an open file says, of which no more is read than can be of use. It fails as
+/// What an open command file says, of which no more is read than can be of use. It fails as
 /// `Commands` where a read fails, else as `CommandFile` with the first fault, or as `Memory`.
-pub fn commands_read<R: Read>(alloc: Global, file: &mut R) -> Result<Vec<Command>, Failure>
-    ensures said { IfOk result (λ commands. IfSome (R.remaining file.old)
-        (λ octets. SaysCommands octets commands.items)) }
+pub fn commands_read<R: Read>(alloc: Global, file: &mut R) -> Result<CommandFile<Global>, Failure>
+    ensures said { IfOk result (λ told. IfSome (R.remaining file.old)
+        (λ octets. SaysCommands octets told.end told.commands.items)) }
     ensures spelled { IfOk result
-        (λ commands. (octets : List ℕ) × SaysCommands octets commands.items) }
+        (λ told. (octets : List ℕ) × SaysCommands octets told.end told.commands.items) }
     ensures fault { IfErr result (λ failure. (failure ≡ Failure.Commands)
         ⊎ IfSome (R.remaining file.old) (λ octets. Complains (IsSaidOfFile octets) failure)) }
     ensures ended { IfErr result (λ failure. (failure ≡ Failure.Commands)
@@ -178,13 +207,18 @@ fn count_line(count: usize) -> Line
     line
 }
 
-/// The commands that a file says. It fails as `Commands` where it cannot be opened or read, else as
+/// What a command file says. It fails as `Commands` where it cannot be opened or read, else as
 /// `CommandFile` with the first fault, or as `Memory`.
-fn checked_commands<T: Files>(rt: &T, alloc: Global, path: &str) -> Result<Vec<Command>, Failure>
-    // A file was opened, and it says them.
-    ensures said { IfOk result (λ commands. SaidByFile T.File.remaining commands.items) }
+fn checked_commands<T: Files>(
+    rt: &T,
+    alloc: Global,
+    path: &str,
+) -> Result<CommandFile<Global>, Failure>
+    // A file was opened, and it says this.
+    ensures said { IfOk result
+        (λ told. SaidByFile T.File.remaining told.end told.commands.items) }
     ensures spelled { IfOk result
-        (λ commands. (octets : List ℕ) × SaysCommands octets commands.items) }
+        (λ told. (octets : List ℕ) × SaysCommands octets told.end told.commands.items) }
     ensures ended { IfErr result (λ failure. (failure ≡ Failure.Commands)
         ⊎ ((octets : List ℕ) × Complains (IsSaidOfFile octets) failure
         × ((failure ≡ Failure.Memory) ⊎ ComplainsOfFile IsSaidOfFile T.File.remaining failure))) }
@@ -195,46 +229,57 @@ fn checked_commands<T: Files>(rt: &T, alloc: Global, path: &str) -> Result<Vec<C
     }
 }
 
-/// Prints how many commands there are.
-fn print_count<W: Stream>(count: usize, out: &mut W) -> Result<Status, Failure>
-    ensures printed { IfOk result (λ status.
-        Appends (W.contents out.old) (W.contents out.new) (count_line count)
-        × (status ≡ Status.Done)) }
+/// Prints how many commands there are, and what is said of the mode of their file.
+fn print_count<W: Stream>(
+    count: usize,
+    mode: Option<u32>,
+    out: &mut W,
+) -> Result<Status, Failure>
+    ensures printed { IfOk result (λ status. Appends (W.contents out.old) (W.contents out.new)
+        (count_line count ++ mode_warning mode) × (status ≡ Status.Done)) }
     ensures failed { IfErr result (λ failure. failure ≡ Failure.Output) }
     ensures broken { IfErr result (λ failure. W.failed out.new ≡ true) }
 {
     print_octets(out, count_line(count).as_slice())?;
+    print_mode(mode, out)?;
     Ok(Status::Done)
 }
 
-/// Prints what these commands would be answered by the endpoint on the disk in a file. It fails as
+/// Prints what these commands of a file would be answered by the endpoint on the disk in another,
+/// which is the end that they are for, and what is said of the mode of their file. It fails as
 /// `try_in` does, and as `Memory`, with nothing printed before.
 fn print_trial<T: Files, W: Stream>(
     rt: &T,
     alloc: Global,
     disk: &str,
+    end: Option<Sci>,
     commands: &[Command],
+    mode: Option<u32>,
     out: &mut W,
 ) -> Result<Status, Failure>
 where
     T::File: CaptureFile,
     ensures printed { IfOk result
-        (λ status. (outcomes : List (Option Refusal)) × TriesIn T.File.file commands.now outcomes
-        × Appends (W.contents out.old) (W.contents out.new) (trial_report outcomes)
+        (λ status. (outcomes : List (Option Refusal))
+        × TriesIn T.File.file end commands.now outcomes
+        × Appends (W.contents out.old) (W.contents out.new)
+        (trial_report outcomes ++ mode_warning mode)
         × (status ≡ outcomes_status outcomes)) }
     ensures ended { IfErr result (λ failure. (failure ≡ Failure.Output) ⊎ (failure ≡ Failure.Memory)
-        ⊎ TrialFails T.File.file commands.now failure) }
+        ⊎ TrialFails T.File.file end commands.now failure) }
     ensures silent { IfErr result (λ failure. failure ≢ Failure.Output → out.new ≡ out.old) }
     ensures broken { IfErr result (λ failure. failure ≡ Failure.Output → W.failed out.new ≡ true) }
 {
-    let outcomes = try_in(rt, alloc, disk, commands)?;
+    let outcomes = try_in(rt, alloc, disk, end, commands)?;
     let text = trial_report(alloc, outcomes.as_slice())?;
     print(out, text.as_str())?;
+    print_mode(mode, out)?;
     Ok(outcomes_status(outcomes.as_slice()))
 }
 
 /// `check`: prints how many commands a file says, or what each of them would be answered by the
-/// endpoint on the disk in a file. Neither file is changed.
+/// endpoint on the disk in a file, and the mode of the command file where others can read it.
+/// Neither file is changed.
 pub fn check<T: Files, W: Stream>(
     rt: &T,
     alloc: Global,
@@ -250,9 +295,11 @@ where
     ensures silent { IfErr result (λ failure. failure ≢ Failure.Output → out.new ≡ out.old) }
     ensures broken { IfErr result (λ failure. failure ≡ Failure.Output → W.failed out.new ≡ true) }
 {
-    let commands = checked_commands(rt, alloc, path)?;
+    let told = checked_commands(rt, alloc, path)?;
+    let mode = mode_of(rt, path);
+    let commands = told.commands.as_slice();
     match disk {
-        None => print_count(commands.len(), out),
-        Some(disk) => print_trial(rt, alloc, disk, commands.as_slice(), out),
+        None => print_count(commands.len(), mode, out),
+        Some(disk) => print_trial(rt, alloc, disk, told.end, commands, mode, out),
     }
 }

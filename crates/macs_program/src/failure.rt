@@ -10,7 +10,8 @@ use crate::status::Status;
 use crate::values::ValueFault;
 use macs_control::{AskFault, ControlFault};
 use macs_disk::FileFault;
-use macs_edge::{BindFault, ConfigFault, RunFault};
+use macs_commands::{CommandFileFault, ConfigFault};
+use macs_edge::{BindFault, RunFault};
 use macs_endpoint::RefillFault;
 use macs_journal::JournalFault;
 use macs_pcap::PcapFault;
@@ -223,15 +224,15 @@ impl From<JournalFault> for Failure {
     }
 }
 
-impl From<ConfigFault> for Failure {
+impl From<CommandFileFault> for Failure {
     ghost use Rattle.std.specs.Prelude.{◌≡◌};
     ghost use Rattle.macs_program.specs.Failing.{failure_of_commands};
 
     ghost from_gives = { λ fault failure. failure ≡ failure_of_commands fault };
 
-    fn from(fault: ConfigFault) -> Failure {
+    fn from(fault: CommandFileFault) -> Failure {
         match fault {
-            ConfigFault::Memory => Failure::Memory,
+            CommandFileFault::Commands(ConfigFault::Memory) => Failure::Memory,
             _ => Failure::Commands,
         }
     }

@@ -19,7 +19,7 @@ use crate::capture_file::CaptureFile;
 use crate::contents::holds_endpoint;
 use crate::failure::{DiskFault, Failure};
 use crate::whole_writes::WholeWrites;
-use macs_config::Command;
+use macs_commands::CommandFile;
 use macs_disk::{DiskFile, FileDisk};
 use macs_pcap::{ReaderSource, Sink, Source, WriterSink};
 use std::alloc::Global;
@@ -94,12 +94,12 @@ where
     Ok(disk)
 }
 
-/// The commands of a file that is open, of which no more is read than can be of use.
-fn read_commands<R: Read>(alloc: Global, file: &mut R) -> Result<Vec<Command>, Failure>
-    ensures said { IfOk result (λ commands. IfSome (R.remaining file.old)
-        (λ octets. SaysCommands octets commands.items)) }
+/// What a command file that is open says, of which no more is read than can be of use.
+fn read_commands<R: Read>(alloc: Global, file: &mut R) -> Result<CommandFile<Global>, Failure>
+    ensures said { IfOk result (λ told. IfSome (R.remaining file.old)
+        (λ octets. SaysCommands octets told.end told.commands.items)) }
     ensures spelled { IfOk result
-        (λ commands. (octets : List ℕ) × SaysCommands octets commands.items) }
+        (λ told. (octets : List ℕ) × SaysCommands octets told.end told.commands.items) }
     ensures failed { IfErr result
         (λ failure. (failure ≡ Failure.Memory) ⊎ (failure ≡ Failure.Commands)) }
 {
@@ -110,18 +110,19 @@ fn read_commands<R: Read>(alloc: Global, file: &mut R) -> Result<Vec<Command>, F
     }
 }
 
-/// The commands of a command file. It fails as `Memory` where there is no memory, the system's or
+/// What a command file says. It fails as `Memory` where there is no memory, the system's or
 /// the program's, and else as `Commands`, where the file cannot be opened or read, or says no
 /// commands.
 pub fn commands_of_file<T: Files>(
     rt: &T,
     alloc: Global,
     path: &str,
-) -> Result<Vec<Command>, Failure>
-    // A file was opened, and it says them.
-    ensures said { IfOk result (λ commands. SaidByFile T.File.remaining commands.items) }
+) -> Result<CommandFile<Global>, Failure>
+    // A file was opened, and it says this.
+    ensures said { IfOk result
+        (λ told. SaidByFile T.File.remaining told.end told.commands.items) }
     ensures spelled { IfOk result
-        (λ commands. (octets : List ℕ) × SaysCommands octets commands.items) }
+        (λ told. (octets : List ℕ) × SaysCommands octets told.end told.commands.items) }
     ensures failed { IfErr result
         (λ failure. (failure ≡ Failure.Memory) ⊎ (failure ≡ Failure.Commands)) }
 {

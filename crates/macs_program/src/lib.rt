@@ -17,6 +17,7 @@ mod disk_copy;
 mod examine;
 mod examined_text;
 mod failure;
+mod file_mode;
 mod files;
 mod first_fault;
 mod four_lines;

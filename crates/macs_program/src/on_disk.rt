@@ -40,7 +40,7 @@ ghost use Rattle.macs_rxsc.specs.declared.verdict.Verdict.{Verdict};
 ghost use Rattle.macs_texts.specs.Lines.{line};
 
 use crate::addresses::{Addresses, WireAddresses, addresses_of};
-use crate::applying::apply_commands;
+use crate::applying::{apply_commands, is_own};
 use crate::attendants::{SystemDesk, desk_for, leave};
 use crate::capture_file::CaptureFile;
 use crate::captures::{Captures, SystemCaptures};
@@ -184,7 +184,7 @@ fn with_opened<F: DiskFile, K: Task<FileDisk<F>, W>, W: Stream>(
     }
 }
 
-/// Applies the commands of a file.
+/// Applies the commands of a file that is for the endpoint.
 #[derive(Drop)]
 struct ApplyFile<'a, T> {
     rt: &'a T,
@@ -197,12 +197,15 @@ impl<T: Files, D: SectorDisk, W: Stream> Task<D, W> for ApplyFile<'_, T> {
 
     #[inline(never)]
     fn run(&self, endpoint: &mut Endpoint<D>, out: &mut W) -> Result<Status, Failure> {
-        let commands = commands_of_file(self.rt, self.alloc, self.path)?;
-        apply_commands(endpoint, commands.as_slice(), out)
+        let told = commands_of_file(self.rt, self.alloc, self.path)?;
+        if !is_own(endpoint, told.end) {
+            return Err(Failure::Commands);
+        }
+        apply_commands(endpoint, told.commands.as_slice(), out)
     }
 }
 
-/// `apply`: applies the commands of a file.
+/// `apply`: applies the commands of a file that is for the endpoint.
 #[inline(never)]
 pub fn apply<'a, T: Files, W: Stream>(
     rt: &'a T,

@@ -1,19 +1,20 @@
 //! `check FILE DISK`: what each command would be answered.
 
-ghost use Rattle.std.specs.Prelude.{◌≡◌, [], IfErr, IfOk, string_bytes};
+ghost use Rattle.std.specs.Prelude.{◌≡◌, [], true, IfErr, IfOk, string_bytes};
 ghost use Rattle.std.specs.declared.alloc.Global.{Global};
 ghost use Rattle.macs_disk.specs.MemDisks.{disk_of};
 ghost use Rattle.macs_disk.specs.declared.memory.MemDisk.{MemDisk};
 ghost use Rattle.macs_endpoint.specs.Calls.{IsCall};
 ghost use Rattle.macs_endpoint.specs.Opening.{IsOpening};
 ghost use Rattle.macs_endpoint.specs.State.{Commands, Ran};
-ghost use Rattle.macs_program.specs.Applying.{Applies, answer_of, outcomes_status};
+ghost use Rattle.macs_program.specs.Applying.{Applies, answer_of, is_for, outcomes_status};
+ghost use Rattle.macs_program.specs.Applying.{own_sci};
 ghost use Rattle.macs_program.specs.Trying.{EndsOn, EndsTrial, TrialEnds, TrialFails, TriesIn};
-ghost use Rattle.macs_program.specs.Trying.{TriesOn};
+ghost use Rattle.macs_program.specs.Trying.{OwnEnds, TriesOn};
 ghost use Rattle.macs_program.specs.Trying.{failure_in_memory, trial_line, trial_lines};
 ghost use Rattle.macs_program.specs.Trying.{trial_report, trial_text};
 
-use crate::applying::{give, status_after};
+use crate::applying::{give, is_own, status_after};
 use crate::capture_file::CaptureFile;
 use crate::disk_copy::copy_of;
 use crate::failure::{DiskFault, Failure};
@@ -22,6 +23,7 @@ use crate::status::Status;
 use macs_config::{Command, Refusal};
 use macs_disk::{FileFault, MemDisk, SectorDisk};
 use macs_endpoint::{Endpoint, OpenRefused};
+use macs_fields::Sci;
 use macs_journal::JournalFault;
 use macs_texts::refusal_name;
 use std::alloc::{AllocError, Global};
@@ -75,21 +77,43 @@ fn try_commands<D: SectorDisk>(
     Ok(outcomes)
 }
 
-/// Gives these commands to an endpoint in memory, if it was opened. No command of it waits.
+/// Gives these commands to the endpoint in memory, if the file that says them is for it. It fails
+/// as `Commands` where it is for another end.
+fn try_own<D: SectorDisk>(
+    alloc: Global,
+    endpoint: &mut Endpoint<D>,
+    end: Option<Sci>,
+    commands: &[Command],
+) -> Result<Vec<Option<Refusal>>, Failure>
+    requires { endpoint.old.waiting ≡ [] }
+    ensures own { IfOk result (λ outcomes. is_for end (own_sci endpoint.old) ≡ true) }
+    ensures tried { IfOk result
+        (λ outcomes. Applies D.disk endpoint.old commands.now outcomes.items endpoint.new) }
+    ensures ended { IfErr result (OwnEnds D.disk endpoint.old end commands.now) }
+{
+    if !is_own(endpoint, end) {
+        return Err(Failure::Commands);
+    }
+    try_commands(alloc, endpoint, commands)
+}
+
+/// Gives these commands to an endpoint in memory, if it was opened, and the file that says them is
+/// for it. No command of it waits.
 #[inline(never)]
 fn try_opened(
     alloc: Global,
     mut opened: Result<Endpoint<MemDisk>, OpenRefused<MemDisk>>,
+    end: Option<Sci>,
     commands: &[Command],
 ) -> Result<Vec<Option<Refusal>>, Failure>
     requires { IfOk opened (λ endpoint. endpoint.waiting ≡ []) }
     ensures tried { (copy : MemDisk Global) → IsOpening disk_of copy opened
-        → IfOk result (λ outcomes. TriesOn disk_of copy commands.now outcomes.items) }
+        → IfOk result (λ outcomes. TriesOn disk_of copy end commands.now outcomes.items) }
     ensures ended { (copy : MemDisk Global) → IsOpening disk_of copy opened
-        → IfErr result (EndsOn disk_of copy commands.now) }
+        → IfErr result (EndsOn disk_of copy end commands.now) }
 {
     match &mut opened {
-        Ok(endpoint) => try_commands(alloc, endpoint, commands),
+        Ok(endpoint) => try_own(alloc, endpoint, end, commands),
         Err(refused) => Err(failure_in_memory(DiskFault::Journal(refused.fault))),
     }
 }
@@ -100,33 +124,37 @@ fn try_opened(
 fn try_on(
     alloc: Global,
     copy: MemDisk,
+    end: Option<Sci>,
     commands: &[Command],
 ) -> Result<Vec<Option<Refusal>>, Failure>
-    ensures tried { IfOk result (λ outcomes. TriesOn disk_of copy commands.now outcomes.items) }
-    ensures ended { IfErr result (EndsOn disk_of copy commands.now) }
+    ensures tried { IfOk result
+        (λ outcomes. TriesOn disk_of copy end commands.now outcomes.items) }
+    ensures ended { IfErr result (EndsOn disk_of copy end commands.now) }
 {
-    try_opened(alloc, Endpoint::open(copy), commands)
+    try_opened(alloc, Endpoint::open(copy), end, commands)
 }
 
 /// What these commands would be answered by the endpoint on the disk in a file, which is opened to
 /// be read alone. It fails as `Disk` with `File` where there is no regular file that can be opened;
-/// then as `copy_of` does, as the opening of an endpoint does, and with `GenerationsSpent` where a
-/// command would be answered so; and as `Memory`.
+/// then as `copy_of` does, as the opening of an endpoint does, as `Commands` where the file that
+/// says them is for another end, and with `GenerationsSpent` where a command would be answered so;
+/// and as `Memory`.
 pub fn try_in<T: Files>(
     rt: &T,
     alloc: Global,
     path: &str,
+    end: Option<Sci>,
     commands: &[Command],
 ) -> Result<Vec<Option<Refusal>>, Failure>
 where
     T::File: CaptureFile,
-    ensures tried { IfOk result (λ outcomes. TriesIn T.File.file commands.now outcomes.items) }
-    ensures ended { IfErr result (TrialFails T.File.file commands.now) }
+    ensures tried { IfOk result (λ outcomes. TriesIn T.File.file end commands.now outcomes.items) }
+    ensures ended { IfErr result (TrialFails T.File.file end commands.now) }
 {
     match open_regular(rt, path) {
         Ok(mut file) => {
             let copy = copy_of(alloc, &mut file)?;
-            try_on(alloc, copy, commands)
+            try_on(alloc, copy, end, commands)
         }
         Err(error) => Err(Failure::from(FileFault::from(error))),
     }

@@ -1,7 +1,7 @@
 //! Whether the commands of a file can be read.
 
 use super::captures::SENDER;
-use super::stories::Step::{Closing, Filled, Hex, Keeping, Run, Text};
+use super::stories::Step::{Closing, Filled, Hex, Keeping, Mode, Run, Text};
 use super::stories::{Step, play};
 use super::{Outcome, expect};
 use std::alloc::Global;
@@ -109,10 +109,30 @@ const FURTHER_FAULTS: &[(&str, &str)] = &[
         "macsecd: command 1: a key that it does not have\n",
     ),
     (
-        "sci = '12153524c0895e81'\n",
+        "key = '12153524c0895e81'\n",
         "macsecd: command file: not tables [[command]] alone\n",
     ),
     ("[[command]\n", "macsecd: command file: not TOML\n"),
+];
+
+/// The same of files that name their end.
+const END_FAULTS: &[(&str, &str)] = &[
+    (
+        "sci = '12153524c0895e8'\n[[command]]\ndo = 'use-tx'\n",
+        "macsecd: command file sci: not 16 hex digits\n",
+    ),
+    (
+        "sci = 1\nkey = 1\n",
+        "macsecd: command file sci: not 16 hex digits\n",
+    ),
+    (
+        "sci = '12153524c0895e81'\nkey = 1\n",
+        "macsecd: command file: not tables [[command]] alone\n",
+    ),
+    (
+        "sci = '12153524c0895e81'\n[[command]]\ndo = 'tx-use'\nan = 4\n",
+        "macsecd: command 1 an: not 0 to 3\n",
+    ),
 ];
 
 /// Checks a file of this text, in which the first fault is that of a line.
@@ -148,5 +168,120 @@ fn expect_each(
 #[test]
 fn the_first_fault_is_named(rt: HostRuntime) -> Result<(), Fail> {
     expect_each(&rt, rt.alloc(), FAULTS)?;
-    expect_each(&rt, rt.alloc(), FURTHER_FAULTS)
+    expect_each(&rt, rt.alloc(), FURTHER_FAULTS)?;
+    expect_each(&rt, rt.alloc(), END_FAULTS)
+}
+
+const OWN: &str = "story-ends/own.toml";
+
+const OTHER: &str = "story-ends/other.toml";
+
+const WRONG: &str = "story-ends/wrong.toml";
+
+const DISK: &str = "story-ends/disk";
+
+const OWN_TEXT: &str = "sci = '12153524C0895e81'
+[[command]]
+do = 'tx-use'
+an = 0
+";
+
+const OTHER_TEXT: &str = "sci = '12153524c0895e82'
+[[command]]
+do = 'rx-add'
+sci = '12153524c0895e83'
+";
+
+const WRONG_TEXT: &str = "sci = '12153524c0895e8'
+[[command]]
+do = 'rx-add'
+sci = '12153524c0895e83'
+";
+
+/// Files that name an end are for that end alone.
+const ENDS: &[Step] = &[
+    Run(
+        &["format", DISK, "12153524c0895e81", "4", "4"],
+        Outcome::Done("formatted\n"),
+    ),
+    Text(OWN, OWN_TEXT),
+    Text(OTHER, OTHER_TEXT),
+    Text(WRONG, WRONG_TEXT),
+    Run(&["check", OWN], Outcome::Done("1 command\n")),
+    Run(&["check", OTHER], Outcome::Done("1 command\n")),
+    Run(
+        &["check", OWN, DISK],
+        Outcome::Refused("1 would be refused SlotEmpty\n"),
+    ),
+    Keeping(
+        &[DISK],
+        &["check", OTHER, DISK],
+        Outcome::Fault("macsecd: commands\n"),
+    ),
+    Run(
+        &["apply", DISK, OWN],
+        Outcome::Refused("1 refused SlotEmpty\n"),
+    ),
+    Run(
+        &["apply", DISK, OTHER],
+        Outcome::Fault("macsecd: commands\n"),
+    ),
+    Run(
+        &["apply", DISK, WRONG],
+        Outcome::Fault("macsecd: commands\n"),
+    ),
+    Run(
+        &["show", DISK],
+        Outcome::Done(
+            "sci 12153524c0895e81
+blocks tx 4 rx 4
+validate strict
+replay on window 0
+sci-mode explicit
+encoding none
+spent tx 0 rx 0
+",
+        ),
+    ),
+];
+
+#[test]
+fn a_file_is_for_its_end(rt: HostRuntime) -> Result<(), Fail> {
+    play(&rt, rt.alloc(), "story-ends", ENDS)
+}
+
+const SEEN: &str = "story-modes/seen.toml";
+
+const SEEN_DISK: &str = "story-modes/disk";
+
+/// The mode of a file that others can read comes last.
+const MODES: &[Step] = &[
+    Text(SEEN, "[[command]]\ndo = 'tx-use'\nan = 0\n"),
+    Mode(SEEN, 0o600),
+    Run(&["check", SEEN], Outcome::Done("1 command\n")),
+    Mode(SEEN, 0o640),
+    Run(&["check", SEEN], Outcome::Done("1 command\n")),
+    Mode(SEEN, 0o644),
+    Run(&["check", SEEN], Outcome::Done("1 command\nmode 644\n")),
+    Mode(SEEN, 0o1604),
+    Run(&["check", SEEN], Outcome::Done("1 command\nmode 1604\n")),
+    Run(
+        &["format", SEEN_DISK, "12153524c0895e81", "4", "4"],
+        Outcome::Done("formatted\n"),
+    ),
+    Run(
+        &["check", SEEN, SEEN_DISK],
+        Outcome::Refused("1 would be refused SlotEmpty\nmode 1604\n"),
+    ),
+    Closing(1, 1, &["check", SEEN]),
+    Text(SEEN, "[[command]]\n"),
+    Run(
+        &["check", SEEN],
+        Outcome::Fault("macsecd: command 1 do: not a command\n"),
+    ),
+];
+
+#[test]
+fn a_mode_is_printed(rt: HostRuntime) -> Result<(), Fail> {
+    play(&rt, rt.alloc(), "story-modes", MODES)
 }

@@ -35,8 +35,10 @@ pub enum Step {
     Shared(&'static str, &'static [&'static str], Outcome),
     /// Runs these words, and these files hold what they held before.
     Keeping(&'static [&'static str], &'static [&'static str], Outcome),
-    /// Makes a file of this text.
+    /// Makes a file of this text, which others cannot read where it is new.
     Text(&'static str, &'static str),
+    /// Gives a file this mode.
+    Mode(&'static str, u32),
     /// Makes a file of octets that are spelled in hex.
     Hex(&'static str, &'static str),
     /// Makes a file of one octet, so many times.

@@ -5,7 +5,7 @@ use Rattle.macs_program.proofs.check.checked_commands.Goals as goal
 
 pub returns-in-Ok-clause-said : goal.returns-in-Ok-clause-said
 returns-in-Ok-clause-said g c = IfOk-weaker c.commands_read.result _ _
-    (λ commands said. record { file = c.in-Ok.file; said = said }) c.commands_read.ensures.said
+    (λ told said. record { file = c.in-Ok.file; said = said }) c.commands_read.ensures.said
 
 pub returns-in-Ok-clause-ended : goal.returns-in-Ok-clause-ended
 returns-in-Ok-clause-ended g c =

@@ -7,7 +7,7 @@ use Rattle.macs_program.proofs.check.commands_read.Goals as goal
 pub returns-in-Ok-clause-said : goal.returns-in-Ok-clause-said
 returns-in-Ok-clause-said g c =
     IfOk-weaker c.commands_said.result _ _
-    (λ commands says. says-read (g.R.Read.remaining c.args.file.now) _ commands.items
+    (λ told says. says-read (g.R.Read.remaining c.args.file.now) _ told.end told.commands.items
     (rw (c.take.ensures.limit, c.take.ensures.inner, c.new-octets.ensures.items) at c.in-Ok.ensures.bytes)
     (rw c.as_slice.ensures.value at says))
     c.commands_said.ensures.said

@@ -3,4 +3,4 @@ use Rattle.macs_program.proofs.files.commands_of_file.Goals as goal
 
 pub returns-in-Ok-clause-said : goal.returns-in-Ok-clause-said
 returns-in-Ok-clause-said g c = IfOk-weaker c.read_commands.result _ _
-    (λ commands said. record { file = c.in-Ok.file; said = said }) c.read_commands.ensures.said
+    (λ told said. record { file = c.in-Ok.file; said = said }) c.read_commands.ensures.said

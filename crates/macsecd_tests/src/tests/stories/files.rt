@@ -3,8 +3,9 @@
 use super::Step;
 use std::alloc::Global;
 use std::fs;
-use std::fs::{File, OpenOptions};
+use std::fs::{File, OpenOptions, Permissions};
 use std::io::{Read, Seek, SeekFrom, Write};
+use std::os::unix::fs::{OpenOptionsExt, PermissionsExt};
 use std::process::Abort;
 use std::rt::Files;
 use std::test::Fail;
@@ -13,6 +14,7 @@ use std::test::Fail;
 pub fn make(rt: &(impl Abort + Files<File = File>), alloc: Global, step: Step) -> Result<(), Fail> {
     match step {
         Step::Text(path, text) => write(rt, path, text.as_bytes()),
+        Step::Mode(path, mode) => set_mode(rt, path, mode),
         Step::Hex(path, text) => write_hex(rt, alloc, path, text),
         Step::Filled(path, octet, count) => fill(rt, alloc, path, octet, count),
         Step::Zeros(path, count) => zeros(rt, path, count),
@@ -37,9 +39,18 @@ fn look(rt: &(impl Abort + Files<File = File>), alloc: Global, step: Step) -> Re
     }
 }
 
-/// Makes a file of these octets.
+/// Makes a file of these octets, which others cannot read where it is new.
 fn write(rt: &(impl Abort + Files<File = File>), path: &str, octets: &[u8]) -> Result<(), Fail> {
-    fs::write(rt, path, octets)?;
+    let mut options = OpenOptions::new();
+    options.write(true).create(true).truncate(true).mode(0o600);
+    let mut file = options.open(rt, path)?;
+    file.write_all(octets)?;
+    Ok(())
+}
+
+/// Gives a file this mode.
+fn set_mode(rt: &impl Files<File = File>, path: &str, mode: u32) -> Result<(), Fail> {
+    rt.set_permissions(path, Permissions::from_mode(mode))?;
     Ok(())
 }
 
