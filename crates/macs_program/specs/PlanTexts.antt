@@ -1,6 +1,6 @@
 -- What is to be drawn from the words on what `plan` says.
 use Rattle.std.specs.Prelude.{◌≡◌, ◌⊎◌, ◌<◌, ◌≤◌, ◌++◌, ◌∷◌, [], ℕ, List, length, map, codes, Some, None, Ok}
-use Rattle.std.specs.Prelude.{Err}
+use Rattle.std.specs.Prelude.{Err, string_bytes}
 use Rattle.std.specs.Fmt.{decimal}
 use Rattle.std.specs.Str.{IsUtf8}
 use Rattle.toml.specs.Data.{Members}
@@ -11,6 +11,7 @@ use Rattle.macs_plan.specs.Planning.{file_planned}
 use Rattle.macs_plan.specs.Writing.{file_of}
 use Rattle.macs_plan.specs.declared.link.End.{End}
 use Rattle.macs_plan.specs.declared.link.End.TheVariants as side
+use Rattle.macs_plan.specs.declared.plan_fault.Place.{Place}
 use Rattle.macs_plan.specs.declared.plan_fault.Place.TheVariants as place
 use Rattle.macs_plan.specs.declared.plan_fault.PlanFault.{PlanFault}
 use Rattle.macs_plan.specs.declared.plan_fault.PlanFault.TheVariants as plan
@@ -20,13 +21,17 @@ use Rattle.macs_plan.specs.declared.planning.Stage.{Stage}
 use Rattle.macs_plan.specs.declared.planning.Stage.TheVariants as stage
 use Rattle.macs_words.specs.declared.plan_words.PlanEnd.TheVariants as plan_end
 use Rattle.macs_words.specs.declared.plan_words.PlanStage.TheVariants as plan_stage
-use Rattle.macs_program.specs.Plans.{IsSaidOfLink, PlansFile, end_of, name_reason, name_word, plan_fault_text}
-use Rattle.macs_program.specs.Plans.{stage_of}
+use Rattle.macs_program.specs.Plans.{IsSaidOfLink, PlansFile, RefusesLink, SaysWhy, end_of, link_refusal, name_reason}
+use Rattle.macs_program.specs.Plans.{name_word, plan_fault_text, stage_of}
+use Rattle.macs_program.specs.declared.failure.Failure.{Failure}
+use Rattle.macs_program.specs.declared.failure.Failure.TheVariants as failures
+use Rattle.macs_program.specs.declared.failure.LinkRefusal.{LinkRefusal}
+use Rattle.macs_program.specs.declared.failure.LinkRefusal.TheVariants as link
 
 -- Each word names its own end or stage. What is planned is read as just the commands that are planned of the link that
 -- some octets say, of 1,048,576 at most. `plan` says that a file is too long, no text, no TOML, or why nothing is
 -- planned of it: that its tables are other ones, that a value of a table is none, by its key and what it is not, that
--- there is a key too many, or which two are the same or that there is one pair alone.
+-- there is a key too many, or that there is one pair alone. Where two are the same, it refuses the link.
 pub record PlanTexts : Type 0 where
   pub ends : map end_of (plan_end.Left ∷ plan_end.Right ∷ []) ≡ side.Left ∷ side.Right ∷ []
   pub stages : map stage_of (plan_stage.First ∷ plan_stage.Receive ∷ plan_stage.Send ∷ plan_stage.Remove ∷ [])
@@ -41,7 +46,20 @@ pub record PlanTexts : Type 0 where
       ⊎ ((length octets ≤ 1048576) × (¬ IsUtf8 octets) × (said ≡ codes "link file: not UTF-8"))
       ⊎ ((length octets ≤ 1048576) × IsUtf8 octets × (((parse_document octets ≡ None)
       × (said ≡ codes "link file: not TOML")) ⊎ ((members : Members) × (parse_document octets ≡ Some members)
-      × (fault : PlanFault) × (file_planned members end stage ≡ Err fault) × (said ≡ plan_fault_text fault))))
+      × (fault : PlanFault) × (file_planned members end stage ≡ Err fault) × (link_refusal fault ≡ None)
+      × (said ≡ plan_fault_text fault))))
+  pub refused : (end : End) (stage : Stage) (octets : List ℕ) (refusal : LinkRefusal)
+      → RefusesLink end stage octets refusal → (length octets ≤ 1048576) × IsUtf8 octets
+      × (members : Members) × (parse_document octets ≡ Some members)
+      × (fault : PlanFault) × (file_planned members end stage ≡ Err fault) × (link_refusal fault ≡ Some refusal)
+  pub why : (end : End) (stage : Stage) (octets : List ℕ) (failure : Failure) → SaysWhy end stage octets failure
+      → (failure ≡ failures.Memory)
+      ⊎ ((said : _) × (failure ≡ failures.CommandFile said) × IsSaidOfLink end stage octets (string_bytes said))
+      ⊎ ((refusal : LinkRefusal) × (failure ≡ failures.Link refusal) × RefusesLink end stage octets refusal)
+  pub refusals : map link_refusal (plan.SameSci ∷ plan.SameKey ∷ plan.AnInUse ∷ [])
+      ≡ Some link.SameSci ∷ Some link.SameKey ∷ Some link.AnInUse ∷ []
+  pub no_refusals : (at : Place) (name : ValueName) → map link_refusal (plan.Shape ∷ plan.Value at name
+      ∷ plan.Extra at ∷ plan.OneKey ∷ plan.Memory ∷ []) ≡ None ∷ None ∷ None ∷ None ∷ None ∷ []
   pub whole : map plan_fault_text (plan.Shape ∷ plan.SameSci ∷ plan.SameKey ∷ plan.AnInUse ∷ plan.OneKey
       ∷ plan.Memory ∷ [])
       ≡ codes "link file: not [left], [right] and tables [[key]] alone" ∷ codes "same sci" ∷ codes "same key"

@@ -84,7 +84,7 @@ use Rattle.macs_program.specs.Inspecting.{AreLinesOf, InspectsCapture, RunsCaptu
 use Rattle.macs_program.specs.Judging.{EndsEach, JudgesCapture, JudgingEndsIn, verdict_lines}
 use Rattle.macs_program.specs.Keys.{PrintsKey, key_octets}
 use Rattle.macs_program.specs.NewDisks.{FormatFails, Permits}
-use Rattle.macs_program.specs.Plans.{IsSaidOfLink, PlansFile, end_of, stage_of}
+use Rattle.macs_program.specs.Plans.{IsSaidOfLink, PlansFile, RefusesLink, SaysWhy, end_of, stage_of}
 use Rattle.macs_program.specs.Relaying.{ComesTo, RelayEndsIn, course_of}
 use Rattle.macs_program.specs.OpenInput.{InputFaultHolds, input_faults}
 use Rattle.macs_program.specs.Run.{Does, FailsAs, FailsFor, HasPrinted, HasWrongValues, PrintedBefore, Replies}
@@ -98,6 +98,7 @@ use Rattle.macs_program.specs.declared.failure.DiskFault.{DiskFault}
 use Rattle.macs_program.specs.declared.failure.DiskFault.TheVariants as disk
 use Rattle.macs_program.specs.declared.failure.Failure.{Failure}
 use Rattle.macs_program.specs.declared.failure.Failure.TheVariants as failures
+use Rattle.macs_program.specs.declared.failure.LinkRefusal.{LinkRefusal}
 use Rattle.macs_program.specs.declared.open_input.InputFault.{InputFault}
 use Rattle.macs_program.specs.declared.open_input.InputFault.TheVariants as request_faults
 use Rattle.macs_program.specs.declared.status.Status.{Status}
@@ -360,10 +361,12 @@ pub record FailWords {F : Type 0} (file : F → FileState) (left_in : F → Opti
       (before after : Option (List ℕ)) (failure : Failure)
       → FailsAs file left_in (Plan from end stage) input before after failure
       → (failure ≡ failures.Commands) ⊎ (failure ≡ failures.Output) ⊎ (failure ≡ failures.Memory)
-      ⊎ ((octets : List ℕ) × (said : _) × (failure ≡ failures.CommandFile said)
-      × IsSaidOfLink (end_of end) (stage_of stage) octets (string_bytes said)
+      ⊎ ((octets : List ℕ) × (((said : _) × (failure ≡ failures.CommandFile said)
+      × IsSaidOfLink (end_of end) (stage_of stage) octets (string_bytes said))
+      ⊎ ((refusal : LinkRefusal) × (failure ≡ failures.Link refusal)
+      × RefusesLink (end_of end) (stage_of stage) octets refusal))
       × (from_file : F) × IfSome (left_in from_file)
-      (λ all. Complains (IsSaidOfLink (end_of end) (stage_of stage) all) failure))
+      (λ all. SaysWhy (end_of end) (stage_of stage) all failure))
   pub of_trial : (from path : Bor Text) (input : InputRead) (before after : Option (List ℕ)) (failure : Failure)
       → FailsAs file left_in (Check from (Some path)) input before after failure
       → FailsAs file left_in (Check from None) input before after failure

@@ -1,5 +1,5 @@
-use Rattle.std.proofs.Common.{sym, ◌∙◌}
-use Rattle.macs_program.proofs.Codes.{code-disk, code-usage, no-success, not-failed}
+use Rattle.std.proofs.Common.{inl, inr, refl, sym, ◌∙◌}
+use Rattle.macs_program.proofs.Codes.{code-disk, code-usage, no-success, not-failed, refused-link}
 use Rattle.macs_program.specs.Failing.{failure_status}
 use Rattle.macs_program.proofs.run.run.Goals as goal
 
@@ -28,8 +28,18 @@ returns-in-Err-clause-reported g c = λ done refused. (
   c.in-Err.ensures.broken,
 )
 
+pub returns-in-Ok-clause-replied : goal.returns-in-Ok-clause-replied
+returns-in-Ok-clause-replied g c = λ which. inl (c.in-Ok.status, c.code.ensures, c.in-Ok.ensures.replied, refl)
+
 pub returns-in-Err-clause-replied : goal.returns-in-Err-clause-replied
-returns-in-Err-clause-replied g c = no-success c.in-Err.failure c.report.result c.report.ensures.status
+returns-in-Err-clause-replied g c = λ which.
+    inr (refused-link
+    (λ failure. PrintsUnlessFailed (g.E.Stream.contents c.args.err.now) (g.E.Stream.contents c.report.new.err)
+    (g.E.Stream.failed c.report.new.err) (complaint failure))
+    (λ failure. FailsFor g.T.Files.File.CaptureFile.file g.T.Files.File.CaptureFile.remaining (texts c.args.words.now)
+    _ _ _ failure)
+    _ c.in-Err.failure c.report.result c.report.ensures.status c.report.ensures.printed c.in-Err.ensures.fails
+    c.in-Err.ensures.before which)
 
 pub returns-in-Err-clause-quiet : goal.returns-in-Err-clause-quiet
 returns-in-Err-clause-quiet g c = no-success c.in-Err.failure c.report.result c.report.ensures.status
