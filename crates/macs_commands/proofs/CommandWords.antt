@@ -17,8 +17,8 @@ use Rattle.macs_config.specs.declared.command.SciMode.{SciMode}
 use Rattle.macs_config.specs.declared.command.SciMode.TheVariants.{Explicit, EndStation, Implicit}
 use Rattle.macs_config.specs.declared.command.Validate.{Validate}
 use Rattle.macs_config.specs.declared.command.Validate.TheVariants.{Strict, Check}
-use Rattle.macs_commands.specs.CommandFiles.{are_tables, array_commands, before, count, file_commands, table_command}
-use Rattle.macs_commands.specs.CommandFiles.{table_commands, told}
+use Rattle.macs_commands.specs.CommandFiles.{are_tables, array_commands, before, commands_among, count, file_commands}
+use Rattle.macs_commands.specs.CommandFiles.{table_command, table_commands, told}
 use Rattle.macs_commands.specs.CommandWords.{FileWords, LineWords, ValueWords}
 use Rattle.macs_commands.specs.Fields.{an_in, confidential_in, key_in, key_of, number_to, octets_of, offset_in, on_in}
 use Rattle.macs_commands.specs.Fields.{number_at, sci_in, sci_mode_in, sci_mode_of, start_in, text_at, validate_in}
@@ -37,7 +37,7 @@ either_of : {X : Type 0} (o : Option X) → (o ≡ None) ⊎ ((x : X) × (o ≡ 
 either_of None = inl refl
 either_of (Some x) = inr (x, refl)
 
-and_then : {X Y : Type 0} (f : X → Option Y) (o : Option X) (y : Y) → option_and_then f o ≡ Some y
+pub and_then : {X Y : Type 0} (f : X → Option Y) (o : Option X) (y : Y) → option_and_then f o ≡ Some y
     → (x : X) × (o ≡ Some x) × (f x ≡ Some y)
 and_then f None y is = absurd (cc)
 and_then f (Some x) y is = (x, refl, is)
@@ -79,14 +79,15 @@ in_array (table ms) commands is = absurd (cc)
 no_commands : (m : Members) (commands : List Command) → get_member (codes "command") m ≡ None
     → file_commands m ≡ Ok commands → commands ≡ []
 no_commands m commands none is =
-    let by : file_commands m ≡ cond (count m == 0) (Ok []) (Err fault.Shape) = rw (none, file_commands) refl in
+    let by : file_commands m ≡ cond (count m == 0) (Ok []) (Err fault.Shape) =
+    rw (none, file_commands, commands_among) refl in
     none_by (count m == 0) commands (sym by ∙ is)
 
 whole_file : (m : Members) (value : Data) (commands : List Command) → get_member (codes "command") m ≡ Some value
     → file_commands m ≡ Ok commands → (items : Items) × (value ≡ array items) × (table_commands 1 items ≡ Ok commands)
 whole_file m value commands some is =
     let by : file_commands m ≡ cond (count m == 1) (array_commands value) (Err fault.Shape) =
-    rw (some, file_commands) refl in
+    rw (some, file_commands, commands_among) refl in
     in_array value commands (some_by (count m == 1) (array_commands value) commands (sym by ∙ is))
 
 both_of : (one : Result Command ConfigFault) (more : Result (List Command) ConfigFault) (commands : List Command)
@@ -153,7 +154,7 @@ is_flag is (datetime dt) same = absurd (cc)
 is_flag is (array xs) same = absurd (cc)
 is_flag is (table ms) same = absurd (cc)
 
-is_text : (text : List ℕ) (value : Data) → as_str value ≡ Some text → value ≡ string text
+pub is_text : (text : List ℕ) (value : Data) → as_str value ≡ Some text → value ≡ string text
 is_text text (string s) same = let one : s ≡ text = cc in ap string one
 is_text text (boolean b) same = absurd (cc)
 is_text text (integer z) same = absurd (cc)
@@ -162,7 +163,7 @@ is_text text (datetime dt) same = absurd (cc)
 is_text text (array xs) same = absurd (cc)
 is_text text (table ms) same = absurd (cc)
 
-at_key : {Y : Type 0} (f : Data → Option Y) (key : List ℕ) (m : Members) (y : Y)
+pub at_key : {Y : Type 0} (f : Data → Option Y) (key : List ℕ) (m : Members) (y : Y)
     → option_and_then f (get_member key m) ≡ Some y
     → (value : Data) × (get_member key m ≡ Some value) × (f value ≡ Some y)
 at_key f key m y is = and_then f (get_member key m) y is
@@ -175,7 +176,7 @@ by_result : {E : Type 0} (r : Result (List ℕ) E) (octets : List ℕ)
 by_result (Ok found) octets is = let same : found ≡ octets = cc in ap Ok same
 by_result (Err cause) octets is = absurd (cc)
 
-are_octets : (count : ℕ) (text octets : List ℕ) → octets_of count text ≡ Some octets
+pub are_octets : (count : ℕ) (text octets : List ℕ) → octets_of count text ≡ Some octets
     → decode_sized text count ≡ Ok octets
 are_octets count text octets is = by_result (decode_sized text count) octets is
 
@@ -201,7 +202,7 @@ is_key text key is = elim (either_of (octets_of 16 text)) [
 
 no_table : (m : Members) → get_member (codes "command") m ≡ None
     → file_commands m ≡ cond {A = Result (List Command) ConfigFault} (count m == 0) (Ok []) (Err fault.Shape)
-no_table m none = rw (none, file_commands) refl
+no_table m none = rw (none, file_commands, commands_among) refl
 
 empty : (m : Members) → get_member (codes "command") m ≡ None → count m ≡ 0 → file_commands m ≡ Ok []
 empty m none nothing = no_table m none
@@ -216,7 +217,7 @@ listed : (m : Members) (items : Items) → get_member (codes "command") m ≡ So
     → are_tables items ≡ true → file_commands m ≡ table_commands 1 items
 listed m items there alone tables =
     let by : file_commands m ≡ cond (count m == 1) (array_commands (array items)) (Err fault.Shape) =
-    rw (there, file_commands) refl in
+    rw (there, file_commands, commands_among) refl in
     by ∙ ap (λ (n : ℕ). cond (n == 1) (array_commands (array items)) (Err fault.Shape)) alone
     ∙ ap (λ (b : Bool). cond b (table_commands 1 items) (Err fault.Shape)) tables
 
@@ -248,7 +249,7 @@ numbers : (key : List ℕ) (most n : ℕ) (m : Members) → get_member key m ≡
 numbers key most n m there few = ap (λ (o : Option Data). option_and_then (number_to most) o) there
     ∙ ap (λ (b : Bool). cond {A = Option ℕ} b (Some n) None) (le-leb n most few)
 
-digits : {E : Type 0} (r : Result (List ℕ) E) (octets : List ℕ) → r ≡ Ok octets
+pub digits : {E : Type 0} (r : Result (List ℕ) E) (octets : List ℕ) → r ≡ Ok octets
     → elim r [ Ok found ↦ Some found | Err cause ↦ None ] ≡ Some octets
 digits (Ok found) octets is = let same : found ≡ octets = cc in ap Some same
 digits (Err cause) octets is = absurd (cc)

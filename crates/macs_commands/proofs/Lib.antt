@@ -3,3 +3,4 @@ pub mod Reading
 mod CommandWords
 mod TakenWords
 mod OtherWords
+mod EndWords

@@ -8,7 +8,8 @@ use Rattle.std.proofs.lemmas.Bool.{ne_eqb}
 use Rattle.toml.specs.Data.{Data, Items, Members, array, boolean, datetime, float, get_member, integer, string, table}
 use Rattle.macs_config.proofs.Channels.{same_octets}
 use Rattle.macs_config.specs.declared.command.Command.{Command}
-use Rattle.macs_commands.specs.CommandFiles.{are_tables, array_commands, count, file_commands, table_commands}
+use Rattle.macs_commands.specs.CommandFiles.{are_tables, array_commands, commands_among, count, file_commands}
+use Rattle.macs_commands.specs.CommandFiles.{table_commands}
 use Rattle.macs_commands.specs.Lines.{channel_word_of, rx_word_of, word_of}
 use Rattle.macs_commands.specs.OtherWords.{OtherWords}
 use Rattle.macs_commands.specs.declared.config_fault.ConfigFault.{ConfigFault}
@@ -73,7 +74,7 @@ word_only text which is = elim (three_by word.SetValidate word.SetReplay word.Se
 -- what a file says whose key `command` has this value
 said_in : (m : Members) (value : Data) → get_member (codes "command") m ≡ Some value
     → file_commands m ≡ cond (count m == 1) (array_commands value) (Err fault.Shape)
-said_in m value there = rw (there, file_commands) refl
+said_in m value there = rw (there, file_commands, commands_among) refl
 
 beside : (m : Members) (value : Data) → get_member (codes "command") m ≡ Some value → count m ≢ 1
     → file_commands m ≡ Err fault.Shape

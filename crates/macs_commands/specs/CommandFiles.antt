@@ -53,9 +53,13 @@ abbrev pub array_commands : Data → Result (List Command) ConfigFault
 array_commands (array items) = if are_tables items then table_commands 1 items else Err fault.Shape
 array_commands other = Err fault.Shape
 
+-- the commands of a file of which so many keys may be theirs: only `command` is, and without that there are none
+abbrev pub commands_among : ℕ → Members → Result (List Command) ConfigFault
+commands_among keys members = elim (get_member (codes "command") members) [
+  | None ↦ if keys == 0 then Ok [] else Err fault.Shape
+  | Some value ↦ if keys == 1 then array_commands value else Err fault.Shape
+]
+
 -- the commands of a whole file: its only key is `command`, and without that there are none
 abbrev pub file_commands : Members → Result (List Command) ConfigFault
-file_commands members = elim (get_member (codes "command") members) [
-  | None ↦ if count members == 0 then Ok [] else Err fault.Shape
-  | Some value ↦ if count members == 1 then array_commands value else Err fault.Shape
-]
+file_commands members = commands_among (count members) members

@@ -2,8 +2,8 @@
 
 ghost use Rattle.std.specs.Prelude.{◌≡◌, ◌≢◌, ◌<◌, ◌^◌, length, IfOk, IfErr, Ok, Err};
 ghost use Rattle.toml.specs.View.{items_view, table_view};
-ghost use Rattle.macs_commands.specs.CommandFiles.{are_tables, count, file_commands, table_command};
-ghost use Rattle.macs_commands.specs.CommandFiles.{table_commands};
+ghost use Rattle.macs_commands.specs.CommandFiles.{are_tables, commands_among, count};
+ghost use Rattle.macs_commands.specs.CommandFiles.{file_commands, table_command, table_commands};
 ghost use Rattle.macs_commands.specs.declared.config_fault.ConfigFault.TheVariants.{Memory};
 
 use crate::config_fault::ConfigFault;
@@ -37,13 +37,27 @@ pub fn commands_of<A: Allocator>(alloc: A, file: &Table) -> Result<Vec<Command, 
     ensures fault { IfErr result (λ fault. fault ≢ Memory
         → file_commands (table_view file.now) ≡ Err fault) }
 {
+    commands_among(alloc, keys(file), file)
+}
+
+/// The commands of a file of which so many keys may be theirs.
+pub(crate) fn commands_among<A: Allocator>(
+    alloc: A,
+    keys: usize,
+    file: &Table,
+) -> Result<Vec<Command, A>, ConfigFault>
+    ensures commands { IfOk result
+        (λ commands. commands_among keys (table_view file.now) ≡ Ok commands.items) }
+    ensures fault { IfErr result (λ fault. fault ≢ Memory
+        → commands_among keys (table_view file.now) ≡ Err fault) }
+{
     let Some(value) = value(file, "command") else {
-        if keys(file) == 0 {
+        if keys == 0 {
             return Ok(Vec::new(alloc));
         }
         return Err(ConfigFault::Shape);
     };
-    if keys(file) != 1 {
+    if keys != 1 {
         return Err(ConfigFault::Shape);
     }
     let Some(tables) = value.as_array() else {

@@ -102,17 +102,24 @@ pub(crate) fn an(table: &Table) -> Result<An, KeyName>
     }
 }
 
+/// The SCI at its key, where that is one.
+pub(crate) fn sci_at(table: &Table) -> Option<Sci>
+    ensures { result ≡ sci_in (table_view table.now) }
+{
+    match text(table, "sci") {
+        Some(text) => match octets(text) {
+            Some(octets) => Some(Sci(octets)),
+            None => None,
+        },
+        None => None,
+    }
+}
+
 /// The SCI.
 pub(crate) fn sci(table: &Table) -> Result<Sci, KeyName>
     ensures { result ≡ required name.Sci (sci_in (table_view table.now)) }
 {
-    match text(table, "sci") {
-        Some(text) => match octets(text) {
-            Some(octets) => Ok(Sci(octets)),
-            None => Err(KeyName::Sci),
-        },
-        None => Err(KeyName::Sci),
-    }
+    sci_at(table).ok_or(KeyName::Sci)
 }
 
 /// The SAK.

@@ -1,10 +1,11 @@
 //! Laws of the definitions: which commands a file says, in its own terms.
 
 ghost use Rattle.macs_commands.specs.CommandWords.{FileWords, LineWords, TakenWords, ValueWords};
+ghost use Rattle.macs_commands.specs.EndWords.{EndWords};
 ghost use Rattle.macs_commands.specs.OtherWords.{OtherWords};
 
-/// The words of `commands_of` say this: which commands a file says, in which order, and with which
-/// values.
+/// The words of `commands_of` and of `command_file` say this: which commands a file says, in which
+/// order, with which values, and for which end.
 pub fn words()
     // Which tables say a command, and in which order.
     ensures files { FileWords }
@@ -16,4 +17,6 @@ pub fn words()
     ensures values { ValueWords }
     // Which text is no command's word, and which file is refused for its shape.
     ensures others { OtherWords }
+    // Which end a file is for, and what else it may have then.
+    ensures ends { EndWords }
 {}

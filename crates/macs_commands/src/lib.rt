@@ -4,6 +4,7 @@
 
 mod command_files;
 mod config_fault;
+mod ends;
 mod fields;
 pub mod laws;
 mod lines;
@@ -12,4 +13,5 @@ mod word;
 
 pub use command_files::{are_tables, commands_of, keys};
 pub use config_fault::{ConfigFault, KeyName};
+pub use ends::{CommandFile, CommandFileFault, command_file};
 pub use fields::{key_of, octets, text, value};

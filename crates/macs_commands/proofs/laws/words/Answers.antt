@@ -1,4 +1,5 @@
 use Rattle.macs_commands.proofs.CommandWords.{file-words, line-words, value-words}
+use Rattle.macs_commands.proofs.EndWords.{end-words}
 use Rattle.macs_commands.proofs.OtherWords.{other-words}
 use Rattle.macs_commands.proofs.TakenWords.{taken-words}
 use Rattle.macs_commands.proofs.laws.words.Goals as goal
@@ -17,3 +18,6 @@ returns-clause-values c = value-words
 
 pub returns-clause-others : goal.returns-clause-others
 returns-clause-others c = other-words
+
+pub returns-clause-ends : goal.returns-clause-ends
+returns-clause-ends c = end-words
