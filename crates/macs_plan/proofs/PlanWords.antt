@@ -1,17 +1,19 @@
 -- All that is to be drawn of the words on plans.
-use Rattle.std.proofs.Common.{◌≡◌, ◌∙◌, ◌++◌, ℕ, Bool, true, List, [], ◌∷◌, None, Err, ap, codes, refl, subst}
+use Rattle.std.proofs.Common.{◌≡◌, ◌∙◌, ◌++◌, ℕ, Bool, true, List, [], ◌∷◌, None, Result, Err, ap, codes, refl, subst}
 use Rattle.toml.specs.Data.{array, member, no_members}
 use Rattle.toml.specs.Tables.{key_value}
 use Rattle.toml.specs.Text.{IsLinesText, IsValueText, are_tables, pairs, sections}
 use Rattle.macs_aes.specs.Keys.{HasItsLength}
 use Rattle.macs_config.specs.declared.command.Command.{Command}
 use Rattle.macs_plan.specs.PlanWords.{PlanWords}
-use Rattle.macs_plan.specs.Planning.{own_key, pair_before}
+use Rattle.macs_plan.specs.Planning.{own_key, pair_before, planned}
+use Rattle.macs_plan.specs.Reading.{◌>>=◌}
 use Rattle.macs_plan.specs.Writing.{SaysCommands, digits, file_of, tables_of}
 use Rattle.macs_plan.specs.declared.link.End.{End}
 use Rattle.macs_plan.specs.declared.link.End.TheVariants.{Left, Right}
 use Rattle.macs_plan.specs.declared.link.KeyPair.{KeyPair}
 use Rattle.macs_plan.specs.declared.link.Link.{Link}
+use Rattle.macs_plan.specs.declared.plan_fault.PlanFault.{PlanFault}
 use Rattle.macs_plan.specs.declared.plan_fault.PlanFault.TheVariants as fault
 use Rattle.macs_plan.proofs.Stages.{before_is}
 
@@ -68,5 +70,6 @@ plan-words = record {
   says = λ sci commands text s. (s.written, s.read, s.taken, s.end);
   begins = begins;
   plans = λ members end which text (link, reads, commands, planned, says). (link, reads, commands, planned, says);
-  of_file = λ members end which link reads. rw reads refl;
+  of_file = λ members end which link reads.
+      ap (λ (r : Result Link PlanFault). r >>= (λ (l : Link). planned l end which)) reads;
 }

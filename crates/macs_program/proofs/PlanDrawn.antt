@@ -1,14 +1,16 @@
 -- All that is to be drawn from the words on what `plan` says.
 use Rattle.std.proofs.Common.{inl, inr, refl}
 use Rattle.macs_program.specs.PlanTexts.{PlanTexts}
+use Rattle.macs_program.proofs.Planned.{planned-of}
 
 pub plan-texts : PlanTexts
 plan-texts = record {
   ends = refl;
   stages = refl;
   planned = λ end stage octets text is.
-      let (commands, planned, says) = is.planned in
-      (is.short, is.utf8, is.members, is.parsed, commands, planned, says.read, says.taken);
+      let (link, reads, commands, planned, says) = is.planned in
+      let whole = planned-of is.members link end stage commands reads planned in
+      (is.short, is.utf8, is.members, is.parsed, link, reads, commands, whole, says.read, says.taken, says.end);
   said = λ end stage octets said is. elim is [
     | inl long ↦ inl long
     | inr (inl other) ↦ inr (inl other)

@@ -5,8 +5,11 @@ use Rattle.std.proofs.lemmas.List.{take_all}
 use Rattle.std.specs.Str.{IsUtf8}
 use Rattle.toml.specs.Data.{Members}
 use Rattle.toml.specs.Parse.{parse_document}
-use Rattle.macs_plan.specs.Planning.{file_planned}
+use Rattle.macs_config.specs.declared.command.Command.{Command}
+use Rattle.macs_plan.specs.Planning.{file_planned, planned}
+use Rattle.macs_plan.specs.Reading.{file_link, ◌>>=◌}
 use Rattle.macs_plan.specs.declared.link.End.{End}
+use Rattle.macs_plan.specs.declared.link.Link.{Link}
 use Rattle.macs_plan.specs.declared.plan_fault.PlanFault.{PlanFault}
 use Rattle.macs_plan.specs.declared.planning.Stage.{Stage}
 use Rattle.macs_program.specs.Applying.{longest_file}
@@ -18,6 +21,12 @@ use Rattle.macs_program.specs.declared.failure.Failure.{Failure}
 use Rattle.macs_program.specs.declared.failure.Failure.TheVariants.{Commands, Memory}
 use Rattle.macs_program.specs.declared.failure.LinkRefusal.{LinkRefusal}
 use Rattle.macs_program.proofs.Checked.{complains-weaker, short-whole}
+
+-- what is planned of the link of a file is planned of the file
+pub planned-of : (members : Members) (link : Link) (end : End) (stage : Stage) (commands : List Command)
+    → file_link members ≡ Ok link → planned link end stage ≡ Ok commands → file_planned members end stage ≡ Ok commands
+planned-of members link end stage commands reads is =
+    ap (λ (r : Result Link PlanFault). r >>= (λ (l : Link). planned l end stage)) reads ∙ is
 
 module _ (end : End) (stage : Stage) where
   -- a file that says a link was read whole

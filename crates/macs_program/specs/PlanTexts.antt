@@ -6,11 +6,13 @@ use Rattle.std.specs.Str.{IsUtf8}
 use Rattle.toml.specs.Data.{Members}
 use Rattle.toml.specs.Parse.{parse_document}
 use Rattle.macs_config.specs.declared.command.Command.{Command}
-use Rattle.macs_commands.specs.CommandFiles.{file_commands}
-use Rattle.macs_plan.specs.Planning.{file_planned}
+use Rattle.macs_commands.specs.Ends.{end_commands, end_in}
+use Rattle.macs_plan.specs.Planning.{file_planned, sci_of}
+use Rattle.macs_plan.specs.Reading.{file_link}
 use Rattle.macs_plan.specs.Writing.{file_of}
 use Rattle.macs_plan.specs.declared.link.End.{End}
 use Rattle.macs_plan.specs.declared.link.End.TheVariants as side
+use Rattle.macs_plan.specs.declared.link.Link.{Link}
 use Rattle.macs_plan.specs.declared.plan_fault.Place.{Place}
 use Rattle.macs_plan.specs.declared.plan_fault.Place.TheVariants as place
 use Rattle.macs_plan.specs.declared.plan_fault.PlanFault.{PlanFault}
@@ -29,7 +31,7 @@ use Rattle.macs_program.specs.declared.failure.LinkRefusal.{LinkRefusal}
 use Rattle.macs_program.specs.declared.failure.LinkRefusal.TheVariants as link
 
 -- Each word names its own end or stage. What is planned is read as just the commands that are planned of the link that
--- some octets say, of 1,048,576 at most. `plan` says that a file is too long, no text, no TOML, or why nothing is
+-- some octets say, of 1,048,576 at most, and as for the end that has the SCI of that end. `plan` says that a file is too long, no text, no TOML, or why nothing is
 -- planned of it: that its tables are other ones, that a value of a table is none, by its key and what it is not, that
 -- there is a key too many, or that there is one pair alone. Where two are the same, it refuses the link.
 pub record PlanTexts : Type 0 where
@@ -38,9 +40,11 @@ pub record PlanTexts : Type 0 where
       ≡ stage.First ∷ stage.Receive ∷ stage.Send ∷ stage.Remove ∷ []
   pub planned : (end : End) (stage : Stage) (octets text : List ℕ) → PlansFile end stage octets text
       → (length octets ≤ 1048576) × IsUtf8 octets × (members : Members)
-      × (parse_document octets ≡ Some members) × (commands : List Command)
-      × (file_planned members end stage ≡ Ok commands) × (parse_document text ≡ Some (file_of commands))
-      × (file_commands (file_of commands) ≡ Ok commands)
+      × (parse_document octets ≡ Some members) × (link : Link) × (file_link members ≡ Ok link)
+      × (commands : List Command) × (file_planned members end stage ≡ Ok commands)
+      × (parse_document text ≡ Some (file_of (sci_of link end) commands))
+      × (end_commands (file_of (sci_of link end) commands) ≡ Ok commands)
+      × (end_in (file_of (sci_of link end) commands) ≡ Ok (Some (sci_of link end)))
   pub said : (end : End) (stage : Stage) (octets said : List ℕ) → IsSaidOfLink end stage octets said
       → ((1048576 < length octets) × (said ≡ codes "link file: more than 1048576 octets"))
       ⊎ ((length octets ≤ 1048576) × (¬ IsUtf8 octets) × (said ≡ codes "link file: not UTF-8"))

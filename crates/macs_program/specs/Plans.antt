@@ -98,7 +98,7 @@ pub record PlansFile (end : End) (stage : Stage) (octets text : List ℕ) : Type
   pub utf8 : IsUtf8 octets
   pub members : Members
   pub parsed : parse_document octets ≡ Some members
-  pub planned : PlansText (file_planned members end stage) text
+  pub planned : PlansText members end stage text
 
 -- nothing is planned of what a text says, for this fault
 abbrev pub HasPlanFault : End → Stage → List ℕ → PlanFault → Type 0

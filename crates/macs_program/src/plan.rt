@@ -6,7 +6,6 @@ ghost use Rattle.std.specs.Prelude.{string_bytes};
 ghost use Rattle.toml.specs.Data.{Members};
 ghost use Rattle.toml.specs.View.{table_view};
 ghost use Rattle.toml.specs.Parse.{parse_document};
-ghost use Rattle.macs_plan.specs.Planning.{file_planned};
 ghost use Rattle.macs_plan.specs.Writing.{PlansText};
 ghost use Rattle.macs_program.specs.Checking.{Complains};
 ghost use Rattle.macs_program.specs.Plans.{IsPlanOfFile, PlanFails, PlansFile, PrintsPlan};
@@ -150,7 +149,7 @@ fn failure_of_fault(alloc: Global, fault: PlanFault) -> Failure
 /// The command file of what is planned of a table of TOML.
 fn planned_in_table(alloc: Global, table: &Table, end: End, stage: Stage) -> Result<String, Failure>
     ensures planned { IfOk result
-        (λ text. PlansText (file_planned (table_view table.now) end stage) (string_bytes text)) }
+        (λ text. PlansText (table_view table.now) end stage (string_bytes text)) }
     ensures fault { (text : List ℕ) → parse_document text ≡ Some (table_view table.now)
         → IfErr result (SaysWhyOfText end stage text) }
 {
@@ -167,7 +166,7 @@ fn planned_in_table(alloc: Global, table: &Table, end: End, stage: Stage) -> Res
 fn planned_in_text(alloc: Global, text: &str, end: End, stage: Stage) -> Result<String, Failure>
     ensures planned { IfOk result (λ file. (members : Members)
         × (parse_document text.now ≡ Some members)
-        × PlansText (file_planned members end stage) (string_bytes file)) }
+        × PlansText members end stage (string_bytes file)) }
     ensures fault { IfErr result (SaysWhyOfText end stage text.now) }
 {
     match toml::table_from_str(alloc, text) {
