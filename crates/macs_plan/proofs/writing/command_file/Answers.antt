@@ -25,6 +25,7 @@ returns c =
     let seen = c.from-2.ensures ∙ ap array tables in
     says c.written.result c.args.sci commands
     (c.written.ensures (file_of c.args.sci commands)
-    (file_seen (λ table. table_view table) c.file_table.result c.args.sci _ (array (tables_of commands)) seen c.file_table.ensures)
+    (file_seen (λ table. table_view table) c.file_table.result c.args.sci _ (array (tables_of commands)) seen
+    c.file_table.ensures)
     (file_depth c.args.sci commands))
     (file_read c.args.sci commands all) (end_read c.args.sci commands c.sci_in_range.ensures)
