@@ -27,7 +27,7 @@ use Rattle.macs_program.specs.declared.failure.DiskFault.TheVariants as disk
 use Rattle.macs_program.specs.declared.failure.Failure.{Failure}
 use Rattle.macs_program.specs.declared.failure.Failure.TheVariants as failure
 use Rattle.macs_program.specs.declared.failure.LinkRefusal.{LinkRefusal}
-use Rattle.macs_program.specs.declared.failure.LinkRefusal.TheVariants as link
+use Rattle.macs_program.specs.declared.failure.LinkRefusal.TheVariants as wrong
 use Rattle.macs_program.specs.declared.open_input.InputFault.{InputFault}
 use Rattle.macs_program.specs.declared.open_input.InputFault.TheVariants as input
 use Rattle.macs_program.specs.declared.status.Status.{Status}
@@ -128,9 +128,9 @@ disk_fault_text (disk.Journal journal.GenerationsSpent) = codes "generations spe
 
 -- a link that is refused
 abbrev pub link_refusal_text : LinkRefusal → List ℕ
-link_refusal_text link.SameSci = codes "same sci"
-link_refusal_text link.SameKey = codes "same key"
-link_refusal_text link.AnInUse = codes "an in use"
+link_refusal_text wrong.SameSci = codes "same sci"
+link_refusal_text wrong.SameKey = codes "same key"
+link_refusal_text wrong.AnInUse = codes "an in use"
 
 -- a line of the input
 abbrev pub input_fault_text : InputFault → List ℕ

@@ -28,7 +28,7 @@ use Rattle.macs_program.specs.Plans.{name_word, plan_fault_text, stage_of}
 use Rattle.macs_program.specs.declared.failure.Failure.{Failure}
 use Rattle.macs_program.specs.declared.failure.Failure.TheVariants as failures
 use Rattle.macs_program.specs.declared.failure.LinkRefusal.{LinkRefusal}
-use Rattle.macs_program.specs.declared.failure.LinkRefusal.TheVariants as link
+use Rattle.macs_program.specs.declared.failure.LinkRefusal.TheVariants as wrong
 
 -- Each word names its own end or stage. What is planned is read as just the commands that are planned of the link that
 -- some octets say, of 1,048,576 at most, and as for the end that has the SCI of that end. `plan` says that a file is too
@@ -62,7 +62,7 @@ pub record PlanTexts : Type 0 where
       ⊎ ((said : _) × (failure ≡ failures.CommandFile said) × IsSaidOfLink end stage octets (string_bytes said))
       ⊎ ((refusal : LinkRefusal) × (failure ≡ failures.Link refusal) × RefusesLink end stage octets refusal)
   pub refusals : map link_refusal (plan.SameSci ∷ plan.SameKey ∷ plan.AnInUse ∷ [])
-      ≡ Some link.SameSci ∷ Some link.SameKey ∷ Some link.AnInUse ∷ []
+      ≡ Some wrong.SameSci ∷ Some wrong.SameKey ∷ Some wrong.AnInUse ∷ []
   pub no_refusals : (at : Place) (name : ValueName) → map link_refusal (plan.Shape ∷ plan.Value at name
       ∷ plan.Extra at ∷ plan.OneKey ∷ plan.Memory ∷ []) ≡ None ∷ None ∷ None ∷ None ∷ None ∷ []
   pub whole : map plan_fault_text (plan.Shape ∷ plan.SameSci ∷ plan.SameKey ∷ plan.AnInUse ∷ plan.OneKey

@@ -27,7 +27,7 @@ use Rattle.macs_program.specs.Checking.{Complains}
 use Rattle.macs_program.specs.declared.failure.Failure.{Failure}
 use Rattle.macs_program.specs.declared.failure.Failure.TheVariants as failures
 use Rattle.macs_program.specs.declared.failure.LinkRefusal.{LinkRefusal}
-use Rattle.macs_program.specs.declared.failure.LinkRefusal.TheVariants as link
+use Rattle.macs_program.specs.declared.failure.LinkRefusal.TheVariants as wrong
 
 -- ---- what is asked for
 
@@ -85,9 +85,9 @@ plan_fault_text plan.Memory = codes "memory"
 
 -- the refusal of a link that a fault is, if it is one
 abbrev pub link_refusal : PlanFault → Option LinkRefusal
-link_refusal plan.SameSci = Some link.SameSci
-link_refusal plan.SameKey = Some link.SameKey
-link_refusal plan.AnInUse = Some link.AnInUse
+link_refusal plan.SameSci = Some wrong.SameSci
+link_refusal plan.SameKey = Some wrong.SameKey
+link_refusal plan.AnInUse = Some wrong.AnInUse
 link_refusal fault = None
 
 -- ---- of the octets of a file

@@ -72,7 +72,7 @@ use Rattle.macs_program.specs.declared.failure.DiskFault.{DiskFault}
 use Rattle.macs_program.specs.declared.failure.DiskFault.TheVariants as disk
 use Rattle.macs_program.specs.declared.failure.Failure.TheVariants as failures
 use Rattle.macs_program.specs.declared.failure.LinkRefusal.{LinkRefusal}
-use Rattle.macs_program.specs.declared.failure.LinkRefusal.TheVariants as link
+use Rattle.macs_program.specs.declared.failure.LinkRefusal.TheVariants as wrong
 use Rattle.macs_program.specs.declared.open_input.InputFault.{InputFault}
 use Rattle.macs_program.specs.declared.open_input.InputFault.TheVariants as input
 use Rattle.macs_program.specs.declared.status.Status.TheVariants as ends
@@ -147,7 +147,7 @@ pub record FailureTexts : Type 0 where
       ∷ codes "already formatted" ∷ codes "not formatted" ∷ codes "bad journal" ∷ codes "generations spent" ∷ []
   pub inputs : map input_fault_text (input.Input ∷ input.Key ∷ input.Sci ∷ input.Offset ∷ input.Frame ∷ [])
       ≡ codes "input" ∷ codes "key" ∷ codes "sci" ∷ codes "offset" ∷ codes "frame" ∷ []
-  pub links : map link_refusal_text (link.SameSci ∷ link.SameKey ∷ link.AnInUse ∷ [])
+  pub links : map link_refusal_text (wrong.SameSci ∷ wrong.SameKey ∷ wrong.AnInUse ∷ [])
       ≡ codes "same sci" ∷ codes "same key" ∷ codes "an in use" ∷ []
   pub others : map failure_text (failures.Capture ∷ failures.Commands ∷ failures.Wire ∷ failures.Control
       ∷ failures.Random ∷ failures.Memory ∷ failures.Output ∷ [])
