@@ -1,6 +1,6 @@
 -- All that is to be drawn of the words on command files that may name the end that they are for.
-use Rattle.std.proofs.Common.{◌≡◌, ◌≢◌, ◌⊎◌, inl, inr, ◌-◌, ◌==◌, ℕ, suc, Bool, true, false, cond, List, [], Option, Some}
-use Rattle.std.proofs.Common.{None, Result, Ok, Err, refl, sym, ◌∙◌, ap}
+use Rattle.std.proofs.Common.{◌≡◌, ◌≢◌, ◌⊎◌, inl, inr, ◌-◌, ◌==◌, ℕ, suc, Bool, true, false, cond, List, [], Option}
+use Rattle.std.proofs.Common.{Some, None, Result, Ok, Err, refl, sym, ◌∙◌, ap, arith}
 use Rattle.std.specs.Prelude.{codes, option_and_then}
 use Rattle.std.proofs.lemmas.Bool.{ne_eqb}
 use Rattle.hex.specs.Hex.{decode_sized}
@@ -25,7 +25,8 @@ any_end m none = rw (none, end_in) refl
 
 -- what a file with the key `sci` names
 by_sci : (m : Members) (value : Data) → get_member (codes "sci") m ≡ Some value → end_in m ≡ named (sci_in m)
-by_sci m value there = rw (there, end_in) refl
+by_sci m value there = rw (there, end_in)
+    (ap (λ (o : Option Data). named (option_and_then (octets_of 8) (option_and_then as_str o))) there)
 
 -- the SCI of a text
 sci_of : (m : Members) (text : List ℕ) → get_member (codes "sci") m ≡ Some (string text) → sci_in m ≡ octets_of 8 text
@@ -115,7 +116,7 @@ beside_sci : (m : Members) (value : Data) → get_member (codes "sci") m ≡ Som
 beside_sci m value there = rw (there, keys_beside) refl
 
 other_than : (n keys most : ℕ) → n ≡ suc keys → n ≢ suc most → (n - 1 == most) ≡ false
-other_than n keys most is other = ne_eqb (n - 1) most (λ same. other (omega (is, same)))
+other_than n keys most is other = ne_eqb (n - 1) most (λ same. other (omega (arith, is, same)))
 
 abbrev none_by : Bool → Result (List Command) ConfigFault
 none_by b = cond b (Ok []) (Err fault.Shape)
