@@ -107,7 +107,7 @@ pub file_seen : {T E : Type 0} (viewed : T → Members) (file : Result T E) (sci
     → commands ≡ seen
     → IfOk file (λ t. viewed t ≡ member (codes "command") commands (member (codes "sci") (digits sci) no_members))
     → IfOk file (λ t. viewed t ≡ member (codes "command") seen (member (codes "sci") (digits sci) no_members))
-file_seen viewed (Ok table) sci commands seen same is =
+file_seen viewed (Ok written) sci commands seen same is =
     is ∙ ap (λ (d : Data). member (codes "command") d (member (codes "sci") (digits sci) no_members)) same
 file_seen viewed (Err error) sci commands seen same is = tt
 

@@ -1,8 +1,9 @@
 -- All that is to be drawn of the words on plans.
-use Rattle.std.proofs.Common.{◌≡◌, ◌∙◌, ◌++◌, ℕ, Bool, true, List, [], ◌∷◌, None, Result, Err, ap, codes, refl, subst}
+use Rattle.std.proofs.Common.{◌≡◌, ◌++◌, ℕ, Bool, true, false, List, [], ◌∷◌, None, Result, Err, ap, codes, refl}
+use Rattle.std.proofs.Common.{if◌then◌else◌, subst}
 use Rattle.toml.specs.Data.{array, member, no_members}
 use Rattle.toml.specs.Tables.{key_value}
-use Rattle.toml.specs.Text.{IsLinesText, IsValueText, are_tables, pairs, sections}
+use Rattle.toml.specs.Text.{IsLineText, IsLinesText, are_tables, pairs, sections}
 use Rattle.macs_aes.specs.Keys.{HasItsLength}
 use Rattle.macs_config.specs.declared.command.Command.{Command}
 use Rattle.macs_plan.specs.PlanWords.{PlanWords}
@@ -33,17 +34,17 @@ all_tables (command ∷ commands) = all_tables commands
 -- a file of some commands begins with the SCI of its end
 begins : (sci : List ℕ) (first : Command) (commands : List Command) (text : List ℕ)
     → SaysCommands sci (first ∷ commands) text
-    → (value : List ℕ) × (rest : List ℕ) × IsValueText false (digits sci) value
-    × (text ≡ (codes "sci = " ++ (value ++ 10 ∷ [])) ++ rest)
+    → (line : List ℕ) × (rest : List ℕ) × (text ≡ line ++ rest)
+    × IsLineText false false ([], codes "sci") (key_value (digits sci)) line
 begins sci first commands text s =
     let file = file_of sci (first ∷ commands) in
     let own = member (codes "sci") (digits sci) no_members in
     let tables = array (tables_of (first ∷ commands)) in
-    let (this, rest, whole, (value, line, is), others) : IsLinesText false false (pairs own ++ sections [] file) text =
+    let (line, rest, whole, is, others) : IsLinesText false false (pairs own ++ sections [] file) text =
         subst (λ (b : Bool). IsLinesText false false
         ((if b then pairs own else (([], codes "command"), key_value tables) ∷ pairs own) ++ sections [] file) text)
         (all_tables commands) s.written in
-    (value, rest, is, whole ∙ ap (λ (l : List ℕ). l ++ rest) line)
+    (line, rest, whole, is)
 
 pub plan-words : PlanWords
 plan-words = record {
@@ -69,7 +70,7 @@ plan-words = record {
   stage_taken = λ identity link end which old new taken. taken;
   says = λ sci commands text s. (s.written, s.read, s.taken, s.end);
   begins = begins;
-  plans = λ members end which text (link, reads, commands, planned, says). (link, reads, commands, planned, says);
+  plans = λ members end which text (link, reads, plan). (link, reads, plan.0, plan.1, plan.2);
   of_file = λ members end which link reads.
       ap (λ (r : Result Link PlanFault). r >>= (λ (l : Link). planned l end which)) reads;
 }

@@ -3,7 +3,8 @@ use Rattle.std.specs.Prelude.{◌≡◌, ◌<◌, ◌++◌, ℕ, codes, true, fa
 use Rattle.hex.specs.Hex.{encode_lower}
 use Rattle.toml.specs.Data.{Members, string}
 use Rattle.toml.specs.Parse.{parse_document}
-use Rattle.toml.specs.Text.{IsDocumentText, IsValueText}
+use Rattle.toml.specs.Tables.{key_value}
+use Rattle.toml.specs.Text.{IsDocumentText, IsLineText}
 use Rattle.macs_aes.specs.Keys.{HasItsLength, octets_of_key}
 use Rattle.macs_config.specs.Apply.{apply}
 use Rattle.macs_config.specs.Config.{Config, is_spent, max_spent, rx_fingerprint, this_edition, tx_fingerprint}
@@ -72,8 +73,8 @@ pub record PlanWords : Type 0 where
       × (end_commands (file_of sci commands) ≡ Ok commands) × (end_in (file_of sci commands) ≡ Ok (Some sci))
   pub begins : (sci : List ℕ) (first : Command) (commands : List Command) (text : List ℕ)
       → SaysCommands sci (first ∷ commands) text
-      → (value : List ℕ) × (rest : List ℕ) × IsValueText false (string (encode_lower sci)) value
-      × (text ≡ (codes "sci = " ++ (value ++ 10 ∷ [])) ++ rest)
+      → (line : List ℕ) × (rest : List ℕ) × (text ≡ line ++ rest)
+      × IsLineText false false ([], codes "sci") (key_value (string (encode_lower sci))) line
   pub plans : (members : Members) (end : End) (which : Stage) (text : List ℕ) → PlansText members end which text
       → (link : Link) × (file_link members ≡ Ok link) × (commands : List Command)
       × (planned link end which ≡ Ok commands) × SaysCommands (sci_of link end) commands text

@@ -8,7 +8,7 @@ plan-texts = record {
   ends = refl;
   stages = refl;
   planned = λ end stage octets text is.
-      let (link, reads, commands, planned, says) = is.planned in
+      let (link, reads, (commands, planned, says)) = is.planned in
       let whole = planned-of is.members link end stage commands reads planned in
       (is.short, is.utf8, is.members, is.parsed, link, reads, commands, whole, says.read, says.taken, says.end);
   said = λ end stage octets said is. elim is [

@@ -221,7 +221,7 @@ reply-words file left_in = record {
   about = λ input before after status is. is;
   checked = λ from input before after status is. counted left_in before after status is;
   planned = λ from end stage input before after status ((octets, text, is, by_file, printed), done).
-      let (link, reads, commands, planned, says) = is.planned in
+      let (link, reads, (commands, planned, says)) = is.planned in
       let whole = planned-of is.members link (end_of end) (stage_of stage) commands reads planned in (
         octets,
         text,
