@@ -1,17 +1,21 @@
--- A command file is read as the commands that it was written for.
-use Rattle.std.proofs.Common.{◌≡◌, ◌∙◌, ◌≤◌, ◌+◌, ℕ, true, List, [], ◌∷◌, ◌++◌, Result, Ok, Err, IfOk, String}
-use Rattle.std.proofs.Common.{string_bytes, length, take, get_or, ◌<◌, subst, sym, refl, ap, arith}
+-- A command file is read as the commands that it was written for, and as for their end.
+use Rattle.std.proofs.Common.{◌≡◌, ◌∙◌, ◌≤◌, ◌+◌, ℕ, true, List, [], ◌∷◌, ◌++◌, Result, Ok, Err, IfOk, Some, String}
+use Rattle.std.proofs.Common.{codes, string_bytes, length, take, get_or, ◌<◌, subst, sym, refl, ap, arith}
 use Rattle.std.specs.declared.alloc.Global.{Global}
 use Rattle.std.proofs.lemmas.List.{take_more}
-use Rattle.toml.specs.Data.{Items, Members, item, items_depth, members_depth, push_item, table}
+use Rattle.toml.specs.Data.{Data, Items, Members, item, items_depth, member, members_depth, no_members, push_item}
+use Rattle.toml.specs.Data.{table}
 use Rattle.toml.specs.View.{items_view, view}
 use Rattle.toml.specs.declared.value.Value.{Value}
 use Rattle.toml.proofs.Views.{items_view-push}
 use Rattle.macs_config.specs.declared.command.Command.{Command}
 use Rattle.macs_config.specs.declared.command.Command.TheVariants.{SetValidate, SetReplay, SetSciMode, TxInstall, TxUse}
 use Rattle.macs_config.specs.declared.command.Command.TheVariants.{TxRemove, RxAdd, RxDrop, RxInstall, RxRemove}
-use Rattle.macs_commands.specs.CommandFiles.{are_tables, file_commands, table_command, table_commands}
-use Rattle.macs_plan.specs.Writing.{IsTextOf, SaysCommands, file_of, table_of, tables_of}
+use Rattle.macs_commands.specs.CommandFiles.{are_tables, table_command, table_commands}
+use Rattle.macs_commands.specs.Ends.{end_commands, end_in}
+use Rattle.macs_fields.specs.Fields.{IsSci}
+use Rattle.macs_plan.proofs.Readable.{octets_read}
+use Rattle.macs_plan.specs.Writing.{IsTextOf, SaysCommands, digits, file_of, table_of, tables_of}
 
 -- ---- how deep it is
 
@@ -32,8 +36,8 @@ tables_depth [] = omega arith
 tables_depth (command ∷ commands) =
     let here = no_deeper command in let later = tables_depth commands in omega (arith, here, later)
 
-pub file_depth : (commands : List Command) → members_depth (file_of commands) ≤ 80
-file_depth commands = let inside = tables_depth commands in omega (arith, inside)
+pub file_depth : (sci : List ℕ) (commands : List Command) → members_depth (file_of sci commands) ≤ 80
+file_depth sci commands = let inside = tables_depth commands in omega (arith, inside)
 
 -- ---- what it is read as
 
@@ -61,8 +65,13 @@ all_tables : (commands : List Command) → are_tables (tables_of commands) ≡ t
 all_tables [] = refl
 all_tables (command ∷ commands) = all_tables commands
 
-pub file_read : (commands : List Command) → AllRead commands → file_commands (file_of commands) ≡ Ok commands
-file_read commands all = rw (all_tables commands) (all_read commands all 1)
+pub file_read : (sci : List ℕ) (commands : List Command) → AllRead commands
+    → end_commands (file_of sci commands) ≡ Ok commands
+file_read sci commands all = rw (all_tables commands) (all_read commands all 1)
+
+-- and it is for the end that it was written for
+pub end_read : (sci : List ℕ) (commands : List Command) → IsSci sci → end_in (file_of sci commands) ≡ Ok (Some sci)
+end_read sci commands is = rw (octets_read 8 sci is) refl
 
 -- ---- one command more
 
@@ -93,10 +102,19 @@ tables_more commands i command within same values new value entry so_far after s
 
 -- ---- the whole file
 
+-- the table of a file, whose commands are seen so
+pub file_seen : {T E : Type 0} (viewed : T → Members) (file : Result T E) (sci : List ℕ) (commands seen : Data)
+    → commands ≡ seen
+    → IfOk file (λ t. viewed t ≡ member (codes "command") commands (member (codes "sci") (digits sci) no_members))
+    → IfOk file (λ t. viewed t ≡ member (codes "command") seen (member (codes "sci") (digits sci) no_members))
+file_seen viewed (Ok written) sci commands seen same is =
+    is ∙ ap (λ (d : Data). member (codes "command") d (member (codes "sci") (digits sci) no_members)) same
+file_seen viewed (Err error) sci commands seen same is = tt
+
 -- what is written of these commands says them
-pub says : {E : Type 0} (written : Result (String Global) E) (commands : List Command)
-    → IfOk written (λ text. IsTextOf (file_of commands) (string_bytes text))
-    → file_commands (file_of commands) ≡ Ok commands
-    → IfOk written (λ text. SaysCommands commands (string_bytes text))
-says (Ok text) commands is read = record { written = is.0; read = is.1; taken = read }
-says (Err error) commands is read = tt
+pub says : {E : Type 0} (written : Result (String Global) E) (sci : List ℕ) (commands : List Command)
+    → IfOk written (λ text. IsTextOf (file_of sci commands) (string_bytes text))
+    → end_commands (file_of sci commands) ≡ Ok commands → end_in (file_of sci commands) ≡ Ok (Some sci)
+    → IfOk written (λ text. SaysCommands sci commands (string_bytes text))
+says (Ok text) sci commands is read end = record { written = is.0; read = is.1; taken = read; end = end }
+says (Err error) sci commands is read end = tt

@@ -36,7 +36,7 @@ found_in r = elim r [ Ok octets ↦ Some octets | Err cause ↦ None ]
 decoded : (n : ℕ) (octets : List ℕ) → IsOctets n octets → decode_sized (encode_lower octets) n ≡ Ok octets
 decoded n octets are = decode_sized-encode_lower octets n are.size (bytes_of octets are.each)
 
-octets_read : (n : ℕ) (octets : List ℕ) → IsOctets n octets → octets_of n (encode_lower octets) ≡ Some octets
+pub octets_read : (n : ℕ) (octets : List ℕ) → IsOctets n octets → octets_of n (encode_lower octets) ≡ Some octets
 octets_read n octets are = ap (λ (r : Result (List ℕ) FromHexError). found_in r) (decoded n octets are)
 
 each_octet : (octets : List ℕ) → IsKey octets → All (λ octet. octet < 2 ^ 8) octets

@@ -1,7 +1,10 @@
 -- What is to be drawn of the words on plans: the commands of each stage, to the letter, and what is asked of an end.
-use Rattle.std.specs.Prelude.{◌≡◌, ◌<◌, ℕ, true, false, List, [], ◌∷◌, length, Some, None, Ok, Err}
+use Rattle.std.specs.Prelude.{◌≡◌, ◌<◌, ◌++◌, ℕ, codes, true, false, List, [], ◌∷◌, length, Some, None, Ok, Err}
+use Rattle.hex.specs.Hex.{encode_lower}
+use Rattle.toml.specs.Data.{Members, string}
 use Rattle.toml.specs.Parse.{parse_document}
-use Rattle.toml.specs.Text.{IsDocumentText}
+use Rattle.toml.specs.Tables.{key_value}
+use Rattle.toml.specs.Text.{IsDocumentText, IsLineText}
 use Rattle.macs_aes.specs.Keys.{HasItsLength, octets_of_key}
 use Rattle.macs_config.specs.Apply.{apply}
 use Rattle.macs_config.specs.Config.{Config, is_spent, max_spent, rx_fingerprint, this_edition, tx_fingerprint}
@@ -9,10 +12,11 @@ use Rattle.macs_config.specs.Identity.{Identity}
 use Rattle.macs_config.specs.declared.command.Command.{Command}
 use Rattle.macs_config.specs.declared.command.Command.TheVariants.{TxInstall, TxUse, TxRemove, RxAdd, RxInstall}
 use Rattle.macs_config.specs.declared.command.Command.TheVariants.{RxRemove}
-use Rattle.macs_commands.specs.CommandFiles.{file_commands}
+use Rattle.macs_commands.specs.Ends.{end_commands, end_in}
 use Rattle.macs_plan.specs.Accepting.{AllTaken, HasKeys, IsUnspent, StageTaken}
-use Rattle.macs_plan.specs.Planning.{other_end, own_key, planned, receives, sci_of, sends}
-use Rattle.macs_plan.specs.Writing.{SaysCommands, file_of}
+use Rattle.macs_plan.specs.Planning.{file_planned, other_end, own_key, planned, receives, sci_of, sends}
+use Rattle.macs_plan.specs.Reading.{file_link}
+use Rattle.macs_plan.specs.Writing.{PlansText, SaysCommands, file_of}
 use Rattle.macs_plan.specs.declared.link.End.{End}
 use Rattle.macs_plan.specs.declared.link.End.TheVariants.{Left, Right}
 use Rattle.macs_plan.specs.declared.link.KeyPair.{KeyPair}
@@ -25,7 +29,9 @@ use Rattle.macs_plan.specs.declared.planning.Stage.TheVariants as stage
 -- sends so. The first keys install both and use the first; a new pair is received under, then sent under, and then the
 -- pair before is removed on both sides; where there is none, no keys are changed. A pair whose keys have their lengths
 -- is one that an end takes, where neither was installed and there is room for both. Commands are taken one after the
--- other. A text is the command file of commands where it is written so, and read as just these.
+-- other. A text is the command file of commands for an end where it is written so, and read as just these and as for
+-- this end; it begins with the line of its SCI, where there is a command. What is planned of a file is planned of its
+-- link, and the file that is written is for the end that it is planned for.
 pub record PlanWords : Type 0 where
   pub left_end : other_end Left ≡ Right
   pub right_end : other_end Right ≡ Left
@@ -62,6 +68,15 @@ pub record PlanWords : Type 0 where
   pub stage_taken : (identity : Identity) (link : Link) (end : End) (which : Stage) (old new : Config)
       → StageTaken identity link end which old new
       → (commands : List Command) × (planned link end which ≡ Ok commands) × AllTaken identity old commands new
-  pub says : (commands : List Command) (text : List ℕ) → SaysCommands commands text
-      → IsDocumentText false (file_of commands) text × (parse_document text ≡ Some (file_of commands))
-      × (file_commands (file_of commands) ≡ Ok commands)
+  pub says : (sci : List ℕ) (commands : List Command) (text : List ℕ) → SaysCommands sci commands text
+      → IsDocumentText false (file_of sci commands) text × (parse_document text ≡ Some (file_of sci commands))
+      × (end_commands (file_of sci commands) ≡ Ok commands) × (end_in (file_of sci commands) ≡ Ok (Some sci))
+  pub begins : (sci : List ℕ) (first : Command) (commands : List Command) (text : List ℕ)
+      → SaysCommands sci (first ∷ commands) text
+      → (line : List ℕ) × (rest : List ℕ) × (text ≡ line ++ rest)
+      × IsLineText false false ([], codes "sci") (key_value (string (encode_lower sci))) line
+  pub plans : (members : Members) (end : End) (which : Stage) (text : List ℕ) → PlansText members end which text
+      → (link : Link) × (file_link members ≡ Ok link) × (commands : List Command)
+      × (planned link end which ≡ Ok commands) × SaysCommands (sci_of link end) commands text
+  pub of_file : (members : Members) (end : End) (which : Stage) (link : Link) → file_link members ≡ Ok link
+      → file_planned members end which ≡ planned link end which

@@ -1,5 +1,5 @@
 -- Commands as a command file.
-use Rattle.std.specs.Prelude.{◌≡◌, ℕ, pos, codes, false, List, [], ◌∷◌, Some, Result, Ok}
+use Rattle.std.specs.Prelude.{◌≡◌, ℕ, pos, codes, false, List, [], ◌∷◌, Some, Ok}
 use Rattle.std.specs.Cmp.Lexicographic.{slice_cmp}
 use Rattle.std.specs.Ordering.{match_ordering, nat_cmp}
 use Rattle.hex.specs.Hex.{encode_lower}
@@ -15,8 +15,12 @@ use Rattle.macs_config.specs.declared.command.SciMode.{SciMode}
 use Rattle.macs_config.specs.declared.command.SciMode.TheVariants.{Explicit, EndStation, Implicit}
 use Rattle.macs_config.specs.declared.command.Validate.{Validate}
 use Rattle.macs_config.specs.declared.command.Validate.TheVariants.{Strict, Check}
-use Rattle.macs_commands.specs.CommandFiles.{file_commands}
-use Rattle.macs_plan.specs.declared.plan_fault.PlanFault.{PlanFault}
+use Rattle.macs_commands.specs.Ends.{end_commands, end_in}
+use Rattle.macs_plan.specs.Planning.{planned, sci_of}
+use Rattle.macs_plan.specs.Reading.{file_link}
+use Rattle.macs_plan.specs.declared.link.End.{End}
+use Rattle.macs_plan.specs.declared.link.Link.{Link}
+use Rattle.macs_plan.specs.declared.planning.Stage.{Stage}
 
 -- ---- values
 
@@ -71,23 +75,32 @@ abbrev pub tables_of : List Command → Items
 tables_of [] = no_items
 tables_of (command ∷ commands) = item (table (table_of command)) (tables_of commands)
 
--- the members of a whole command file
-abbrev pub file_of : List Command → Members
-file_of commands = member (codes "command") (array (tables_of commands)) no_members
+-- the members of a whole command file, which is for the end of this SCI
+abbrev pub file_of : List ℕ → List Command → Members
+file_of sci commands =
+    member (codes "command") (array (tables_of commands)) (member (codes "sci") (digits sci) no_members)
 
 -- a text is written for these members, and is read as them
 abbrev pub IsTextOf : Members → List ℕ → Type 0
 IsTextOf members text = IsDocumentText false members text × (parse_document text ≡ Some members)
 
--- a text is the command file of these commands: it is written so, and it is read as just these
-pub record SaysCommands (commands : List Command) (text : List ℕ) : Type 0 where
-  pub written : IsDocumentText false (file_of commands) text
-  pub read : parse_document text ≡ Some (file_of commands)
-  pub taken : file_commands (file_of commands) ≡ Ok commands
+-- a text is the command file of these commands for the end of this SCI: it is written so, and it is read as just these,
+-- and as for this end
+pub record SaysCommands (sci : List ℕ) (commands : List Command) (text : List ℕ) : Type 0 where
+  pub written : IsDocumentText false (file_of sci commands) text
+  pub read : parse_document text ≡ Some (file_of sci commands)
+  pub taken : end_commands (file_of sci commands) ≡ Ok commands
+  pub end : end_in (file_of sci commands) ≡ Ok (Some sci)
 
--- a text is the command file of what is planned
-abbrev pub PlansText : Result (List Command) PlanFault → List ℕ → Type 0
-PlansText planned text = (commands : List Command) × (planned ≡ Ok commands) × SaysCommands commands text
+-- a text is the command file of what is planned at an end of a link, for that end
+abbrev pub PlansLinkText : Link → End → Stage → List ℕ → Type 0
+PlansLinkText link end stage text =
+    (commands : List Command) × (planned link end stage ≡ Ok commands) × SaysCommands (sci_of link end) commands text
+
+-- and of the link that a file says
+abbrev pub PlansText : Members → End → Stage → List ℕ → Type 0
+PlansText members end stage text =
+    (link : Link) × (file_link members ≡ Ok link) × PlansLinkText link end stage text
 
 -- the key of an install has its length
 abbrev pub HasItsKey : Command → Type 0

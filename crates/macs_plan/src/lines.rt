@@ -96,7 +96,7 @@ fn key_value(alloc: Global, key: &Key) -> Result<Value, AllocError>
 }
 
 /// An SCI, as hex digits.
-fn sci_value(alloc: Global, sci: Sci) -> Result<Value, AllocError>
+pub(crate) fn sci_value(alloc: Global, sci: Sci) -> Result<Value, AllocError>
     ensures { IfOk result (λ v. view v ≡ digits sci) }
 {
     digits(alloc, &sci.get())

@@ -1,16 +1,12 @@
 //! The commands of a stage at one end, and their file.
 
 ghost use Rattle.std.specs.Prelude.{◌≡◌, ◌≢◌, IfOk, IfErr, Ok, Err, Some, List, string_bytes};
-ghost use Rattle.toml.specs.Data.{Members};
-ghost use Rattle.toml.specs.Parse.{parse_document};
-ghost use Rattle.toml.specs.Text.{IsDocumentText};
 ghost use Rattle.toml.specs.View.{table_view};
 ghost use Rattle.macs_config.specs.declared.command.Command.{Command};
-ghost use Rattle.macs_commands.specs.CommandFiles.{file_commands};
 ghost use Rattle.macs_plan.specs.Planning.{file_planned, first_keys, other_end, own_key};
 ghost use Rattle.macs_plan.specs.Planning.{pair_before, planned, receive_both, receives};
 ghost use Rattle.macs_plan.specs.Planning.{remove_earlier, sci_of, sends, start_sending};
-ghost use Rattle.macs_plan.specs.Writing.{PlansText};
+ghost use Rattle.macs_plan.specs.Writing.{PlansLinkText, PlansText};
 ghost use Rattle.macs_plan.specs.declared.plan_fault.PlanFault.TheVariants.{Memory};
 
 use crate::link::{End, KeyPair, Link};
@@ -207,35 +203,29 @@ pub fn planned(
     }
 }
 
-/// The commands of a stage at an end of the link that a file says.
-fn file_planned(
-    alloc: Global,
-    file: &Table,
-    end: End,
-    stage: Stage,
-) -> Result<Vec<Command>, PlanFault>
-    ensures commands { IfOk result
-        (λ commands. file_planned (table_view file.now) end stage ≡ Ok commands.items) }
+/// The command file of a stage at an end, as text.
+fn link_plan(alloc: Global, link: &Link, end: End, stage: Stage) -> Result<String, PlanFault>
+    ensures text { IfOk result (λ text. PlansLinkText link.now end stage (string_bytes text)) }
+    ensures fault { IfErr result (λ fault. fault ≢ Memory
+        → planned link.now end stage ≡ Err fault) }
+{
+    let commands = planned(alloc, link, end, stage)?;
+    match command_file(alloc, sci_of(link, end), commands.as_slice()) {
+        Ok(text) => Ok(text),
+        Err(_) => Err(PlanFault::Memory),
+    }
+}
+
+/// The command file of a stage at an end of the link that a file says, as text: it names the SCI of
+/// that end. Refused with the file's first fault, as `OneKey`, or as `Memory`.
+pub fn plan(alloc: Global, file: &Table, end: End, stage: Stage) -> Result<String, PlanFault>
+    ensures text { IfOk result
+        (λ text. PlansText (table_view file.now) end stage (string_bytes text)) }
     ensures fault { IfErr result (λ fault. fault ≢ Memory
         → file_planned (table_view file.now) end stage ≡ Err fault) }
 {
     let link = link_of(alloc, file)?;
     let _before = link.before; // It is named for the proof alone.
-    let commands = planned(alloc, &link, end, stage)?;
-    Ok(commands)
-}
-
-/// The command file of a stage at an end of the link that a file says, as text. Refused with the
-/// file's first fault, as `OneKey`, or as `Memory`.
-pub fn plan(alloc: Global, file: &Table, end: End, stage: Stage) -> Result<String, PlanFault>
-    ensures text { IfOk result
-        (λ text. PlansText (file_planned (table_view file.now) end stage) (string_bytes text)) }
-    ensures fault { IfErr result (λ fault. fault ≢ Memory
-        → file_planned (table_view file.now) end stage ≡ Err fault) }
-{
-    let commands = file_planned(alloc, file, end, stage)?;
-    match command_file(alloc, commands.as_slice()) {
-        Ok(text) => Ok(text),
-        Err(_) => Err(PlanFault::Memory),
-    }
+    let text = link_plan(alloc, &link, end, stage)?;
+    Ok(text)
 }

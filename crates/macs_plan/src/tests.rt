@@ -66,14 +66,16 @@ fn is_refused(rt: &impl Abort, alloc: Global, parts: &[&str], stage: Stage, want
 #[test]
 fn first_keys(rt: HostRuntime) {
     let parts = [LEFT, RIGHT, FIRST];
-    let left = "[[command]]\nan = 0\nconfidential = true\ndo = \"tx-install\"\n\
+    let left = "sci = \"0200000000010001\"\n\n\
+        [[command]]\nan = 0\nconfidential = true\ndo = \"tx-install\"\n\
         key = \"5a1c7e93d04b26f8a97d31e4026fb85c\"\noffset = 0\nstart = 1\n\n\
         [[command]]\nan = 0\ndo = \"tx-use\"\n\n\
         [[command]]\ndo = \"rx-add\"\nsci = \"0200000000020001\"\n\n\
         [[command]]\nan = 0\ndo = \"rx-install\"\nkey = \"e07b49d6158c32af6e90b7c4fd2a8113\"\n\
         offset = 0\nsci = \"0200000000020001\"\nstart = 1\n";
     is_planned(&rt, rt.alloc(), &parts, End::Left, Stage::First, left);
-    let right = "[[command]]\nan = 0\nconfidential = true\ndo = \"tx-install\"\n\
+    let right = "sci = \"0200000000020001\"\n\n\
+        [[command]]\nan = 0\nconfidential = true\ndo = \"tx-install\"\n\
         key = \"e07b49d6158c32af6e90b7c4fd2a8113\"\noffset = 0\nstart = 1\n\n\
         [[command]]\nan = 0\ndo = \"tx-use\"\n\n\
         [[command]]\ndo = \"rx-add\"\nsci = \"0200000000010001\"\n\n\
@@ -85,16 +87,18 @@ fn first_keys(rt: HostRuntime) {
 #[test]
 fn stages_of_new_keys(rt: HostRuntime) {
     let parts = [FIRST, SECOND, LEFT, RIGHT];
-    let receive =
-        "[[command]]\nan = 1\ndo = \"rx-install\"\nkey = \"ffeeddccbbaa99887766554433221100\"\n\
+    let receive = "sci = \"0200000000010001\"\n\n\
+        [[command]]\nan = 1\ndo = \"rx-install\"\nkey = \"ffeeddccbbaa99887766554433221100\"\n\
         offset = 0\nsci = \"0200000000020001\"\nstart = 1\n";
     is_planned(&rt, rt.alloc(), &parts, End::Left, Stage::Receive, receive);
-    let send = "[[command]]\nan = 1\nconfidential = true\ndo = \"tx-install\"\n\
+    let send = "sci = \"0200000000010001\"\n\n\
+        [[command]]\nan = 1\nconfidential = true\ndo = \"tx-install\"\n\
         key = \"000102030405060708090a0b0c0d0e0f101112131415161718191a1b1c1d1e1f\"\n\
         offset = 0\nstart = 1\n\n\
         [[command]]\nan = 1\ndo = \"tx-use\"\n";
     is_planned(&rt, rt.alloc(), &parts, End::Left, Stage::Send, send);
-    let remove = "[[command]]\nan = 0\ndo = \"tx-remove\"\n\n\
+    let remove = "sci = \"0200000000020001\"\n\n\
+        [[command]]\nan = 0\ndo = \"tx-remove\"\n\n\
         [[command]]\nan = 0\ndo = \"rx-remove\"\nsci = \"0200000000010001\"\n";
     is_planned(&rt, rt.alloc(), &parts, End::Right, Stage::Remove, remove);
 }
@@ -103,11 +107,13 @@ fn stages_of_new_keys(rt: HostRuntime) {
 fn three_pairs(rt: HostRuntime) {
     let alloc = rt.alloc();
     let parts = [LEFT, RIGHT, FIRST, SECOND, THIRD];
-    let send = "[[command]]\nan = 0\nconfidential = true\ndo = \"tx-install\"\n\
+    let send = "sci = \"0200000000020001\"\n\n\
+        [[command]]\nan = 0\nconfidential = true\ndo = \"tx-install\"\n\
         key = \"27d1a84e6b3c95f00e6f7d8c9b1a4352\"\noffset = 0\nstart = 1\n\n\
         [[command]]\nan = 0\ndo = \"tx-use\"\n";
     is_planned(&rt, alloc, &parts, End::Right, Stage::Send, send);
-    let remove = "[[command]]\nan = 1\ndo = \"tx-remove\"\n\n\
+    let remove = "sci = \"0200000000010001\"\n\n\
+        [[command]]\nan = 1\ndo = \"tx-remove\"\n\n\
         [[command]]\nan = 1\ndo = \"rx-remove\"\nsci = \"0200000000020001\"\n";
     is_planned(&rt, alloc, &parts, End::Left, Stage::Remove, remove);
     let first_again = "[[key]]\nan = 2\nleft = '9c0f3b51d7e8426a81b5c6d4e3f20719'\n\

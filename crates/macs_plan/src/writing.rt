@@ -1,20 +1,27 @@
 //! A command file, as text.
 
-ghost use Rattle.std.specs.Prelude.{◌≡◌, ◌≤◌, IfOk, string_bytes};
-ghost use Rattle.toml.specs.Data.{Members, members_depth};
-ghost use Rattle.toml.specs.View.{table_view};
-ghost use Rattle.macs_plan.specs.Writing.{IsTextOf, SaysCommands};
+ghost use Rattle.std.specs.Prelude.{◌≡◌, ◌≤◌, IfOk, codes, string_bytes};
+ghost use Rattle.toml.specs.Data.{Members, member, members_depth, no_members};
+ghost use Rattle.toml.specs.View.{table_view, view};
+ghost use Rattle.macs_plan.specs.Writing.{IsTextOf, SaysCommands, digits};
 
-use crate::lines::{command_table, is_read, with};
+use crate::lines::{command_table, is_read, sci_value, with};
 use macs_config::Command;
+use macs_fields::Sci;
+use macs_fields::laws::sci_in_range;
 use std::alloc::{AllocError, Global};
 use toml::{Table, Value};
 
-/// The command file of these commands, as text: it is read as just these. An error where there is
-/// no memory.
-pub fn command_file(alloc: Global, commands: &[Command]) -> Result<String, AllocError>
-    ensures { IfOk result (λ text. SaysCommands commands.now (string_bytes text)) }
+/// The command file of these commands for the end of this SCI, as text: it is read as just these,
+/// and as for this end. An error where there is no memory.
+pub fn command_file(
+    alloc: Global,
+    sci: Sci,
+    commands: &[Command],
+) -> Result<String, AllocError>
+    ensures { IfOk result (λ text. SaysCommands sci commands.now (string_bytes text)) }
 {
+    sci_in_range(sci);
     let mut tables = Vec::new(alloc);
     for i in 0..commands.len() {
         let command = commands[i];
@@ -26,13 +33,21 @@ pub fn command_file(alloc: Global, commands: &[Command]) -> Result<String, Alloc
             return Err(AllocError);
         };
     }
+    written(alloc, file_table(alloc, sci, Value::from(tables)))
+}
+
+/// The table of a file that is for the end of this SCI, with this at `command`.
+fn file_table(alloc: Global, sci: Sci, commands: Value) -> Result<Table, AllocError>
+    ensures { IfOk result (λ t. table_view t
+        ≡ member (codes "command") (view commands) (member (codes "sci") (digits sci) no_members)) }
+{
     let file = with(
         alloc,
         Ok(Table::new(alloc)),
-        "command",
-        Ok(Value::from(tables)),
+        "sci",
+        sci_value(alloc, sci),
     );
-    written(alloc, file)
+    with(alloc, file, "command", Ok(commands))
 }
 
 /// The text of a table, where it could be made.

@@ -57,6 +57,7 @@ asking-no-usage failures.Wire is = absurd is
 asking-no-usage failures.Control is = λ e. cc
 asking-no-usage failures.Random is = absurd is
 asking-no-usage (failures.CommandFile cause) is = absurd is
+asking-no-usage (failures.Link refusal) is = absurd is
 asking-no-usage failures.Memory is = λ e. cc
 asking-no-usage (failures.Input fault) is = absurd is
 asking-no-usage failures.Output is = λ e. cc
@@ -75,6 +76,7 @@ key-no-usage failures.Commands is = absurd is
 key-no-usage failures.Wire is = absurd is
 key-no-usage failures.Control is = absurd is
 key-no-usage (failures.CommandFile cause) is = absurd is
+key-no-usage (failures.Link refusal) is = absurd is
 key-no-usage failures.Memory is = absurd is
 key-no-usage (failures.Input fault) is = absurd is
 
@@ -93,6 +95,7 @@ inspecting-no-usage failures.Commands is = absurd is
 inspecting-no-usage failures.Wire is = absurd is
 inspecting-no-usage failures.Control is = absurd is
 inspecting-no-usage (failures.CommandFile cause) is = absurd is
+inspecting-no-usage (failures.Link refusal) is = absurd is
 inspecting-no-usage (failures.Input fault) is = absurd is
 
 -- nor is one of `check`
@@ -112,9 +115,11 @@ planning-no-usage : {F : Type 0} (left_in : F → Option (List ℕ)) (end : End)
     → PlanFails left_in end stage failure → failure_status failure ≢ ends.Usage
 planning-no-usage left_in end stage failure (inl is) = λ e. let f = sym e ∙ ap failure_status is in cc
 planning-no-usage left_in end stage failure (inr (inl is)) = λ e. let f = sym e ∙ ap failure_status is in cc
-planning-no-usage left_in end stage failure (inr (inr (octets, inl is, by_file))) =
+planning-no-usage left_in end stage failure (inr (inr (octets, inl (inl is), by_file))) =
     λ e. let f = sym e ∙ ap failure_status is in cc
-planning-no-usage left_in end stage failure (inr (inr (octets, inr (text, is, said), by_file))) =
+planning-no-usage left_in end stage failure (inr (inr (octets, inl (inr (text, is, said)), by_file))) =
+    λ e. let f = sym e ∙ ap failure_status is in cc
+planning-no-usage left_in end stage failure (inr (inr (octets, inr (refusal, is, refuses), by_file))) =
     λ e. let f = sym e ∙ ap failure_status is in cc
 
 done-or-refused : (refused : Bool) → ((if refused then ends.Refused else ends.Done) ≡ ends.Done)

@@ -90,6 +90,7 @@ behind-of-relay (failures.Address fault) is = tt
 behind-of-relay failures.Capture is = absurd is
 behind-of-relay failures.Random is = absurd is
 behind-of-relay (failures.CommandFile cause) is = absurd is
+behind-of-relay (failures.Link refusal) is = absurd is
 behind-of-relay failures.Commands is = absurd is
 behind-of-relay (failures.Input fault) is = absurd is
 
@@ -105,6 +106,7 @@ behind-no-usage (failures.Address fault) is = absurd is
 behind-no-usage failures.Capture is = absurd is
 behind-no-usage failures.Random is = absurd is
 behind-no-usage (failures.CommandFile cause) is = absurd is
+behind-no-usage (failures.Link refusal) is = absurd is
 behind-no-usage failures.Commands is = absurd is
 behind-no-usage (failures.Input fault) is = absurd is
 

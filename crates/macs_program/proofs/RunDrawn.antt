@@ -39,7 +39,7 @@ use Rattle.macs_program.specs.Judging.{EndsEach, JudgesCapture, JudgesIn, Judgin
 use Rattle.macs_program.specs.Keys.{IsOfKey}
 use Rattle.macs_plan.specs.declared.link.End.{End}
 use Rattle.macs_plan.specs.declared.planning.Stage.{Stage}
-use Rattle.macs_program.specs.Plans.{IsSaidOfLink, PlanFails, end_of, stage_of}
+use Rattle.macs_program.specs.Plans.{IsSaidOfLink, PlanFails, RefusesLink, SaysWhy, end_of, stage_of}
 use Rattle.macs_program.specs.Run.{WrongValues}
 use Rattle.macs_program.specs.RunWords.{BeforeWords, FailWords, ReplyWords}
 use Rattle.macs_program.specs.Summing.{pass_status, summary_line}
@@ -48,6 +48,7 @@ use Rattle.macs_program.specs.declared.addresses.AddressFault.{AddressFault}
 use Rattle.macs_program.specs.declared.failure.DiskFault.TheVariants as disk
 use Rattle.macs_program.specs.declared.failure.Failure.{Failure}
 use Rattle.macs_program.specs.declared.failure.Failure.TheVariants as failures
+use Rattle.macs_program.specs.declared.failure.LinkRefusal.{LinkRefusal}
 use Rattle.macs_program.specs.declared.status.Status.{Status}
 use Rattle.macs_program.specs.declared.status.Status.TheVariants as ends
 use Rattle.macs_program.specs.declared.values.ValueFault.{ValueFault}
@@ -226,15 +227,19 @@ reply-words file left_in = record {
   about = λ input before after status is. is;
   checked = λ from input before after status is. counted left_in before after status is;
   planned = λ from end stage input before after status ((octets, text, is, by_file, printed), done).
-      let (commands, planned, says) = is.planned in (
+      let (link, reads, (commands, planned, says)) = is.planned in
+      let whole = planned-of is.members link (end_of end) (stage_of stage) commands reads planned in (
         octets,
         text,
         is.members,
         is.parsed,
+        link,
+        reads,
         commands,
-        planned,
+        whole,
         says.read,
         says.taken,
+        says.end,
         by_file.0,
         by_file.1,
         printed,
@@ -299,15 +304,18 @@ of_check left_in failure (inr (inr (octets, inr (said, is, holds), inr (file, co
 of_plan : {F : Type 0} (left_in : F → Option (List ℕ)) (end : End) (stage : Stage) (failure : Failure)
     → PlanFails left_in end stage failure
     → (failure ≡ failures.Commands) ⊎ (failure ≡ failures.Output) ⊎ (failure ≡ failures.Memory)
-    ⊎ ((octets : List ℕ) × (said : _) × (failure ≡ failures.CommandFile said)
-    × IsSaidOfLink end stage octets (string_bytes said)
-    × (from_file : F) × IfSome (left_in from_file) (λ all. Complains (IsSaidOfLink end stage all) failure))
+    ⊎ ((octets : List ℕ) × (((said : _) × (failure ≡ failures.CommandFile said)
+    × IsSaidOfLink end stage octets (string_bytes said))
+    ⊎ ((refusal : LinkRefusal) × (failure ≡ failures.Link refusal) × RefusesLink end stage octets refusal))
+    × (from_file : F) × IfSome (left_in from_file) (λ all. SaysWhy end stage all failure))
 of_plan left_in end stage failure (inl unread) = inl unread
 of_plan left_in end stage failure (inr (inl unprinted)) = inr (inl unprinted)
-of_plan left_in end stage failure (inr (inr (octets, inl memory, by_file))) = inr (inr (inl memory))
-of_plan left_in end stage failure (inr (inr (octets, inr (said, is, holds), inl memory))) = inr (inr (inl memory))
-of_plan left_in end stage failure (inr (inr (octets, inr (said, is, holds), inr (file, complains)))) =
-    inr (inr (inr (octets, said, is, holds, file, complains)))
+of_plan left_in end stage failure (inr (inr (octets, inl (inl memory), by_file))) = inr (inr (inl memory))
+of_plan left_in end stage failure (inr (inr (octets, says, inl memory))) = inr (inr (inl memory))
+of_plan left_in end stage failure (inr (inr (octets, inl (inr (said, is, holds)), inr (file, why)))) =
+    inr (inr (inr (octets, inl (said, is, holds), file, why)))
+of_plan left_in end stage failure (inr (inr (octets, inr (refusal, is, refuses), inr (file, why)))) =
+    inr (inr (inr (octets, inr (refusal, is, refuses), file, why)))
 
 passing : {D : Type 0} (disk_of : D → Disk) (side : Side) (old : EndpointValue D) (failure : Failure)
     (new : EndpointValue D)

@@ -27,6 +27,8 @@ use Rattle.macs_program.specs.declared.failure.DiskFault.{DiskFault}
 use Rattle.macs_program.specs.declared.failure.DiskFault.TheVariants as disk
 use Rattle.macs_program.specs.declared.failure.Failure.{Failure}
 use Rattle.macs_program.specs.declared.failure.Failure.TheVariants as failure
+use Rattle.macs_program.specs.declared.failure.LinkRefusal.{LinkRefusal}
+use Rattle.macs_program.specs.declared.failure.LinkRefusal.TheVariants as wrong
 use Rattle.macs_program.specs.declared.open_input.InputFault.{InputFault}
 use Rattle.macs_program.specs.declared.open_input.InputFault.TheVariants as input
 use Rattle.macs_program.specs.declared.status.Status.{Status}
@@ -125,6 +127,12 @@ disk_fault_text (disk.Journal journal.NotFormatted) = codes "not formatted"
 disk_fault_text (disk.Journal journal.BadJournal) = codes "bad journal"
 disk_fault_text (disk.Journal journal.GenerationsSpent) = codes "generations spent"
 
+-- a link that is refused
+abbrev pub link_refusal_text : LinkRefusal → List ℕ
+link_refusal_text wrong.SameSci = codes "same sci"
+link_refusal_text wrong.SameKey = codes "same key"
+link_refusal_text wrong.AnInUse = codes "an in use"
+
 -- a line of the input
 abbrev pub input_fault_text : InputFault → List ℕ
 input_fault_text input.Input = codes "input"
@@ -145,13 +153,14 @@ failure_text failure.Wire = codes "wire"
 failure_text failure.Control = codes "control"
 failure_text failure.Random = codes "random source"
 failure_text (failure.CommandFile cause) = string_bytes cause
+failure_text (failure.Link refusal) = link_refusal_text refusal
 failure_text failure.Memory = codes "memory"
 failure_text (failure.Input fault) = input_fault_text fault
 failure_text failure.Output = codes "output"
 
 -- ---- how the run ends
 
--- wrong usage, a disk that does not serve, or a fault of input, output or memory
+-- wrong usage, a disk that does not serve, a link that is refused, or a fault of input, output or memory
 abbrev pub failure_status : Failure → Status
 failure_status (failure.Usage cause) = ends.Usage
 failure_status (failure.Value fault) = ends.Usage
@@ -163,6 +172,7 @@ failure_status failure.Wire = ends.Fault
 failure_status failure.Control = ends.Fault
 failure_status failure.Random = ends.Fault
 failure_status (failure.CommandFile cause) = ends.Fault
+failure_status (failure.Link refusal) = ends.Refused
 failure_status failure.Memory = ends.Fault
 failure_status (failure.Input fault) = ends.Fault
 failure_status failure.Output = ends.Fault

@@ -23,9 +23,11 @@ use Rattle.macs_words.specs.declared.plan_words.PlanEnd.TheVariants as plan_end
 use Rattle.macs_words.specs.declared.plan_words.PlanStage.{PlanStage}
 use Rattle.macs_words.specs.declared.plan_words.PlanStage.TheVariants as plan_stage
 use Rattle.macs_program.specs.Applying.{longest_file}
-use Rattle.macs_program.specs.Checking.{Complains, ComplainsOfFile}
+use Rattle.macs_program.specs.Checking.{Complains}
 use Rattle.macs_program.specs.declared.failure.Failure.{Failure}
 use Rattle.macs_program.specs.declared.failure.Failure.TheVariants as failures
+use Rattle.macs_program.specs.declared.failure.LinkRefusal.{LinkRefusal}
+use Rattle.macs_program.specs.declared.failure.LinkRefusal.TheVariants as wrong
 
 -- ---- what is asked for
 
@@ -81,6 +83,13 @@ plan_fault_text plan.AnInUse = codes "an in use"
 plan_fault_text plan.OneKey = codes "one key"
 plan_fault_text plan.Memory = codes "memory"
 
+-- the refusal of a link that a fault is, if it is one
+abbrev pub link_refusal : PlanFault → Option LinkRefusal
+link_refusal plan.SameSci = Some wrong.SameSci
+link_refusal plan.SameKey = Some wrong.SameKey
+link_refusal plan.AnInUse = Some wrong.AnInUse
+link_refusal fault = None
+
 -- ---- of the octets of a file
 
 -- octets say a link, and this text is the command file of what is planned of it
@@ -89,18 +98,23 @@ pub record PlansFile (end : End) (stage : Stage) (octets text : List ℕ) : Type
   pub utf8 : IsUtf8 octets
   pub members : Members
   pub parsed : parse_document octets ≡ Some members
-  pub planned : PlansText (file_planned members end stage) text
+  pub planned : PlansText members end stage text
 
--- nothing is planned of what a text says, and this is why
-abbrev pub HasPlanFault : End → Stage → List ℕ → List ℕ → Type 0
-HasPlanFault end stage text said =
-    (members : Members) × (parse_document text ≡ Some members)
-    × (fault : PlanFault) × (file_planned members end stage ≡ Err fault) × (said ≡ plan_fault_text fault)
+-- nothing is planned of what a text says, for this fault
+abbrev pub HasPlanFault : End → Stage → List ℕ → PlanFault → Type 0
+HasPlanFault end stage text fault =
+    (members : Members) × (parse_document text ≡ Some members) × (file_planned members end stage ≡ Err fault)
 
--- this is said of a text: that it is no TOML, or why nothing is planned of it
+-- this is said of a text: that it is no TOML, or why nothing is planned of it, where no link is refused
 abbrev pub IsSaidOfLinkText : End → Stage → List ℕ → List ℕ → Type 0
-IsSaidOfLinkText end stage text said =
-    ((parse_document text ≡ None) × (said ≡ codes "link file: not TOML")) ⊎ HasPlanFault end stage text said
+IsSaidOfLinkText end stage text said = ((parse_document text ≡ None) × (said ≡ codes "link file: not TOML"))
+    ⊎ ((fault : PlanFault) × HasPlanFault end stage text fault × (link_refusal fault ≡ None)
+    × (said ≡ plan_fault_text fault))
+
+-- a text says a link that is refused so
+abbrev pub RefusesLinkText : End → Stage → List ℕ → LinkRefusal → Type 0
+RefusesLinkText end stage text refusal =
+    (fault : PlanFault) × HasPlanFault end stage text fault × (link_refusal fault ≡ Some refusal)
 
 -- this is said of octets: that they are too many, or no text, or what is said of the text
 abbrev pub IsSaidOfLink : End → Stage → List ℕ → List ℕ → Type 0
@@ -108,6 +122,26 @@ IsSaidOfLink end stage octets said =
     ((longest_file < length octets) × (said ≡ codes "link file: more than 1048576 octets"))
     ⊎ ((length octets ≤ longest_file) × (¬ IsUtf8 octets) × (said ≡ codes "link file: not UTF-8"))
     ⊎ ((length octets ≤ longest_file) × IsUtf8 octets × IsSaidOfLinkText end stage octets said)
+
+-- octets say a link that is refused so
+abbrev pub RefusesLink : End → Stage → List ℕ → LinkRefusal → Type 0
+RefusesLink end stage octets refusal =
+    (length octets ≤ longest_file) × IsUtf8 octets × RefusesLinkText end stage octets refusal
+
+-- a failure is the refusal of a link for which this holds
+abbrev pub RefusesSo : (LinkRefusal → Type 0) → Failure → Type 0
+RefusesSo Refuses failure = (refusal : LinkRefusal) × (failure ≡ failures.Link refusal) × Refuses refusal
+
+-- a failure says why nothing is planned of a text: something is said of it or its link is refused, unless there is no
+-- memory
+abbrev pub SaysWhyOfText : End → Stage → List ℕ → Failure → Type 0
+SaysWhyOfText end stage text failure = Complains (IsSaidOfLinkText end stage text) failure
+    ⊎ RefusesSo (RefusesLinkText end stage text) failure
+
+-- and of octets
+abbrev pub SaysWhy : End → Stage → List ℕ → Failure → Type 0
+SaysWhy end stage octets failure =
+    Complains (IsSaidOfLink end stage octets) failure ⊎ RefusesSo (RefusesLink end stage octets) failure
 
 -- ---- of a file, where `left_in` says what is left to read of one, where that is known
 
@@ -123,8 +157,14 @@ PrintsPlan left_in end stage before after =
     (octets : List ℕ) × (text : List ℕ) × PlansFile end stage octets text × IsPlanOfFile left_in end stage text
     × Appends before after text
 
--- the file is not read; or what is to be printed cannot be; or something is said of its octets, or there is no memory
+-- a failure says why nothing is planned of a file
+abbrev pub SaysWhyOfFile : {F : Type 0} → (F → Option (List ℕ)) → End → Stage → Failure → Type 0
+SaysWhyOfFile {F} left_in end stage failure =
+    (file : F) × IfSome (left_in file) (λ octets. SaysWhy end stage octets failure)
+
+-- the file is not read; or what is to be printed cannot be; or something is said of its octets or its link is refused,
+-- or there is no memory
 abbrev pub PlanFails : {F : Type 0} → (F → Option (List ℕ)) → End → Stage → Failure → Type 0
 PlanFails left_in end stage failure = (failure ≡ failures.Commands) ⊎ (failure ≡ failures.Output)
-    ⊎ ((octets : List ℕ) × Complains (IsSaidOfLink end stage octets) failure
-    × ((failure ≡ failures.Memory) ⊎ ComplainsOfFile (IsSaidOfLink end stage) left_in failure))
+    ⊎ ((octets : List ℕ) × SaysWhy end stage octets failure
+    × ((failure ≡ failures.Memory) ⊎ SaysWhyOfFile left_in end stage failure))

@@ -10,7 +10,7 @@ use Rattle.clap.specs.Words.{Text, subcommand_of, takes}
 use Rattle.hex.specs.Hex.{encode_lower}
 use Rattle.toml.specs.Data.{Members}
 use Rattle.toml.specs.Parse.{parse_document}
-use Rattle.macs_commands.specs.CommandFiles.{file_commands}
+use Rattle.macs_commands.specs.Ends.{end_commands, end_in}
 use Rattle.macs_config.specs.Config.{this_edition}
 use Rattle.macs_config.specs.Identity.{Identity}
 use Rattle.macs_config.specs.declared.command.Command.{Command}
@@ -46,8 +46,10 @@ use Rattle.macs_pcap.specs.Records.{CaptureRecord}
 use Rattle.macs_pcap.specs.States.{SinkState, SourceState}
 use Rattle.macs_pcap.specs.declared.fault.PcapFault.{PcapFault}
 use Rattle.macs_pcap.specs.declared.header.Header.{Header}
-use Rattle.macs_plan.specs.Planning.{file_planned}
+use Rattle.macs_plan.specs.Planning.{file_planned, sci_of}
+use Rattle.macs_plan.specs.Reading.{file_link}
 use Rattle.macs_plan.specs.Writing.{file_of}
+use Rattle.macs_plan.specs.declared.link.Link.{Link}
 use Rattle.macs_rxsc.specs.declared.verdict.Verdict.{Verdict}
 use Rattle.macs_store.specs.Found.{IsUnfitTo}
 use Rattle.macs_store.specs.Replay.{meaning_of}
@@ -85,7 +87,7 @@ use Rattle.macs_program.specs.Inspecting.{AreLinesOf, InspectsCapture, RunsCaptu
 use Rattle.macs_program.specs.Judging.{EndsEach, JudgesCapture, JudgingEndsIn, verdict_lines}
 use Rattle.macs_program.specs.Keys.{PrintsKey, key_octets}
 use Rattle.macs_program.specs.NewDisks.{FormatFails, Permits}
-use Rattle.macs_program.specs.Plans.{IsSaidOfLink, PlansFile, end_of, stage_of}
+use Rattle.macs_program.specs.Plans.{IsSaidOfLink, PlansFile, RefusesLink, SaysWhy, end_of, stage_of}
 use Rattle.macs_program.specs.Relaying.{ComesTo, RelayEndsIn, course_of}
 use Rattle.macs_program.specs.OpenInput.{InputFaultHolds, input_faults}
 use Rattle.macs_program.specs.Run.{Does, FailsAs, FailsFor, HasPrinted, HasWrongValues, PrintedBefore, Replies}
@@ -99,6 +101,7 @@ use Rattle.macs_program.specs.declared.failure.DiskFault.{DiskFault}
 use Rattle.macs_program.specs.declared.failure.DiskFault.TheVariants as disk
 use Rattle.macs_program.specs.declared.failure.Failure.{Failure}
 use Rattle.macs_program.specs.declared.failure.Failure.TheVariants as failures
+use Rattle.macs_program.specs.declared.failure.LinkRefusal.{LinkRefusal}
 use Rattle.macs_program.specs.declared.open_input.InputFault.{InputFault}
 use Rattle.macs_program.specs.declared.open_input.InputFault.TheVariants as request_faults
 use Rattle.macs_program.specs.declared.status.Status.{Status}
@@ -227,8 +230,11 @@ pub record ReplyWords {F : Type 0} (file : F → FileState) (left_in : F → Opt
       (before after : Option (List ℕ)) (status : Status)
       → Does file left_in (Plan from end stage) input before after status
       → (octets : List ℕ) × (text : List ℕ) × (members : Members) × (parse_document octets ≡ Some members)
+      × (link : Link) × (file_link members ≡ Ok link)
       × (commands : List Command) × (file_planned members (end_of end) (stage_of stage) ≡ Ok commands)
-      × (parse_document text ≡ Some (file_of commands)) × (file_commands (file_of commands) ≡ Ok commands)
+      × (parse_document text ≡ Some (file_of (sci_of link (end_of end)) commands))
+      × (end_commands (file_of (sci_of link (end_of end)) commands) ≡ Ok commands)
+      × (end_in (file_of (sci_of link (end_of end)) commands) ≡ Ok (Some (sci_of link (end_of end))))
       × (from_file : F) × IfSome (left_in from_file) (λ all. PlansFile (end_of end) (stage_of stage) all text)
       × Appends before after text × (status ≡ ends.Done)
   pub prints : (is_long : Bool) (octets : List ℕ) (before after : Option (List ℕ))
@@ -366,10 +372,12 @@ pub record FailWords {F : Type 0} (file : F → FileState) (left_in : F → Opti
       (before after : Option (List ℕ)) (failure : Failure)
       → FailsAs file left_in (Plan from end stage) input before after failure
       → (failure ≡ failures.Commands) ⊎ (failure ≡ failures.Output) ⊎ (failure ≡ failures.Memory)
-      ⊎ ((octets : List ℕ) × (said : _) × (failure ≡ failures.CommandFile said)
-      × IsSaidOfLink (end_of end) (stage_of stage) octets (string_bytes said)
+      ⊎ ((octets : List ℕ) × (((said : _) × (failure ≡ failures.CommandFile said)
+      × IsSaidOfLink (end_of end) (stage_of stage) octets (string_bytes said))
+      ⊎ ((refusal : LinkRefusal) × (failure ≡ failures.Link refusal)
+      × RefusesLink (end_of end) (stage_of stage) octets refusal))
       × (from_file : F) × IfSome (left_in from_file)
-      (λ all. Complains (IsSaidOfLink (end_of end) (stage_of stage) all) failure))
+      (λ all. SaysWhy (end_of end) (stage_of stage) all failure))
   pub of_trial : (from path : Bor Text) (input : InputRead) (before after : Option (List ℕ)) (failure : Failure)
       → FailsAs file left_in (Check from (Some path)) input before after failure
       → FailsAs file left_in (Check from None) input before after failure

@@ -56,7 +56,7 @@ use Rattle.macs_program.specs.Checking.{IsSaidOfFile, count_line, fault_text, ke
 use Rattle.macs_program.specs.Failing.{address_fault_text, disk_fault_text, failure_of_asking, failure_of_bind}
 use Rattle.macs_program.specs.Failing.{failure_of_capture, failure_of_commands, failure_of_control, failure_of_file}
 use Rattle.macs_program.specs.Failing.{failure_of_journal, failure_of_run, failure_of_words, failure_status}
-use Rattle.macs_program.specs.Failing.{failure_text, input_fault_text, value_fault_text}
+use Rattle.macs_program.specs.Failing.{failure_text, input_fault_text, link_refusal_text, value_fault_text}
 use Rattle.macs_program.specs.FileModes.{mode_warning}
 use Rattle.macs_program.specs.Inspecting.{AreLinesOf, IsLineOf, IsSaidOf, bit_text, bits_text, name_text}
 use Rattle.macs_program.specs.Inspecting.{numbers_text, tag_text}
@@ -73,6 +73,8 @@ use Rattle.macs_program.specs.declared.opened.Opened.TheVariants.{Refused, Valid
 use Rattle.macs_program.specs.declared.failure.DiskFault.{DiskFault}
 use Rattle.macs_program.specs.declared.failure.DiskFault.TheVariants as disk
 use Rattle.macs_program.specs.declared.failure.Failure.TheVariants as failures
+use Rattle.macs_program.specs.declared.failure.LinkRefusal.{LinkRefusal}
+use Rattle.macs_program.specs.declared.failure.LinkRefusal.TheVariants as wrong
 use Rattle.macs_program.specs.declared.open_input.InputFault.{InputFault}
 use Rattle.macs_program.specs.declared.open_input.InputFault.TheVariants as input
 use Rattle.macs_program.specs.declared.status.Status.TheVariants as ends
@@ -126,7 +128,8 @@ pub record LineTexts : Type 0 where
 
 -- ---- failures
 
--- Each failure has its own text, and its status: 2 for words, values and addresses, 4 for the disk, 5 for all others.
+-- Each failure has its own text, and its status: 2 for words, values and addresses, 3 for a link that is refused, 4 for
+-- the disk, 5 for all others.
 -- What fails below is the failure that has its name: wrong usage, a fault of a file, of the journal, of a capture or a
 -- run, of its disk, of a command file, of a wire, a control socket or an asking; a call of a disk in memory fails for
 -- want of that; and what a relay answers with 4 that it ended, with 5 that it had no memory, with any other number that
@@ -146,6 +149,8 @@ pub record FailureTexts : Type 0 where
       ∷ codes "already formatted" ∷ codes "not formatted" ∷ codes "bad journal" ∷ codes "generations spent" ∷ []
   pub inputs : map input_fault_text (input.Input ∷ input.Key ∷ input.Sci ∷ input.Offset ∷ input.Frame ∷ [])
       ≡ codes "input" ∷ codes "key" ∷ codes "sci" ∷ codes "offset" ∷ codes "frame" ∷ []
+  pub links : map link_refusal_text (wrong.SameSci ∷ wrong.SameKey ∷ wrong.AnInUse ∷ [])
+      ≡ codes "same sci" ∷ codes "same key" ∷ codes "an in use" ∷ []
   pub others : map failure_text (failures.Capture ∷ failures.Commands ∷ failures.Wire ∷ failures.Control
       ∷ failures.Random ∷ failures.Memory ∷ failures.Output ∷ [])
       ≡ codes "capture" ∷ codes "commands" ∷ codes "wire" ∷ codes "control" ∷ codes "random source" ∷ codes "memory"
@@ -162,6 +167,8 @@ pub record FailureTexts : Type 0 where
       × (failure_status (failures.Usage cause) ≡ ends.Usage)
   pub of_file : (cause : _) → (failure_text (failures.CommandFile cause) ≡ string_bytes cause)
       × (failure_status (failures.CommandFile cause) ≡ ends.Fault)
+  pub of_link : (refusal : LinkRefusal) → (failure_text (failures.Link refusal) ≡ link_refusal_text refusal)
+      × (failure_status (failures.Link refusal) ≡ ends.Refused)
   pub new_statuses : (failure_status failures.Control ≡ ends.Fault) × (failure_status failures.Random ≡ ends.Fault)
   pub files : map failure_of_file (file.Open ∷ file.Length ∷ file.Device ∷ file.Memory ∷ [])
       ≡ failures.Disk disk.File ∷ failures.Disk disk.Length ∷ failures.Disk (disk.Journal journal.Disk)

@@ -30,6 +30,17 @@ pub enum DiskFault {
     Journal(JournalFault),
 }
 
+/// Why a link is refused of which a file says all that is asked for.
+#[derive(Clone, Copy)]
+pub enum LinkRefusal {
+    /// Both ends have one SCI.
+    SameSci,
+    /// A key is there twice.
+    SameKey,
+    /// A pair of keys has the association number of the one before it.
+    AnInUse,
+}
+
 /// What ends a run before its answer.
 #[derive(Drop)]
 pub enum Failure {
@@ -53,6 +64,8 @@ pub enum Failure {
     Random,
     /// A command file or a link's file has a fault, of which this is said.
     CommandFile(String),
+    /// A link that a file says is refused.
+    Link(LinkRefusal),
     /// Out of memory.
     Memory,
     /// The input cannot be read, or spells no request.
@@ -83,6 +96,22 @@ impl DiskFault {
     }
 }
 
+impl LinkRefusal {
+    ghost use Rattle.std.specs.Prelude.{◌≡◌};
+    ghost use Rattle.macs_program.specs.Failing.{link_refusal_text};
+
+    /// What the program says of it.
+    pub fn text(self) -> &'static str
+        ensures { result.now ≡ link_refusal_text self }
+    {
+        match self {
+            LinkRefusal::SameSci => "same sci",
+            LinkRefusal::SameKey => "same key",
+            LinkRefusal::AnInUse => "an in use",
+        }
+    }
+}
+
 impl Failure {
     ghost use Rattle.std.specs.Prelude.{◌≡◌};
     ghost use Rattle.macs_program.specs.Failing.{failure_status, failure_text};
@@ -102,6 +131,7 @@ impl Failure {
             Failure::Control => "control",
             Failure::Random => "random source",
             Failure::CommandFile(cause) => cause.as_str(),
+            Failure::Link(refusal) => refusal.text(),
             Failure::Memory => "memory",
             Failure::Input(fault) => fault.text(),
             Failure::Output => "output",
@@ -115,6 +145,7 @@ impl Failure {
         match self {
             Failure::Usage(_) | Failure::Value(_) | Failure::Address(_) => Status::Usage,
             Failure::Disk(_) => Status::Disk,
+            Failure::Link(_) => Status::Refused,
             Failure::Capture
             | Failure::Commands
             | Failure::Wire

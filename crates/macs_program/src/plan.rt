@@ -1,21 +1,21 @@
 //! `plan`: the commands of an end of a link for a stage of its keys, as a command file.
 
-ghost use Rattle.std.specs.Prelude.{◌≡◌, ◌≢◌, ◌⊎◌, ℕ, List, Some, true, IfErr, IfOk, IfSome};
+ghost use Rattle.std.specs.Prelude.{◌≡◌, ◌≢◌, ◌⊎◌, ℕ, List, None, Some, true, IfErr, IfOk};
+ghost use Rattle.std.specs.Prelude.{IfSome};
 ghost use Rattle.std.specs.Prelude.{string_bytes};
 ghost use Rattle.toml.specs.Data.{Members};
 ghost use Rattle.toml.specs.View.{table_view};
 ghost use Rattle.toml.specs.Parse.{parse_document};
-ghost use Rattle.macs_plan.specs.Planning.{file_planned};
 ghost use Rattle.macs_plan.specs.Writing.{PlansText};
-ghost use Rattle.macs_program.specs.Checking.{Complains, ComplainsOfFile};
-ghost use Rattle.macs_program.specs.Plans.{HasPlanFault, IsPlanOfFile, IsSaidOfLink};
-ghost use Rattle.macs_program.specs.Plans.{IsSaidOfLinkText, PlanFails, PlansFile, PrintsPlan};
-ghost use Rattle.macs_program.specs.Plans.{end_of, extra_text, name_reason, name_word};
-ghost use Rattle.macs_program.specs.Plans.{plan_fault_text, stage_of, value_text};
+ghost use Rattle.macs_program.specs.Checking.{Complains};
+ghost use Rattle.macs_program.specs.Plans.{IsPlanOfFile, PlanFails, PlansFile, PrintsPlan};
+ghost use Rattle.macs_program.specs.Plans.{RefusesSo, SaysWhy, SaysWhyOfFile, SaysWhyOfText};
+ghost use Rattle.macs_program.specs.Plans.{end_of, extra_text, link_refusal, name_reason};
+ghost use Rattle.macs_program.specs.Plans.{name_word, plan_fault_text, stage_of, value_text};
 
 use crate::applying::MAX_FILE;
 use crate::check::failure_saying;
-use crate::failure::Failure;
+use crate::failure::{Failure, LinkRefusal};
 use crate::files::failure_of;
 use crate::output::print;
 use crate::status::Status;
@@ -122,18 +122,42 @@ fn fault_text(alloc: Global, fault: PlanFault) -> Result<String, AllocError>
     }
 }
 
+/// The refusal of a link that a fault is, if it is one.
+fn link_refusal(fault: PlanFault) -> Option<LinkRefusal>
+    ensures { result ≡ link_refusal fault }
+{
+    match fault {
+        PlanFault::SameSci => Some(LinkRefusal::SameSci),
+        PlanFault::SameKey => Some(LinkRefusal::SameKey),
+        PlanFault::AnInUse => Some(LinkRefusal::AnInUse),
+        _ => None,
+    }
+}
+
+/// The failure of a fault: a link is refused, or the fault is said, unless there is no memory for
+/// that.
+fn failure_of_fault(alloc: Global, fault: PlanFault) -> Failure
+    ensures { (Complains (λ said. (link_refusal fault ≡ None) × (said ≡ plan_fault_text fault))
+        result) ⊎ RefusesSo (λ refusal. link_refusal fault ≡ Some refusal) result }
+{
+    match link_refusal(fault) {
+        Some(refusal) => Failure::Link(refusal),
+        None => failure_saying(fault_text(alloc, fault)),
+    }
+}
+
 /// The command file of what is planned of a table of TOML.
 fn planned_in_table(alloc: Global, table: &Table, end: End, stage: Stage) -> Result<String, Failure>
     ensures planned { IfOk result
-        (λ text. PlansText (file_planned (table_view table.now) end stage) (string_bytes text)) }
+        (λ text. PlansText (table_view table.now) end stage (string_bytes text)) }
     ensures fault { (text : List ℕ) → parse_document text ≡ Some (table_view table.now)
-        → IfErr result (Complains (HasPlanFault end stage text)) }
+        → IfErr result (SaysWhyOfText end stage text) }
 {
     match macs_plan::plan(alloc, table, end, stage) {
         Ok(text) => Ok(text),
         Err(fault) => match fault {
             PlanFault::Memory => Err(Failure::Memory),
-            _ => Err(failure_saying(fault_text(alloc, fault))),
+            _ => Err(failure_of_fault(alloc, fault)),
         },
     }
 }
@@ -142,8 +166,8 @@ fn planned_in_table(alloc: Global, table: &Table, end: End, stage: Stage) -> Res
 fn planned_in_text(alloc: Global, text: &str, end: End, stage: Stage) -> Result<String, Failure>
     ensures planned { IfOk result (λ file. (members : Members)
         × (parse_document text.now ≡ Some members)
-        × PlansText (file_planned members end stage) (string_bytes file)) }
-    ensures fault { IfErr result (Complains (IsSaidOfLinkText end stage text.now)) }
+        × PlansText members end stage (string_bytes file)) }
+    ensures fault { IfErr result (SaysWhyOfText end stage text.now) }
 {
     match toml::table_from_str(alloc, text) {
         Ok(table) => planned_in_table(alloc, &table, end, stage),
@@ -156,7 +180,7 @@ fn planned_in_text(alloc: Global, text: &str, end: End, stage: Stage) -> Result<
 fn planned_said(alloc: Global, octets: &[u8], end: End, stage: Stage) -> Result<String, Failure>
     ensures planned { IfOk result
         (λ file. PlansFile end stage octets.now (string_bytes file)) }
-    ensures fault { IfErr result (Complains (IsSaidOfLink end stage octets.now)) }
+    ensures fault { IfErr result (SaysWhy end stage octets.now) }
 {
     if octets.len() > MAX_FILE {
         let text = String::from_str(alloc, "link file: more than 1048576 octets");
@@ -170,7 +194,8 @@ fn planned_said(alloc: Global, octets: &[u8], end: End, stage: Stage) -> Result<
 }
 
 /// The command file of what is planned of an open file, of which no more is read than can be of
-/// use. It fails as `Commands` where a read fails, and else says the first fault.
+/// use. It fails as `Commands` where a read fails, and else says the first fault, or refuses the
+/// link.
 fn planned_read<R: Read>(
     alloc: Global,
     file: &mut R,
@@ -182,10 +207,9 @@ fn planned_read<R: Read>(
     ensures spelled { IfOk result
         (λ text. (octets : List ℕ) × PlansFile end stage octets (string_bytes text)) }
     ensures fault { IfErr result (λ failure. (failure ≡ Failure.Commands)
-        ⊎ IfSome (R.remaining file.old)
-        (λ octets. Complains (IsSaidOfLink end stage octets) failure)) }
+        ⊎ IfSome (R.remaining file.old) (λ octets. SaysWhy end stage octets failure)) }
     ensures ended { IfErr result (λ failure. (failure ≡ Failure.Commands)
-        ⊎ ((octets : List ℕ) × Complains (IsSaidOfLink end stage octets) failure)) }
+        ⊎ ((octets : List ℕ) × SaysWhy end stage octets failure)) }
 {
     let mut octets = Vec::new(alloc);
     match file.take(MAX_READ as u64).read_to_end(&mut octets) {
@@ -195,7 +219,7 @@ fn planned_read<R: Read>(
 }
 
 /// The command file of what is planned of a file. It fails as `Commands` where it cannot be opened
-/// or read, and else says the first fault.
+/// or read, and else says the first fault, or refuses the link.
 fn planned_file<T: Files>(
     rt: &T,
     alloc: Global,
@@ -209,9 +233,8 @@ fn planned_file<T: Files>(
     ensures spelled { IfOk result
         (λ text. (octets : List ℕ) × PlansFile end stage octets (string_bytes text)) }
     ensures ended { IfErr result (λ failure. (failure ≡ Failure.Commands)
-        ⊎ ((octets : List ℕ) × Complains (IsSaidOfLink end stage octets) failure
-        × ((failure ≡ Failure.Memory)
-        ⊎ ComplainsOfFile (IsSaidOfLink end stage) T.File.remaining failure))) }
+        ⊎ ((octets : List ℕ) × SaysWhy end stage octets failure
+        × ((failure ≡ Failure.Memory) ⊎ SaysWhyOfFile T.File.remaining end stage failure))) }
 {
     match fs::open(rt, path) {
         Ok(mut file) => planned_read(alloc, &mut file, end, stage),

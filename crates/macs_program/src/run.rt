@@ -14,6 +14,7 @@ ghost use Rattle.macs_program.specs.Run.{is_on_disk, is_on_frames};
 ghost use Rattle.macs_words.specs.Words.{AreRefused, AsksForNothing, Names, macsecd, texts};
 ghost use Rattle.macs_words.specs.declared.action.Action.{Action};
 ghost use Rattle.macs_program.specs.declared.failure.Failure.{Failure};
+ghost use Rattle.macs_program.specs.declared.failure.LinkRefusal.{LinkRefusal};
 ghost use Rattle.macs_program.specs.declared.status.Status.{Status};
 
 use crate::about::about;
@@ -248,14 +249,23 @@ where
     T::File: CaptureFile,
     // The status is one of 0, 2, 3, 4 and 5.
     ensures status { (status : Status) × (result ≡ code_of status) }
-    // At 0 and 3 the words ask for help or are taken, and the help or what the action prints is
-    // written to standard output.
-    ensures replied { (result ≡ 0) ⊎ (result ≡ 3) → (status : Status) × (result ≡ code_of status)
+    // At 0 and 3 the words ask for help or are taken, the help or what the action prints is written
+    // to standard output, and nothing on standard error. Or, at 3, a link is refused: this is the
+    // failure of the action that the words name, and its line is printed on standard error, whole,
+    // unless that fails.
+    ensures replied { (result ≡ 0) ⊎ (result ≡ 3) → ((status : Status) × (result ≡ code_of status)
         × Replies T.File.file T.File.remaining (texts words.now)
         (read_of R.remaining R.failed input.old input.new) (W.contents out.old)
-        (W.contents out.new) status }
-    // And nothing on standard error.
-    ensures quiet { (result ≡ 0) ⊎ (result ≡ 3) → err.new ≡ err.old }
+        (W.contents out.new) status × (err.new ≡ err.old))
+        ⊎ ((refusal : LinkRefusal) × (result ≡ 3)
+        × PrintsUnlessFailed (E.contents err.old) (E.contents err.new) (E.failed err.new)
+        (complaint (Failure.Link refusal))
+        × FailsFor T.File.file T.File.remaining (texts words.now)
+        (read_of R.remaining R.failed input.old input.new) (W.contents out.old)
+        (W.contents out.new) (Failure.Link refusal)
+        × PrintedBefore (texts words.now) (W.contents out.old) (W.contents out.new)) }
+    // At 0 nothing is printed on standard error.
+    ensures quiet { result ≡ 0 → err.new ≡ err.old }
     // At 2 the words ask for no help.
     ensures help { result ≡ 2 → AsksForNothing (texts words.now) }
     // And they are none that are taken, or a value among them is none, and nothing is printed.

@@ -7,7 +7,7 @@ pub enum Status {
     Done,
     /// The program does not know the words, or does not take a value among them: 2.
     Usage,
-    /// The frame or a command is refused, or a journal has a fault: 3.
+    /// The frame, a command or a link is refused, or a journal has a fault: 3.
     Refused,
     /// The disk file failed, or what is on it does not serve: 4.
     Disk,

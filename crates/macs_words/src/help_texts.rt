@@ -223,7 +223,7 @@ status: 0 done, 2 usage, 3 a command would be refused, 4 disk, 5 a fault of the
 pub const PLAN: &str = "usage: macsecd plan FILE left|right first|receive|send|remove
 
 Prints the commands of an end of a link for a stage of its keys, as a TOML file
-for 'macsecd apply'. Nothing is changed.
+for 'macsecd apply' that names the SCI of the end. Nothing is changed.
   FILE      a TOML file that says the link, and has no other key than these:
               [left], [right]   each with sci = \"16 hex digits\", that of the end
               [[key]]           for each pair of keys, the newest last:
@@ -234,15 +234,17 @@ for 'macsecd apply'. Nothing is changed.
   send      it sends under it
   remove    the pair before it goes
 A stage comes at both ends before the next one. A fault of FILE is one line: the
-table, its key, and what is wrong with it, or one of these:
+table, its key, and what is wrong with it, or that there is no earlier pair:
   key 2 an: not 0 to 3
+  one key     there is one pair, and the stage is not first
+A link is refused by one of these:
   same sci    both ends have one SCI
   same key    a key is there twice
   an in use   a pair has the association number of the one before it
-  one key     there is one pair, and the stage is not first
 
 example: macsecd plan link.toml left first > left.toml
-status: 0 done, 2 usage, 5 a fault of the file, output or memory
+status: 0 done, 2 usage, 3 the link is refused, 5 a fault of the file, output
+        or memory
 ";
 
 pub const EXAMINE: &str = "usage: macsecd examine DISK

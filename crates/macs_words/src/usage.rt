@@ -14,8 +14,8 @@ use clap::ArgMatches;
 use clap::error::ErrorKind;
 use std::alloc::{AllocError, Global};
 
-/// The reason that an error gives: all of it, or up to an empty line, after which usage is
-/// explained.
+/// The reason that an error gives: all of it, or up to an empty line, after which come its tips or
+/// usage is explained.
 fn reason_of(text: &str) -> &str {
     match text.split_once("\n\n") {
         Some((reason, _)) => reason,
@@ -23,14 +23,35 @@ fn reason_of(text: &str) -> &str {
     }
 }
 
-/// The reason that an error gives, in one line: what is missing has lines of its own there. It
-/// repeats the words, so control characters are replaced.
+/// The tips that an error gives: the lines after the first empty line, up to the next one, where
+/// they begin as tips do. Else none.
+fn tips_of(text: &str) -> &str {
+    let Some((_, rest)) = text.split_once("\n\n") else {
+        return "";
+    };
+    if rest.starts_with("  tip: ") {
+        reason_of(rest)
+    } else {
+        ""
+    }
+}
+
+/// The reason and the tips that an error gives, in one line: what is missing and each tip have
+/// lines of their own there.
+fn line_of(alloc: Global, text: &str) -> Result<String, AllocError> {
+    let mut line = reason_of(text).replace(alloc, "\n ", "")?;
+    let tips = tips_of(text).replace(alloc, "\n ", "")?;
+    line.push_str(tips.strip_prefix(" ").unwrap_or(""))?;
+    Ok(line)
+}
+
+/// The reason and the tips that an error gives, in one line. They repeat the words, so control
+/// characters are replaced.
 fn cause_of(alloc: Global, error: &clap::Error) -> Result<String, AllocError>
     ensures { IfOk result (λ cause. IsPrintable (string_bytes cause)) }
 {
     let text = error.to_string(alloc)?;
-    let reason = reason_of(text.as_str());
-    let line = reason.replace(alloc, "\n ", "")?;
+    let line = line_of(alloc, text.as_str())?;
     printable(alloc, line.strip_prefix("error: ").unwrap_or(line.as_str()))
 }
 

@@ -70,6 +70,8 @@ enum Outcome {
     Done(&'static str),
     /// Status 3, and the line that is printed.
     Refused(&'static str),
+    /// Status 3, and the line on standard error.
+    LinkRefused(&'static str),
     /// Status 2, and the line on standard error.
     Usage(&'static str),
     /// Status 4, and the line on standard error.
@@ -88,6 +90,7 @@ impl Outcome {
         match self {
             Outcome::Done(out) => (0, out, ""),
             Outcome::Refused(out) => (3, out, ""),
+            Outcome::LinkRefused(err) => (3, "", err),
             Outcome::Usage(err) => (2, "", err),
             Outcome::Disk(err) => (4, "", err),
             Outcome::DiskBehind(out, err) => (4, out, err),

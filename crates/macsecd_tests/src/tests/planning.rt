@@ -27,7 +27,8 @@ const TWO_PAIRS: &str = "[left]\nsci = '0200000000010001'\n[right]\nsci = '02000
     right = 'ffeeddccbbaa99887766554433221100'\n";
 
 /// The first keys of the left end: it sends under its own key, and receives under the other one.
-const LEFT_FIRST: &str = "[[command]]\nan = 0\nconfidential = true\ndo = \"tx-install\"\n\
+const LEFT_FIRST: &str = "sci = \"0200000000010001\"\n\n\
+    [[command]]\nan = 0\nconfidential = true\ndo = \"tx-install\"\n\
     key = \"5a1c7e93d04b26f8a97d31e4026fb85c\"\noffset = 0\nstart = 1\n\n\
     [[command]]\nan = 0\ndo = \"tx-use\"\n\n\
     [[command]]\ndo = \"rx-add\"\nsci = \"0200000000020001\"\n\n\
@@ -35,7 +36,8 @@ const LEFT_FIRST: &str = "[[command]]\nan = 0\nconfidential = true\ndo = \"tx-in
     offset = 0\nsci = \"0200000000020001\"\nstart = 1\n";
 
 /// Those of the right end.
-const RIGHT_FIRST: &str = "[[command]]\nan = 0\nconfidential = true\ndo = \"tx-install\"\n\
+const RIGHT_FIRST: &str = "sci = \"0200000000020001\"\n\n\
+    [[command]]\nan = 0\nconfidential = true\ndo = \"tx-install\"\n\
     key = \"e07b49d6158c32af6e90b7c4fd2a8113\"\noffset = 0\nstart = 1\n\n\
     [[command]]\nan = 0\ndo = \"tx-use\"\n\n\
     [[command]]\ndo = \"rx-add\"\nsci = \"0200000000010001\"\n\n\
@@ -43,28 +45,34 @@ const RIGHT_FIRST: &str = "[[command]]\nan = 0\nconfidential = true\ndo = \"tx-i
     offset = 0\nsci = \"0200000000010001\"\nstart = 1\n";
 
 /// The stages of the newer pair at the left end.
-const LEFT_RECEIVE: &str = "[[command]]\nan = 1\ndo = \"rx-install\"\n\
+const LEFT_RECEIVE: &str = "sci = \"0200000000010001\"\n\n\
+    [[command]]\nan = 1\ndo = \"rx-install\"\n\
     key = \"ffeeddccbbaa99887766554433221100\"\n\
     offset = 0\nsci = \"0200000000020001\"\nstart = 1\n";
 
-const LEFT_SEND: &str = "[[command]]\nan = 1\nconfidential = true\ndo = \"tx-install\"\n\
+const LEFT_SEND: &str = "sci = \"0200000000010001\"\n\n\
+    [[command]]\nan = 1\nconfidential = true\ndo = \"tx-install\"\n\
     key = \"000102030405060708090a0b0c0d0e0f101112131415161718191a1b1c1d1e1f\"\n\
     offset = 0\nstart = 1\n\n\
     [[command]]\nan = 1\ndo = \"tx-use\"\n";
 
-const LEFT_REMOVE: &str = "[[command]]\nan = 0\ndo = \"tx-remove\"\n\n\
+const LEFT_REMOVE: &str = "sci = \"0200000000010001\"\n\n\
+    [[command]]\nan = 0\ndo = \"tx-remove\"\n\n\
     [[command]]\nan = 0\ndo = \"rx-remove\"\nsci = \"0200000000020001\"\n";
 
 /// And at the right end.
-const RIGHT_RECEIVE: &str = "[[command]]\nan = 1\ndo = \"rx-install\"\n\
+const RIGHT_RECEIVE: &str = "sci = \"0200000000020001\"\n\n\
+    [[command]]\nan = 1\ndo = \"rx-install\"\n\
     key = \"000102030405060708090a0b0c0d0e0f101112131415161718191a1b1c1d1e1f\"\n\
     offset = 0\nsci = \"0200000000010001\"\nstart = 1\n";
 
-const RIGHT_SEND: &str = "[[command]]\nan = 1\nconfidential = true\ndo = \"tx-install\"\n\
+const RIGHT_SEND: &str = "sci = \"0200000000020001\"\n\n\
+    [[command]]\nan = 1\nconfidential = true\ndo = \"tx-install\"\n\
     key = \"ffeeddccbbaa99887766554433221100\"\noffset = 0\nstart = 1\n\n\
     [[command]]\nan = 1\ndo = \"tx-use\"\n";
 
-const RIGHT_REMOVE: &str = "[[command]]\nan = 0\ndo = \"tx-remove\"\n\n\
+const RIGHT_REMOVE: &str = "sci = \"0200000000020001\"\n\n\
+    [[command]]\nan = 0\ndo = \"tx-remove\"\n\n\
     [[command]]\nan = 0\ndo = \"rx-remove\"\nsci = \"0200000000010001\"\n";
 
 const PLANNED: &[Step] = &[
@@ -214,20 +222,8 @@ const FAULTS: &[(&str, &str)] = &[
     ),
 ];
 
-/// The same of links that cannot be, and of files that say no link.
+/// The same of files that say no link, or too little of one.
 const FURTHER_FAULTS: &[(&str, &str)] = &[
-    (
-        "[left]\nsci = '0200000000010001'\n[right]\nsci = '0200000000010001'\n[[key]]\nan = 0\nleft = '5a1c7e93d04b26f8a97d31e4026fb85c'\nright = 'e07b49d6158c32af6e90b7c4fd2a8113'\n",
-        "macsecd: same sci\n",
-    ),
-    (
-        "[left]\nsci = '0200000000010001'\n[right]\nsci = '0200000000020001'\n[[key]]\nan = 0\nleft = '5a1c7e93d04b26f8a97d31e4026fb85c'\nright = '5A1C7E93D04B26F8A97D31E4026FB85C'\n",
-        "macsecd: same key\n",
-    ),
-    (
-        "[left]\nsci = '0200000000010001'\n[right]\nsci = '0200000000020001'\n[[key]]\nan = 0\nleft = '5a1c7e93d04b26f8a97d31e4026fb85c'\nright = 'e07b49d6158c32af6e90b7c4fd2a8113'\n[[key]]\nan = 0\nleft = '00112233445566778899aabbccddeeff'\nright = 'ffeeddccbbaa99887766554433221100'\n",
-        "macsecd: an in use\n",
-    ),
     (ONE_PAIR, "macsecd: one key\n"),
     (
         "[left]\nsci = '0200000000010001'\n[right]\nsci = '0200000000020001'\n",
@@ -240,32 +236,55 @@ const FURTHER_FAULTS: &[(&str, &str)] = &[
     ("[left\n", "macsecd: link file: not TOML\n"),
 ];
 
-/// Plans the sending of a file of this text, in which the first fault is that of a line.
-fn expect_fault(
+/// Links that are refused, and the line that says why.
+const REFUSED_LINKS: &[(&str, &str)] = &[
+    (
+        "[left]\nsci = '0200000000010001'\n[right]\nsci = '0200000000010001'\n[[key]]\nan = 0\nleft = '5a1c7e93d04b26f8a97d31e4026fb85c'\nright = 'e07b49d6158c32af6e90b7c4fd2a8113'\n",
+        "macsecd: same sci\n",
+    ),
+    (
+        "[left]\nsci = '0200000000010001'\n[right]\nsci = '0200000000020001'\n[[key]]\nan = 0\nleft = '5a1c7e93d04b26f8a97d31e4026fb85c'\nright = '5A1C7E93D04B26F8A97D31E4026FB85C'\n",
+        "macsecd: same key\n",
+    ),
+    (
+        "[left]\nsci = '0200000000010001'\n[right]\nsci = '0200000000020001'\n[[key]]\nan = 0\nleft = '5a1c7e93d04b26f8a97d31e4026fb85c'\nright = 'e07b49d6158c32af6e90b7c4fd2a8113'\n[[key]]\nan = 0\nleft = '00112233445566778899aabbccddeeff'\nright = 'ffeeddccbbaa99887766554433221100'\n",
+        "macsecd: an in use\n",
+    ),
+];
+
+/// Plans the sending of a file of this text.
+fn expect_plan(
     rt: &(impl Abort + Files<File = File> + Net + Clock + Env + RandomSource),
     alloc: Global,
     text: &str,
-    line: &'static str,
+    outcome: Outcome,
 ) -> Result<(), Fail> {
     fs::write(rt, "link-fault.toml", text.as_bytes())?;
-    expect(
-        rt,
-        alloc,
-        &["plan", "link-fault.toml", "left", "send"],
-        "",
-        Outcome::Fault(line),
-    );
+    let words = ["plan", "link-fault.toml", "left", "send"];
+    expect(rt, alloc, &words, "", outcome);
     Ok(())
 }
 
-/// Plans a file of each text.
+/// Plans a file of each text, whose first fault is that of its line.
 fn expect_each(
     rt: &(impl Abort + Files<File = File> + Net + Clock + Env + RandomSource),
     alloc: Global,
     faults: &[(&str, &'static str)],
 ) -> Result<(), Fail> {
     for (text, line) in faults {
-        expect_fault(rt, alloc, text, *line)?;
+        expect_plan(rt, alloc, text, Outcome::Fault(*line))?;
+    }
+    Ok(())
+}
+
+/// Plans a file of each text, whose link is refused so.
+fn expect_refused(
+    rt: &(impl Abort + Files<File = File> + Net + Clock + Env + RandomSource),
+    alloc: Global,
+    links: &[(&str, &'static str)],
+) -> Result<(), Fail> {
+    for (text, line) in links {
+        expect_plan(rt, alloc, text, Outcome::LinkRefused(*line))?;
     }
     Ok(())
 }
@@ -274,4 +293,9 @@ fn expect_each(
 fn why_nothing_is_planned_is_said(rt: HostRuntime) -> Result<(), Fail> {
     expect_each(&rt, rt.alloc(), FAULTS)?;
     expect_each(&rt, rt.alloc(), FURTHER_FAULTS)
+}
+
+#[test]
+fn links_are_refused(rt: HostRuntime) -> Result<(), Fail> {
+    expect_refused(&rt, rt.alloc(), REFUSED_LINKS)
 }

@@ -537,3 +537,34 @@ const CONTROL_WORDS: &[Row] = &[
 fn says_nothing_that_a_terminal_obeys(rt: HostRuntime) {
     expect_each(&rt, rt.alloc(), CONTROL_WORDS);
 }
+
+/// Words for which there are tips, and the line that has them.
+const TIPS: &[Row] = &[
+    (
+        &["formt"],
+        Outcome::Usage(
+            "macsecd: unrecognized subcommand 'formt' tip: a similar subcommand exists: 'format'\n",
+        ),
+    ),
+    (
+        &["key", "--lon"],
+        Outcome::Usage(
+            "macsecd: unexpected argument '--lon' found tip: a similar argument exists: '--long'\n",
+        ),
+    ),
+    (
+        &["show", "left.disk", "--frob"],
+        Outcome::Usage(
+            "macsecd: unexpected argument '--frob' found tip: to pass '--frob' as a value, use '-- --frob'\n",
+        ),
+    ),
+    (
+        &["--frob", "validate", "--all"],
+        Outcome::Usage("macsecd: unexpected argument '--frob' found\n"),
+    ),
+];
+
+#[test]
+fn a_refused_word_has_its_tips(rt: HostRuntime) {
+    expect_each(&rt, rt.alloc(), TIPS);
+}

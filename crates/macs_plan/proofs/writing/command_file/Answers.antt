@@ -1,10 +1,10 @@
 use Rattle.std.proofs.Common.{◌≡◌, ◌∙◌, List, ap, subst, take}
 use Rattle.std.proofs.lemmas.List.{take_all}
-use Rattle.toml.specs.Data.{array, no_members}
-use Rattle.toml.specs.View.{members_view}
+use Rattle.toml.specs.Data.{array}
+use Rattle.toml.specs.View.{table_view}
 use Rattle.macs_config.specs.declared.command.Command.{Command}
 use Rattle.macs_plan.specs.Writing.{file_of, tables_of}
-use Rattle.macs_plan.proofs.Files.{AllRead, file_depth, file_read, read_more, says, tables_more}
+use Rattle.macs_plan.proofs.Files.{AllRead, end_read, file_depth, file_read, file_seen, read_more, says, tables_more}
 use Rattle.macs_plan.proofs.writing.command_file.Goals as goal
 
 pub loop-i-preserved : goal.loop-i-preserved
@@ -22,9 +22,10 @@ returns c =
     let whole : take c.loop-i.i commands ≡ commands = take_all c.loop-i.i commands c.loop-i-test.false in
     let tables = c.loop-i.invariant.tables ∙ ap (λ (l : List Command). tables_of l) whole in
     let all : AllRead commands = subst (λ (l : List Command). AllRead l) whole c.loop-i.invariant.read in
-    says c.written.result commands
-    (c.written.ensures (file_of commands)
-    (c.with-file.ensures no_members (array (tables_of commands)) (ap members_view c.new.ensures.empty)
-    (c.from-2.ensures ∙ ap array tables))
-    (file_depth commands))
-    (file_read commands all)
+    let seen = c.from-2.ensures ∙ ap array tables in
+    says c.written.result c.args.sci commands
+    (c.written.ensures (file_of c.args.sci commands)
+    (file_seen (λ table. table_view table) c.file_table.result c.args.sci _ (array (tables_of commands)) seen
+    c.file_table.ensures)
+    (file_depth c.args.sci commands))
+    (file_read c.args.sci commands all) (end_read c.args.sci commands c.sci_in_range.ensures)

@@ -1,6 +1,5 @@
 use Rattle.std.proofs.lemmas.Result.{IfOk-weaker}
-use Rattle.macs_program.specs.Plans.{IsSaidOfLink}
-use Rattle.macs_program.proofs.Checked.{file-complained, not-opened}
+use Rattle.macs_program.proofs.Planned.{file-not-planned, link-not-opened}
 use Rattle.macs_program.proofs.plan.planned_file.Goals as goal
 
 pub returns-in-Ok-clause-planned : goal.returns-in-Ok-clause-planned
@@ -9,9 +8,9 @@ returns-in-Ok-clause-planned g c =
 
 pub returns-in-Ok-clause-ended : goal.returns-in-Ok-clause-ended
 returns-in-Ok-clause-ended g c =
-    file-complained (IsSaidOfLink c.args.end c.args.stage) _ c.in-Ok.file c.planned_read.result
-    c.planned_read.ensures.fault c.planned_read.ensures.ended
+    file-not-planned c.args.end c.args.stage _ c.in-Ok.file c.planned_read.result c.planned_read.ensures.fault
+    c.planned_read.ensures.ended
 
 pub returns-in-Err-clause-ended : goal.returns-in-Err-clause-ended
 returns-in-Err-clause-ended g c =
-    not-opened (IsSaidOfLink c.args.end c.args.stage) _ c.failure_of.result c.failure_of.ensures.either
+    link-not-opened c.args.end c.args.stage _ c.failure_of.result c.failure_of.ensures.either

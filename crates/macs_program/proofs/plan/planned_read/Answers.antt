@@ -1,6 +1,6 @@
 use Rattle.std.proofs.Common.{inr, string_bytes}
 use Rattle.std.proofs.lemmas.Result.{IfErr-weaker, IfOk-weaker}
-use Rattle.macs_program.proofs.Planned.{link-read, plans-read}
+use Rattle.macs_program.proofs.Planned.{plans-read, why-read}
 use Rattle.macs_program.proofs.plan.planned_read.Goals as goal
 
 pub returns-in-Ok-clause-planned : goal.returns-in-Ok-clause-planned
@@ -14,7 +14,7 @@ returns-in-Ok-clause-planned g c =
 pub returns-in-Ok-clause-fault : goal.returns-in-Ok-clause-fault
 returns-in-Ok-clause-fault g c =
     IfErr-weaker c.planned_said.result _ _
-    (λ failure complains. inr (link-read c.args.end c.args.stage (g.R.Read.remaining c.args.file.now) _ failure
+    (λ failure says. inr (why-read c.args.end c.args.stage (g.R.Read.remaining c.args.file.now) _ failure
     (rw (c.take.ensures.limit, c.take.ensures.inner, c.new-octets.ensures.items) at c.in-Ok.ensures.bytes)
-    (rw c.as_slice.ensures.value at complains)))
+    (rw c.as_slice.ensures.value at says)))
     c.planned_said.ensures.fault

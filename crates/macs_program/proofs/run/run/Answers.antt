@@ -1,6 +1,9 @@
-use Rattle.std.proofs.Common.{sym, ◌∙◌}
-use Rattle.macs_program.proofs.Codes.{code-disk, code-usage, no-success, not-failed}
+use Rattle.std.proofs.Common.{inl, inr, refl, sym, ◌∙◌}
+use Rattle.macs_program.proofs.Codes.{code-disk, code-usage, no-success, not-failed, refused-link}
 use Rattle.macs_program.specs.Failing.{failure_status}
+use Rattle.macs_program.specs.Inputs.{read_of}
+use Rattle.macs_program.specs.Run.{FailsFor, PrintsUnlessFailed, complaint}
+use Rattle.macs_words.specs.Words.{texts}
 use Rattle.macs_program.proofs.run.run.Goals as goal
 
 pub returns-in-Err-clause-usage : goal.returns-in-Err-clause-usage
@@ -28,8 +31,19 @@ returns-in-Err-clause-reported g c = λ done refused. (
   c.in-Err.ensures.broken,
 )
 
+pub returns-in-Ok-clause-replied : goal.returns-in-Ok-clause-replied
+returns-in-Ok-clause-replied g c = λ which. inl (c.in-Ok.status, c.code.ensures, c.in-Ok.ensures.replied, refl)
+
 pub returns-in-Err-clause-replied : goal.returns-in-Err-clause-replied
-returns-in-Err-clause-replied g c = no-success c.in-Err.failure c.report.result c.report.ensures.status
+returns-in-Err-clause-replied g c = λ which.
+    inr (refused-link
+    (λ failure. PrintsUnlessFailed (g.E.Stream.contents c.args.err.now) (g.E.Stream.contents c.report.new.err)
+    (g.E.Stream.failed c.report.new.err) (complaint failure))
+    (λ failure. FailsFor g.T.File.DiskFile.file g.T.File.Read.remaining (texts c.args.words.now)
+    (read_of g.R.Input.remaining g.R.Input.failed c.args.input.now c.act.new.input)
+    (g.W.Stream.contents c.args.out.now) (g.W.Stream.contents c.act.new.out) failure)
+    _ c.in-Err.failure c.report.result c.report.ensures.status c.report.ensures.printed c.in-Err.ensures.fails
+    c.in-Err.ensures.before which)
 
 pub returns-in-Err-clause-quiet : goal.returns-in-Err-clause-quiet
 returns-in-Err-clause-quiet g c = no-success c.in-Err.failure c.report.result c.report.ensures.status
