@@ -23,16 +23,15 @@ fn reason_of(text: &str) -> &str {
     }
 }
 
-/// The tips that an error gives: the lines after the first empty line, up to the next one, where
-/// they begin as tips do. Else none.
+/// The tips that an error gives, from the blank before the first one on: the lines after the first
+/// empty line, up to the next one, where they are indented, as those of usage are not. Else none.
 fn tips_of(text: &str) -> &str {
     let Some((_, rest)) = text.split_once("\n\n") else {
         return "";
     };
-    if rest.starts_with("  tip: ") {
-        reason_of(rest)
-    } else {
-        ""
+    match rest.strip_prefix(" ") {
+        Some(tips) => reason_of(tips),
+        None => "",
     }
 }
 
@@ -41,7 +40,7 @@ fn tips_of(text: &str) -> &str {
 fn line_of(alloc: Global, text: &str) -> Result<String, AllocError> {
     let mut line = reason_of(text).replace(alloc, "\n ", "")?;
     let tips = tips_of(text).replace(alloc, "\n ", "")?;
-    line.push_str(tips.strip_prefix(" ").unwrap_or(""))?;
+    line.push_str(tips.as_str())?;
     Ok(line)
 }
 

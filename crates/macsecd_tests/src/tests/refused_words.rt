@@ -24,11 +24,15 @@ fn expect_all(
 const OTHER_WORDS: &[Row] = &[
     (
         &["frobnicate"],
-        Outcome::Usage("macsecd: unrecognized subcommand 'frobnicate'\n"),
+        Outcome::Usage(
+            "macsecd: unrecognized subcommand 'frobnicate' tip: a similar subcommand exists: 'format'\n",
+        ),
     ),
     (
         &["Open"],
-        Outcome::Usage("macsecd: unrecognized subcommand 'Open'\n"),
+        Outcome::Usage(
+            "macsecd: unrecognized subcommand 'Open' tip: a similar subcommand exists: 'open'\n",
+        ),
     ),
     (
         &[""],
@@ -312,15 +316,21 @@ const WORDS_WITH_OPTIONS: &[Row] = &[
     ),
     (
         &["show", "left.disk", "--over"],
-        Outcome::Usage("macsecd: unexpected argument '--over' found\n"),
+        Outcome::Usage(
+            "macsecd: unexpected argument '--over' found tip: to pass '--over' as a value, use '-- --over'\n",
+        ),
     ),
     (
         &["apply", "--frob=1", "left.disk", "left.toml"],
-        Outcome::Usage("macsecd: unexpected argument '--frob' found\n"),
+        Outcome::Usage(
+            "macsecd: unexpected argument '--frob' found tip: to pass '--frob' as a value, use '-- --frob'\n",
+        ),
     ),
     (
         &["show", "left.disk", "-f"],
-        Outcome::Usage("macsecd: unexpected argument '-f' found\n"),
+        Outcome::Usage(
+            "macsecd: unexpected argument '-f' found tip: to pass '-f' as a value, use '-- -f'\n",
+        ),
     ),
     (
         &[
@@ -345,27 +355,39 @@ const WORDS_WITH_OPTIONS: &[Row] = &[
     ),
     (
         &["format", "left.disk", "--help"],
-        Outcome::Usage("macsecd: unexpected argument '--help' found\n"),
+        Outcome::Usage(
+            "macsecd: unexpected argument '--help' found tip: to pass '--help' as a value, use '-- --help'\n",
+        ),
     ),
     (
         &["apply", "left.disk", "left.toml", "--help"],
-        Outcome::Usage("macsecd: unexpected argument '--help' found\n"),
+        Outcome::Usage(
+            "macsecd: unexpected argument '--help' found tip: to pass '--help' as a value, use '-- --help'\n",
+        ),
     ),
     (
         &["show", "left.disk", "-h"],
-        Outcome::Usage("macsecd: unexpected argument '-h' found\n"),
+        Outcome::Usage(
+            "macsecd: unexpected argument '-h' found tip: to pass '-h' as a value, use '-- -h'\n",
+        ),
     ),
     (
         &["protect", "--help", "left.disk"],
-        Outcome::Usage("macsecd: unexpected argument '--help' found\n"),
+        Outcome::Usage(
+            "macsecd: unexpected argument '--help' found tip: to pass '--help' as a value, use '-- --help'\n",
+        ),
     ),
     (
         &["validate", "--version"],
-        Outcome::Usage("macsecd: unexpected argument '--version' found\n"),
+        Outcome::Usage(
+            "macsecd: unexpected argument '--version' found tip: to pass '--version' as a value, use '-- --version'\n",
+        ),
     ),
     (
         &["show", "-V"],
-        Outcome::Usage("macsecd: unexpected argument '-V' found\n"),
+        Outcome::Usage(
+            "macsecd: unexpected argument '-V' found tip: to pass '-V' as a value, use '-- -V'\n",
+        ),
     ),
     (
         &["protect", "d", "i", "o", "--all=1"],
@@ -385,7 +407,9 @@ const WORDS_WITH_OPTIONS: &[Row] = &[
     ),
     (
         &["protect", "d", "i", "o", "--each"],
-        Outcome::Usage("macsecd: unexpected argument '--each' found\n"),
+        Outcome::Usage(
+            "macsecd: unexpected argument '--each' found tip: to pass '--each' as a value, use '-- --each'\n",
+        ),
     ),
     (
         &["key", "--long=1"],
@@ -397,11 +421,15 @@ const WORDS_WITH_OPTIONS: &[Row] = &[
     ),
     (
         &["inspect", "--long", "plain.pcap"],
-        Outcome::Usage("macsecd: unexpected argument '--long' found\n"),
+        Outcome::Usage(
+            "macsecd: unexpected argument '--long' found tip: to pass '--long' as a value, use '-- --long'\n",
+        ),
     ),
     (
         &["check", "left.toml", "--help"],
-        Outcome::Usage("macsecd: unexpected argument '--help' found\n"),
+        Outcome::Usage(
+            "macsecd: unexpected argument '--help' found tip: to pass '--help' as a value, use '-- --help'\n",
+        ),
     ),
 ];
 
@@ -416,11 +444,15 @@ fn refuses_options(rt: HostRuntime) {
 const NO_NUMBERS: &[Row] = &[
     (
         &["format", "d", "s", "-1", "16"],
-        Outcome::Usage("macsecd: unexpected argument '-1' found\n"),
+        Outcome::Usage(
+            "macsecd: unexpected argument '-1' found tip: to pass '-1' as a value, use '-- -1'\n",
+        ),
     ),
     (
         &["format", "d", "s", "-0", "16"],
-        Outcome::Usage("macsecd: unexpected argument '-0' found\n"),
+        Outcome::Usage(
+            "macsecd: unexpected argument '-0' found tip: to pass '-0' as a value, use '-- -0'\n",
+        ),
     ),
     (
         &["format", "d", "s", "x", "16"],
@@ -471,27 +503,39 @@ fn refuses_what_is_no_number(rt: HostRuntime) {
 const HYPHENS: &[Row] = &[
     (
         &["format", "-left.disk", "0200000000010001", "1024", "16"],
-        Outcome::Usage("macsecd: unexpected argument '-l' found\n"),
+        Outcome::Usage(
+            "macsecd: unexpected argument '-l' found tip: to pass '-l' as a value, use '-- -l'\n",
+        ),
     ),
     (
         &["apply", "-left.disk", "left.toml"],
-        Outcome::Usage("macsecd: unexpected argument '-l' found\n"),
+        Outcome::Usage(
+            "macsecd: unexpected argument '-l' found tip: to pass '-l' as a value, use '-- -l'\n",
+        ),
     ),
     (
         &["show", "-left.disk"],
-        Outcome::Usage("macsecd: unexpected argument '-l' found\n"),
+        Outcome::Usage(
+            "macsecd: unexpected argument '-l' found tip: to pass '-l' as a value, use '-- -l'\n",
+        ),
     ),
     (
         &["show", "--left.disk"],
-        Outcome::Usage("macsecd: unexpected argument '--left.disk' found\n"),
+        Outcome::Usage(
+            "macsecd: unexpected argument '--left.disk' found tip: to pass '--left.disk' as a value, use '-- --left.disk'\n",
+        ),
     ),
     (
         &["protect", "-left.disk", "plain.pcap", "protected.pcap"],
-        Outcome::Usage("macsecd: unexpected argument '-l' found\n"),
+        Outcome::Usage(
+            "macsecd: unexpected argument '-l' found tip: to pass '-l' as a value, use '-- -l'\n",
+        ),
     ),
     (
         &["validate", "-left.disk", "protected.pcap", "plain.pcap"],
-        Outcome::Usage("macsecd: unexpected argument '-l' found\n"),
+        Outcome::Usage(
+            "macsecd: unexpected argument '-l' found tip: to pass '-l' as a value, use '-- -l'\n",
+        ),
     ),
 ];
 
@@ -557,6 +601,10 @@ const TIPS: &[Row] = &[
         Outcome::Usage(
             "macsecd: unexpected argument '--frob' found tip: to pass '--frob' as a value, use '-- --frob'\n",
         ),
+    ),
+    (
+        &["--lon", "key"],
+        Outcome::Usage("macsecd: unexpected argument '--lon' found tip: 'key --long' exists\n"),
     ),
     (
         &["--frob", "validate", "--all"],

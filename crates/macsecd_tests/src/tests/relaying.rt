@@ -344,7 +344,9 @@ const WORDS: &[Step] = &[
     ),
     Run(
         &["relay", NO, ANY, ANY, ANY, ANY, "--turn", "1"],
-        Usage("macsecd: unexpected argument '--turn' found\n"),
+        Usage(
+            "macsecd: unexpected argument '--turn' found tip: a similar argument exists: '--turns'\n",
+        ),
     ),
     Run(
         &["relay", NO, ANY, ANY, ANY, "--wait", "5"],

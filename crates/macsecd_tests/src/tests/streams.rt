@@ -119,7 +119,9 @@ const READ_FAULT: Outcome = Outcome::Fault("macsecd: input\n");
 const READINGS: &[(&[&str], Outcome, bool)] = &[
     (
         &["frobnicate"],
-        Outcome::Usage("macsecd: unrecognized subcommand 'frobnicate'\n"),
+        Outcome::Usage(
+            "macsecd: unrecognized subcommand 'frobnicate' tip: a similar subcommand exists: 'format'\n",
+        ),
         false,
     ),
     (&["--help"], Outcome::Done(HELP_TEXT), false),
