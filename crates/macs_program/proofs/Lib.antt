@@ -25,6 +25,7 @@ pub mod OpenedFrames
 pub mod Performed
 pub mod Planned
 pub mod Printing
+mod RecordWords
 pub mod Relayed
 pub mod SpelledWires
 pub mod Spelling

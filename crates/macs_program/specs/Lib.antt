@@ -23,6 +23,7 @@ pub mod Inspecting
 pub mod Copying
 pub mod Trying
 pub mod FirstFault
+pub mod RecordLines
 pub mod Examining
 pub mod About
 pub mod Checking

@@ -32,6 +32,7 @@ mod open_input;
 mod opened;
 mod output;
 mod plan;
+mod record_lines;
 mod relaying;
 pub mod run;
 mod status;
