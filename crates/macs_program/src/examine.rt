@@ -32,7 +32,7 @@ use crate::examined_text::{Figures, examined_text, fault_line};
 use crate::failure::{DiskFault, Failure};
 use crate::files::open_regular;
 use crate::first_fault::fault_of;
-use crate::output::print;
+use crate::output::print_last;
 use crate::record_lines::records_text;
 use crate::status::Status;
 use crate::stream::Stream;
@@ -253,6 +253,5 @@ where
     ensures broken { IfErr result (λ failure. failure ≡ Failure.Output → W.failed out.new ≡ true) }
 {
     let said = examine_in(rt, alloc, path)?;
-    print(out, said.text.as_str())?;
-    Ok(said.status)
+    print_last(out, said.text.as_str(), said.status)
 }
