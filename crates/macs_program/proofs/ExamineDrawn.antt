@@ -2,12 +2,18 @@
 use Rattle.std.proofs.Common.{inl, inr, ℕ, Option, ap, refl}
 use Rattle.macs_program.specs.ExamineTexts.{AboutTexts, ExamineTexts}
 use Rattle.macs_program.specs.Examining.{rx_ceiling_line, tx_ceiling_line}
+use Rattle.macs_program.proofs.RecordWords.{each-once, no-line, some-line, word-of-number}
 
 pub examine-texts : ExamineTexts
 examine-texts = record {
-  order = λ layout figures s. refl;
+  order = λ layout figures records s. refl;
   figures = λ layout figures. refl;
   found = λ c. (refl, refl, refl, refl);
+  records = λ records. refl;
+  counted = λ records word n is. some-line word _ n is;
+  none = λ records word is. no-line word _ is;
+  words = word-of-number;
+  each = each-once;
   formats = (refl, refl);
   blocks = (refl, refl);
   number = λ name n. refl;

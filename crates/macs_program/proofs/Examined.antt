@@ -1,6 +1,7 @@
 -- What is said of the disk in a file, and how that fails.
-use Rattle.std.proofs.Common.{◌≡◌, ◌≢◌, ◌≤◌, ◌⊎◌, ◌∙◌, ◌/◌, ◌%◌, inl, inr, ℕ, List, length, Result, Ok, Err, ap, refl}
-use Rattle.std.proofs.Common.{subst, sym}
+use Rattle.std.proofs.Common.{◌≡◌, ◌≢◌, ◌≤◌, ◌⊎◌, ◌∙◌, ◌/◌, ◌%◌, inl, inr, ℕ, List, length, Option, Result, Ok, Err, ap}
+use Rattle.std.proofs.Common.{refl, subst, sym}
+use Rattle.std.specs.Io.KnownBytes.{Appends}
 use Rattle.std.specs.Prelude.{IsErrOf}
 use Rattle.std.specs.declared.alloc.Global.{Global}
 use Rattle.macs_config.specs.Config.{this_edition}
@@ -24,8 +25,8 @@ use Rattle.macs_store.specs.Found.{IsUnfitTo, StandingIs}
 use Rattle.macs_store.specs.Replay.{meaning_of}
 use Rattle.macs_store.specs.Standing.{Standing}
 use Rattle.macs_program.specs.Copying.{CopyFails, IsCopy}
-use Rattle.macs_program.specs.Examining.{ExaminationFails, ExamineFails, IsJournalOf, IsLaidCopy, IsNotExamined}
-use Rattle.macs_program.specs.Examining.{IsNotOpened, Says, figures_of}
+use Rattle.macs_program.specs.Examining.{ExaminationFails, ExamineFails, ExaminesIn, IsJournalOf, IsLaidCopy}
+use Rattle.macs_program.specs.Examining.{IsNotExamined, IsNotOpened, PrintsExamined, Says, figures_of}
 use Rattle.macs_program.specs.Failing.{failure_status}
 use Rattle.macs_program.specs.Trying.{failure_in_memory}
 use Rattle.macs_program.specs.declared.failure.DiskFault.TheVariants as disk
@@ -141,6 +142,16 @@ pub said-status : (image : Image) (layout : Layout) (text : List ℕ) (status : 
     → (status ≡ Done) ⊎ (status ≡ Refused)
 said-status image layout text status (inl (content, standing, journal, is, done)) = inl done
 said-status image layout text status (inr (at, fault, is, refused)) = inr refused
+
+-- it is printed, and the run ends so
+pub printed-so : {F : Type 0} (state_of : F → FileState) (before after : Option (List ℕ)) (text shown : List ℕ)
+    (said status : Status) → ExaminesIn state_of text said → shown ≡ text
+    → Appends before after shown × (status ≡ said) → PrintsExamined state_of before after status
+printed-so state_of before after text shown said status is same (printed, ended) = (
+  text,
+  subst (λ (s : Status). ExaminesIn state_of text s) (sym ended) is,
+  subst (λ (t : List ℕ). Appends before after t) same printed,
+)
 
 -- ---- the file
 

@@ -26,6 +26,7 @@ pub mod OwnEnds
 pub mod Performed
 pub mod Planned
 pub mod Printing
+mod RecordWords
 pub mod Relayed
 pub mod SpelledWires
 pub mod Spelling

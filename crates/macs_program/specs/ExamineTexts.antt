@@ -1,7 +1,9 @@
 -- What is to be drawn from the words on what `examine` and `about` print.
-use Rattle.std.specs.Prelude.{◌≡◌, ◌<◌, ◌⊎◌, ◌+◌, ◌++◌, ◌∷◌, [], ℕ, true, false, List, length, map, codes, Some, None}
+use Rattle.std.specs.Prelude.{◌≡◌, ◌<◌, ◌⊎◌, ◌+◌, ◌-◌, ◌++◌, ◌∷◌, [], ℕ, true, false, List, length, map, filter, sum}
+use Rattle.std.specs.Prelude.{slice_get, codes, Some, None}
 use Rattle.std.specs.Fmt.{decimal}
 use Rattle.std.specs.List.{concat}
+use Rattle.std.specs.Str.{bytes_eq}
 use Rattle.hex.specs.Hex.{encode_lower}
 use Rattle.macs_config.specs.Config.{Config, this_edition}
 use Rattle.macs_disk.specs.declared.layout.Layout.{Layout}
@@ -11,7 +13,9 @@ use Rattle.macs_journal.specs.Areas.{gate, slot_body}
 use Rattle.macs_journal.specs.Found.{AreAtOdds, Content, IsCurrent, IsGateOpen, IsHeadless}
 use Rattle.macs_record.specs.Decoding.{HasRecord}
 use Rattle.macs_record.specs.Heads.{Head, version_of}
+use Rattle.macs_record.specs.Layout.{kind_number, kind_of}
 use Rattle.macs_record.specs.declared.format.Format.TheVariants.{One, Two}
+use Rattle.macs_record.specs.declared.record.Record.{Record}
 use Rattle.macs_store.specs.Replay.{migrates, reads}
 use Rattle.macs_store.specs.Standing.{Standing}
 use Rattle.macs_words.specs.Help.{topic_text}
@@ -21,26 +25,47 @@ use Rattle.macs_program.specs.Examining.{block_of, channel_ceilings_text, end_te
 use Rattle.macs_program.specs.Examining.{figures_of, figures_text, number_line, part_line}
 use Rattle.macs_program.specs.Examining.{rx_ceiling_text, tx_ceiling_text}
 use Rattle.macs_program.specs.FirstFault.{IsFirstFault}
+use Rattle.macs_program.specs.RecordLines.{record_line, record_word, record_words, records_text, records_with}
 use Rattle.macs_program.specs.declared.build.TheConstants.{COMMIT, LEVEL, TOOLCHAIN}
 use Rattle.macs_program.specs.declared.examined_text.Figures.{Figures}
 
 -- First five lines of the journal: its format, the block of its layout, which area is current, in which generation, and
--- how many of its slots have records; then the ceilings of transmit associations by their numbers, and of each channel
--- those of its receive associations, a line each where there is one; last how many keys are spent on either side, and
--- that the journal is whole. The figures are those of the content that is found. The first
--- fault is the head of area 0 that is none, or that of area 1 that is none or at odds with it, or else that of the
--- first slot of the current area: its body, where the slot counts and has no record, or its gate, where that is closed
--- before an open one. A slot counts that is of the snapshot, or whose gate is open.
+-- how many of its slots have records; then how many records there are of each word, where there are any; then the
+-- ceilings of transmit associations by their numbers, and of each channel those of its receive associations, a line
+-- each where there is one; last how many keys are spent on either side, and that the journal is whole. The figures are
+-- those of the content that is found.
+--
+-- The words are in the order of the numbers that kinds of records have in their sectors, from 1; the last four kinds
+-- have the words of those that keep the same of a key of 16 octets. So each record is counted in just one line.
+--
+-- The first fault is the head of area 0 that is none, or that of area 1 that is none or at odds with it, or else that of
+-- the first slot of the current area: its body, where the slot counts and has no record, or its gate, where that is
+-- closed before an open one. A slot counts that is of the snapshot, or whose gate is open.
 pub record ExamineTexts : Type 0 where
-  pub order : (layout : Layout) (figures : Figures) (s : Standing) → examined_text layout figures s
-      ≡ figures_text layout figures ++ (concat (map (tx_ceiling_text s) (0 ∷ 1 ∷ 2 ∷ 3 ∷ []))
-      ++ (concat (map (channel_ceilings_text s) s.config.channels) ++ end_text s.config))
+  pub order : (layout : Layout) (figures : Figures) (records : List Record) (s : Standing)
+      → examined_text layout figures records s
+      ≡ figures_text layout figures ++ (records_text records ++ (concat (map (tx_ceiling_text s) (0 ∷ 1 ∷ 2 ∷ 3 ∷ []))
+      ++ (concat (map (channel_ceilings_text s) s.config.channels) ++ end_text s.config)))
   pub figures : (layout : Layout) (figures : Figures) → figures_text layout figures
       ≡ number_line (codes "format") (version_of figures.format) ++ (number_line (codes "block") (block_of layout)
       ++ (number_line (codes "area") figures.area ++ (number_line (codes "generation") figures.generation
       ++ part_line (codes "slots used") figures.used 256)))
   pub found : (c : Content) → ((figures_of c).format ≡ c.head.format) × ((figures_of c).area ≡ c.area)
       × ((figures_of c).generation ≡ c.head.generation) × ((figures_of c).used ≡ length c.records)
+  pub records : (records : List Record) → records_text records ≡ concat (map (record_line records)
+      (codes "settings" ∷ codes "tx-sa" ∷ codes "channel" ∷ codes "rx-sa" ∷ codes "spent" ∷ codes "set-validate"
+      ∷ codes "set-replay" ∷ codes "set-sci-mode" ∷ codes "tx-install" ∷ codes "tx-use" ∷ codes "tx-remove"
+      ∷ codes "rx-add" ∷ codes "rx-drop" ∷ codes "rx-install" ∷ codes "rx-remove" ∷ codes "tx-ceiling"
+      ∷ codes "rx-ceiling" ∷ []))
+  pub counted : (records : List Record) (word : List ℕ) (n : ℕ)
+      → length (filter (λ r. bytes_eq (record_word r) word) records) ≡ n + 1
+      → record_line records word ≡ (codes "records " ++ (word ++ (codes " " ++ decimal (n + 1)))) ++ 10 ∷ []
+  pub none : (records : List Record) (word : List ℕ)
+      → length (filter (λ r. bytes_eq (record_word r) word) records) ≡ 0 → record_line records word ≡ []
+  pub words : (r : Record) → slice_get (record_words ++ codes "tx-sa" ∷ codes "rx-sa" ∷ codes "tx-install"
+      ∷ codes "rx-install" ∷ []) (kind_number (kind_of r) - 1) ≡ Some (record_word r)
+  pub each : (records : List Record)
+      → sum (map (λ word. length (records_with word records)) record_words) ≡ length records
   pub formats : (version_of One ≡ 1) × (version_of Two ≡ 2)
   pub blocks : (block_of Packed ≡ 512) × (block_of Spaced ≡ 4096)
   pub number : (name : List ℕ) (n : ℕ) → number_line name n ≡ (name ++ (codes " " ++ decimal n)) ++ 10 ∷ []

@@ -20,6 +20,7 @@ use Rattle.macs_journal.specs.Found.{Content, HasJournal, IsBadJournal}
 use Rattle.macs_journal.specs.declared.fault.JournalFault.{JournalFault}
 use Rattle.macs_journal.specs.declared.fault.JournalFault.TheVariants.{BadJournal}
 use Rattle.macs_record.specs.Heads.{version_of}
+use Rattle.macs_record.specs.declared.record.Record.{Record}
 use Rattle.macs_store.specs.Found.{IsUnfitTo}
 use Rattle.macs_store.specs.Replay.{meaning_of}
 use Rattle.macs_store.specs.Standing.{Standing}
@@ -28,6 +29,7 @@ use Rattle.macs_texts.specs.Showing.{association_numbers}
 use Rattle.macs_program.specs.Copying.{CopyFails, IsCopy, IsNotRead}
 use Rattle.macs_program.specs.Failing.{failure_of_journal}
 use Rattle.macs_program.specs.FirstFault.{IsFirstFault}
+use Rattle.macs_program.specs.RecordLines.{records_text}
 use Rattle.macs_program.specs.declared.examined_text.Figures.{Figures}
 use Rattle.macs_program.specs.declared.failure.Failure.{Failure}
 use Rattle.macs_program.specs.declared.failure.Failure.TheVariants as failures
@@ -91,11 +93,11 @@ end_text config =
     part_line (codes "spent tx") (length config.spent_tx) 512
     ++ (part_line (codes "spent rx") (length config.spent_rx) 512 ++ line (codes "whole"))
 
--- all of it, of a journal with these figures that stands for this
-abbrev pub examined_text : Layout → Figures → Standing → List ℕ
-examined_text layout figures s =
-    figures_text layout figures ++ (concat (map (tx_ceiling_text s) association_numbers)
-    ++ (concat (map (channel_ceilings_text s) s.config.channels) ++ end_text s.config))
+-- all of it, of a journal with these figures and records that stands for this
+abbrev pub examined_text : Layout → Figures → List Record → Standing → List ℕ
+examined_text layout figures records s =
+    figures_text layout figures ++ (records_text records ++ (concat (map (tx_ceiling_text s) association_numbers)
+    ++ (concat (map (channel_ceilings_text s) s.config.channels) ++ end_text s.config)))
 
 -- of a bad journal: the sector of its first fault
 abbrev pub fault_line : ℕ → List ℕ
@@ -117,7 +119,7 @@ SaysFault image text status = (at : ℕ) × IsFirstFault image at × (text ≡ f
 abbrev pub Says : Image → Layout → List ℕ → Status → Type 0
 Says image layout text status =
     ((content : Content) × (standing : Standing) × IsJournalOf image content standing
-    × (text ≡ examined_text layout (figures_of content) standing) × (status ≡ ends.Done))
+    × (text ≡ examined_text layout (figures_of content) content.records standing) × (status ≡ ends.Done))
     ⊎ SaysFault image text status
 
 -- there is no memory, or no endpoint of this program is opened on a disk, for this fault

@@ -24,6 +24,7 @@ pub mod Copying
 pub mod Trying
 pub mod FileModes
 pub mod FirstFault
+pub mod RecordLines
 pub mod Examining
 pub mod About
 pub mod Checking

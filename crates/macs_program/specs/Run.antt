@@ -161,6 +161,17 @@ FailsAs state_of left_in (Plan file end stage) octets before after failure =
 FailsAs state_of left_in (Examine disk) octets before after failure = ExamineFails state_of failure
 FailsAs state_of left_in About octets before after failure = (failure ≡ Memory) ⊎ (failure ≡ Output)
 
+-- it is one that reads no input and opens no endpoint in a file
+abbrev pub is_apart : Action → Bool
+is_apart (Ask path asked) = true
+is_apart (Key is_long) = true
+is_apart (Inspect from) = true
+is_apart (Check file disk) = true
+is_apart (Plan file end stage) = true
+is_apart (Examine disk) = true
+is_apart About = true
+is_apart action = false
+
 -- it is one that has an endpoint and hands it no frames
 abbrev pub is_on_disk : Action → Bool
 is_on_disk (Format disk sci tx_block rx_block block is_over) = true

@@ -160,7 +160,8 @@ pub record ReplyWords {F : Type 0} (file : F → FileState) (left_in : F → Opt
       → IsCopy (file disk_file) (disk_of copy) × (layout ≡ layout_in (file disk_file))))
       × (((content : Content) × (standing : Standing) × HasJournal (now (disk_of copy)).seen content
       × (meaning_of this_edition content ≡ Some standing)
-      × Appends before after (examined_text layout (figures_of content) standing) × (status ≡ ends.Done))
+      × Appends before after (examined_text layout (figures_of content) content.records standing)
+      × (status ≡ ends.Done))
       ⊎ ((at : ℕ) × IsFirstFault (now (disk_of copy)).seen at × Appends before after (fault_line at)
       × (status ≡ ends.Refused)))
   pub protected : (path from to : Bor Text) (is_all : Bool) (input : InputRead) (before after : Option (List ℕ))

@@ -6,7 +6,7 @@ ghost use Rattle.macs_program.specs.About.{about_text, word_line};
 
 use crate::build::{COMMIT, LEVEL, TOOLCHAIN};
 use crate::failure::Failure;
-use crate::output::print;
+use crate::output::print_last;
 use crate::status::Status;
 use crate::stream::Stream;
 use macs_texts::{ended, joined};
@@ -46,6 +46,5 @@ pub fn about<W: Stream>(alloc: Global, out: &mut W) -> Result<Status, Failure>
     ensures broken { IfErr result (λ failure. failure ≡ Failure.Output → W.failed out.new ≡ true) }
 {
     let text = about_text(alloc)?;
-    print(out, text.as_str())?;
-    Ok(Status::Done)
+    print_last(out, text.as_str(), Status::Done)
 }

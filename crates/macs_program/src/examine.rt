@@ -1,7 +1,7 @@
 //! `examine`: what the journal of the disk in a file has, which is only read.
 
 ghost use Rattle.std.specs.Prelude.{◌≡◌, ◌≢◌, ◌⊎◌, ◌≤◌, ◌%◌, true, Ok, IfErr, IfOk, IsErrOf};
-ghost use Rattle.std.specs.Prelude.{string_bytes};
+ghost use Rattle.std.specs.Prelude.{List, string_bytes};
 ghost use Rattle.std.specs.declared.alloc.Global.{Global};
 ghost use Rattle.macs_config.specs.Config.{this_edition};
 ghost use Rattle.macs_disk.specs.Disk.{now};
@@ -14,11 +14,13 @@ ghost use Rattle.macs_journal.specs.Areas.{least_sectors};
 ghost use Rattle.macs_journal.specs.Found.{Content, HasJournal, IsBadJournal};
 ghost use Rattle.macs_journal.specs.Opening.{IsNoJournal};
 ghost use Rattle.macs_journal.specs.declared.fault.JournalFault.{JournalFault};
+ghost use Rattle.macs_record.specs.declared.record.Record.{Record};
 ghost use Rattle.macs_store.specs.Found.{StandingIs};
 ghost use Rattle.macs_store.specs.Opening.{IsStoreOpening};
 ghost use Rattle.macs_store.specs.Standing.{Standing};
 ghost use Rattle.macs_program.specs.Examining.{ExaminationFails, ExamineFails, ExaminesIn};
 ghost use Rattle.macs_program.specs.Examining.{IsNotExamined, IsNotOpened};
+ghost use Rattle.macs_program.specs.RecordLines.{records_text};
 ghost use Rattle.macs_program.specs.Examining.{PrintsExamined, Says, SaysFault, examined_text};
 ghost use Rattle.macs_program.specs.Examining.{fault_line, figures_of};
 ghost use Rattle.macs_program.specs.Trying.{failure_in_memory};
@@ -30,20 +32,23 @@ use crate::examined_text::{Figures, examined_text, fault_line};
 use crate::failure::{DiskFault, Failure};
 use crate::files::open_regular;
 use crate::first_fault::fault_of;
-use crate::output::print;
+use crate::output::print_last;
+use crate::record_lines::records_text;
 use crate::status::Status;
 use crate::stream::Stream;
 use crate::trial::failure_in_memory;
 use macs_disk::{FileFault, Layout, MemDisk};
 use macs_journal::{JournalFault, RecoverRefused, Room, new_room, recover_into};
 use macs_store::{OpenRefused, Store};
-use std::alloc::Global;
+use std::alloc::{AllocError, Global};
 use std::rt::Files;
 
-/// The figures of a journal, and the disk that it was found on.
+/// The figures of a journal, the lines of its records, unless memory is refused, and the disk that
+/// it was found on.
 #[derive(Drop)]
 struct Examined {
     figures: Figures,
+    lines: Result<String, AllocError>,
     disk: MemDisk,
 }
 
@@ -55,10 +60,15 @@ struct Said {
 }
 
 /// Finds the journal of a disk in memory, in a room that the caller lends for its records.
-fn find_with(copy: MemDisk, room: &mut Room) -> Result<Examined, RecoverRefused<MemDisk>>
+fn find_with(
+    alloc: Global,
+    copy: MemDisk,
+    room: &mut Room,
+) -> Result<Examined, RecoverRefused<MemDisk>>
     ensures found { IfOk result
         (λ found. (content : Content) × HasJournal (now (disk_of copy)).seen content
-        × (found.figures ≡ figures_of content)) }
+        × (found.figures ≡ figures_of content)
+        × IfOk found.lines (λ text. string_bytes text ≡ records_text content.records)) }
     ensures seen { IfOk result
         (λ found. (now (disk_of found.disk)).seen ≡ (now (disk_of copy)).seen) }
     ensures sectors { IfOk result (λ found. (disk_of found.disk).sectors ≡ (disk_of copy).sectors) }
@@ -69,6 +79,7 @@ fn find_with(copy: MemDisk, room: &mut Room) -> Result<Examined, RecoverRefused<
         × ((now (disk_of refused.disk)).durable ≡ (now (disk_of copy)).seen)) }
 {
     let found = recover_into(copy, room)?;
+    let lines = records_text(alloc, &room[..found.used]);
     let figures = Figures {
         format: found.format,
         area: found.journal.area(),
@@ -77,16 +88,18 @@ fn find_with(copy: MemDisk, room: &mut Room) -> Result<Examined, RecoverRefused<
     };
     Ok(Examined {
         figures,
+        lines,
         disk: found.journal.into_disk(),
     })
 }
 
 /// Finds the journal of a disk in memory.
 #[inline(never)]
-fn find(copy: MemDisk) -> Result<Examined, RecoverRefused<MemDisk>>
+fn find(alloc: Global, copy: MemDisk) -> Result<Examined, RecoverRefused<MemDisk>>
     ensures found { IfOk result
         (λ found. (content : Content) × HasJournal (now (disk_of copy)).seen content
-        × (found.figures ≡ figures_of content)) }
+        × (found.figures ≡ figures_of content)
+        × IfOk found.lines (λ text. string_bytes text ≡ records_text content.records)) }
     ensures seen { IfOk result
         (λ found. (now (disk_of found.disk)).seen ≡ (now (disk_of copy)).seen) }
     ensures sectors { IfOk result (λ found. (disk_of found.disk).sectors ≡ (disk_of copy).sectors) }
@@ -96,28 +109,31 @@ fn find(copy: MemDisk) -> Result<Examined, RecoverRefused<MemDisk>>
         → (least_sectors ≤ (disk_of refused.disk).sectors)
         × ((now (disk_of refused.disk)).durable ≡ (now (disk_of copy)).seen)) }
 {
-    find_with(copy, &mut new_room())
+    find_with(alloc, copy, &mut new_room())
 }
 
-/// What is said of a journal with these figures, whose disk was opened to a store or refused.
+/// What is said of a journal with these figures and the lines of its records, whose disk was opened
+/// to a store or refused.
 #[inline(never)]
 fn report_journal(
     alloc: Global,
     layout: Layout,
     figures: Figures,
+    lines: Result<String, AllocError>,
     opened: Result<Store<MemDisk>, OpenRefused<MemDisk>>,
 ) -> Result<Said, Failure>
     ensures reported { (disk : MemDisk Global) → IsStoreOpening disk_of disk opened
+        → (records : List Record) → IfOk lines (λ text. string_bytes text ≡ records_text records)
         → IfOk result (λ said. (standing : Standing)
         × StandingIs this_edition (disk_of disk).sectors (now (disk_of disk)).seen (Ok standing)
-        × (string_bytes said.text ≡ examined_text layout figures standing)
+        × (string_bytes said.text ≡ examined_text layout figures records standing)
         × (said.status ≡ Status.Done)) }
     ensures ended { (disk : MemDisk Global) → IsStoreOpening disk_of disk opened
         → IfErr result (IsNotOpened (disk_of disk)) }
 {
     match &opened {
         Ok(store) => {
-            let text = examined_text(alloc, layout, figures, store)?;
+            let text = examined_text(alloc, layout, figures, lines, store)?;
             Ok(Said {
                 text,
                 status: Status::Done,
@@ -174,8 +190,14 @@ fn examine_copy(alloc: Global, layout: Layout, copy: MemDisk) -> Result<Said, Fa
         (λ said. Says (now (disk_of copy)).seen layout (string_bytes said.text) said.status) }
     ensures ended { IfErr result (IsNotExamined (disk_of copy)) }
 {
-    match find(copy) {
-        Ok(found) => report_journal(alloc, layout, found.figures, Store::open(found.disk)),
+    match find(alloc, copy) {
+        Ok(found) => report_journal(
+            alloc,
+            layout,
+            found.figures,
+            found.lines,
+            Store::open(found.disk),
+        ),
         Err(refused) => report_refused(alloc, &refused),
     }
 }
@@ -231,6 +253,5 @@ where
     ensures broken { IfErr result (λ failure. failure ≡ Failure.Output → W.failed out.new ≡ true) }
 {
     let said = examine_in(rt, alloc, path)?;
-    print(out, said.text.as_str())?;
-    Ok(said.status)
+    print_last(out, said.text.as_str(), said.status)
 }

@@ -1,9 +1,10 @@
 //! What `examine` says of a journal, as text.
 
-ghost use Rattle.std.specs.Prelude.{◌≡◌, codes, map, IfOk, string_bytes};
+ghost use Rattle.std.specs.Prelude.{◌≡◌, List, codes, map, IfOk, string_bytes};
 ghost use Rattle.std.specs.List.{concat};
 ghost use Rattle.macs_config.specs.Value.{config_of};
 ghost use Rattle.macs_record.specs.Heads.{version_of};
+ghost use Rattle.macs_record.specs.declared.record.Record.{Record};
 ghost use Rattle.macs_store.specs.Value.{standing_in};
 ghost use Rattle.macs_texts.specs.Lines.{line};
 ghost use Rattle.macs_texts.specs.Showing.{association_numbers};
@@ -12,6 +13,7 @@ ghost use Rattle.macs_program.specs.Examining.{examined_text, figures_text};
 ghost use Rattle.macs_program.specs.Examining.{fault_line, number_line, part_line, rx_ceiling_line};
 ghost use Rattle.macs_program.specs.Examining.{rx_ceiling_text};
 ghost use Rattle.macs_program.specs.Examining.{tx_ceiling_line, tx_ceiling_text};
+ghost use Rattle.macs_program.specs.RecordLines.{records_text};
 
 use macs_config::Config;
 use macs_disk::{Layout, SectorDisk};
@@ -186,18 +188,21 @@ fn end_text(alloc: Global, config: &Config) -> Result<String, AllocError>
     )
 }
 
-/// What `examine` says of a journal with these figures, whose records stand for what is in a store.
-/// It fails only where memory is refused.
+/// What `examine` says of a journal with these figures and the lines of its records, which stand
+/// for what is in a store. It fails only where memory is refused.
 pub fn examined_text<D: SectorDisk>(
     alloc: Global,
     layout: Layout,
     figures: Figures,
+    lines: Result<String, AllocError>,
     store: &Store<D>,
 ) -> Result<String, AllocError>
-    ensures { IfOk result
-        (λ text. string_bytes text ≡ examined_text layout figures (standing_in store.now)) }
+    ensures { (records : List Record)
+        → IfOk lines (λ text. string_bytes text ≡ records_text records) → IfOk result (λ text.
+        string_bytes text ≡ examined_text layout figures records (standing_in store.now)) }
 {
     let text = joined(channels_text(alloc, store), end_text(alloc, store.config()));
     let text = joined(tx_text(alloc, store), text);
+    let text = joined(lines, text);
     joined(figures_text(alloc, layout, figures), text)
 }

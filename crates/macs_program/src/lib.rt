@@ -33,6 +33,7 @@ mod open_input;
 mod opened;
 mod output;
 mod plan;
+mod record_lines;
 mod relaying;
 pub mod run;
 mod status;

@@ -1,10 +1,11 @@
 //! Lines of text, and text to standard output.
 
-ghost use Rattle.std.specs.Prelude.{◌≡◌, ◌≤◌, ◌+◌, ◌++◌, length, true, IfErr, OnErr, OnOk};
+ghost use Rattle.std.specs.Prelude.{◌≡◌, ◌≤◌, ◌+◌, ◌++◌, length, true, IfErr, IfOk, OnErr, OnOk};
 ghost use Rattle.std.specs.Fmt.{decimal};
 ghost use Rattle.std.specs.Io.KnownBytes.{Appends};
 
 use crate::failure::Failure;
+use crate::status::Status;
 use crate::stream::Stream;
 use arrayvec::ArrayVec;
 use itoa::Buffer;
@@ -56,4 +57,15 @@ pub fn print<W: Stream>(out: &mut W, text: &str) -> Result<(), Failure>
     ensures broken { OnErr result (W.failed out.new ≡ true) }
 {
     print_octets(out, text.as_bytes())
+}
+
+/// Prints a text, the last thing that a run does, which ends in this status.
+pub fn print_last<W: Stream>(out: &mut W, text: &str, status: Status) -> Result<Status, Failure>
+    ensures printed { IfOk result (λ ended.
+        Appends (W.contents out.old) (W.contents out.new) text.now × (ended ≡ status)) }
+    ensures failed { IfErr result (λ failure. failure ≡ Failure.Output) }
+    ensures broken { IfErr result (λ failure. W.failed out.new ≡ true) }
+{
+    print(out, text)?;
+    Ok(status)
 }

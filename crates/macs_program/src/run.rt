@@ -10,7 +10,7 @@ ghost use Rattle.macs_program.specs.Inputs.{InputRead, read_of};
 ghost use Rattle.macs_program.specs.Run.{Acts, FailsFor, HasPrinted, HasWrongValues, OpenFails};
 ghost use Rattle.macs_program.specs.Run.{Performs, PrintedBefore, Prints};
 ghost use Rattle.macs_program.specs.Run.{PrintsUnlessFailed, Replies, code_of, complaint};
-ghost use Rattle.macs_program.specs.Run.{is_on_disk, is_on_frames};
+ghost use Rattle.macs_program.specs.Run.{is_apart, is_on_disk, is_on_frames};
 ghost use Rattle.macs_words.specs.Words.{AreRefused, AsksForNothing, Names, macsecd, texts};
 ghost use Rattle.macs_words.specs.declared.action.Action.{Action};
 ghost use Rattle.macs_program.specs.declared.failure.Failure.{Failure};
@@ -103,6 +103,31 @@ where
         Action::Protect { .. } | Action::Validate { .. } | Action::Relay { .. } => {
             perform_on_frames(rt, alloc, action, out)
         }
+        Action::Ask { .. }
+        | Action::Key { .. }
+        | Action::Inspect { .. }
+        | Action::Check { .. }
+        | Action::Plan { .. }
+        | Action::Examine { .. }
+        | Action::About => perform_apart(rt, alloc, action, out),
+    }
+}
+
+/// Does what an action asks for that reads no input and opens no endpoint in a file.
+fn perform_apart<T: Files + Net + RandomSource, W: Stream>(
+    rt: &T,
+    alloc: Global,
+    action: Action,
+    out: &mut W,
+) -> Result<Status, Failure>
+where
+    T::File: CaptureFile,
+    requires { is_apart action ≡ true }
+    ensures { (input : InputRead)
+        → Performs T.File.file T.File.remaining W.contents W.failed action.entry input out.old
+        result out.new }
+{
+    match action {
         Action::Ask { path, question } => ask(rt, alloc, path, question, out),
         Action::Key { is_long } => key(rt, is_long, out),
         Action::Inspect { input: from } => inspect(rt, alloc, from, out),
@@ -110,6 +135,7 @@ where
         Action::Plan { file, end, stage } => plan(rt, alloc, file, end, stage, out),
         Action::Examine { disk } => examine(rt, alloc, disk, out),
         Action::About => about(alloc, out),
+        _ => unreachable!(),
     }
 }
 

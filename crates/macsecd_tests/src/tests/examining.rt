@@ -27,6 +27,7 @@ block 512
 area 0
 generation 1
 slots used 1 of 256
+records settings 1
 spent tx 0 of 512
 spent rx 0 of 512
 whole
@@ -41,6 +42,11 @@ block 512
 area 0
 generation 1
 slots used 5 of 256
+records settings 1
+records tx-install 1
+records tx-use 1
+records rx-add 1
+records rx-install 1
 ceiling tx 0 1025
 ceiling rx 0200000000020001 0 1
 spent tx 1 of 512
@@ -56,6 +62,12 @@ block 512
 area 0
 generation 1
 slots used 6 of 256
+records settings 1
+records tx-install 1
+records tx-use 1
+records rx-add 1
+records rx-install 1
+records tx-ceiling 1
 ceiling tx 0 2049
 ceiling rx 0200000000020001 0 1
 spent tx 1 of 512
@@ -70,6 +82,7 @@ block 4096
 area 0
 generation 1
 slots used 1 of 256
+records settings 1
 spent tx 0 of 512
 spent rx 0 of 512
 whole
@@ -131,6 +144,9 @@ block 512
 area 0
 generation 1
 slots used 3 of 256
+records settings 1
+records tx-install 1
+records tx-use 1
 ceiling tx 0 5
 spent tx 1 of 512
 spent rx 0 of 512
@@ -145,8 +161,49 @@ block 512
 area 1
 generation 2
 slots used 3 of 256
+records settings 1
+records tx-sa 1
+records spent 1
 ceiling tx 0 5
 spent tx 1 of 512
+spent rx 0 of 512
+whole
+",
+);
+
+/// A key of 256 bits, and one of 128.
+const KEYS: &str = "[[command]]
+do = 'tx-install'
+an = 1
+key = 'ad7a2bd03eac835a6f620fdcb506b345ad7a2bd03eac835a6f620fdcb506b345'
+start = 1
+confidential = true
+offset = 0
+
+[[command]]
+do = 'tx-install'
+an = 2
+key = 'e07b49d6158c32af6e90b7c4fd2a8113'
+start = 1
+confidential = true
+offset = 0
+";
+
+/// Two records more, and two keys; each ceiling is its start and a block.
+const WITH_KEYS: Outcome = Outcome::Done(
+    "format 2
+block 512
+area 1
+generation 2
+slots used 5 of 256
+records settings 1
+records tx-sa 1
+records spent 1
+records tx-install 2
+ceiling tx 0 5
+ceiling tx 1 5
+ceiling tx 2 5
+spent tx 3 of 512
 spent rx 0 of 512
 whole
 ",
@@ -176,6 +233,12 @@ const EXAMINED_OLDER: &[Step] = &[
     Keeping(&[OLDER], &["examine", OLDER], OF_FORMAT_ONE),
     Run(&["show", OLDER], SHOWN),
     Keeping(&[OLDER], &["examine", OLDER], BEGUN_ANEW),
+    Text("story-examine-older/keys.toml", KEYS),
+    Run(
+        &["apply", OLDER, "story-examine-older/keys.toml"],
+        Outcome::Done("1 ok\n2 ok\n"),
+    ),
+    Keeping(&[OLDER], &["examine", OLDER], WITH_KEYS),
 ];
 
 #[test]

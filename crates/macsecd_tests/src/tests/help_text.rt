@@ -258,6 +258,10 @@ It prints, a line each,
   area 0                             the area that is in use, 0 or 1
   generation 3                       of the area: 1 at first
   slots used 12 of 256               records of the area
+  records tx-install 2               of each kind that is there: the commands as
+                                     in command files; settings, tx-sa, channel,
+                                     rx-sa, spent as the area began; tx-ceiling,
+                                     rx-ceiling for packet numbers
   ceiling tx 0 1025                  of each transmit association, the first
                                      packet number that is not reserved
   ceiling rx 0200000000020001 0 17   of each receive association, by channel

@@ -10,19 +10,19 @@ use Rattle.macs_program.proofs.examine.examine_copy.Goals as goal
 
 pub returns-in-Ok-clause-reported : goal.returns-in-Ok-clause-reported
 returns-in-Ok-clause-reported c =
-    let (content, has, figures) = c.in-Ok.ensures.found in
+    let (content, has, figures, lines) = c.in-Ok.ensures.found in
     IfOk-weaker c.report_journal.result _ _ (λ said all.
     let (standing, stands, is, done) = all in inl (
       content,
       standing,
       found-stands _ _ _ content standing c.in-Ok.ensures.seen has stands,
-      is ∙ ap (λ (f : Figures). examined_text c.args.layout f standing) figures,
+      is ∙ ap (λ (f : Figures). examined_text c.args.layout f content.records standing) figures,
       done,
-    )) (c.report_journal.ensures.reported c.in-Ok.found.disk c.open.ensures)
+    )) (c.report_journal.ensures.reported c.in-Ok.found.disk c.open.ensures content.records lines)
 
 pub returns-in-Ok-clause-ended : goal.returns-in-Ok-clause-ended
 returns-in-Ok-clause-ended c =
-    let (content, has, figures) = c.in-Ok.ensures.found in
+    let (content, has, figures, lines) = c.in-Ok.ensures.found in
     IfErr-weaker c.report_journal.result _ _
     (λ failure. not-told (disk_of c.args.copy) (disk_of c.in-Ok.found.disk) failure content has c.in-Ok.ensures.seen
     c.in-Ok.ensures.sectors)

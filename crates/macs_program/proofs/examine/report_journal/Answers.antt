@@ -5,9 +5,9 @@ use Rattle.macs_program.proofs.Examined.{refused-so}
 use Rattle.macs_program.proofs.examine.report_journal.Goals as goal
 
 pub returns-in-Ok-clause-reported : goal.returns-in-Ok-clause-reported
-returns-in-Ok-clause-reported c = λ disk opening.
+returns-in-Ok-clause-reported c = λ disk opening records told.
     let opens = rw c.in-Ok.is at opening in
-    (standing_in c.in-Ok.store, opens.found refl, c.in_ok-text-in-Ok.ensures, refl)
+    (standing_in c.in-Ok.store, opens.found refl, c.in_ok-text-in-Ok.ensures records told, refl)
 
 pub returns-clause-ended : goal.returns-clause-ended
 returns-clause-ended c = λ disk opening.
