@@ -125,11 +125,11 @@ module _ (sectors : ℕ) where
 
 -- ---- numbers
 
-in_order : (last : ℕ) (tickets : List ℕ) → AreInOrder last tickets
+pub tickets-in-order : (last : ℕ) (tickets : List ℕ) → AreInOrder last tickets
     → tickets ≡ range_with_len (last + 1) (length tickets)
-in_order last [] is = refl
-in_order last (ticket ∷ tickets) (is, later) =
-    (λ i. is i ∷ in_order ticket tickets later i)
+tickets-in-order last [] is = refl
+tickets-in-order last (ticket ∷ tickets) (is, later) =
+    (λ i. is i ∷ tickets-in-order ticket tickets later i)
     ∙ ap (λ (n : ℕ). (last + 1) ∷ range_with_len (n + 1) (length tickets)) is
 
 moved_to : (block : ℕ) (old new : Numbers) → IsMoved block old new
@@ -158,7 +158,7 @@ seen_by s call sci an pn is = (
 
 pub number-words : NumberWords
 number-words = record {
-  tickets = λ tickets is. in_order 0 tickets is;
+  tickets = tickets-in-order 0;
   moved = moved_to;
   skipped = λ block next later is. is;
   moved_far = λ block old new m. (m.rises, m.unseen, m.seen);

@@ -9,7 +9,7 @@ use Rattle.macs_endpoint.specs.declared.queue.Waiting.{Waiting}
 use Rattle.macs_headline.specs.Commands.{WasHandedIn, failing, waiting_at_end}
 use Rattle.macs_headline.specs.QueueWords.{QueueWords}
 use Rattle.macs_headline.specs.Tickets.{done_by, given_by, tickets_done, tickets_given}
-use Rattle.macs_headline.proofs.Drawn.{number-words}
+use Rattle.macs_headline.proofs.Drawn.{tickets-in-order}
 use Rattle.macs_headline.proofs.Ledger.{some_one}
 use Rattle.macs_headline.proofs.LookUps.{none-some}
 
@@ -26,8 +26,8 @@ handed_in exchanges cut command (inr behind) = inr behind
 
 pub queue-words : QueueWords
 queue-words = record {
-  given = λ exchanges waiting is. number-words.tickets (tickets_given exchanges) is.in_order;
-  kept = λ exchanges waiting is. is.kept ∙ number-words.tickets (tickets_given exchanges) is.in_order;
+  given = λ exchanges waiting is. tickets-in-order 0 (tickets_given exchanges) is.in_order;
+  kept = λ exchanges waiting is. is.kept ∙ tickets-in-order 0 (tickets_given exchanges) is.in_order;
   each_given = λ e exchanges ticket is. ap (λ (r : Reply). given_by r ++ tickets_given exchanges) is;
   each_done = λ e exchanges ticket result is. ap (λ (r : Reply). done_by r ++ tickets_done exchanges) is;
   each_done_long = λ e exchanges ticket is. ap (λ (r : Reply). done_by r ++ tickets_done exchanges) is;
