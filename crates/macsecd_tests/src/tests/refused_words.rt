@@ -292,7 +292,9 @@ const WORDS_WITH_OPTIONS: &[Row] = &[
             "16",
             "--frob",
         ],
-        Outcome::Usage("macsecd: unexpected argument '--frob' found\n"),
+        Outcome::Usage(
+            "macsecd: unexpected argument '--frob' found tip: to pass '--frob' as a value, use '-- --frob'\n",
+        ),
     ),
     (
         &["format", "d", "s", "1", "1", "--over=1"],
@@ -340,7 +342,9 @@ const WORDS_WITH_OPTIONS: &[Row] = &[
             "plain.pcap",
             "protected.pcap",
         ],
-        Outcome::Usage("macsecd: unexpected argument '-f' found\n"),
+        Outcome::Usage(
+            "macsecd: unexpected argument '-f' found tip: to pass '-f' as a value, use '-- -f'\n",
+        ),
     ),
     (
         &[
