@@ -1,5 +1,4 @@
 -- What contracts below the endpoint promise.
-use Rattle.std.proofs.Common.{◌≡◌}
 use Rattle.macs_disk.specs.Disk.{Disk}
 use Rattle.macs_headline.specs.LayerWords.{LayerWords}
 

@@ -101,13 +101,13 @@ pub record OpeningsCount {D : Type 0} (disk_of : D → Disk) : Type 0 where
 -- standing, or what was raised so after that. One that is answered as Ok leaves what was raised so, the reservation
 -- under way first, until none is needed; and its slots and device calls are those of ceilings that were raised so: each
 -- takes a slot, where the journal does not start over, and each start over is one generation more. After one that is
--- answered as GenerationsSpent a ceiling is still needed, and what was raised comes after the reservation that was under
--- way, which is done, or was raised so where none was. A step that a device call fails leaves the standing, and so does
--- one after which work goes on. What a command
--- that is answered as Ok makes, it makes of the standing with the reservation that was under way; and one that waited,
--- once it is done, of the standing. A refill, and a command that is kept, of an endpoint with no work under way, make
--- four device calls at most for each slot that they use, where the journal does not start over; and the command uses
--- one. Where work is under way its slot and its device calls come before these.
+-- answered as GenerationsSpent a ceiling is still needed, and what was raised comes after the reservation that was
+-- under way, which is done, or was raised so where none was. A step that a device call fails leaves the standing, and
+-- so does one after which work goes on. What a command that is answered as Ok makes, it makes of the standing with the
+-- reservation that was under way; and one that waited, once it is done, of the standing. A refill, and a command that
+-- is kept, of an endpoint with no work under way, make four device calls at most for each slot that they use, where the
+-- journal does not start over; and the command uses one. Where work is under way its slot and its device calls come
+-- before these.
 pub record CeilingsAreRaised {D : Type 0} (disk_of : D → Disk) : Type 0 where
   pub none : (t : TxSide) (r : RxSide) (old new : Standing) (next : Option Raise) → IsRefilled t r old new next
       → first_raise old t r ≡ None → new ≡ old

@@ -1,5 +1,6 @@
 -- What the contracts of the store, of the journal and of a fuse promise that no call of an endpoint asks for.
-use Rattle.std.specs.Prelude.{◌≡◌, ◌≢◌, ◌≤◌, ◌⊎◌, ◌↔◌, ◌+◌, true, ℕ, List, length, Result, Ok, Err, IsErrOf, OnErr, OnOk}
+use Rattle.std.specs.Prelude.{◌≡◌, ◌≢◌, ◌≤◌, ◌⊎◌, ◌↔◌, ◌+◌, true, ℕ, List, length, Result, Ok, Err, IsErrOf, OnErr}
+use Rattle.std.specs.Prelude.{OnOk}
 use Rattle.macs_disk.specs.Disk.{Disk, IsHonest, LeftSince, Writes, now}
 use Rattle.macs_disk.specs.Fuses.{BlowsWrite, FuseValue}
 use Rattle.macs_disk.specs.Runs.{LeavesNothingNew}

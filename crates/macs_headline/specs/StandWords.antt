@@ -1,7 +1,7 @@
 -- The headline on what an endpoint is left with by an opening, by a `format`, by a command or a step, and by events
 -- that are served.
-use Rattle.std.specs.Prelude.{◌≡◌, ◌≢◌, ◌≤◌, ◌<◌, ◌⊎◌, ◌+◌, ◌++◌, true, false, ℕ, List, [], ◌∷◌, length, map, Contains, Some}
-use Rattle.std.specs.Prelude.{None, Result, Ok, Err}
+use Rattle.std.specs.Prelude.{◌≡◌, ◌≢◌, ◌≤◌, ◌<◌, ◌⊎◌, ◌+◌, ◌++◌, true, false, ℕ, List, [], ◌∷◌, length, map, Contains}
+use Rattle.std.specs.Prelude.{Some, None, Result, Ok, Err}
 use Rattle.macs_config.specs.Config.{this_edition}
 use Rattle.macs_config.specs.Identity.{Identity}
 use Rattle.macs_config.specs.declared.command.Command.{Command}
@@ -17,8 +17,8 @@ use Rattle.macs_journal.specs.Value.{JournalValue}
 use Rattle.macs_journal.specs.Value as journal
 use Rattle.macs_journal.specs.Work.{FailsAs, IsSpared}
 use Rattle.macs_journal.specs.declared.fault.JournalFault.{JournalFault}
-use Rattle.macs_journal.specs.declared.fault.JournalFault.TheVariants.{AlreadyFormatted, Disk as DiskFault, NotFormatted}
-use Rattle.macs_journal.specs.declared.fault.JournalFault.TheVariants.{TooSmall}
+use Rattle.macs_journal.specs.declared.fault.JournalFault.TheVariants.{AlreadyFormatted, Disk as DiskFault}
+use Rattle.macs_journal.specs.declared.fault.JournalFault.TheVariants.{NotFormatted, TooSmall}
 use Rattle.macs_journal.specs.declared.recovery.RecoverRefused.{RecoverRefused}
 use Rattle.macs_store.specs.Found.{IsToMigrate, StandingIs}
 use Rattle.macs_store.specs.Keeps.{most_with_change}
@@ -52,13 +52,13 @@ use Rattle.macs_endpoint.specs.declared.progress.Step.TheVariants.{Reserved}
 -- generation, after a snapshot, also where the last one is that of work under way; where no more is kept, the calls of
 -- the reservation under way are all, and whatever it is answered, those and the 523 of a journal that starts over, with
 -- one for each record of a snapshot; four of its own where a slot is left. Of a refill that a device call fails those
--- calls are all, or the ceilings before it are raised, and it is the next one that is needed; of one that is not all the
--- work, as many as that takes. A `format` that is answered Ok counts no
--- failed device call. What a power loss may leave of one is what it could leave before, or no journal, or a new endpoint
--- in a journal of format two. One leaves each sector alone but those that it writes to, and all of them where a head
--- gate reads open. So does an opening that starts the journal over, in its other area, done or refused, and so does each
--- compaction; and until that writes the new head gate a power loss leaves the journal as it was. No failed device call
--- that was counted is ever taken back: by a call, by a `format` or by an opening that is refused.
+-- calls are all, or the ceilings before it are raised, and it is the next one that is needed; of one that is not all
+-- the work, as many as that takes. A `format` that is answered Ok counts no failed device call. What a power loss may
+-- leave of one is what it could leave before, or no journal, or a new endpoint in a journal of format two. One leaves
+-- each sector alone but those that it writes to, and all of them where a head gate reads open. So does an opening that
+-- starts the journal over, in its other area, done or refused, and so does each compaction; and until that writes the
+-- new head gate a power loss leaves the journal as it was. No failed device call that was counted is ever taken back:
+-- by a call, by a `format` or by an opening that is refused.
 pub record CallsLeave {D : Type 0} (disk_of : D → Disk) : Type 0 where
   pub opened : (disk : D) (first : EndpointValue D) → IsOpening disk_of disk (Ok first) → IsIdle first.store
       × (first.reserving ≡ None) × (first.in_hand ≡ None)

@@ -22,8 +22,8 @@ use Rattle.macs_endpoint.specs.declared.queue.Waiting.{Waiting}
 
 -- Of calls, one more is counted where the first is a step; where its answer says that a reservation used its turn, made
 -- or refused; where it says that a submitted command is done with, kept or refused; and where a frame went out under
--- the association, which is the encoding one then. Else no more than of the others. What a command that is answered as Ok
--- makes durable is that command, and what a step does that is done with one is the first that waited.
+-- the association, which is the encoding one then. Else no more than of the others. What a command that is answered as
+-- Ok makes durable is that command, and what a step does that is done with one is the first that waited.
 pub record TurnsAreCounted (D : Type 0) : Type 0 where
   pub stepped : (turn : Transition D) (turns : List (Transition D)) → turn.call ≡ Advances
       → steps_made (turn ∷ turns) ≡ 1 + steps_made turns

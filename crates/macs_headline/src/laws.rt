@@ -1,8 +1,7 @@
 //! The laws, and that what a program does is what they speak of.
 
-ghost use Rattle.std.specs.Prelude.{◌≡◌, ◌≤◌, ◌<◌, ◌+◌, ◌/◌, ◌%◌, ℕ, max, Bool, true, false, List, []};
-ghost use Rattle.std.specs.Prelude.{◌∷◌};
-ghost use Rattle.std.specs.Prelude.{IsTrue, length};
+ghost use Rattle.std.specs.Prelude.{◌≡◌, ◌≤◌, ◌<◌, ◌+◌, ◌/◌, ◌%◌, ℕ, max, Bool, true, false, List};
+ghost use Rattle.std.specs.Prelude.{[], ◌∷◌, IsTrue, length};
 ghost use Rattle.macs_disk.specs.Disk.{Disk, IsHonest, LeftSince, MayLeave, disk_after_loss, now};
 ghost use Rattle.macs_disk.specs.FileDisks.{IsBlank, IsFoundAgain, IsFoundAs, IsLeftAsShown};
 ghost use Rattle.macs_disk.specs.FileDisks.{IsOpened, disk_in_file};
