@@ -1,19 +1,21 @@
 -- Disks in files, as histories have them.
-use Rattle.std.proofs.Common.{◌≡◌, ◌<◌, ◌+◌, ◌*◌, ◌-◌, ◌⊎◌, inl, inr, ℕ, true, false, get_or, replicate, refl, ap}
+use Rattle.std.proofs.Common.{◌≡◌, ◌≤◌, ◌<◌, ◌+◌, ◌*◌, ◌-◌, ◌⊎◌, inl, inr, ℕ, true, false, get_or, replicate, refl, ap}
 use Rattle.std.proofs.Common.{◌∙◌, arith, le_refl, subst, sym}
 use Rattle.std.proofs.lemmas.Bool.{and_parts}
+use Rattle.std.proofs.lemmas.List.{get_or-replicate}
 use Rattle.macs_disk.specs.Disk.{Disk, IsHonest, MayLeave, now}
 use Rattle.macs_disk.specs.FileDisks.{IsBlank, IsFoundAs, IsLeftAsShown, IsOpened, disk_in_file, file_lengthened}
 use Rattle.macs_disk.specs.FileDisks.{image_in_file, is_ready, keeps_disk, state_in_file}
-use Rattle.macs_disk.specs.FileEvidence.{keeps}
+use Rattle.macs_disk.specs.FileEvidence.{keeps, values-same}
 use Rattle.macs_disk.specs.Files.{Behaves, FileState, HasNothingNew, IsFileImage, file_after_sync, file_after_write}
-use Rattle.macs_disk.specs.Files.{file_claimed, file_in_doubt, file_settled}
+use Rattle.macs_disk.specs.Files.{IsSure, file_claimed, file_in_doubt, file_settled, values_from}
 use Rattle.macs_disk.specs.Layouts.{place, suits}
 use Rattle.macs_disk.specs.States.{DiskState, Image, IsImage, settled_state, zero_sector}
 use Rattle.macs_disk.specs.declared.layout.Layout.{Layout}
 use Rattle.macs_disk.specs.declared.layout.Layout.TheVariants.{Packed, Spaced}
 use Rattle.macs_disk.specs.declared.file.FileDisk.{FileDisk}
 use Rattle.macs_disk.proofs.FileSectors.{file-image}
+use Rattle.macs_disk.proofs.FileWrites.{put-at, put-before, write-seen}
 use Rattle.macs_disk.proofs.FoundAgain.{found-opened}
 use Rattle.macs_headline.specs.Binding.{IsNewDisk}
 use Rattle.macs_headline.specs.Endings.{LosesPower}
@@ -56,6 +58,65 @@ opened-still file least layout disk i opened = (
   ap (λ (s : DiskState). s.durable i) opened.state ∙ sym (ap (λ (s : DiskState). s.seen i) opened.state),
   ap (λ (s : DiskState). s.pending i) opened.state,
 )
+
+-- what the disk shows of one that is opened, by what its file showed
+seen-opened : (file : FileState) (least : ℕ) (layout : Layout) (disk : Disk) (i : ℕ) → IsOpened file least layout disk
+    → (settled : FileState) → now disk ≡ state_in_file layout (file_lengthened settled (place layout least))
+    → (now disk).seen i
+    ≡ values_from (file_after_write settled settled.size (replicate (place layout least - settled.size) 0)).seen
+    (place layout i) 512
+unfolding state_in_file
+seen-opened file least layout disk i opened settled is = ap (λ (s : DiskState). s.seen i) is
+
+all-zeros : (at : ℕ) → values_from (λ _. 0) at 512 ≡ zero_sector
+unfolding values_from zero_sector
+all-zeros at = refl
+
+-- what is read of a file that is made longer: in front of its end as it was, and zeros from there on
+read-front : (file : FileState) (at count : ℕ) → at + 512 ≤ file.size
+    → values_from (file_after_write file file.size (replicate count 0)).seen at 512 ≡ values_from file.seen at 512
+read-front file at count before =
+    values-same (file_after_write file file.size (replicate count 0)).seen file.seen at 512
+    (λ k lt. write-seen file file.size (replicate count 0) (at + k)
+    ∙ put-before file.seen file.size (at + k) (replicate count 0) (omega (arith, before, lt)))
+
+read-longer : (file : FileState) (at count : ℕ) → file.size ≤ at → at + 512 ≤ file.size + count
+    → values_from (file_after_write file file.size (replicate count 0)).seen at 512 ≡ zero_sector
+read-longer file at count from within =
+    values-same (file_after_write file file.size (replicate count 0)).seen (λ _. 0) at 512 zero ∙ all-zeros at where
+      zero : (k : ℕ) → k < 512 → (file_after_write file file.size (replicate count 0)).seen (at + k) ≡ 0
+      zero k lt = write-seen file file.size (replicate count 0) (at + k)
+          ∙ put-at file.seen file.size (at + k) (replicate count 0) (omega (arith, from))
+          ∙ get_or-replicate count (at + k - file.size) 0 (file.seen (at + k)) (omega (arith, from, within, lt))
+
+pub lengthened : (file : FileState) (least : ℕ) (layout : Layout) (disk : Disk) (i : ℕ)
+    → IsOpened file least layout disk → IsSure file
+    → (place layout i + 512 ≤ file.size → (now disk).seen i ≡ values_from file.seen (place layout i) 512)
+    × (file.size ≤ place layout i → place layout i + 512 ≤ place layout least → (now disk).seen i ≡ zero_sector)
+lengthened file least layout disk i opened sure = (front, longer) where
+  settled : FileState
+  settled = opened.settled
+
+  size : settled.size ≡ file.size
+  size = ap (λ (f : FileState). f.size) opened.settles.3
+
+  shown : settled.seen ≡ file.seen
+  shown = ap (λ (f : FileState). f.seen) opened.settles.3 ∙ opened.settles.2 sure
+
+  seen : (now disk).seen i
+      ≡ values_from (file_after_write settled settled.size (replicate (place layout least - settled.size) 0)).seen
+      (place layout i) 512
+  seen = seen-opened file least layout disk i opened settled opened.state
+
+  front : place layout i + 512 ≤ file.size → (now disk).seen i ≡ values_from file.seen (place layout i) 512
+  front before = seen
+      ∙ read-front settled (place layout i) (place layout least - settled.size) (omega (arith, size, before))
+      ∙ ap (λ (f : ℕ → ℕ). values_from f (place layout i) 512) shown
+
+  longer : file.size ≤ place layout i → place layout i + 512 ≤ place layout least → (now disk).seen i ≡ zero_sector
+  longer from within = seen
+      ∙ read-longer settled (place layout i) (place layout least - settled.size) (omega (arith, size, from))
+      (omega (arith, size, from, within))
 
 -- the file of an honest disk is on a device whose blocks suit its layout
 pub left-suited : {F : Type 0} (file : F → FileState) (it : FileDisk F) → IsLeftAsShown file it → Behaves (file it.file)

@@ -3,7 +3,7 @@ use Rattle.std.proofs.Common.{◌≡◌, ◌≢◌, ◌<◌, ◌≤◌, ◌⊎�
 use Rattle.std.proofs.Common.{false, cond, List, [], ◌∷◌, length, Option, Some, None, Result, Ok, Err, refl, sym, ◌∙◌}
 use Rattle.std.proofs.Common.{ap, subst, arith, le_refl}
 use Rattle.std.specs.Option.{option_map}
-use Rattle.std.proofs.lemmas.Bool.{cases_eq, ne_eqb}
+use Rattle.std.proofs.lemmas.Bool.{cases_eq, eq-eqb, ne_eqb}
 use Rattle.macs_config.specs.Numbers.{block_beyond, one_more}
 use Rattle.macs_config.specs.Tables.{put}
 use Rattle.macs_config.specs.declared.command.Command.{Command}
@@ -136,6 +136,19 @@ anew_generation : (b : Bool) (number : ℕ) → b ≡ true → cond b (number + 
 anew_generation true number is = refl
 anew_generation false number is = absurd (cc)
 
+-- one change, and then others
+one_start : (b : Bool) (used number : ℕ) (s : Standing) (raise : Raise) (raises : List Raise)
+    → (b ≡ true
+    → generation_in_raises (cond b (length (snapshot s) + 1) (used + 1)) (cond b (number + 1) number)
+    (standing_with_raise s raise) raises
+    ≡ generation_in_raises (length (snapshot s) + 1) (number + 1) (standing_with_raise s raise) raises)
+    × (b ≡ false
+    → generation_in_raises (cond b (length (snapshot s) + 1) (used + 1)) (cond b (number + 1) number)
+    (standing_with_raise s raise) raises
+    ≡ generation_in_raises (used + 1) number (standing_with_raise s raise) raises)
+one_start true used number s raise raises = (λ is. refl, λ is. absurd (cc))
+one_start false used number s raise raises = (λ is. absurd (cc), λ is. refl)
+
 -- ceilings that are raised in one generation take a slot each, and four device calls at most
 raised_so : (used number : ℕ) (s : Standing) (raises : List Raise) → generation_in_raises used number s raises ≡ number
     → (slots_in_raises used s raises ≡ used + length raises) × (most_in_raises used s raises ≤ 4 * length raises)
@@ -261,6 +274,24 @@ module _ {D : Type 0} (disk_of : D → Disk) where
     )
   ]
 
+  -- one that fails where one is under way, or after that
+  fault_behind : (old new : EndpointValue D) (raise : Raise)
+      → IsCall disk_of old Refills (Refilled (Err refill.Disk)) new → old.reserving ≡ Some raise
+      → (standing_in new.store ≡ standing_in old.store)
+      ⊎ ((next : Raise)
+      × IsRefilled (tx_side (state_of old no_logs)) (rx_side (state_of old no_logs))
+      (standing_with_raise (standing_in old.store) raise)
+      (standing_in new.store) (Some next))
+  fault_behind old new raise call is = elim call.behaves.ceilings [
+    | inl held ↦ inl held.2
+    | inr after ↦ inr (
+      after.0,
+      subst (λ (s : Standing). IsRefilled (tx_side (state_of old no_logs)) (rx_side (state_of old no_logs)) s
+          (standing_in new.store) (Some after.0))
+          (reserved_some (standing_in old.store) old.reserving raise is) after.1,
+    )
+  ]
+
   -- a refill that is done
   refilled : (old new : EndpointValue D) → IsCall disk_of old Refills (Refilled (Ok tt)) new → old.reserving ≡ None
       → IsRefilled (tx_side (state_of old no_logs)) (rx_side (state_of old no_logs)) (standing_in old.store)
@@ -279,6 +310,19 @@ module _ {D : Type 0} (disk_of : D → Disk) where
       subst (λ (s : Standing). IsRefilled (tx_side (state_of old no_logs)) (rx_side (state_of old no_logs)) s
       (standing_in new.store) None)
       (reserved_some (standing_in old.store) old.reserving raise is) call.behaves.ceilings
+
+  ended_so : (old new : EndpointValue D) → IsCall disk_of old Refills (Refilled (Err refill.GenerationsSpent)) new
+      → old.reserving ≡ None
+      → (next : Raise)
+      × IsRefilled (tx_side (state_of old no_logs)) (rx_side (state_of old no_logs)) (standing_in old.store)
+      (standing_in new.store) (Some next)
+  ended_so old new call none =
+      let left = call.behaves.ceilings in (
+        left.0,
+        subst (λ (s : Standing). IsRefilled (tx_side (state_of old no_logs)) (rx_side (state_of old no_logs)) s
+            (standing_in new.store) (Some left.0))
+            (reserved_none (standing_in old.store) old.reserving none) left.1,
+      )
 
   ended_behind : (old new : EndpointValue D) (raise : Raise)
       → IsCall disk_of old Refills (Refilled (Err refill.GenerationsSpent)) new → old.reserving ≡ Some raise
@@ -315,6 +359,9 @@ module _ {D : Type 0} (disk_of : D → Disk) where
     none = λ t r old new next is none. none_raised t r old new is.raises is.raised none;
     one = λ t r old new next raise is first. one_raised t r old new next raise is.raises is.raised is.is_next first;
     then = λ t r old new next is. is.is_next;
+    raises_none = λ t r old new is. is;
+    raises_more = λ t r old new raise raises is. is;
+    raises_behind = λ old raises new is. is;
     first = λ t r s an is.
         ap (λ (need : Option ℕ). either_raise need (rx.first_need_of r s.ceilings.rx s.identity.rx_block)) is;
     raised = λ s an ceiling is.
@@ -332,9 +379,12 @@ module _ {D : Type 0} (disk_of : D → Disk) where
     spent_behind = λ old new command raise call is. call.behaves.ceilings
         ∙ reserved_some (standing_in old.store) old.reserving raise is;
     fault = refill_fault;
+    fault_behind = fault_behind;
+    ended_so = ended_so;
     ended = λ old new call. let left = call.behaves.ceilings in (left.0, left.1.is_next);
     ended_behind = ended_behind;
     step_failed = λ old new call. call.behaves.ceilings;
+    step_worked = λ old new call. call.behaves.ceilings;
     reserved = λ old. (
       reserved_none (standing_in old.store) old.reserving,
       reserved_some (standing_in old.store) old.reserving,
@@ -347,6 +397,12 @@ module _ {D : Type 0} (disk_of : D → Disk) where
     refilled_behind = refilled_behind;
     spends = spends_so;
     each_slot = each_slot;
+    each_start = λ old new (raises, has). (raises, has.raised, has.generation);
+    start_more = λ used number s raise raises. (
+      refl,
+      λ full. (one_start (used == 256) used number s raise raises).0 (eq-eqb used 256 full),
+      λ other. (one_start (used == 256) used number s raise raises).1 (ne_eqb used 256 other),
+    );
     refill = refill_calls;
     refill_behind = refill_behind;
     command_behind = command_behind;

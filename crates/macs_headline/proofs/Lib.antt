@@ -106,5 +106,6 @@ mod WorkedWords
 mod OnceWords
 mod RefusedWords
 mod FileCallWords
+mod LayerWords
 mod LayoutWords
 mod OctetWords

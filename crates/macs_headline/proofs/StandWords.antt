@@ -1,9 +1,9 @@
 -- What an endpoint is left with.
-use Rattle.std.proofs.Common.{◌≡◌, ◌≢◌, ◌≤◌, ◌⊎◌, inl, inr, ◌+◌, ◌++◌, ◌==◌, ℕ, Bool, true, false, cond, List, [], ◌∷◌}
-use Rattle.std.proofs.Common.{length, Some, None, Result, Ok, Err, refl, sym, ◌∙◌, ap, subst, arith}
+use Rattle.std.proofs.Common.{◌≡◌, ◌≢◌, ◌≤◌, ◌<◌, ◌⊎◌, inl, inr, ◌+◌, ◌++◌, ◌==◌, ℕ, Bool, true, false, cond, List, []}
+use Rattle.std.proofs.Common.{◌∷◌, length, Some, None, Result, Ok, Err, refl, sym, ◌∙◌, ap, subst, arith}
 use Rattle.std.specs.Prelude.{Contains}
 use Rattle.std.specs.Result.{IsErrOf}
-use Rattle.std.proofs.lemmas.Bool.{eq-eqb}
+use Rattle.std.proofs.lemmas.Bool.{eq-eqb, ne_eqb}
 use Rattle.macs_config.specs.declared.command.Command.{Command}
 use Rattle.macs_disk.specs.Disk.{Disk}
 use Rattle.macs_journal.specs.declared.fault.JournalFault.{JournalFault}
@@ -36,6 +36,10 @@ at_end false used number s is = absurd (cc)
 at_most : (b : Bool) (s : Standing) → cond b (523 + length (snapshot s)) 4 ≤ 523 + length (snapshot s)
 at_most true s = omega arith
 at_most false s = omega arith
+
+at_least : (b : Bool) (s : Standing) → b ≡ false → cond b (523 + length (snapshot s)) 4 ≡ 4
+at_least true s is = absurd (cc)
+at_least false s is = refl
 
 named_by : (fault name : JournalFault) → IsErrOf {T = Unit {0}} (Err fault) name → fault ≡ name
 named_by fault name is = cc
@@ -88,6 +92,16 @@ module _ {D : Type 0} (disk_of : D → Disk) where
       let one = at_most (slots_then old.store == 256) (reserved_in old) in
       omega (arith, most, one)
 
+  -- the same where a slot is left
+  command_few : (old new : EndpointValue D) (command : Command) (result : Result (Unit {0}) CommandFault)
+      → KeepsCommand disk_of old command result new → slots_then old.store < 256
+      → (disk_in disk_of new).clock ≤ (disk_in disk_of old).clock + calls_left old.store + 4
+  command_few old new command result keeps fewer =
+      let most = keeps.most in
+      let four = at_least (slots_then old.store == 256) (reserved_in old)
+      (ne_eqb (slots_then old.store) 256 (λ full. omega (arith, full, fewer))) in
+      omega (arith, most, four)
+
   pub calls-leave : CallsLeave disk_of
   calls-leave = record {
     opened = λ disk first is. (
@@ -104,6 +118,14 @@ module _ {D : Type 0} (disk_of : D → Disk) where
     format_taken = λ old new identity is honest. let taken = is.device.taken refl honest in (taken.0, taken.2);
     format_fails = λ old new identity result is. is.device.work.fails;
     format_done = λ old new identity is. is.device.work.fails;
+    format_leaves = λ old new identity result image is honest left. elim
+        ((is.any_moment honest).each image left) [
+          | inl before ↦ inl before
+          | inr formats ↦ elim formats [
+            | inl none ↦ inr (inl none)
+            | inr new_one ↦ inr (inr (new_one.stands, new_one.format))
+          ]
+        ];
     format_spares = λ old new identity result is honest. is.device.others honest;
     format_spares_all = λ old new identity result is honest has_open. is.device.journal has_open honest;
     opening_spares = λ old first c is honest migrates. (is.device.migrated honest c migrates).0.others;
@@ -116,10 +138,11 @@ module _ {D : Type 0} (disk_of : D → Disk) where
     command_anew = command_anew;
     command_anew_behind = command_anew_behind;
     command_calls = command_calls;
+    command_few = command_few;
     command_spent = λ old new command keeps. keeps.spent refl;
     refill_failed = λ old new spends. elim spends [
       | inl in_hand ↦ inl (in_hand.raise, in_hand.reserving, in_hand.stands, in_hand.most)
-      | inr behind ↦ inr (behind.0, behind.1, behind.2.raised, behind.2.most)
+      | inr behind ↦ inr (behind.0, behind.1, behind.2.raised, behind.2.failed, behind.2.most)
     ];
     refill_spent = λ old new spends. spends;
     call_failures = λ old new call reply is. is.device.works.failures;

@@ -9,6 +9,7 @@ use Rattle.macs_config.specs.declared.command.Command.TheVariants.{RxDrop, RxIns
 use Rattle.macs_store.specs.Value.{standing_in}
 use Rattle.macs_endpoint.specs.WorkThroughCalls.{IsNotDone, IsNotReserved, commands_done, commands_in_reply}
 use Rattle.macs_endpoint.specs.WorkThroughCalls.{reservations_in_reply, reservations_made, steps_in_call, steps_made}
+use Rattle.macs_endpoint.specs.Queue.{first_command}
 use Rattle.macs_endpoint.specs.Rooms.{SparesRx, SparesTx, frames_in_reply, frames_sent}
 use Rattle.macs_endpoint.specs.State.{Advanced, Advances, Call, Commands, Protected, Protects, Receives, Refilled}
 use Rattle.macs_endpoint.specs.State.{Refills, Reply, Submits}
@@ -81,6 +82,8 @@ turns-are-counted {D} = record {
   sent_under_another = λ an e turn turns differ.
       let none = sent_under_another (standing_in e.store).config.encoding an turn.reply differ in omega (arith, none);
   none_sent = λ an e. refl;
+  made = λ s command. refl;
+  made_later = λ s ticket w rest is. ap first_command is;
 }
 
 -- ---- what is asked for of one call

@@ -2,6 +2,7 @@
 use Rattle.std.specs.Prelude.{◌≡◌, ◌≢◌, ◌⊎◌, ◌↔◌, ◌≤◌, ◌+◌, ◌++◌, ◌-◌, ◌/◌, ◌^◌, ℕ, true, false, List, [], ◌∷◌, length}
 use Rattle.std.specs.Prelude.{map, max, min, Bool, Contains, Option, Some, None, Ok}
 use Rattle.std.specs.List.{range_with_len}
+use Rattle.macs_config.specs.Apply.{apply}
 use Rattle.macs_config.specs.Config.{Config, Edition, default, this_edition}
 use Rattle.macs_config.specs.Identity.{Identity}
 use Rattle.macs_config.specs.declared.command.Command.{Command}
@@ -117,7 +118,8 @@ pub record NumberWords : Type 0 where
 -- A restart begins with the logs as they were, runs, and has nothing under way, no command that waits and no ticket
 -- given. What is under way was given to a call of its life, and is accepted. Of each life in which an endpoint served,
 -- first or later, the commands that are kept make the next configuration, from which the other lives go on, and it
--- opened what stands for the one before; no other life makes anything. So what is found is made of the first
+-- opened what stands for the one before; no other life makes anything. Commands that make a configuration are each
+-- accepted in what those before it made, and where there are none it stays. So what is found is made of the first
 -- configuration, under the identity that is found. Those commands are a prefix of those that were accepted which holds
 -- every acknowledged one; the one under way is that at the end of such a life, with these answers, was begun and was
 -- given to a call of it. Lives that left a disk unformatted are formats that did not answer Ok, and openings that were
@@ -142,6 +144,13 @@ pub record LifeWords (sectors : ℕ) : Type 0 where
       → ((found : Standing) × StandingIs edition sectors image (Ok found) × (found.config ≡ old))
       × (kept : List Command) × AreKept sectors edition image exchanges cut kept
       × (mid : Config) × CommandsMake edition identity old kept mid × LivesMake sectors identity mid rest new
+  pub make_none : (edition : Edition) (identity : Identity) (old new : Config)
+      → CommandsMake edition identity old [] new → new ≡ old
+  pub make_more : (edition : Edition) (identity : Identity) (old new : Config) (command : Command)
+      (commands : List Command)
+      → CommandsMake edition identity old (command ∷ commands) new
+      → (mid : Config) × (apply edition identity old command ≡ Ok mid)
+      × CommandsMake edition identity mid commands new
   pub made_of_first : (lives : List Life) (found : Standing) → IsMadeByLives sectors lives found
       → LivesMake sectors found.identity default lives found.config
   pub made_by_none : (identity : Identity) (old new : Config) → LivesMake sectors identity old [] new → new ≡ old

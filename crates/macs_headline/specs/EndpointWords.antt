@@ -24,6 +24,7 @@ use Rattle.macs_journal.specs.declared.fault.JournalFault.{JournalFault}
 use Rattle.macs_journal.specs.declared.fault.JournalFault.TheVariants.{TooSmall}
 use Rattle.macs_journal.specs.declared.recovery.RecoverRefused.{RecoverRefused}
 use Rattle.macs_store.specs.Opening.{IsOpenName}
+use Rattle.macs_store.specs.Snapshot.{snapshot}
 use Rattle.macs_store.specs.Standing.{Standing, accept}
 use Rattle.macs_store.specs.Value.{IsIdle, StoreValue, calls_left, generation, generation_then, slots_then, standing_in}
 use Rattle.macs_store.specs.Value.{used_slots}
@@ -37,7 +38,7 @@ use Rattle.macs_endpoint.specs.Lives.{FitsLife, LeavesLife, Transition}
 use Rattle.macs_endpoint.specs.Opening.{IsOpening}
 use Rattle.macs_endpoint.specs.Restart.{Fits, state_during}
 use Rattle.macs_endpoint.specs.Serving.{EndsAs, IsServed, Told, call_of, is_halt, reply_of}
-use Rattle.macs_endpoint.specs.RefillCosts.{Spends, reserved_in}
+use Rattle.macs_endpoint.specs.RefillCosts.{RaisesBehind, Spends, generation_in_raises, reserved_in}
 use Rattle.macs_endpoint.specs.State.{Advanced, Advances, Commands, Protected, Protects, Ran, Received, Receives}
 use Rattle.macs_endpoint.specs.State.{Refilled, Refills, Reply, Submits, Submitted, no_logs, rx_side, tx_side}
 use Rattle.macs_endpoint.specs.Value.{EndpointValue, disk_in, state_of}
@@ -59,7 +60,7 @@ use Rattle.macs_endpoint.specs.declared.fault.StepFault.TheVariants as step
 use Rattle.macs_endpoint.specs.declared.fault.Stopped.{Stopped}
 use Rattle.macs_endpoint.specs.declared.fault.SubmitFault.{SubmitFault}
 use Rattle.macs_endpoint.specs.declared.progress.Step.{Step as Progress}
-use Rattle.macs_endpoint.specs.declared.progress.Step.TheVariants.{Done}
+use Rattle.macs_endpoint.specs.declared.progress.Step.TheVariants.{Done, Worked}
 use Rattle.macs_endpoint.specs.declared.queue.Waiting.{Waiting}
 use Rattle.macs_endpoint.specs.declared.turn.Turn.TheVariants.{Command as CommandTurn, Reservation}
 use Rattle.macs_headline.specs.Stopping.{TellsFault, TellsStopped}
@@ -94,16 +95,19 @@ pub record OpeningsCount {D : Type 0} (disk_of : D → Disk) : Type 0 where
 -- A ceiling that the transmit side needs comes first. A ceiling is raised by a whole block: from where it is, or from
 -- the number that was seen, up to 2^32. A command that is kept leaves the turn to a reservation, and a refill that
 -- finished one to a command. After a refill nothing was raised where nothing is needed first, and else nothing, or
--- that, and then the others so. A command that is answered as GenerationsSpent leaves the standing, with the
--- reservation that was under way; and a refill that is answered as Disk, where none was under way, what was raised so.
--- One that is answered as Ok leaves what was raised so, the reservation under way first, until none is needed; and its
--- slots and device calls are those of ceilings that were raised so: each takes a slot, where the journal does not start
--- over. After one that is answered as GenerationsSpent a ceiling is still needed, and what was raised comes after the
--- reservation that was under way, which is done. A step that a device call fails leaves the standing. What a command
--- that is answered as Ok makes, it makes of the standing with the reservation that was under way; and one that waited,
--- once it is done, of the standing. A refill, and a command that is kept, of an endpoint with no work under way, make
--- four device calls at most for each slot that they use, where the journal does not start over; and the command uses
--- one. Where work is under way its slot and its device calls come before these.
+-- that, and then the others so. Of a list of ceilings that were raised, each was needed first when its turn came. A
+-- command that is answered as GenerationsSpent leaves the standing, with the reservation that was under way; and a
+-- refill that is answered as Disk, where none was under way, what was raised so. Where one was under way it leaves the
+-- standing, or what was raised so after that. One that is answered as Ok leaves what was raised so, the reservation
+-- under way first, until none is needed; and its slots and device calls are those of ceilings that were raised so: each
+-- takes a slot, where the journal does not start over, and each start over is one generation more. After one that is
+-- answered as GenerationsSpent a ceiling is still needed, and what was raised comes after the reservation that was
+-- under way, which is done, or was raised so where none was. A step that a device call fails leaves the standing, and
+-- so does one after which work goes on. What a command that is answered as Ok makes, it makes of the standing with the
+-- reservation that was under way; and one that waited, once it is done, of the standing. A refill, and a command that
+-- is kept, of an endpoint with no work under way, make four device calls at most for each slot that they use, where the
+-- journal does not start over; and the command uses one. Where work is under way its slot and its device calls come
+-- before these.
 pub record CeilingsAreRaised {D : Type 0} (disk_of : D → Disk) : Type 0 where
   pub none : (t : TxSide) (r : RxSide) (old new : Standing) (next : Option Raise) → IsRefilled t r old new next
       → first_raise old t r ≡ None → new ≡ old
@@ -112,6 +116,12 @@ pub record CeilingsAreRaised {D : Type 0} (disk_of : D → Disk) : Type 0 where
       → first_raise old t r ≡ Some raise → (new ≡ old) ⊎ IsRefilled t r (standing_with_raise old raise) new next
   pub then : (t : TxSide) (r : RxSide) (old new : Standing) (next : Option Raise) → IsRefilled t r old new next
       → first_raise new t r ≡ next
+  pub raises_none : (t : TxSide) (r : RxSide) (old new : Standing) → Raises t r old [] new → new ≡ old
+  pub raises_more : (t : TxSide) (r : RxSide) (old new : Standing) (raise : Raise) (raises : List Raise)
+      → Raises t r old (raise ∷ raises) new
+      → (first_raise old t r ≡ Some raise) × Raises t r (standing_with_raise old raise) raises new
+  pub raises_behind : (old : EndpointValue D) (raises : List Raise) (new : Standing) → RaisesBehind old raises new
+      → Raises (tx_side (state_of old no_logs)) (rx_side (state_of old no_logs)) (reserved_in old) raises new
   pub first : (t : TxSide) (r : RxSide) (s : Standing) (an : ℕ)
       → transmit.need_of t s.ceilings.tx s.identity.tx_block ≡ Some an
       → first_raise s t r ≡ Some (RaiseTx an)
@@ -135,6 +145,18 @@ pub record CeilingsAreRaised {D : Type 0} (disk_of : D → Disk) : Type 0 where
       → old.reserving ≡ None
       → (raise : Raise) × IsRefilled (tx_side (state_of old no_logs)) (rx_side (state_of old no_logs))
       (standing_in old.store) (standing_in new.store) (Some raise)
+  pub fault_behind : (old new : EndpointValue D) (raise : Raise)
+      → IsCall disk_of old Refills (Refilled (Err refill.Disk)) new → old.reserving ≡ Some raise
+      → (standing_in new.store ≡ standing_in old.store)
+      ⊎ ((next : Raise)
+      × IsRefilled (tx_side (state_of old no_logs)) (rx_side (state_of old no_logs))
+      (standing_with_raise (standing_in old.store) raise)
+      (standing_in new.store) (Some next))
+  pub ended_so : (old new : EndpointValue D) → IsCall disk_of old Refills (Refilled (Err refill.GenerationsSpent)) new
+      → old.reserving ≡ None
+      → (next : Raise)
+      × IsRefilled (tx_side (state_of old no_logs)) (rx_side (state_of old no_logs)) (standing_in old.store)
+      (standing_in new.store) (Some next)
   pub ended : (old new : EndpointValue D) → IsCall disk_of old Refills (Refilled (Err refill.GenerationsSpent)) new
       → (raise : Raise)
       × (first_raise (standing_in new.store) (tx_side (state_of old no_logs)) (rx_side (state_of old no_logs))
@@ -146,6 +168,8 @@ pub record CeilingsAreRaised {D : Type 0} (disk_of : D → Disk) : Type 0 where
       (standing_with_raise (standing_in old.store) raise)
       (standing_in new.store) (Some next)
   pub step_failed : (old new : EndpointValue D) → IsCall disk_of old Advances (Advanced (Err step.Disk)) new
+      → standing_in new.store ≡ standing_in old.store
+  pub step_worked : (old new : EndpointValue D) → IsCall disk_of old Advances (Advanced (Ok Worked)) new
       → standing_in new.store ≡ standing_in old.store
   pub reserved : (old : EndpointValue D) → (old.reserving ≡ None → reserved_in old ≡ standing_in old.store)
       × ((raise : Raise) → old.reserving ≡ Some raise
@@ -173,6 +197,20 @@ pub record CeilingsAreRaised {D : Type 0} (disk_of : D → Disk) : Type 0 where
       × Raises (tx_side (state_of old no_logs)) (rx_side (state_of old no_logs)) (reserved_in old) raises
       (standing_in new)
       × (used_slots new ≡ slots_then old.store + length raises)
+  pub each_start : (old : EndpointValue D) (new : StoreValue D) → Spends disk_of old (Ok tt) new
+      → (raises : List Raise)
+      × Raises (tx_side (state_of old no_logs)) (rx_side (state_of old no_logs)) (reserved_in old) raises
+      (standing_in new)
+      × (generation new
+      ≡ generation_in_raises (slots_then old.store) (generation_then old.store) (reserved_in old) raises)
+  pub start_more : (used number : ℕ) (s : Standing) (raise : Raise) (raises : List Raise)
+      → (generation_in_raises used number s [] ≡ number)
+      × (used ≡ 256
+      → generation_in_raises used number s (raise ∷ raises)
+      ≡ generation_in_raises (length (snapshot s) + 1) (number + 1) (standing_with_raise s raise) raises)
+      × (used ≢ 256
+      → generation_in_raises used number s (raise ∷ raises)
+      ≡ generation_in_raises (used + 1) number (standing_with_raise s raise) raises)
   pub refill : (old : EndpointValue D) (new : StoreValue D) → Spends disk_of old (Ok tt) new → IsIdle old.store
       → generation new ≡ generation old.store
       → (store.disk_in disk_of new).clock ≤ (disk_in disk_of old).clock + 4 * (used_slots new - used_slots old.store)

@@ -61,5 +61,6 @@ pub mod WorkedWords
 pub mod OnceWords
 pub mod RefusedWords
 pub mod FileCallWords
+pub mod LayerWords
 pub mod LayoutWords
 pub mod OctetWords

@@ -1,40 +1,42 @@
 -- The headline on what an endpoint is left with by an opening, by a `format`, by a command or a step, and by events
 -- that are served.
-use Rattle.std.specs.Prelude.{◌≡◌, ◌≢◌, ◌≤◌, ◌⊎◌, ◌+◌, ◌++◌, true, false, ℕ, List, [], ◌∷◌, length, map, Contains, Some}
-use Rattle.std.specs.Prelude.{None, Result, Ok, Err}
+use Rattle.std.specs.Prelude.{◌≡◌, ◌≢◌, ◌≤◌, ◌<◌, ◌⊎◌, ◌+◌, ◌++◌, true, false, ℕ, List, [], ◌∷◌, length, map, Contains}
+use Rattle.std.specs.Prelude.{Some, None, Result, Ok, Err}
 use Rattle.macs_config.specs.Config.{this_edition}
 use Rattle.macs_config.specs.Identity.{Identity}
 use Rattle.macs_config.specs.declared.command.Command.{Command}
-use Rattle.macs_disk.specs.Disk.{Disk, IsHonest, now}
-use Rattle.macs_disk.specs.States.{state_after_sync}
+use Rattle.macs_disk.specs.Disk.{Disk, IsHonest, LeftSince, MayLeave, now}
+use Rattle.macs_disk.specs.States.{Image, state_after_sync}
+use Rattle.macs_record.specs.declared.format.Format.TheVariants.{Two}
 use Rattle.macs_record.specs.declared.record.Record.{Record}
 use Rattle.macs_journal.specs.Areas.{gates, other_area}
 use Rattle.macs_journal.specs.Compacting.{CompactWrites, Compacts, FindsUntil, HasOpenGates}
 use Rattle.macs_journal.specs.Formatting.{FormatWrites, HasOpenHead}
-use Rattle.macs_journal.specs.Found.{Content}
+use Rattle.macs_journal.specs.Found.{Content, HasFormat}
 use Rattle.macs_journal.specs.Value.{JournalValue}
 use Rattle.macs_journal.specs.Value as journal
 use Rattle.macs_journal.specs.Work.{FailsAs, IsSpared}
 use Rattle.macs_journal.specs.declared.fault.JournalFault.{JournalFault}
-use Rattle.macs_journal.specs.declared.fault.JournalFault.TheVariants.{AlreadyFormatted, Disk as DiskFault, TooSmall}
+use Rattle.macs_journal.specs.declared.fault.JournalFault.TheVariants.{AlreadyFormatted, Disk as DiskFault}
+use Rattle.macs_journal.specs.declared.fault.JournalFault.TheVariants.{NotFormatted, TooSmall}
 use Rattle.macs_journal.specs.declared.recovery.RecoverRefused.{RecoverRefused}
-use Rattle.macs_store.specs.Found.{IsToMigrate}
+use Rattle.macs_store.specs.Found.{IsToMigrate, StandingIs}
 use Rattle.macs_store.specs.Keeps.{most_with_change}
 use Rattle.macs_store.specs.Snapshot.{snapshot}
-use Rattle.macs_store.specs.Standing.{Standing}
+use Rattle.macs_store.specs.Standing.{Standing, new_standing}
 use Rattle.macs_store.specs.Value.{IsIdle, StoreValue, calls_left, generation, generation_then, slots_then, standing_in}
 use Rattle.macs_store.specs.Value.{used_slots}
 use Rattle.macs_store.specs.Value as store
 use Rattle.macs_endpoint.specs.Calls.{IsCall}
-use Rattle.macs_endpoint.specs.Ceilings.{Raise, standing_with_raise}
+use Rattle.macs_endpoint.specs.Ceilings.{Raise, first_raise, standing_with_raise}
 use Rattle.macs_endpoint.specs.Formatting.{IsFormat}
 use Rattle.macs_endpoint.specs.KeptCommands.{KeepsCommand}
 use Rattle.macs_endpoint.specs.Lives.{LeavesLife, Lives}
 use Rattle.macs_endpoint.specs.Opening.{IsOpening}
 use Rattle.macs_endpoint.specs.Serving.{EndsAs, IsServed, Told, is_halt}
 use Rattle.macs_endpoint.specs.RefillCosts.{HasRaised, RaisesBehind, Spends, most_behind, reserved_in}
-use Rattle.macs_endpoint.specs.State.{Advanced, Advances, Call, Commands, Ran, Reply}
-use Rattle.macs_endpoint.specs.Value.{EndpointValue, IsBacked, disk_in}
+use Rattle.macs_endpoint.specs.State.{Advanced, Advances, Call, Commands, Ran, Reply, no_logs, rx_side, tx_side}
+use Rattle.macs_endpoint.specs.Value.{EndpointValue, IsBacked, disk_in, state_of}
 use Rattle.macs_endpoint.specs.declared.event.ServeEnd.{ServeEnd}
 use Rattle.macs_endpoint.specs.declared.event.ServeEnd.TheVariants.{Halted}
 use Rattle.macs_endpoint.specs.declared.fault.CommandFault.{CommandFault}
@@ -49,12 +51,14 @@ use Rattle.macs_endpoint.specs.declared.progress.Step.TheVariants.{Reserved}
 -- before, with the reservation under way or without. One that is kept where all 256 slots are used is in the next
 -- generation, after a snapshot, also where the last one is that of work under way; where no more is kept, the calls of
 -- the reservation under way are all, and whatever it is answered, those and the 523 of a journal that starts over, with
--- one for each record of a snapshot. Of a refill that a device call fails those calls are all, or the ceilings before
--- it are raised; of one that is not all the work, as many as that takes. A `format` that is answered Ok counts no
--- failed device call. One leaves each sector alone but those that it writes to, and all of them where a head gate reads
--- open. So does an opening that starts the journal over, in its other area, done or refused, and so does each
--- compaction; and until that writes the new head gate a power loss leaves the journal as it was. No failed device call
--- that was counted is ever taken back: by a call, by a `format` or by an opening that is refused.
+-- one for each record of a snapshot; four of its own where a slot is left. Of a refill that a device call fails those
+-- calls are all, or the ceilings before it are raised, and it is the next one that is needed; of one that is not all
+-- the work, as many as that takes. A `format` that is answered Ok counts no failed device call. What a power loss may
+-- leave of one is what it could leave before, or no journal, or a new endpoint in a journal of format two. One leaves
+-- each sector alone but those that it writes to, and all of them where a head gate reads open. So does an opening that
+-- starts the journal over, in its other area, done or refused, and so does each compaction; and until that writes the
+-- new head gate a power loss leaves the journal as it was. No failed device call that was counted is ever taken back:
+-- by a call, by a `format` or by an opening that is refused.
 pub record CallsLeave {D : Type 0} (disk_of : D → Disk) : Type 0 where
   pub opened : (disk : D) (first : EndpointValue D) → IsOpening disk_of disk (Ok first) → IsIdle first.store
       × (first.reserving ≡ None) × (first.in_hand ≡ None)
@@ -74,6 +78,13 @@ pub record CallsLeave {D : Type 0} (disk_of : D → Disk) : Type 0 where
       → FailsAs (disk_of old) (disk_of new) result
   pub format_done : (old new : D) (identity : Identity) → IsFormat disk_of old identity (Ok tt) new
       → (disk_of new).failures ≡ (disk_of old).failures
+  pub format_leaves : (old new : D) (identity : Identity) (result : Result (Unit {0}) JournalFault) (image : Image)
+      → IsFormat disk_of old identity result new
+      → IsHonest (disk_of new) → LeftSince (disk_of new) (disk_of old).clock image
+      → MayLeave (disk_of old) image
+      ⊎ (StandingIs this_edition (disk_of old).sectors image (Err NotFormatted)
+      ⊎ (StandingIs this_edition (disk_of old).sectors image (Ok (new_standing this_edition identity))
+      × HasFormat image Two))
   pub format_spares : (old new : D) (identity : Identity) (result : Result (Unit {0}) JournalFault)
       → IsFormat disk_of old identity result new → IsHonest (disk_of new)
       → (i : ℕ) → ¬ FormatWrites (now (disk_of old)).seen i → IsSpared (disk_of old) (disk_of new) i
@@ -123,6 +134,9 @@ pub record CallsLeave {D : Type 0} (disk_of : D → Disk) : Type 0 where
       → KeepsCommand disk_of old command result new
       → (disk_in disk_of new).clock
       ≤ (disk_in disk_of old).clock + calls_left old.store + (523 + length (snapshot (reserved_in old)))
+  pub command_few : (old new : EndpointValue D) (command : Command) (result : Result (Unit {0}) CommandFault)
+      → KeepsCommand disk_of old command result new → slots_then old.store < 256
+      → (disk_in disk_of new).clock ≤ (disk_in disk_of old).clock + calls_left old.store + 4
   pub command_spent : (old new : EndpointValue D) (command : Command)
       → KeepsCommand disk_of old command (Err ran.GenerationsSpent) new
       → (disk_in disk_of new).clock ≤ (disk_in disk_of old).clock + calls_left old.store
@@ -130,6 +144,7 @@ pub record CallsLeave {D : Type 0} (disk_of : D → Disk) : Type 0 where
       → ((raise : Raise) × (old.reserving ≡ Some raise) × (standing_in new ≡ standing_in old.store)
       × ((store.disk_in disk_of new).clock ≤ (disk_in disk_of old).clock + calls_left old.store))
       ⊎ ((raises : List Raise) × (raise : Raise) × RaisesBehind old raises (standing_in new)
+      × (first_raise (standing_in new) (tx_side (state_of old no_logs)) (rx_side (state_of old no_logs)) ≡ Some raise)
       × ((store.disk_in disk_of new).clock ≤ (disk_in disk_of old).clock + most_behind old (raises ++ raise ∷ [])))
   pub refill_spent : (old : EndpointValue D) (new : StoreValue D) → Spends disk_of old (Err refill.GenerationsSpent) new
       → (raises : List Raise) × HasRaised disk_of old raises new

@@ -3,6 +3,7 @@
 use Rattle.std.specs.Prelude.{◌≡◌, ◌≢◌, ◌≤◌, ◌+◌, ◌-◌, ◌^◌, false, ℕ, Bool, List, [], ◌∷◌, length, Some, None, IsSome}
 use Rattle.std.specs.Prelude.{Result, Ok, Err}
 use Rattle.macs_aes.specs.declared.keys.Key.{Key}
+use Rattle.macs_config.specs.declared.command.Command.{Command}
 use Rattle.macs_config.specs.declared.command.Command.TheVariants.{RxDrop, RxInstall, RxRemove, TxInstall, TxRemove}
 use Rattle.macs_store.specs.Value.{IsIdle, standing_in}
 use Rattle.macs_endpoint.specs.WorkThroughCalls.{Lasts, Needs, NoneDone, NoneReserved, commands_done, reservations_made}
@@ -10,16 +11,19 @@ use Rattle.macs_endpoint.specs.WorkThroughCalls.{steps_made}
 use Rattle.macs_endpoint.specs.Lives.{Transition}
 use Rattle.macs_endpoint.specs.Needed.{raise_in}
 use Rattle.macs_endpoint.specs.Rooms.{IsEncodingAn, RxStays, TxStays, frames_sent}
-use Rattle.macs_endpoint.specs.State.{Advanced, Advances, Protected, Refilled, command_made, no_logs}
+use Rattle.macs_endpoint.specs.State.{Advanced, Advances, Commands, Protected, Ran, Refilled, State, command_made}
+use Rattle.macs_endpoint.specs.State.{no_logs}
 use Rattle.macs_endpoint.specs.Value.{EndpointValue, IsSoundEndpoint, is_stopped, state_of}
 use Rattle.macs_endpoint.specs.declared.fault.CommandFault.{CommandFault}
 use Rattle.macs_endpoint.specs.declared.fault.RefillFault.TheVariants as refill
 use Rattle.macs_endpoint.specs.declared.fault.StepFault.TheVariants as step
 use Rattle.macs_endpoint.specs.declared.progress.Step.TheVariants.{Done, Reserved}
+use Rattle.macs_endpoint.specs.declared.queue.Waiting.{Waiting}
 
 -- Of calls, one more is counted where the first is a step; where its answer says that a reservation used its turn, made
 -- or refused; where it says that a submitted command is done with, kept or refused; and where a frame went out under
--- the association, which is the encoding one then. Else no more than of the others.
+-- the association, which is the encoding one then. Else no more than of the others. What a command that is answered as
+-- Ok makes durable is that command, and what a step does that is done with one is the first that waited.
 pub record TurnsAreCounted (D : Type 0) : Type 0 where
   pub stepped : (turn : Transition D) (turns : List (Transition D)) → turn.call ≡ Advances
       → steps_made (turn ∷ turns) ≡ 1 + steps_made turns
@@ -48,6 +52,9 @@ pub record TurnsAreCounted (D : Type 0) : Type 0 where
       → (standing_in e.store).config.encoding ≢ Some an
       → frames_sent an e (turn ∷ turns) ≡ frames_sent an turn.after turns
   pub none_sent : (an : ℕ) (e : EndpointValue D) → frames_sent an e [] ≡ 0
+  pub made : (s : State) (command : Command) → command_made s (Commands command) (Ran (Ok tt)) ≡ Some command
+  pub made_later : (s : State) (ticket : ℕ) (w : Waiting) (rest : List Waiting) → s.waiting ≡ w ∷ rest
+      → command_made s Advances (Advanced (Ok (Done ticket (Ok tt)))) ≡ Some w.command
 
 -- An association stays over no calls, and over one more that neither installs it, removes it, nor drops its channel.
 -- Work lasts over no calls, and over one more before which it is under way, and after which the endpoint runs. No

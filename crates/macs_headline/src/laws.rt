@@ -1,15 +1,14 @@
 //! The laws, and that what a program does is what they speak of.
 
-ghost use Rattle.std.specs.Prelude.{◌≡◌, ◌≤◌, ◌<◌, ◌/◌, ◌%◌, ℕ, max, Bool, true, false, List, []};
-ghost use Rattle.std.specs.Prelude.{◌∷◌};
-ghost use Rattle.std.specs.Prelude.{IsTrue};
+ghost use Rattle.std.specs.Prelude.{◌≡◌, ◌≤◌, ◌<◌, ◌+◌, ◌/◌, ◌%◌, ℕ, max, Bool, true, false, List};
+ghost use Rattle.std.specs.Prelude.{[], ◌∷◌, IsTrue, length};
 ghost use Rattle.macs_disk.specs.Disk.{Disk, IsHonest, LeftSince, MayLeave, disk_after_loss, now};
 ghost use Rattle.macs_disk.specs.FileDisks.{IsBlank, IsFoundAgain, IsFoundAs, IsLeftAsShown};
 ghost use Rattle.macs_disk.specs.FileDisks.{IsOpened, disk_in_file};
 ghost use Rattle.macs_disk.specs.FileDisks.{file_left, layout_of, state_in_file};
 ghost use Rattle.macs_disk.specs.Files.{Behaves, FileState, HasNothingNew, IsClaimed, IsSure};
-ghost use Rattle.macs_disk.specs.Files.{Settles};
-ghost use Rattle.macs_disk.specs.Layouts.{sectors_in, suits};
+ghost use Rattle.macs_disk.specs.Files.{Settles, values_from};
+ghost use Rattle.macs_disk.specs.Layouts.{place, sectors_in, suits};
 ghost use Rattle.macs_disk.specs.Memory.{blank_memory};
 ghost use Rattle.macs_disk.specs.States.{Image, IsImage, zero_sector};
 ghost use Rattle.macs_disk.specs.declared.file.FileDisk.{FileDisk};
@@ -17,6 +16,8 @@ ghost use Rattle.macs_disk.specs.declared.layout.Layout.{Layout};
 ghost use Rattle.macs_disk.specs.declared.layout.Layout.TheVariants.{Packed, Spaced};
 ghost use Rattle.macs_journal.specs.Areas.{least_sectors};
 ghost use Rattle.macs_fields.specs.First.{IsFirst, NoneHolds};
+ghost use Rattle.macs_store.specs.Snapshot.{snapshot};
+ghost use Rattle.macs_store.specs.Standing.{Standing};
 ghost use Rattle.macs_headline.specs.Answered.{AnswersAreHeld, MomentsAreHistories};
 ghost use Rattle.macs_headline.specs.Binding.{CallsAreDeeds, ChainsAnswer, ChainsKeepSizes};
 ghost use Rattle.macs_headline.specs.Binding.{ChainsTell, CutDeliveriesAreBelow, CutFramesAreBelow};
@@ -52,6 +53,7 @@ ghost use Rattle.macs_headline.specs.CountWords.{CountsAreNamed, CountsRiseAlone
 ghost use Rattle.macs_headline.specs.NeedWords.{NeedsAreInOrder, TurnsAreUsed};
 ghost use Rattle.macs_headline.specs.FailureWords.{FailureWords};
 ghost use Rattle.macs_headline.specs.FileCallWords.{FileCallWords};
+ghost use Rattle.macs_headline.specs.LayerWords.{LayerWords};
 ghost use Rattle.macs_headline.specs.LayoutWords.{LayoutWords};
 ghost use Rattle.macs_headline.specs.OctetWords.{OctetWords};
 ghost use Rattle.macs_headline.specs.StandWords.{CallsLeave, ServedEnds};
@@ -108,6 +110,7 @@ ghost use Rattle.macs_headline.specs.Openings.{SpentAreLast};
 use crate::example::peer_frame_in_range;
 use macs_disk::laws::a_file_is_left_as_its_disk;
 use macs_disk::{DiskFile, SectorDisk};
+use macs_store::laws::snapshot_stands_for_itself;
 
 /// Over every history: opening finds the configuration after a prefix of the accepted commands that
 /// holds every acknowledged one; each frame that is written is the standard's, no two carry the
@@ -268,6 +271,9 @@ pub fn headline()
     // How many commands may wait, how many tickets and spent keys there are, how often a journal
     // starts over, and what this edition and the first one take.
     ensures limits { LimitsAre }
+    // A snapshot has 1 to 235 records, where at most 32 channels exist.
+    ensures snapshots { (s : Standing) → (1 ≤ length (snapshot s))
+        × (length s.config.channels ≤ 32 → length (snapshot s) ≤ 235) }
     // After a device fault each call is answered that the endpoint is stopped, and changes nothing;
     // before one none is.
     ensures stopped_stays { (sectors : ℕ) → StoppedStays sectors }
@@ -289,7 +295,9 @@ pub fn headline()
     ensures identity_was_given { (sectors : ℕ) → IdentityWasGiven sectors }
     // What these clauses list by cases they list whole.
     ensures cases { CasesAre }
-{}
+{
+    snapshot_stands_for_itself();
+}
 
 /// Where histories come from: no program comes upon other images, and no moment and no end of a
 /// life comes about otherwise.
@@ -366,6 +374,8 @@ pub fn endpoint_words<D: SectorDisk>()
     ensures alone { CountsRiseAlone D.disk }
     // What an opening, a `format`, a command, a step and a refill leave.
     ensures left { CallsLeave D.disk }
+    // What the store, the journal and a fuse promise that no call of an endpoint asks for.
+    ensures layers { LayerWords D.disk }
     // What a loss of power leaves of events that are served, and when that halts.
     ensures served { ServedWords D.disk }
     // That they are calls, and that no answer before the last says that a device call failed.
@@ -644,6 +654,14 @@ pub fn files<F: DiskFile>()
         → IsOpened file least layout disk
         → (layout ≡ Packed → disk.sectors ≡ max (file.size / 512) least)
         × (layout ≡ Spaced → disk.sectors ≡ max 1028 least) }
+    // One that is made longer for them keeps its sectors, if it was sure of what it shows, and has
+    // zeros in the others.
+    ensures lengthened { (file : FileState) (least : ℕ) (layout : Layout) (disk : Disk) (i : ℕ)
+        → IsOpened file least layout disk → IsSure file
+        → (place layout i + 512 ≤ file.size
+        → (now disk).seen i ≡ values_from file.seen (place layout i) 512)
+        × (file.size ≤ place layout i → place layout i + 512 ≤ place layout least
+        → (now disk).seen i ≡ zero_sector) }
     // A file that is opened has whole sectors.
     ensures whole_sectors { (file : FileState) (least : ℕ) (layout : Layout) (disk : Disk)
         → IsOpened file least layout disk → file.size % 512 ≡ 0 }

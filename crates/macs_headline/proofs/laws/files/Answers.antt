@@ -2,7 +2,8 @@ use Rattle.std.proofs.Common.{◌≡◌, max, ap, ◌∙◌, arith}
 use Rattle.macs_disk.specs.Files.{FileState}
 use Rattle.macs_disk.specs.Layouts.{sectors_in}
 use Rattle.macs_disk.specs.declared.layout.Layout.{Layout}
-use Rattle.macs_headline.proofs.DiskFiles.{blank-file-is-new, left-suited, let-go, opened-again, opened-still}
+use Rattle.macs_headline.proofs.DiskFiles.{blank-file-is-new, left-suited, lengthened, let-go, opened-again}
+use Rattle.macs_headline.proofs.DiskFiles.{opened-still}
 use Rattle.macs_headline.proofs.LayoutWords.{layout-words}
 use Rattle.macs_headline.proofs.laws.files.Goals as goal
 
@@ -46,6 +47,9 @@ returns-clause-counted g c = λ file least layout disk opened.
 
 pub returns-clause-whole_sectors : goal.returns-clause-whole_sectors
 returns-clause-whole_sectors g c = λ file least layout disk opened. opened.whole
+
+pub returns-clause-lengthened : goal.returns-clause-lengthened
+returns-clause-lengthened g c = lengthened
 
 pub returns-clause-layouts : goal.returns-clause-layouts
 returns-clause-layouts g c = layout-words

@@ -157,6 +157,10 @@ returns-clause-bare_frames c = bare-frames-are
 pub returns-clause-limits : goal.returns-clause-limits
 returns-clause-limits c = limits-are
 
+pub returns-clause-snapshots : goal.returns-clause-snapshots
+returns-clause-snapshots c =
+    λ s. (c.snapshot_stands_for_itself.ensures.some s, c.snapshot_stands_for_itself.ensures.few s)
+
 pub returns-clause-tickets_kept : goal.returns-clause-tickets_kept
 returns-clause-tickets_kept c = tickets-kept
 
