@@ -107,4 +107,5 @@ mod OnceWords
 mod RefusedWords
 mod FileCallWords
 mod LayoutWords
+mod DiskWords
 mod OctetWords
