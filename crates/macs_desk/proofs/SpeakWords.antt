@@ -1,5 +1,5 @@
--- All that builds the words on what a desk says over a whole relay, and all that is to be drawn of what is said of each
--- command.
+-- All that builds the words on what a desk says over a whole relay, and all that is to be drawn of what is said of
+-- commands.
 use Rattle.std.proofs.Common.{refl, sym}
 use Rattle.macs_desk.specs.SpeakWords.{SpeakWords, ToldWords}
 

@@ -1,4 +1,4 @@
--- What builds the words on what a desk says over a whole relay, and what is to be drawn of what is said of each command.
+-- What builds the words on what a desk says over a whole relay, and what is to be drawn of what is said of commands.
 use Rattle.std.specs.Prelude.{◌≡◌, ◌++◌, ℕ, Bool, List, [], ◌∷◌, flat_map, map, Some, Result, Ok}
 use Rattle.macs_edge.specs.Commanding.{ended_by, ticket_in, told_by}
 use Rattle.macs_edge.specs.declared.attending.CommandEnd.{CommandEnd}
@@ -43,7 +43,8 @@ pub record ToldWords : Type 0 where
       × (map (λ (t : Told). t.client) c.told ≡ givers asking events talks)
       × (endings events talks ≡ map (λ (t : Told). Said t.client (ended_text t.end)) c.told)
   pub gave : (client : Client) (ticket : ℕ) (events : List DeskEvent) (talk : List Talk) (talks : List (List Talk))
-      → givers client (Took (Ok ticket) ∷ events) (talk ∷ talks) ≡ client ∷ givers (asking_after client talk) events talks
+      → givers client (Took (Ok ticket) ∷ events) (talk ∷ talks)
+      ≡ client ∷ givers (asking_after client talk) events talks
   pub asked : (client : Client) (heard : HeardLine) (talk : List Talk)
       → asking_after client (Heard (Some heard) ∷ talk) ≡ asking_after heard.client talk
   pub ended : (ticket : ℕ) (end : CommandEnd) (events : List DeskEvent) (talk : List Talk) (talks : List (List Talk))
