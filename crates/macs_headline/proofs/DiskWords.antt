@@ -1,5 +1,5 @@
--- What is to be drawn of disks in files, of a fuse that fails a write, and of files that are sure or claimed.
-use Rattle.std.proofs.Common.{ℕ, ap}
+-- What is to be drawn of disks in files, of a fuse that fails a write, and of files.
+use Rattle.std.proofs.Common.{ℕ, ap, refl}
 use Rattle.macs_disk.specs.Fuses.{FuseValue}
 use Rattle.macs_headline.specs.DiskWords.{DiskWords}
 
@@ -16,6 +16,9 @@ disk-words = record {
     ap (λ (f : FuseValue ℕ). f.blow) b.1.after,
   );
   any_read = λ old new at into result r. r.same;
+  cut = λ old. refl;
+  found = λ layout sectors file f. (f.whole, f.count, f.is_size_durable, f.keeps.found);
+  sized = λ layout file k. (k.found, k.sized);
   sure = λ file. (λ is. is, λ is. is);
   claimed = λ file. (λ is. is, λ is. is);
 }

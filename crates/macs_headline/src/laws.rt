@@ -651,8 +651,8 @@ pub fn files<F: DiskFile>()
     // Where its sectors are in the file, how that is found, and that no other blocks than those
     // below suit.
     ensures layouts { LayoutWords }
-    // Which octets of its file a disk shows, how a fuse fails a write, and which file is sure or
-    // claimed.
+    // Which octets of its file a disk shows, how a fuse fails a write, and what a read and a cut
+    // leave of a file.
     ensures disks { DiskWords }
     // Blocks of 512 octets suit both layouts, and those of 4,096 the one in which sectors lie
     // apart.
