@@ -75,10 +75,16 @@ goes_on is_full reports old new more order (inr (rest, is, listens)) =
     let same : rest ≡ more = cc in
     subst (λ (talk : List Talk). ListensUnless is_full reports old talk order new) same listens
 
+asks : (is_full : Bool) (reports : Reports) (old new : Client) (talk : List Talk) (order : Order)
+    → Looks is_full reports old talk order new → (ended : Bool) × (more : List Talk) × (talk ≡ Looked ended ∷ more)
+asks is_full reports old new talk order (inl (is, end, same)) = (true, [], is)
+asks is_full reports old new talk order (inr (more, is, listens)) = (false, more, is)
+
 pub listen-words : ListenWords
 listen-words = record {
   ended = ended;
   goes_on = goes_on;
+  asks = asks;
   full = λ reports old new talk order is. is;
   hears = λ reports old new talk order is. is;
   reads = λ reports heard talk order is. is;

@@ -76,7 +76,8 @@ pub record QueueWords : Type 0 where
   pub left_out : (entries : List Entry) (e : Entry) → length entries ≡ 16 → joined entries e ≡ entries
 
 -- The desk looks after a quiet turn, and once 63 turns have passed without it, and before each turn after a command. It
--- sleeps after a quiet turn alone. Where the process was asked to end, so is the relay. It listens unless 16 commands
+-- sleeps after a quiet turn alone. Where it looks it asks first whether the process was asked to end; where that is so,
+-- the relay ends, too. It listens unless 16 commands
 -- are under way. A line is a request's, and answered so, or no request's, with 2; or memory is refused, with 5. `show`
 -- and `counters` are answered with their reports, `stop` with 0 and the end of the relay; a command is handed in.
 -- Metrics are written where that is due, unless memory is refused.
@@ -85,6 +86,8 @@ pub record ListenWords : Type 0 where
       → Looks is_full reports old (Looked true ∷ more) order new → (more ≡ []) × (order ≡ End) × (new ≡ old)
   pub goes_on : (is_full : Bool) (reports : Reports) (old new : Client) (more : List Talk) (order : Order)
       → Looks is_full reports old (Looked false ∷ more) order new → ListensUnless is_full reports old more order new
+  pub asks : (is_full : Bool) (reports : Reports) (old new : Client) (talk : List Talk) (order : Order)
+      → Looks is_full reports old talk order new → (ended : Bool) × (more : List Talk) × (talk ≡ Looked ended ∷ more)
   pub full : (reports : Reports) (old new : Client) (talk : List Talk) (order : Order)
       → ListensUnless true reports old talk order new → (talk ≡ []) × (order ≡ Go) × (new ≡ old)
   pub hears : (reports : Reports) (old new : Client) (talk : List Talk) (order : Order)

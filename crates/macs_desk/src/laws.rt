@@ -9,7 +9,7 @@ ghost use Rattle.macs_endpoint.specs.declared.fault.RefillFault.{RefillFault};
 ghost use Rattle.macs_requests.specs.Talks.{Talk};
 ghost use Rattle.macs_desk.specs.DeskWords.{AnswerWords, ListenWords, QueueWords, ReportWords};
 ghost use Rattle.macs_desk.specs.Serving.{ClientsAreTold, DeskState, Speaks};
-ghost use Rattle.macs_desk.specs.SpeakWords.{SpeakWords};
+ghost use Rattle.macs_desk.specs.SpeakWords.{SpeakWords, ToldWords};
 
 use macs_disk::SectorDisk;
 
@@ -40,4 +40,6 @@ pub fn words<D: SectorDisk>()
     ensures reports { ReportWords D.disk }
     // What a desk says over a whole relay, call by call.
     ensures speaks { SpeakWords }
+    // What is said of each command that was taken, and to whom.
+    ensures told { ToldWords }
 {}

@@ -244,6 +244,7 @@ pass-words disk_of = record {
   ended = λ side big old new at is. is;
   halted = λ side big count old new at is. is;
   broken = λ side big count old new at is. is;
+  last = λ side big count old new taken passed t. (t.room, t.reads, t.settled);
   run = λ side big old new records passed h. (h.few, h.lives, h.handed, h.sent, h.writes, h.reads);
 }
 

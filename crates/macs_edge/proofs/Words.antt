@@ -11,7 +11,7 @@ use Rattle.macs_endpoint.specs.Step.{IsStopped}
 use Rattle.macs_endpoint.specs.declared.fault.ProtectFault.TheVariants as protect
 use Rattle.macs_endpoint.specs.declared.fault.RefillFault.{RefillFault}
 use Rattle.macs_endpoint.specs.declared.fault.RefillFault.TheVariants as refill
-use Rattle.macs_edge.specs.Flows.{AllBut, given, given_by, is_on}
+use Rattle.macs_edge.specs.Flows.{AllBut, TakenOff, given, given_by, is_on}
 use Rattle.macs_edge.specs.Settling.{HaltsIn, HandsIn, Settles, Waits, call_on}
 use Rattle.macs_edge.specs.Wires.{Gives}
 use Rattle.macs_edge.specs.Words.{FlowWords, SettlingWords, TheseBecomeCaptures, WireWords}
@@ -67,12 +67,18 @@ module _ {D : Type 0} where
       (λ i. cond (is_on side turn.call) (none_by turn.reply not_sent not_delivered i) [] ++ given side turns)
       ∙ ap (λ (front : List (List ℕ)). front ++ given side turns) (same_both (is_on side turn.call))
 
+still_known : (before : List (List ℕ)) (after : Option (List (List ℕ))) (taken : ℕ) → TakenOff (Some before) after taken
+    → (left : List (List ℕ)) × (after ≡ Some left)
+still_known before (Some after) taken off = (after, refl)
+still_known before None taken off = absurd off
+
 pub flow-words : {D : Type 0} (disk_of : D → Disk) → FlowWords disk_of
 flow-words disk_of = record {
   none_of = λ frames lost is. is;
   one_of = λ lost frame all frames is. is;
   all_of = all_of;
   taken_off = λ before after taken is. is;
+  known = still_known;
   took = λ old new taken missed is. (is.frames, is.failed);
   sent = λ old new all frames lost is. (is.all_but, is.gained, is.failed);
   all_turns = λ turns old summary endpoint controlled common is. is;
@@ -105,8 +111,9 @@ flow-words disk_of = record {
 
 gives_nothing : (before after : Option (List (List ℕ))) (frame : List ℕ) (waiting : List (List ℕ))
     → Gives before after Nothing frame → before ≡ Some waiting
-    → waiting ≡ []
-gives_nothing (Some before) (Some after) frame waiting gives is = let same : before ≡ waiting = cc in sym same ∙ gives.0
+    → (waiting ≡ []) × (after ≡ Some [])
+gives_nothing (Some before) (Some after) frame waiting gives is =
+    let same : before ≡ waiting = cc in (sym same ∙ gives.0, ap (λ (left : List (List ℕ)). Some left) gives.1)
 gives_nothing (Some before) None frame waiting gives is = absurd gives
 gives_nothing None after frame waiting gives is = absurd (cc)
 
@@ -141,7 +148,7 @@ wire-words = record {
   left_too_long = λ before after frame waiting is waits.
       left_too_long before.waiting after.waiting frame waiting is.0 waits;
   nothing = λ before after frame waiting is waits.
-      (gives_nothing before.waiting after.waiting frame waiting is.0 waits, is.1);
+      let none = gives_nothing before.waiting after.waiting frame waiting is.0 waits in (none.0, none.1, is.1);
   too_long = λ before after frame waiting is waits.
       (gives_too_long before.waiting after.waiting frame waiting is.0 waits, is.1);
   not_received = λ before after frame cause is. (is.0, is.1);

@@ -55,7 +55,7 @@ use Rattle.macs_edge.specs.Relaying.{Carries, Fills, Forwards, HandsOver, LaneVa
 use Rattle.macs_edge.specs.Relaying.{TakesTurns, Way}
 use Rattle.macs_edge.specs.Relaying.{filled, one_dropped, one_fault, relay_of, summary_of, way_of}
 use Rattle.macs_edge.specs.Resting.{IsQuiet, IsRelayedResting, RelaysResting, TakesTurnsResting}
-use Rattle.macs_edge.specs.Settling.{Halts, HandsIn, Settles, Waits, call_on}
+use Rattle.macs_edge.specs.Settling.{Halts, HandsIn, IsSettled, Settles, Waits, call_on}
 use Rattle.macs_edge.specs.WireDatagrams.{ReceivesDatagram, SendsDatagram}
 use Rattle.macs_edge.specs.Wires.{WireState, saturated}
 use Rattle.macs_edge.specs.Wires as wires
@@ -125,8 +125,9 @@ pub record RestWords {D : Type 0} (disk_of : D → Disk) : Type 0 where
 -- run that is answered Ok read a header and wrote it, and took every record that was left, to the end; it counts those
 -- that passed and the others. One that ends in a fault of the device took one record more, and its frame found the
 -- endpoint stopped, or waited for a refill that is answered so; in one of the captures, the next record was not read,
--- or what passed of it was not written whole. One whose header is not read, or not written, leaves the endpoint as it
--- was. What is written is the capture that the input becomes, or a front of it where the run ends with a fault.
+-- or what passed of it was not written whole; that one was read, and its frame settled, as any other. One whose header
+-- is not read, or not written, leaves the endpoint as it was. What is written is the capture that the input becomes, or
+-- a front of it where the run ends with a fault.
 pub record PassWords {D : Type 0} (disk_of : D → Disk) : Type 0 where
   pub none : (side : Side) (old new : State) (passed : List CaptureRecord) → Passes side old [] passed new
       → (passed ≡ []) × (new ≡ old)
@@ -198,6 +199,10 @@ pub record PassWords {D : Type 0} (disk_of : D → Disk) : Type 0 where
       ⊎ ((taken : CaptureRecord) × (frame : List ℕ)
       × TakesRecord disk_of side big count old taken (Some frame) new
       × WritesText {T = Unit {0}} old.sink new.sink (record_text big taken.stamp frame) (Err at))
+  pub last : (side : Side) (big : Bool) (count : ℕ) (old new : Run D) (taken : CaptureRecord) (passed : Option (List ℕ))
+      → TakesRecord disk_of side big count old taken passed new
+      → (room : ℕ) × ReadsRecord big count room old.source new.source taken.frame (Ok (Some taken.stamp))
+      × IsSettled disk_of old.endpoint (call_on side taken.frame) passed new.endpoint
   pub run : (side : Side) (big : Bool) (old new : Run D) (records passed : List CaptureRecord)
       (h : HasPassed disk_of side big old records passed new)
       → (length records ≤ 2 ^ 32 - 1) × Lives disk_of old.endpoint h.turns new.endpoint

@@ -40,16 +40,16 @@ use Rattle.macs_edge.specs.declared.wire.WireFault.TheVariants as fault
 -- ---- what flows
 
 -- Frames that are all but so many are those, in their order, without so many of them; where none is lost they are all.
--- The frames that are taken off a wire are the first ones, and a wire gains what was sent; its failed receives and
--- sends rise by what is missed and lost, as far as the numbers go. A summary counts what was sent each way and what was
--- missed and lost; and what it has as dropped are the other frames that were taken. A relay takes all its turns, and
--- answers what its two lanes make; or fewer, and then one whose step is answered with the fault, which has the name of
--- that step's. A run counts what passes, and the other records that were taken. An endpoint that lives on goes by
--- calls, one after another. Of a flow: its calls link the earlier endpoint to the later one; each way, what was taken
--- came off the one wire, and what was sent on the other is what the calls gave. Each frame that was taken one way was
--- sent, lost or left out, or is the one that is left in the lane, and the lane counts these as far as the numbers go.
--- The calls give each frame that `protect` answered with its number, and each that `receive` delivered, in order, and
--- nothing else.
+-- The frames that are taken off a wire are the first ones, and the others are known as before; a wire gains what was
+-- sent; its failed receives and sends rise by what is missed and lost, as far as the numbers go. A summary counts what
+-- was sent each way and what was missed and lost; and what it has as dropped are the other frames that were taken. A
+-- relay takes all its turns, and answers what its two lanes make; or fewer, and then one whose step is answered with
+-- the fault, which has the name of that step's. A run counts what passes, and the other records that were taken. An
+-- endpoint that lives on goes by calls, one after another. Of a flow: its calls link the earlier endpoint to the later
+-- one; each way, what was taken came off the one wire, and what was sent on the other is what the calls gave. Each
+-- frame that was taken one way was sent, lost or left out, or is the one that is left in the lane, and the lane counts
+-- these as far as the numbers go. The calls give each frame that `protect` answered with its number, and each that
+-- `receive` delivered, in order, and nothing else.
 pub record FlowWords {D : Type 0} (disk_of : D → Disk) : Type 0 where
   pub none_of : (frames : List (List ℕ)) (lost : ℕ) → AllBut lost [] frames → (frames ≡ []) × (lost ≡ 0)
   pub one_of : (lost : ℕ) (frame : List ℕ) (all frames : List (List ℕ)) → AllBut lost (frame ∷ all) frames
@@ -58,6 +58,8 @@ pub record FlowWords {D : Type 0} (disk_of : D → Disk) : Type 0 where
   pub all_of : (all frames : List (List ℕ)) → AllBut 0 all frames → frames ≡ all
   pub taken_off : (before after : List (List ℕ)) (taken : ℕ) → TakenOff (Some before) (Some after) taken
       → (frames : List (List ℕ)) × (before ≡ frames ++ after) × (length frames ≡ taken)
+  pub known : (before : List (List ℕ)) (after : Option (List (List ℕ))) (taken : ℕ) → TakenOff (Some before) after taken
+      → (left : List (List ℕ)) × (after ≡ Some left)
   pub took : (old new : WireState) (taken missed : ℕ) → Took old new taken missed
       → TakenOff old.waiting new.waiting taken
       × (min new.failed_receives (2 ^ 64 - 1) ≡ min (old.failed_receives + missed) (2 ^ 64 - 1))
@@ -129,9 +131,9 @@ pub record FlowWords {D : Type 0} (disk_of : D → Disk) : Type 0 where
 
 -- ---- what a wire gives
 
--- A wire that reports its frames gives the first that waits, and has the others left; none only where none waits; one
--- that is longer than 9,216 octets is taken and not given; and no receive fails as a send, nor a send as a receive.
--- Without a frame the buffer is empty.
+-- A wire that reports its frames gives the first that waits, and has the others left; none only where none waits, and
+-- none waits then; one that is longer than 9,216 octets is taken and not given; and no receive fails as a send, nor a
+-- send as a receive. Without a frame the buffer is empty.
 pub record WireWords : Type 0 where
   pub frame : (before after : WireState) (frame : List ℕ) → Receives before (Ok Frame) frame after → length frame ≤ 9216
   pub first : (before after : WireState) (frame : List ℕ) (waiting : List (List ℕ))
@@ -143,7 +145,7 @@ pub record WireWords : Type 0 where
       × (waiting ≡ long ∷ left)
   pub nothing : (before after : WireState) (frame : List ℕ) (waiting : List (List ℕ))
       → Receives before (Ok Nothing) frame after
-      → before.waiting ≡ Some waiting → (waiting ≡ []) × (frame ≡ [])
+      → before.waiting ≡ Some waiting → (waiting ≡ []) × (after.waiting ≡ Some []) × (frame ≡ [])
   pub too_long : (before after : WireState) (frame : List ℕ) (waiting : List (List ℕ))
       → Receives before (Ok TooLong) frame after
       → before.waiting ≡ Some waiting

@@ -108,4 +108,5 @@ mod RefusedWords
 mod FileCallWords
 mod LayerWords
 mod LayoutWords
+mod DiskWords
 mod OctetWords

@@ -58,6 +58,7 @@ pub mod ExampleLives
 pub mod ExampleMigration
 pub mod ExampleWords
 pub mod WorkedWords
+pub mod DiskWords
 pub mod OnceWords
 pub mod RefusedWords
 pub mod FileCallWords

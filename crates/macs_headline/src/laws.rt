@@ -54,6 +54,7 @@ ghost use Rattle.macs_headline.specs.NeedWords.{NeedsAreInOrder, TurnsAreUsed};
 ghost use Rattle.macs_headline.specs.FailureWords.{FailureWords};
 ghost use Rattle.macs_headline.specs.FileCallWords.{FileCallWords};
 ghost use Rattle.macs_headline.specs.LayerWords.{LayerWords};
+ghost use Rattle.macs_headline.specs.DiskWords.{DiskWords};
 ghost use Rattle.macs_headline.specs.LayoutWords.{LayoutWords};
 ghost use Rattle.macs_headline.specs.OctetWords.{OctetWords};
 ghost use Rattle.macs_headline.specs.StandWords.{CallsLeave, ServedEnds};
@@ -668,6 +669,9 @@ pub fn files<F: DiskFile>()
     // Where its sectors are in the file, how that is found, and that no other blocks than those
     // below suit.
     ensures layouts { LayoutWords }
+    // Which octets of its file a disk shows, how a fuse fails a write, and what a read and a cut
+    // leave of a file.
+    ensures disks { DiskWords }
     // Blocks of 512 octets suit both layouts, and those of 4,096 the one in which sectors lie
     // apart.
     ensures blocks { (suits Packed 512 ≡ true) × (suits Spaced 512 ≡ true)

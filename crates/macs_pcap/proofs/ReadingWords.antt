@@ -23,6 +23,7 @@ header-words = record {
   magic = λ octets. refl;
   version = λ octets. refl;
   link = λ octets. refl;
+  written = λ header. (λ is. (is.zone_fits, is.sigfigs_fits), λ is. record { zone_fits = is.0; sigfigs_fits = is.1 });
 }
 
 -- ---- where it is known what is left
@@ -160,4 +161,8 @@ read-words = record {
   empty_end = λ big count room before after frame r. r.empty refl;
   empty_fault = λ big count room before after frame at r. r.empty refl;
   fits = λ big count room before after frame stamp r. r.fits;
+  written = λ taken. (
+    λ is. (is.seconds, is.fraction, is.short),
+    λ is. record { seconds = is.0; fraction = is.1; short = is.2 },
+  );
 }

@@ -1,5 +1,5 @@
 use Rattle.macs_desk.proofs.DeskWords.{answer-words, listen-words, queue-words, report-words}
-use Rattle.macs_desk.proofs.SpeakWords.{speak-words}
+use Rattle.macs_desk.proofs.SpeakWords.{speak-words, told-words}
 use Rattle.macs_desk.proofs.laws.words.Goals as goal
 
 pub returns-clause-answers : goal.returns-clause-answers
@@ -16,3 +16,6 @@ returns-clause-reports g c = report-words g.D.SectorDisk.disk
 
 pub returns-clause-speaks : goal.returns-clause-speaks
 returns-clause-speaks g c = speak-words
+
+pub returns-clause-told : goal.returns-clause-told
+returns-clause-told g c = told-words

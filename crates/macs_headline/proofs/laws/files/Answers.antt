@@ -4,6 +4,7 @@ use Rattle.macs_disk.specs.Layouts.{sectors_in}
 use Rattle.macs_disk.specs.declared.layout.Layout.{Layout}
 use Rattle.macs_headline.proofs.DiskFiles.{blank-file-is-new, left-suited, lengthened, let-go, opened-again}
 use Rattle.macs_headline.proofs.DiskFiles.{opened-still}
+use Rattle.macs_headline.proofs.DiskWords.{disk-words}
 use Rattle.macs_headline.proofs.LayoutWords.{layout-words}
 use Rattle.macs_headline.proofs.laws.files.Goals as goal
 
@@ -53,6 +54,9 @@ returns-clause-lengthened g c = lengthened
 
 pub returns-clause-layouts : goal.returns-clause-layouts
 returns-clause-layouts g c = layout-words
+
+pub returns-clause-disks : goal.returns-clause-disks
+returns-clause-disks g c = disk-words
 
 pub returns-clause-settled : goal.returns-clause-settled
 returns-clause-settled g c = λ old new is. (

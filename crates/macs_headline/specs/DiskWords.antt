@@ -1,0 +1,42 @@
+-- The headline on which octets of its file a disk shows, how a fuse fails a write, and what a read and a cut leave.
+use Rattle.std.specs.Prelude.{◌≡◌, ◌↔◌, ◌⊎◌, ◌≤◌, ◌+◌, ◌-◌, ◌%◌, ℕ, true, false, if◌then◌else◌, List, replicate, Result}
+use Rattle.std.specs.Prelude.{is_ok}
+use Rattle.macs_disk.specs.Disk.{Disk, IsDeviceCall, IsHonest, Writes, now}
+use Rattle.macs_disk.specs.FileDisks.{IsBlank, IsFoundAs, IsOpened, KeepsLayout, state_in_file}
+use Rattle.macs_disk.specs.Files.{FileState, IsClaimed, IsSure, ReadsFile, Settles, file_after_sync, file_after_write}
+use Rattle.macs_disk.specs.Files.{file_cut}
+use Rattle.macs_disk.specs.Fuses.{BlowsWrite, FuseValue}
+use Rattle.macs_disk.specs.Layouts.{layout_in, mark_place, place, sectors_in}
+use Rattle.macs_disk.specs.declared.disk.DeviceFault.{DeviceFault}
+use Rattle.macs_disk.specs.declared.fuse.Blow.TheVariants.{NoCall}
+use Rattle.macs_disk.specs.declared.layout.Layout.{Layout}
+
+-- The sectors of a disk that is opened, however many were asked for, are the octets of its file: settled, and made
+-- longer with zeros where it had fewer; the layout is that of the file before. Those of a new disk are the octets of
+-- its file, too, and the device has the blocks that it had. Where a fuse fails one write, the disk behind it takes
+-- another at the same sector, of the octets that the fuse was given; the fuse adds a failure where that does not fail,
+-- counts no call as missed, and fails none from then on. A read changes nothing of a file, even of one in doubt. A file
+-- that was cut shows nothing, and a power loss may leave any octets of it, and another size. One that is found as a
+-- disk of some layout and of so many sectors has that mark, whole sectors, and as many, and its size is durable.
+pub record DiskWords : Type 0 where
+  pub opened : (file : FileState) (least : ℕ) (layout : Layout) (disk : Disk) → IsOpened file least layout disk
+      → (settled : FileState) × Settles file settled × (layout ≡ layout_in settled)
+      × (now disk ≡ state_in_file layout (file_after_sync
+      (file_after_write settled settled.size (replicate (place layout least - settled.size) 0))))
+  pub blank : (old new : FileState) (layout : Layout) (disk : Disk) → IsBlank old new layout disk
+      → (now disk ≡ state_in_file layout new) × (new.block ≡ old.block)
+  pub blown : (disk : ℕ → Disk) (old new : FuseValue ℕ) (at : ℕ) (fill : List ℕ) → BlowsWrite disk old new at fill
+      → (answer : Result (Unit {0}) DeviceFault) × IsDeviceCall (disk old.inner) (disk new.inner) answer
+      × (IsHonest (disk new.inner) → Writes (now (disk old.inner)) (now (disk new.inner)) at fill answer)
+      × (new.added ≡ old.added + (if is_ok answer then 1 else 0)) × (new.missed ≡ old.missed) × (new.blow ≡ NoCall)
+  pub any_read : (old new : FileState) (at : ℕ) (into : List ℕ) (result : Result ℕ ℕ)
+      → ReadsFile old new at into result → new ≡ old
+  pub cut : (old : FileState) → file_cut old
+      ≡ record old { size = 0; is_size_durable = false; seen = λ _. 0; pending = λ _. true; is_clean = false }
+  pub found : (layout : Layout) (sectors : ℕ) (file : FileState) → IsFoundAs layout sectors file
+      → (file.size % 512 ≡ 0) × (sectors_in layout file.size ≡ sectors) × (file.is_size_durable ≡ true)
+      × (layout_in file ≡ layout)
+  pub sized : (layout : Layout) (file : FileState) → KeepsLayout layout file
+      → (layout_in file ≡ layout) × ((file.is_size_durable ≡ true) ⊎ (file.size ≤ mark_place))
+  pub sure : (file : FileState) → IsSure file ↔ (file.is_sure ≡ true)
+  pub claimed : (file : FileState) → IsClaimed file ↔ (file.is_claimed ≡ true)
