@@ -1,7 +1,11 @@
--- The words of records: which number they are at, and that each record has just one of them.
+-- The words of records: their lines, which number they are at, and that each record has just one of them.
 use Rattle.std.proofs.Common.{◌≡◌, ◌+◌, ◌-◌, ◌==◌, ◌++◌, ◌∷◌, [], ℕ, Bool, true, false, if◌then◌else◌, List, length, map, Some}
-use Rattle.std.proofs.Common.{arith, refl, sum, slice_get, codes}
+use Rattle.std.proofs.Common.{◌≤◌, ◌∙◌, ap, arith, codes, refl, slice_get, sum, sym, take}
+use Rattle.std.proofs.lemmas.Bool.{ne_eqb}
+use Rattle.std.proofs.lemmas.List.{length-map, take_all}
+use Rattle.std.proofs.lemmas.Simd.{map-map}
 use Rattle.std.specs.Fmt.{decimal}
+use Rattle.std.specs.List.{concat}
 use Rattle.macs_record.specs.Layout.{by_length, kind_number, kind_of}
 use Rattle.macs_record.specs.declared.kind.Kind.{Kind}
 use Rattle.macs_record.specs.declared.kind.Kind.TheVariants as kinds
@@ -10,16 +14,31 @@ use Rattle.macs_record.specs.declared.record.Record.TheVariants.{Settings, TxSa,
 use Rattle.macs_record.specs.declared.record.Record.TheVariants.{SetReplay, SetSciMode, TxInstall, TxUse, TxRemove}
 use Rattle.macs_record.specs.declared.record.Record.TheVariants.{RxAdd, RxDrop, RxInstall, RxRemove, TxCeiling}
 use Rattle.macs_record.specs.declared.record.Record.TheVariants.{RxCeiling}
-use Rattle.macs_program.specs.RecordLines.{count_line, record_word, record_words, records_with}
+use Rattle.macs_program.specs.RecordLines.{count_line, record_line, record_word, record_words, records_text}
+use Rattle.macs_program.specs.RecordLines.{records_with}
 
 -- ---- lines
 
 pub some-line : (word : List ℕ) (count n : ℕ) → count ≡ n + 1
     → count_line word count ≡ (codes "records " ++ (word ++ (codes " " ++ decimal (n + 1)))) ++ 10 ∷ []
-some-line word count n is = rw is refl
+some-line word count n is = rw (ne_eqb count 0 (λ e. omega (arith, is, e)), is) refl
 
 pub no-line : (word : List ℕ) (count : ℕ) → count ≡ 0 → count_line word count ≡ []
 no-line word count is = rw is refl
+
+pub words-count : {W : Type 0} (shown : W → List ℕ) (items : List W) → map shown items ≡ record_words
+    → length items ≡ 17
+words-count shown items is = sym (length-map items shown) ∙ ap (λ (words : List (List ℕ)). length words) is
+
+-- the lines up to the last word are all of them
+pub all-lines : {W : Type 0} (shown : W → List ℕ) (items : List W) (i : ℕ) (records : List Record) (text : List ℕ)
+    → map shown items ≡ record_words → 17 ≤ i
+    → text ≡ [] ++ concat (map (λ w. record_line records (shown w)) (take i items)) → text ≡ records_text records
+all-lines {W} shown items i records text is far so_far =
+    let enough : length items ≤ i = omega (arith, words-count shown items is, far) in
+    so_far ∙ ap (λ (ws : List W). concat (map (λ w. record_line records (shown w)) ws)) (take_all i items enough)
+    ∙ ap (λ (lines : List (List ℕ)). concat lines) (sym (map-map (record_line records) shown items))
+    ∙ ap (λ (words : List (List ℕ)). concat (map (record_line records) words)) is
 
 -- ---- numbers
 

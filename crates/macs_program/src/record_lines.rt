@@ -1,33 +1,12 @@
 //! The records of a journal by what they are, and how many there are of each.
 
-ghost use Rattle.std.specs.Prelude.{◌≡◌, IfOk, length, string_bytes};
-ghost use Rattle.macs_program.specs.RecordLines.{record_line, record_word, records_text};
-ghost use Rattle.macs_program.specs.RecordLines.{records_with};
+ghost use Rattle.std.specs.Prelude.{◌≡◌, IfOk, length, map, string_bytes};
+ghost use Rattle.macs_program.specs.RecordLines.{record_line, record_word, record_words};
+ghost use Rattle.macs_program.specs.RecordLines.{records_text, records_with};
 
 use macs_record::Record;
 use macs_texts::ended;
 use std::alloc::{AllocError, Global};
-
-/// Each word once, in the order of the numbers of the kinds of records.
-const RECORD_WORDS: [&str; 17] = [
-    "settings",
-    "tx-sa",
-    "channel",
-    "rx-sa",
-    "spent",
-    "set-validate",
-    "set-replay",
-    "set-sci-mode",
-    "tx-install",
-    "tx-use",
-    "tx-remove",
-    "rx-add",
-    "rx-drop",
-    "rx-install",
-    "rx-remove",
-    "tx-ceiling",
-    "rx-ceiling",
-];
 
 /// The word of a record: what it is of a snapshot, its command as in a command file, or that it is
 /// a ceiling. A key of either length has the same one.
@@ -53,6 +32,31 @@ fn record_word(kept: &Record) -> &'static str
         Record::TxCeiling { .. } => "tx-ceiling",
         Record::RxCeiling { .. } => "rx-ceiling",
     }
+}
+
+/// Each word once, in the order of the numbers of the kinds of records.
+fn record_words() -> [&'static str; 17]
+    ensures { map (λ word. word.now) result ≡ record_words }
+{
+    [
+        "settings",
+        "tx-sa",
+        "channel",
+        "rx-sa",
+        "spent",
+        "set-validate",
+        "set-replay",
+        "set-sci-mode",
+        "tx-install",
+        "tx-use",
+        "tx-remove",
+        "rx-add",
+        "rx-drop",
+        "rx-install",
+        "rx-remove",
+        "tx-ceiling",
+        "rx-ceiling",
+    ]
 }
 
 /// How many of the records have this word.
@@ -81,7 +85,7 @@ pub fn records_text(alloc: Global, records: &[Record]) -> Result<String, AllocEr
     ensures { IfOk result (λ text. string_bytes text ≡ records_text records.now) }
 {
     let mut text = String::new(alloc);
-    for word in RECORD_WORDS {
+    for word in record_words() {
         text.push_str(record_line(alloc, records, word)?.as_str())?;
     }
     Ok(text)

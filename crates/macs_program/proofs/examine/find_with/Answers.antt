@@ -33,7 +33,7 @@ returns-clause-found c =
       figures-read found.format c.area.result c.generation.result c.used.result content is.form c.area.ensures
           c.generation.ensures
           (c.used.ensures ∙ sym is.used),
-      c.records_text.ensures,
+      c.records_text-lines.ensures,
     )
 
 pub returns-clause-seen : goal.returns-clause-seen
