@@ -41,9 +41,9 @@ begins sci first commands text s =
     let own = member (codes "sci") (digits sci) no_members in
     let tables = array (tables_of (first ∷ commands)) in
     let (line, rest, whole, is, others) : IsLinesText false false (pairs own ++ sections [] file) text =
-        subst (λ (b : Bool). IsLinesText false false
-        ((if b then pairs own else (([], codes "command"), key_value tables) ∷ pairs own) ++ sections [] file) text)
-        (all_tables commands) s.written in
+    subst (λ (b : Bool). IsLinesText false false
+    ((if b then pairs own else (([], codes "command"), key_value tables) ∷ pairs own) ++ sections [] file) text)
+    (all_tables commands) s.written in
     (line, rest, whole, is)
 
 pub plan-words : PlanWords

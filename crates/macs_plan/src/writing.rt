@@ -14,11 +14,7 @@ use toml::{Table, Value};
 
 /// The command file of these commands for the end of this SCI, as text: it is read as just these,
 /// and as for this end. An error where there is no memory.
-pub fn command_file(
-    alloc: Global,
-    sci: Sci,
-    commands: &[Command],
-) -> Result<String, AllocError>
+pub fn command_file(alloc: Global, sci: Sci, commands: &[Command]) -> Result<String, AllocError>
     ensures { IfOk result (λ text. SaysCommands sci commands.now (string_bytes text)) }
 {
     sci_in_range(sci);
@@ -41,12 +37,7 @@ fn file_table(alloc: Global, sci: Sci, commands: Value) -> Result<Table, AllocEr
     ensures { IfOk result (λ t. table_view t
         ≡ member (codes "command") (view commands) (member (codes "sci") (digits sci) no_members)) }
 {
-    let file = with(
-        alloc,
-        Ok(Table::new(alloc)),
-        "sci",
-        sci_value(alloc, sci),
-    );
+    let file = with(alloc, Ok(Table::new(alloc)), "sci", sci_value(alloc, sci));
     with(alloc, file, "command", Ok(commands))
 }
 

@@ -22,7 +22,7 @@ code-disk ends.Refused is = cc
 code-disk ends.Disk is = refl
 code-disk ends.Fault is = cc
 
-zero-not-three : 0 ≢ 3
+zero-not-three : ◌≢◌ {A = ℕ} 0 3
 zero-not-three is = cc
 
 -- a run that is done or refused ends with 0 or 3

@@ -18,7 +18,7 @@ plan-texts = record {
     | inr (inr (short, utf8, inr (fault, (members, parsed, fails), is_none, said_is))) ↦
         inr (inr (short, utf8, inr (members, parsed, fault, fails, is_none, said_is)))
   ];
-  refused = λ end stage octets refusal (short, utf8, fault, (members, parsed, fails), which).
+  refused = λ end stage octets refusal (short, utf8, (fault, (members, parsed, fails), which)).
       (short, utf8, members, parsed, fault, fails, which);
   why = λ end stage octets failure says. elim says [
     | inl (inl memory) ↦ inl memory

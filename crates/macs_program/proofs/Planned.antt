@@ -23,9 +23,9 @@ use Rattle.macs_program.specs.declared.failure.LinkRefusal.{LinkRefusal}
 use Rattle.macs_program.proofs.Checked.{complains-weaker, short-whole}
 
 -- what is planned of the link of a file is planned of the file
-pub planned-of : (members : Members) (link : Link) (end : End) (stage : Stage) (commands : List Command)
-    → file_link members ≡ Ok link → planned link end stage ≡ Ok commands → file_planned members end stage ≡ Ok commands
-planned-of members link end stage commands reads is =
+pub planned-of : (file : Members) (link : Link) (end : End) (stage : Stage) (commands : List Command)
+    → file_link file ≡ Ok link → planned link end stage ≡ Ok commands → file_planned file end stage ≡ Ok commands
+planned-of file link end stage commands reads is =
     ap (λ (r : Result Link PlanFault). r >>= (λ (l : Link). planned l end stage)) reads ∙ is
 
 module _ (end : End) (stage : Stage) where
@@ -87,7 +87,7 @@ module _ (end : End) (stage : Stage) where
       (λ said is. inr (inr (short, utf8, subst (λ (x : List ℕ). IsSaidOfLinkText end stage x said) same is)))
       complains)
   why-of-text octets text failure same short utf8 (inr (refusal, is, refuses)) =
-      inr (refusal, is, short, utf8, subst (λ (x : List ℕ). RefusesLinkText end stage x refusal) same refuses)
+      inr (refusal, is, (short, utf8, subst (λ (x : List ℕ). RefusesLinkText end stage x refusal) same refuses))
 
   -- and what is said of the fault of its members is said of a text
   pub why-of-fault : (text : List ℕ) (members : Members) (fault : PlanFault) (failure : Failure)
@@ -100,7 +100,7 @@ module _ (end : End) (stage : Stage) where
       (IsSaidOfLinkText end stage text) failure
       (λ said is. inr (fault, (members, parsed, fails), is.0, is.1)) complains)
   why-of-fault text members fault failure parsed fails (inr (refusal, is, which)) =
-      inr (refusal, is, fault, (members, parsed, fails), which)
+      inr (refusal, is, (fault, (members, parsed, fails), which))
 
   -- ---- of a file that was opened, or not
 

@@ -56,6 +56,7 @@ use Rattle.macs_words.specs.declared.action.Action.{Action}
 use Rattle.macs_words.specs.declared.action.Action.TheVariants.{Format, Relay}
 use Rattle.macs_words.specs.declared.action.WireEnds.{WireEnds}
 use Rattle.macs_words.specs.declared.pace.Running.{Running}
+use Rattle.macs_program.proofs.Planned.{planned-of}
 
 -- ---- what is done
 
