@@ -17,7 +17,9 @@ use Rattle.macs_disk.specs.declared.layout.Layout.{Layout}
 -- another at the same sector, of the octets that the fuse was given; the fuse adds a failure where that does not fail,
 -- counts no call as missed, and fails none from then on. A read changes nothing of a file, even of one in doubt. A file
 -- that was cut shows nothing, and a power loss may leave any octets of it, and another size. One that is found as a
--- disk of some layout and of so many sectors has that mark, whole sectors, and as many, and its size is durable.
+-- disk of some layout has that layout, whole sectors, as many as are said, and a durable size; one that keeps a layout
+-- has it, and a size that is durable, or none beyond the place of the mark. A file is sure, or claimed, exactly where
+-- it says so.
 pub record DiskWords : Type 0 where
   pub opened : (file : FileState) (least : ℕ) (layout : Layout) (disk : Disk) → IsOpened file least layout disk
       → (settled : FileState) × Settles file settled × (layout ≡ layout_in settled)
