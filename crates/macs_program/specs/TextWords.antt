@@ -306,6 +306,7 @@ pub record CheckTexts : Type 0 where
   pub no_mode : mode_warning None ≡ []
   pub unread : (mode : ℕ) → mode / 4 % 2 ≢ 1 → mode_warning (Some mode) ≡ []
   pub mode : (mode : ℕ) → mode / 4 % 2 ≡ 1 → mode / 512 % 8 ≡ 0 → mode_warning (Some mode)
-      ≡ codes "mode " ++ (48 + mode / 64 % 8 ∷ 48 + mode / 8 % 8 ∷ 48 + mode % 8 ∷ 10 ∷ [])
+      ≡ codes "mode " ++ ((48 + mode / 64 % 8) ∷ (48 + mode / 8 % 8) ∷ (48 + mode % 8) ∷ 10 ∷ [])
   pub long_mode : (mode : ℕ) → mode / 4 % 2 ≡ 1 → mode / 512 % 8 ≢ 0 → mode_warning (Some mode)
-      ≡ codes "mode " ++ (48 + mode / 512 % 8 ∷ 48 + mode / 64 % 8 ∷ 48 + mode / 8 % 8 ∷ 48 + mode % 8 ∷ 10 ∷ [])
+      ≡ codes "mode " ++ ((48 + mode / 512 % 8) ∷ (48 + mode / 64 % 8) ∷ (48 + mode / 8 % 8) ∷ (48 + mode % 8) ∷ 10
+      ∷ [])
