@@ -1,11 +1,18 @@
 -- What is said of a command file that was read.
 use Rattle.std.proofs.Common.{◌≡◌, ◌⊎◌, ℕ, ◌++◌, ◌≤◌, List, [], length, take, Option, Some, None, IfSome}
 use Rattle.std.proofs.Common.{option_map, inl, inr, length-take, ap, subst, sym, ◌∙◌, arith, string_bytes}
-use Rattle.std.proofs.Common.{Result, Ok, Err, IfErr}
+use Rattle.std.proofs.Common.{◌≢◌, Result, Ok, Err, IfErr}
+use Rattle.toml.specs.Data.{Members}
+use Rattle.toml.specs.Parse.{parse_document}
+use Rattle.macs_commands.specs.Ends.{HasFileFault}
+use Rattle.macs_commands.specs.declared.config_fault.ConfigFault.{ConfigFault}
+use Rattle.macs_commands.specs.declared.config_fault.ConfigFault.TheVariants as config
+use Rattle.macs_commands.specs.declared.ends.CommandFileFault.{CommandFileFault}
+use Rattle.macs_commands.specs.declared.ends.CommandFileFault.TheVariants as told
 use Rattle.std.proofs.lemmas.List.{take_all}
 use Rattle.macs_config.specs.declared.command.Command.{Command}
 use Rattle.macs_program.specs.Applying.{SaidByFile, longest_file}
-use Rattle.macs_program.specs.Checking.{Complains, ComplainsOfFile, IsSaidOfFile}
+use Rattle.macs_program.specs.Checking.{Complains, ComplainsOfFile, HasFault, IsSaidOfFile, fault_text, file_fault_text}
 use Rattle.macs_program.specs.declared.failure.Failure.{Failure}
 use Rattle.macs_program.specs.declared.failure.Failure.TheVariants.{Commands, Memory}
 
@@ -14,6 +21,47 @@ pub complains-weaker : (P Q : List ℕ → Type 0) (failure : Failure) → ((sai
     → Complains P failure → Complains Q failure
 complains-weaker P Q failure weaker (inl memory) = inl memory
 complains-weaker P Q failure weaker (inr (text, is, holds)) = inr (text, is, weaker (string_bytes text) holds)
+
+-- ---- the first fault
+
+-- this is said for the first fault of the commands of a file, which is not want of memory
+abbrev pub SaidForCause : ConfigFault → List ℕ → Type 0
+SaidForCause cause said = (cause ≢ config.Memory) × (said ≡ fault_text cause)
+
+-- so it is for that of a file
+abbrev pub SaidForFault : CommandFileFault → List ℕ → Type 0
+SaidForFault fault said = (fault ≢ told.Commands config.Memory) × (said ≡ file_fault_text fault)
+
+pub cause-said : (cause : ConfigFault) (failure : Failure) → cause ≢ config.Memory
+    → Complains (λ said. said ≡ fault_text cause) failure → Complains (SaidForCause cause) failure
+cause-said cause failure other complains =
+    complains-weaker (λ (said : List ℕ). said ≡ fault_text cause) (SaidForCause cause) failure
+    (λ said is. (other, is)) complains
+
+same-cause : (cause : ConfigFault) → told.Commands cause ≡ told.Commands config.Memory → cause ≡ config.Memory
+same-cause cause is = cc
+
+pub commands-said : (cause : ConfigFault) (failure : Failure) → Complains (SaidForCause cause) failure
+    → Complains (SaidForFault (told.Commands cause)) failure
+commands-said cause failure complains =
+    complains-weaker (SaidForCause cause) (SaidForFault (told.Commands cause)) failure
+    (λ said is. ((λ memory. is.0 (same-cause cause memory)), is.1)) complains
+
+no-memory : told.Sci ≢ told.Commands config.Memory
+no-memory is = cc
+
+pub sci-said : (failure : Failure) → Complains (λ said. said ≡ file_fault_text told.Sci) failure
+    → Complains (SaidForFault told.Sci) failure
+sci-said failure complains =
+    complains-weaker (λ (said : List ℕ). said ≡ file_fault_text told.Sci) (SaidForFault told.Sci) failure
+    (λ said is. (no-memory, is)) complains
+
+pub has-fault : (text : List ℕ) (members : Members) (fault : CommandFileFault) (failure : Failure)
+    → parse_document text ≡ Some members → (fault ≢ told.Commands config.Memory → HasFileFault members fault)
+    → Complains (SaidForFault fault) failure → Complains (HasFault text) failure
+has-fault text members fault failure parsed has complains =
+    complains-weaker (SaidForFault fault) (HasFault text) failure
+    (λ said is. (members, parsed, fault, has is.0, is.1)) complains
 
 -- ---- of a file that was opened
 

@@ -52,8 +52,8 @@ front-told before known after count status (outcomes, counted, printed, status_i
 pub shown-by : (line text front octets : List ℕ) (is : Bool) → front ≡ line → octets ≡ text
     → (is ≡ true → octets ≡ front ++ drop (length front) octets)
     → ((rest : List ℕ) → octets ≡ front ++ rest → is ≡ true) → IsTrue is ↔ Begins line text
-shown-by line text front octets is same whole yes back = (
-  λ held. (drop (length front) octets, sym whole ∙ yes held
+shown-by line text front octets is same whole begun back = (
+  λ held. (drop (length front) octets, sym whole ∙ begun held
       ∙ ap (λ (l : List ℕ). l ++ drop (length front) octets) same),
   λ begins. back begins.0 (whole ∙ begins.1 ∙ ap (λ (l : List ℕ). l ++ begins.0) (sym same)),
 )

@@ -3,6 +3,8 @@ use Rattle.std.proofs.Common.{◌≡◌, ◌⊎◌, ◌∙◌, ◌+◌, ◌<◌,
 use Rattle.std.proofs.Common.{[], ◌∷◌, length, take, drop, get_or, Option, Some, append_assoc, ap, subst, sym, arith}
 use Rattle.std.proofs.Common.{◌≢◌, ◌==◌, codes, false, true, refl, None, Result, Ok, Err, IfOk}
 use Rattle.std.specs.Borrow.{Bor}
+use Rattle.std.specs.Io.KnownBytes.{Appends}
+use Rattle.std.proofs.KnownBytes.{Appends-trans}
 use Rattle.clap.specs.Words.{Text}
 use Rattle.std.proofs.Math.Seq.{drop-cons}
 use Rattle.std.proofs.lemmas.Bool.{eqb-true, true≢false}
@@ -108,6 +110,12 @@ status-next outcomes i d outcome status new refused within next is new_is so_far
     ∙ sym (status-more (take i outcomes) outcome)
     ∙ ap (λ (last : Option Refusal). outcomes_status (take i outcomes ++ last ∷ [])) next
     ∙ ap outcomes_status (sym (take_more outcomes i d within))
+
+-- one text is printed after another
+pub both-printed : (before between after : Option (List ℕ)) (text told more : List ℕ) → told ≡ text
+    → Appends before between told → Appends between after more → Appends before after (text ++ more)
+both-printed before between after text told more same first rest = Appends-trans before between after text more
+    (subst (λ (t : List ℕ). Appends before between t) same first) rest
 
 -- both hold of what is answered
 pub IfOk-both : {T E : Type 0} (result : Result T E) (P Q : T → Type 0) → IfOk result P → IfOk result Q
