@@ -1,5 +1,6 @@
 -- The words of records: their lines, which number they are at, and that each record has just one of them.
-use Rattle.std.proofs.Common.{◌≡◌, ◌+◌, ◌-◌, ◌==◌, ◌++◌, ◌∷◌, [], ℕ, Bool, true, false, if◌then◌else◌, List, length, map, Some}
+use Rattle.std.proofs.Common.{◌≡◌, ◌+◌, ◌-◌, ◌==◌, ◌++◌, ◌∷◌, [], ℕ, Bool, true, false, if◌then◌else◌, List, length}
+use Rattle.std.proofs.Common.{map, Some}
 use Rattle.std.proofs.Common.{◌≤◌, ◌∙◌, ap, arith, codes, refl, slice_get, sum, sym, take}
 use Rattle.std.proofs.lemmas.Bool.{ne_eqb}
 use Rattle.std.proofs.lemmas.List.{length-map, take_all}
@@ -66,12 +67,14 @@ word-of-number (Spent role fingerprints) = refl
 word-of-number (SetValidate validate) = refl
 word-of-number (SetReplay replay) = refl
 word-of-number (SetSciMode mode) = refl
-word-of-number (TxInstall an sa start) = with-key sa.key kinds.TxInstall kinds.TxInstallLong (codes "tx-install") refl refl
+word-of-number (TxInstall an sa start) =
+    with-key sa.key kinds.TxInstall kinds.TxInstallLong (codes "tx-install") refl refl
 word-of-number (TxUse an) = refl
 word-of-number (TxRemove an) = refl
 word-of-number (RxAdd sci) = refl
 word-of-number (RxDrop sci) = refl
-word-of-number (RxInstall sci an sa start) = with-key sa.key kinds.RxInstall kinds.RxInstallLong (codes "rx-install") refl refl
+word-of-number (RxInstall sci an sa start) =
+    with-key sa.key kinds.RxInstall kinds.RxInstallLong (codes "rx-install") refl refl
 word-of-number (RxRemove sci an) = refl
 word-of-number (TxCeiling an ceiling) = refl
 word-of-number (RxCeiling sci an ceiling) = refl

@@ -192,7 +192,7 @@ short_mode mode is = ap (λ (n : ℕ). line (codes "mode " ++ (if n == 0 then th
 
 long_mode : (mode : ℕ) → mode / 512 % 8 ≢ 0 → mode_line mode
     ≡ codes "mode " ++ ((48 + mode / 512 % 8) ∷ (48 + mode / 64 % 8) ∷ (48 + mode / 8 % 8) ∷ (48 + mode % 8) ∷ 10
-      ∷ [])
+    ∷ [])
 long_mode mode other = ap (λ (b : Bool). line (codes "mode " ++ (if b then three_digits mode
     else octal_digit (mode / 512) ∷ three_digits mode))) (ne_eqb (mode / 512 % 8) 0 other)
 

@@ -53,8 +53,11 @@ pub shown-by : (line text front octets : List ℕ) (is : Bool) → front ≡ lin
     → (is ≡ true → octets ≡ front ++ drop (length front) octets)
     → ((rest : List ℕ) → octets ≡ front ++ rest → is ≡ true) → IsTrue is ↔ Begins line text
 shown-by line text front octets is same whole begun back = (
-  λ held. (drop (length front) octets, sym whole ∙ begun held
-      ∙ ap (λ (l : List ℕ). l ++ drop (length front) octets) same),
+  λ held. (
+    drop (length front) octets,
+    sym whole ∙ begun held
+        ∙ ap (λ (l : List ℕ). l ++ drop (length front) octets) same,
+  ),
   λ begins. back begins.0 (whole ∙ begins.1 ∙ ap (λ (l : List ℕ). l ++ begins.0) (sym same)),
 )
 

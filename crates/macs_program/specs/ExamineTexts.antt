@@ -38,8 +38,8 @@ use Rattle.macs_program.specs.declared.examined_text.Figures.{Figures}
 -- The words are in the order of the numbers that kinds of records have in their sectors, from 1; the last four kinds
 -- have the words of those that keep the same of a key of 16 octets. So each record is counted in just one line.
 --
--- The first fault is the head of area 0 that is none, or that of area 1 that is none or at odds with it, or else that of
--- the first slot of the current area: its body, where the slot counts and has no record, or its gate, where that is
+-- The first fault is the head of area 0 that is none, or that of area 1 that is none or at odds with it, or else that
+-- of the first slot of the current area: its body, where the slot counts and has no record, or its gate, where that is
 -- closed before an open one. A slot counts that is of the snapshot, or whose gate is open.
 pub record ExamineTexts : Type 0 where
   pub order : (layout : Layout) (figures : Figures) (records : List Record) (s : Standing)

@@ -31,10 +31,10 @@ use Rattle.macs_program.specs.declared.failure.LinkRefusal.{LinkRefusal}
 use Rattle.macs_program.specs.declared.failure.LinkRefusal.TheVariants as wrong
 
 -- Each word names its own end or stage. What is planned is read as just the commands that are planned of the link that
--- some octets say, of 1,048,576 at most, and as for the end that has the SCI of that end. `plan` says that a file is too
--- long, no text, no TOML, or why nothing is planned of it: that its tables are other ones, that a value of a table is
--- none, by its key and what it is not, that there is a key too many, or that there is one pair alone. Where two are the
--- same it refuses the link.
+-- some octets say, of 1,048,576 at most, and as for the end that has the SCI of that end. `plan` says that a file is
+-- too long, no text, no TOML, or why nothing is planned of it: that its tables are other ones, that a value of a table
+-- is none, by its key and what it is not, that there is a key too many, or that there is one pair alone. Where two are
+-- the same it refuses the link.
 pub record PlanTexts : Type 0 where
   pub ends : map end_of (plan_end.Left ∷ plan_end.Right ∷ []) ≡ side.Left ∷ side.Right ∷ []
   pub stages : map stage_of (plan_stage.First ∷ plan_stage.Receive ∷ plan_stage.Send ∷ plan_stage.Remove ∷ [])

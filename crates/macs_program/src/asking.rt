@@ -224,11 +224,7 @@ fn refuse_other(alloc: Global, answer: &Answer, sci: Sci) -> Result<(), Failure>
 
 /// Asks a relay for the text of its endpoint, which has to have this SCI. It fails as `Commands`
 /// where that has another.
-fn find_own<S: Connection>(
-    alloc: Global,
-    asker: &mut Asker<S>,
-    sci: Sci,
-) -> Result<(), Failure>
+fn find_own<S: Connection>(alloc: Global, asker: &mut Asker<S>, sci: Sci) -> Result<(), Failure>
     ensures { IfErr result IsBeforeCommands }
 {
     let answer = answer_to(alloc, asker, &Request::Show)?;

@@ -230,11 +230,7 @@ fn checked_commands<T: Files>(
 }
 
 /// Prints how many commands there are, and what is said of the mode of their file.
-fn print_count<W: Stream>(
-    count: usize,
-    mode: Option<u32>,
-    out: &mut W,
-) -> Result<Status, Failure>
+fn print_count<W: Stream>(count: usize, mode: Option<u32>, out: &mut W) -> Result<Status, Failure>
     ensures printed { IfOk result (λ status. Appends (W.contents out.old) (W.contents out.new)
         (count_line count ++ mode_warning mode) × (status ≡ Status.Done)) }
     ensures failed { IfErr result (λ failure. failure ≡ Failure.Output) }
