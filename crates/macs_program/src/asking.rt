@@ -148,7 +148,19 @@ fn outcome_in(answer: &Answer) -> Result<Option<Refusal>, Failure>
     }
 }
 
-/// Hands a command to a relay, and prints its line once it is answered. Whether it was refused.
+/// What a relay makes of a command that it is sent: it is kept, or refused. Else it fails.
+fn outcome_from<S: Connection>(
+    alloc: Global,
+    asker: &mut Asker<S>,
+    command: Command,
+) -> Result<Option<Refusal>, Failure>
+    ensures { IfErr result IsBeforeCommands }
+{
+    let answer = answer_to(alloc, asker, &Request::Apply(command))?;
+    outcome_in(&answer)
+}
+
+/// Sends a command to a relay, and prints its line once it is answered. Whether it was refused.
 fn apply_one<S: Connection, W: Stream>(
     alloc: Global,
     asker: &mut Asker<S>,
@@ -163,8 +175,7 @@ fn apply_one<S: Connection, W: Stream>(
     ensures silent { IfErr result (λ failure. failure ≢ Failure.Output → out.new ≡ out.old) }
     ensures broken { IfErr result (λ failure. failure ≡ Failure.Output → W.failed out.new ≡ true) }
 {
-    let answer = answer_to(alloc, asker, &Request::Apply(command))?;
-    let outcome = outcome_in(&answer)?;
+    let outcome = outcome_from(alloc, asker, command)?;
     print_octets(out, outcome_line(at, outcome).as_slice())?;
     Ok(outcome.is_some())
 }
