@@ -1,12 +1,18 @@
 -- What `ask` prints, and how it fails.
 use Rattle.std.specs.Prelude.{◌≡◌, ◌≢◌, ◌==◌, if◌then◌else◌, ⊤, ℕ, Bool, true, List, Option, Result, IfErr, IfOk}
-use Rattle.std.specs.Prelude.{◌++◌, codes}
+use Rattle.std.specs.Prelude.{◌⊎◌, ◌++◌, codes, Some, None, Err}
 use Rattle.std.specs.Io.KnownBytes.{Appends}
 use Rattle.hex.specs.Hex.{encode_lower}
+use Rattle.macs_config.specs.declared.command.Command.{Command}
 use Rattle.macs_config.specs.declared.refusal.Refusal.{Refusal}
+use Rattle.macs_control.specs.Asking.{BeginsWithAnswer, seat_of, unread}
+use Rattle.macs_control.specs.Links.{Link}
+use Rattle.macs_control.specs.Seats.{connection_of, held_by}
+use Rattle.macs_control.specs.declared.asking.Asker.{Asker}
+use Rattle.macs_record.specs.Sectors.{Begins}
 use Rattle.macs_words.specs.declared.action.Question.{Question}
 use Rattle.macs_words.specs.declared.action.Question.TheVariants.{Apply}
-use Rattle.macs_program.specs.Applying.{outcome_lines, outcomes_status}
+use Rattle.macs_program.specs.Applying.{SaidByFile, outcome_lines, outcomes_status}
 use Rattle.macs_program.specs.declared.failure.DiskFault.TheVariants as disk
 use Rattle.macs_program.specs.declared.failure.Failure.{Failure}
 use Rattle.macs_program.specs.declared.failure.Failure.TheVariants as failures
@@ -44,6 +50,28 @@ IsBeforeCommands failure = IsOfAsking failure × (failure ≢ failures.Output)
 -- the line by which the text of an endpoint with this SCI begins
 abbrev pub sci_line : List ℕ → List ℕ
 sci_line sci = line (codes "sci " ++ encode_lower sci)
+
+-- what a relay that is asked said and that was not read, where it is known what comes over its connection
+abbrev pub unread_by : {S : Type 0} → (S → Option Link) → Asker S → Option (List ℕ)
+unread_by link asker = unread (held_by (seat_of asker)) (link (connection_of (seat_of asker)))
+
+-- what a relay said begins with an answer of status 0 whose text is that of the endpoint with this SCI
+abbrev pub BeginsWithOwn : Option (List ℕ) → List ℕ → Option (List ℕ) → Type 0
+BeginsWithOwn all sci rest = (text : List ℕ) × Begins (sci_line sci) text × BeginsWithAnswer all text 0 rest
+
+-- so it does where a command file names an end, by its SCI
+abbrev pub BeginsWithEnd : Option (List ℕ) → Option (List ℕ) → Option (List ℕ) → Type 0
+BeginsWithEnd all None rest = ⊤
+BeginsWithEnd all (Some sci) rest = BeginsWithOwn all sci rest
+
+-- Some file says these commands, and names no end, or the one whose text is the first answer of the relay; or the run
+-- fails, and nothing is printed
+abbrev pub IsForRelay : {F : Type 0} → (F → Option (List ℕ)) → Option (List ℕ) → Option (List ℕ)
+    → Result Status Failure → Option (List ℕ) → Type 0
+IsForRelay remaining all before result after =
+    ((end : Option (List ℕ)) × (commands : List Command) × (rest : Option (List ℕ))
+    × SaidByFile remaining end commands × BeginsWithEnd all end rest)
+    ⊎ ((failure : Failure) × (result ≡ Err failure) × (after ≡ before))
 
 -- a relay is asked for a text, which is printed; or that fails, with nothing printed
 pub record AsksForText {W : Type 0} (contents : W → Option (List ℕ)) (has_failed : W → Bool) (before : W)

@@ -4,10 +4,12 @@ ghost use Rattle.std.specs.Prelude.{◌≡◌, ◌≢◌, ◌⊎◌, ◌↔◌, 
 ghost use Rattle.std.specs.Prelude.{IfErr, IfOk, IfSome, IsTrue, Ok, OnOk, string_bytes};
 ghost use Rattle.std.specs.Io.KnownBytes.{Appends};
 ghost use Rattle.macs_config.specs.declared.refusal.Refusal.{Refusal};
+ghost use Rattle.macs_control.specs.Asking.{BeginsWithAnswer};
 ghost use Rattle.macs_program.specs.Applying.{outcome_line};
-ghost use Rattle.macs_program.specs.Asking.{AsksForText, HandsCommands, IsBeforeCommands};
+ghost use Rattle.macs_program.specs.Asking.{AsksForText, BeginsWithEnd, BeginsWithOwn};
+ghost use Rattle.macs_program.specs.Asking.{HandsCommands, IsBeforeCommands, IsForRelay};
 ghost use Rattle.macs_program.specs.Asking.{IsOfAsking, PrintsAnswer, PrintsFront, failure_in};
-ghost use Rattle.macs_program.specs.Asking.{sci_line};
+ghost use Rattle.macs_program.specs.Asking.{sci_line, unread_by};
 ghost use Rattle.macs_record.specs.Sectors.{Begins};
 ghost use Rattle.macs_texts.specs.Refusals.{refusal_name};
 
@@ -61,7 +63,10 @@ fn answer_to<S: Connection>(
     asker: &mut Asker<S>,
     request: &Request,
 ) -> Result<Answer, Failure>
-    ensures { IfErr result (λ failure. (failure ≡ Failure.Memory) ⊎ (failure ≡ Failure.Control)) }
+    ensures heard { IfOk result (λ answer. BeginsWithAnswer (unread_by S.link asker.old)
+        answer.text.items answer.status (unread_by S.link asker.new)) }
+    ensures failed { IfErr result
+        (λ failure. (failure ≡ Failure.Memory) ⊎ (failure ≡ Failure.Control)) }
 {
     let line = line_of_request(alloc, request)?;
     asker.send(alloc, line.as_str())?;
@@ -236,7 +241,9 @@ fn refuse_other(alloc: Global, answer: &Answer, sci: Sci) -> Result<(), Failure>
 /// Asks a relay for the text of its endpoint, which has to have this SCI. It fails as `Commands`
 /// where that has another.
 fn find_own<S: Connection>(alloc: Global, asker: &mut Asker<S>, sci: Sci) -> Result<(), Failure>
-    ensures { IfErr result IsBeforeCommands }
+    ensures own { OnOk result
+        (BeginsWithOwn (unread_by S.link asker.old) sci (unread_by S.link asker.new)) }
+    ensures failed { IfErr result IsBeforeCommands }
 {
     let answer = answer_to(alloc, asker, &Request::Show)?;
     refuse_other(alloc, &answer, sci)
@@ -250,6 +257,8 @@ fn find_end<S: Connection>(
     end: Option<Sci>,
 ) -> Result<(), Failure>
     ensures any { end ≡ None → (result ≡ Ok tt) × (asker.new ≡ asker.old) }
+    ensures own { OnOk result
+        (BeginsWithEnd (unread_by S.link asker.old) end (unread_by S.link asker.new)) }
     ensures failed { IfErr result IsBeforeCommands }
 {
     match end {
@@ -266,7 +275,9 @@ fn apply_file<T: Files, S: Connection, W: Stream>(
     file: &str,
     out: &mut W,
 ) -> Result<Status, Failure>
-    ensures { HandsCommands W.contents W.failed out.old result out.new }
+    ensures handed { HandsCommands W.contents W.failed out.old result out.new }
+    ensures own { IsForRelay T.File.remaining (unread_by S.link asker.old)
+        (W.contents out.old) result (W.contents out.new) }
 {
     let told = commands_of_file(rt, alloc, file)?;
     find_end(alloc, asker, told.end)?;

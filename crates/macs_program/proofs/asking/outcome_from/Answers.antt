@@ -7,7 +7,7 @@ use Rattle.macs_program.proofs.asking.outcome_from.Goals as goal
 pub returns-in_err-answer : goal.returns-in_err-answer
 returns-in_err-answer g c =
     let p = err_from_is_err_and c.from_residual.result c.from_residual.ensures.1 in
-    rw (p.1, p.2) (before-commands _ (no-answer _ c.in_err-answer.ensures))
+    rw (p.1, p.2) (before-commands _ (no-answer _ c.in_err-answer.ensures.failed))
 
 pub returns : goal.returns
 returns g c =
