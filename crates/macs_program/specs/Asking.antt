@@ -1,7 +1,9 @@
 -- What `ask` prints, and how it fails.
 use Rattle.std.specs.Prelude.{◌≡◌, ◌≢◌, ◌==◌, if◌then◌else◌, ⊤, ℕ, Bool, true, List, Option, Result, IfErr, IfOk}
 use Rattle.std.specs.Prelude.{◌⊎◌, ◌++◌, codes, Some, None, Err}
+use Rattle.std.specs.Prelude.{◌∷◌, [], nat_eq}
 use Rattle.std.specs.Io.KnownBytes.{Appends}
+use Rattle.std.specs.List.{starts_with}
 use Rattle.hex.specs.Hex.{encode_lower}
 use Rattle.macs_config.specs.declared.command.Command.{Command}
 use Rattle.macs_config.specs.declared.refusal.Refusal.{Refusal}
@@ -50,6 +52,18 @@ IsBeforeCommands failure = IsOfAsking failure × (failure ≢ failures.Output)
 -- the line by which the text of an endpoint with this SCI begins
 abbrev pub sci_line : List ℕ → List ℕ
 sci_line sci = line (codes "sci " ++ encode_lower sci)
+
+-- "sci ", with which the text of each endpoint begins
+abbrev pub sci_word : List ℕ
+sci_word = 0x73 ∷ 0x63 ∷ 0x69 ∷ 0x20 ∷ []
+
+-- a text is that of some endpoint
+abbrev pub is_of_endpoint : List ℕ → Bool
+is_of_endpoint text = starts_with nat_eq text sci_word
+
+-- why a text is not that of the end which a command file names: it is that of another end, or of none
+abbrev pub failure_of_other : List ℕ → Failure
+failure_of_other text = if is_of_endpoint text then failures.Commands else failures.Control
 
 -- what a relay that is asked said and that was not read, where it is known what comes over its connection
 abbrev pub unread_by : {S : Type 0} → (S → Option Link) → Asker S → Option (List ℕ)

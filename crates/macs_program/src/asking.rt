@@ -9,7 +9,7 @@ ghost use Rattle.macs_program.specs.Applying.{outcome_line};
 ghost use Rattle.macs_program.specs.Asking.{AsksForText, BeginsWithEnd, BeginsWithOwn};
 ghost use Rattle.macs_program.specs.Asking.{HandsCommands, IsBeforeCommands, IsForRelay};
 ghost use Rattle.macs_program.specs.Asking.{IsOfAsking, PrintsAnswer, PrintsFront, failure_in};
-ghost use Rattle.macs_program.specs.Asking.{sci_line, unread_by};
+ghost use Rattle.macs_program.specs.Asking.{failure_of_other, is_of_endpoint, sci_line, unread_by};
 ghost use Rattle.macs_record.specs.Sectors.{Begins};
 ghost use Rattle.macs_texts.specs.Refusals.{refusal_name};
 
@@ -45,6 +45,9 @@ const REFUSALS: [Refusal; 12] = [
     Refusal::KeySpent,
     Refusal::SpentFull,
 ];
+
+/// What the text of each endpoint begins with.
+const SCI_WORD: &[u8] = b"sci ";
 
 /// Who asks the relay that listens at a name. It fails as `Control`, where none does.
 fn asker_at<N: Net>(net: &N, path: &str) -> Result<Asker<PatientStream>, Failure>
@@ -219,8 +222,27 @@ fn is_shown(alloc: Global, answer: &Answer, sci: Sci) -> Result<bool, AllocError
     Ok(answer.text.as_slice().starts_with(line.as_str().as_bytes()))
 }
 
+/// Whether a text is that of some endpoint.
+fn is_of_endpoint(text: &[u8]) -> bool
+    ensures { result ≡ is_of_endpoint text.now }
+{
+    text.starts_with(SCI_WORD)
+}
+
+/// Why a text is not that of the end which a command file names: it is that of another end, or of
+/// none.
+fn failure_of_other(text: &[u8]) -> Failure
+    ensures cause { result ≡ failure_of_other text.now }
+    ensures early { IsBeforeCommands result }
+{
+    if is_of_endpoint(text) {
+        return Failure::Commands;
+    }
+    Failure::Control
+}
+
 /// Refuses an answer that is not the text of the endpoint with this SCI. It fails as `Commands`
-/// where it is that of another.
+/// where it is that of another, and as `Control` where it is that of none.
 fn refuse_other(alloc: Global, answer: &Answer, sci: Sci) -> Result<(), Failure>
     ensures own { OnOk result
         ((answer.now.status ≡ 0) × Begins (sci_line sci) answer.now.text.items) }
@@ -233,7 +255,7 @@ fn refuse_other(alloc: Global, answer: &Answer, sci: Sci) -> Result<(), Failure>
         return Err(failure_in(status));
     }
     if !is_shown(alloc, answer, sci)? {
-        return Err(Failure::Commands);
+        return Err(failure_of_other(answer.text.as_slice()));
     }
     Ok(())
 }
