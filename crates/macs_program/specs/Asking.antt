@@ -45,11 +45,11 @@ IsOfAsking failures.Memory = ⊤
 IsOfAsking failures.Output = ⊤
 IsOfAsking other = ⊥
 
--- they are these but for the output before a command is handed in
+-- before a command is sent they are these, but for standard output
 abbrev pub IsBeforeCommands : Failure → Type 0
 IsBeforeCommands failure = IsOfAsking failure × (failure ≢ failures.Output)
 
--- the line by which the text of an endpoint with this SCI begins
+-- the line with which the text of the endpoint with this SCI begins
 abbrev pub sci_line : List ℕ → List ℕ
 sci_line sci = line (codes "sci " ++ encode_lower sci)
 
@@ -96,7 +96,7 @@ pub record AsksForText {W : Type 0} (contents : W → Option (List ℕ)) (has_fa
   pub silent : IfErr result (λ failure. failure ≢ failures.Output → after ≡ before)
   pub broken : IfErr result (λ failure. failure ≡ failures.Output → has_failed after ≡ true)
 
--- a relay is handed commands, and a line is printed for each; or that fails, after the lines of those before
+-- a relay is sent commands, and a line is printed for each; or that fails, after the lines of those before
 pub record HandsCommands {W : Type 0} (contents : W → Option (List ℕ)) (has_failed : W → Bool) (before : W)
     (result : Result Status Failure) (after : W) : Type 0 where
   pub printed : IfOk result (λ status. (outcomes : List (Option Refusal))

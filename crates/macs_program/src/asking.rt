@@ -59,7 +59,7 @@ fn asker_at<N: Net>(net: &N, path: &str) -> Result<Asker<PatientStream>, Failure
     }
 }
 
-/// What a relay answers to a request. It fails as `Memory`, where there is none here, and as
+/// What a relay answers to a request. It fails as `Memory`, where this program has none, and as
 /// `Control` where the relay goes away or does not answer.
 fn answer_to<S: Connection>(
     alloc: Global,
@@ -77,7 +77,7 @@ fn answer_to<S: Connection>(
     Ok(answer)
 }
 
-/// The failure that a status of an answer says, where it says that the request was not done.
+/// What the status of an answer means where the request was not done.
 fn failure_in(status: u8) -> Failure
     ensures { result ≡ failure_in status }
 {
@@ -142,7 +142,8 @@ fn refusal_in(text: &[u8]) -> Option<Refusal> {
     None
 }
 
-/// What a relay made of a command, by its answer: it is kept, or refused. Else it fails.
+/// What a relay made of a command, by its answer: it is kept, or refused. It fails where the answer
+/// says neither.
 fn outcome_in(answer: &Answer) -> Result<Option<Refusal>, Failure>
     ensures { IfErr result (λ failure. failure ≡ failure_in answer.now.status) }
 {
@@ -156,7 +157,8 @@ fn outcome_in(answer: &Answer) -> Result<Option<Refusal>, Failure>
     }
 }
 
-/// What a relay makes of a command that it is sent: it is kept, or refused. Else it fails.
+/// Sends a command to a relay, which keeps or refuses it. It fails as `answer_to`, and where the
+/// answer says neither.
 fn outcome_from<S: Connection>(
     alloc: Global,
     asker: &mut Asker<S>,
@@ -168,7 +170,8 @@ fn outcome_from<S: Connection>(
     outcome_in(&answer)
 }
 
-/// Sends a command to a relay, and prints its line once it is answered. Whether it was refused.
+/// Sends a command to a relay, prints its line once it is answered, and answers whether it was
+/// refused.
 fn apply_one<S: Connection, W: Stream>(
     alloc: Global,
     asker: &mut Asker<S>,
@@ -188,7 +191,7 @@ fn apply_one<S: Connection, W: Stream>(
     Ok(outcome.is_some())
 }
 
-/// Hands commands to a relay, one after another, and prints a line for each once it is answered.
+/// Sends commands to a relay, one after another, and prints a line for each once it is answered.
 fn apply_each<S: Connection, W: Stream>(
     alloc: Global,
     asker: &mut Asker<S>,
@@ -205,7 +208,7 @@ fn apply_each<S: Connection, W: Stream>(
     Ok(status)
 }
 
-/// The line by which the text of an endpoint begins that has this SCI.
+/// The line with which the text of the endpoint with this SCI begins.
 fn sci_line(alloc: Global, sci: Sci) -> Result<String, AllocError>
     ensures { IfOk result (λ text. string_bytes text ≡ sci_line sci) }
 {
@@ -213,7 +216,7 @@ fn sci_line(alloc: Global, sci: Sci) -> Result<String, AllocError>
     ended(format!(in alloc; "sci {sci}")?)
 }
 
-/// Whether an answer is the text of the endpoint with this SCI.
+/// Whether an answer is the text of the endpoint with this SCI: it begins with that line.
 fn is_shown(alloc: Global, answer: &Answer, sci: Sci) -> Result<bool, AllocError>
     ensures { IfOk result
         (λ is. IsTrue is ↔ Begins (sci_line sci) answer.now.text.items) }
@@ -260,8 +263,8 @@ fn refuse_other(alloc: Global, answer: &Answer, sci: Sci) -> Result<(), Failure>
     Ok(())
 }
 
-/// Asks a relay for the text of its endpoint, which has to have this SCI. It fails as `Commands`
-/// where that has another.
+/// Asks a relay for the text of its endpoint, which has to have this SCI. It fails as `answer_to`,
+/// and as `Commands` where it has another one.
 fn find_own<S: Connection>(alloc: Global, asker: &mut Asker<S>, sci: Sci) -> Result<(), Failure>
     ensures own { OnOk result
         (BeginsWithOwn (unread_by S.link asker.old) sci (unread_by S.link asker.new)) }
@@ -271,8 +274,8 @@ fn find_own<S: Connection>(alloc: Global, asker: &mut Asker<S>, sci: Sci) -> Res
     refuse_other(alloc, &answer, sci)
 }
 
-/// Looks whether a command file is for the endpoint of a relay, which is asked only where the file
-/// names an end.
+/// Asks a relay whether it is that of the end which a command file names. Where the file names none
+/// it is for each end, and the relay is not asked.
 fn find_end<S: Connection>(
     alloc: Global,
     asker: &mut Asker<S>,
@@ -289,7 +292,7 @@ fn find_end<S: Connection>(
     }
 }
 
-/// Hands the commands of a file to a relay, if the file is for its endpoint.
+/// Sends the commands of a file to a relay, if the file is for its endpoint.
 fn apply_file<T: Files, S: Connection, W: Stream>(
     rt: &T,
     alloc: Global,
@@ -321,9 +324,10 @@ fn ask_apply<T: Files + Net, W: Stream>(
 }
 
 /// `ask`: asks a running relay, and prints its answer. It fails first as `Control`, where no relay
-/// is at the socket; then for the command file, as `Commands` also where that is for another end
-/// than the relay's, which is asked for its text first; as `Disk` with `Stopped`, where the relay
-/// ended before it answered a command; and as `Control`, where it went away.
+/// is at the socket; then for the command file, as `Commands`. A file that names its end is refused
+/// so too where the relay's endpoint has another SCI: before the first command the relay is asked
+/// for its text. Then it fails as `Disk` with `Stopped`, where the relay ended before it answered a
+/// command; and as `Control`, where it went away, or gave no answer that a relay gives.
 pub fn ask<T: Files + Net, W: Stream>(
     rt: &T,
     alloc: Global,
