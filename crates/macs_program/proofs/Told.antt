@@ -10,7 +10,7 @@ use Rattle.macs_control.specs.Asking.{BeginsWithAnswer, unread}
 use Rattle.macs_control.specs.Links.{GivesOctets, Link}
 use Rattle.macs_program.specs.Applying.{outcome_line, outcome_lines, outcomes_status}
 use Rattle.macs_program.specs.Asking.{AsksForText, BeginsWithOwn, HandsCommands, IsBeforeCommands, IsOfAsking}
-use Rattle.macs_program.specs.Asking.{failure_in, sci_line}
+use Rattle.macs_program.specs.Asking.{failure_in, failure_of_other, is_of_endpoint, sci_line}
 use Rattle.macs_journal.specs.declared.fault.JournalFault.TheVariants as journal
 use Rattle.macs_program.specs.declared.failure.DiskFault.TheVariants as disk
 use Rattle.macs_program.specs.declared.failure.Failure.TheVariants as failures
@@ -121,6 +121,16 @@ not_commands_by false false = λ e. cc
 
 pub not-commands : (status : ℕ) → failure_in status ≢ Commands
 not-commands status = not_commands_by (status == 4) (status == 5)
+
+of_endpoint_by : (b : Bool) → (if b then Commands else Control) ≡ Commands → b ≡ true
+of_endpoint_by true is = refl
+of_endpoint_by false is = absurd (let wrong : Control ≡ Commands = is in cc)
+
+-- a text that is not that of the end which a file names is that of another one, where the commands are the cause
+pub of-endpoint : (text octets : List ℕ) (failure : Failure) → failure ≡ failure_of_other octets → octets ≡ text
+    → failure ≡ Commands → is_of_endpoint text ≡ true
+of-endpoint text octets failure cause whole is =
+    subst (λ (t : List ℕ). is_of_endpoint t ≡ true) whole (of_endpoint_by (is_of_endpoint octets) (sym cause ∙ is))
 
 pub no-answer : (failure : Failure) → (failure ≡ Memory) ⊎ (failure ≡ Control) → IsEarly failure
 no-answer failure (inl memory) = inl memory

@@ -251,6 +251,8 @@ fn refuse_other(alloc: Global, answer: &Answer, sci: Sci) -> Result<(), Failure>
         ((answer.now.status ≡ 0) × Begins (sci_line sci) answer.now.text.items) }
     ensures other { IfErr result (λ failure. failure ≡ Failure.Commands
         → ¬ Begins (sci_line sci) answer.now.text.items) }
+    ensures another { IfErr result (λ failure. failure ≡ Failure.Commands
+        → is_of_endpoint answer.now.text.items ≡ true) }
     ensures failed { IfErr result IsBeforeCommands }
 {
     let status = answer.status;
