@@ -1,7 +1,8 @@
 -- All that is to be drawn from words on texts.
 use Rattle.std.proofs.Common.{◌≡◌, ◌≢◌, ◌<◌, ◌+◌, ◌++◌, ◌∷◌, [], ◌∙◌, ℕ, Bool, true, false, List, Option, Some, None}
 use Rattle.std.proofs.Common.{◌⊎◌, ◌≤◌, inl, inr, length, Ok, Err, refl, sym, ap, append_assoc}
-use Rattle.std.specs.Prelude.{◌==◌, ◌/◌, ◌%◌, codes, drop, if◌then◌else◌, nat_lt}
+use Rattle.std.specs.Prelude.{◌==◌, ◌/◌, ◌%◌, codes, drop, if◌then◌else◌, map, nat_lt}
+use Rattle.std.specs.List.{concat}
 use Rattle.std.specs.Str.{IsUtf8}
 use Rattle.toml.specs.Data.{Members}
 use Rattle.toml.specs.Parse.{parse_document}
@@ -17,7 +18,9 @@ use Rattle.macs_edge.specs.declared.capture_runs.Summary.{Summary}
 use Rattle.macs_config.specs.declared.refusal.Refusal.{Refusal}
 use Rattle.macs_texts.specs.Lines.{line}
 use Rattle.macs_texts.specs.Refusals.{refusal_name}
+use Rattle.macs_texts.specs.Showing as showing
 use Rattle.macs_texts.specs.Showing.{replay_line, rx_text_of, tx_text_of}
+use Rattle.macs_endpoint.specs.State.{State}
 use Rattle.macs_rxsc.specs.Receive.{Numbers}
 use Rattle.macs_config.specs.declared.association.RxSa.{RxSa}
 use Rattle.macs_config.specs.declared.association.TxSa.{TxSa}
@@ -255,10 +258,22 @@ unnumbered_rx : (sci : List ℕ) (an : ℕ) (found : Option RxSa) (numbers : Opt
 unnumbered_rx sci an None numbers is = refl
 unnumbered_rx sci an (Some sa) numbers is = ap (λ (n : Option Numbers). rx_text_of sci an (Some sa) n) is
 
+-- what `show` prints after its first line
+abbrev shown_later : State → List ℕ
+shown_later s =
+    showing.blocks_line s.identity ++ (showing.validate_line s.config.validate
+    ++ (showing.replay_line s.config.replay ++ (showing.mode_line s.config.mode
+    ++ (showing.encoding_line s.config.encoding
+    ++ (concat (map (showing.tx_text s) showing.association_numbers)
+    ++ (concat (map (showing.channel_text s) s.config.channels)
+    ++ showing.spent_line s.config))))))
+
 pub show-texts : ShowTexts
 show-texts = record {
   order = λ s. refl;
   sci = λ identity. refl;
+  asked_line = λ identity. refl;
+  asked = λ s. (shown_later s, refl);
   blocks = λ identity. refl;
   validates = (refl, refl);
   replay_on = λ replay is. replay_as replay true is;

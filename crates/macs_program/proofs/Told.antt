@@ -1,13 +1,16 @@
 -- What a relay was asked, and the lines of commands that it was handed, one after another.
 use Rattle.std.proofs.Common.{◌≡◌, ◌≢◌, ◌⊎◌, ◌∙◌, inl, inr, ℕ, ◌+◌, ◌==◌, Bool, true, false, if◌then◌else◌, List, []}
-use Rattle.std.proofs.Common.{◌∷◌, ◌++◌}
+use Rattle.std.proofs.Common.{◌∷◌, ◌++◌, OnOk, Some, None}
 use Rattle.std.proofs.Common.{◌↔◌, IsTrue, drop, length, Option, is_some, Result, Ok, Err, ap, refl, subst, sym, arith}
 use Rattle.std.specs.Io.KnownBytes.{Appends}
 use Rattle.std.proofs.KnownBytes.{Appends-nil, Appends-trans}
 use Rattle.std.proofs.lemmas.List.{length_push}
 use Rattle.macs_config.specs.declared.refusal.Refusal.{Refusal}
+use Rattle.macs_control.specs.Asking.{BeginsWithAnswer, unread}
+use Rattle.macs_control.specs.Links.{GivesOctets, Link}
 use Rattle.macs_program.specs.Applying.{outcome_line, outcome_lines, outcomes_status}
-use Rattle.macs_program.specs.Asking.{AsksForText, HandsCommands, IsBeforeCommands, IsOfAsking, failure_in}
+use Rattle.macs_program.specs.Asking.{AsksForText, BeginsWithOwn, HandsCommands, IsBeforeCommands, IsOfAsking}
+use Rattle.macs_program.specs.Asking.{failure_in, failure_of_other, is_of_endpoint, sci_line}
 use Rattle.macs_journal.specs.declared.fault.JournalFault.TheVariants as journal
 use Rattle.macs_program.specs.declared.failure.DiskFault.TheVariants as disk
 use Rattle.macs_program.specs.declared.failure.Failure.TheVariants as failures
@@ -61,6 +64,26 @@ shown-by line text front octets is same whole begun back = (
   λ begins. back begins.0 (whole ∙ begins.1 ∙ ap (λ (l : List ℕ). l ++ begins.0) (sym same)),
 )
 
+-- ---- what a relay says
+
+-- nothing of it is lost while a line is sent
+pub heard-after : (held kept : List ℕ) (old new : Option Link) (octets text : List ℕ) (status : ℕ)
+    (rest : Option (List ℕ))
+    → GivesOctets old new octets true → kept ≡ held → BeginsWithAnswer (unread kept new) text status rest
+    → BeginsWithAnswer (unread held old) text status rest
+heard-after held kept None new octets text status rest given same begins = tt
+heard-after held kept (Some old) new octets text status rest given same begins =
+    subst (λ (all : Option (List ℕ)). BeginsWithAnswer all text status rest)
+    (ap (λ (front : List ℕ). unread front new) same ∙ ap (λ (link : Option Link). unread held link) given) begins
+
+-- its answer is the text of the endpoint with this SCI
+pub own-shown : {T : Type 0} (all rest : Option (List ℕ)) (sci text : List ℕ) (status : ℕ) (result : Result T Failure)
+    → BeginsWithAnswer all text status rest → OnOk result ((status ≡ 0) × Begins (sci_line sci) text)
+    → OnOk result (BeginsWithOwn all sci rest)
+own-shown all rest sci text status (Ok done) heard own =
+    (text, own.1, subst (λ (s : ℕ). BeginsWithAnswer all text s rest) own.0 heard)
+own-shown all rest sci text status (Err failure) heard own = tt
+
 -- ---- what comes of it
 
 -- no memory, no relay, or no commands
@@ -98,6 +121,16 @@ not_commands_by false false = λ e. cc
 
 pub not-commands : (status : ℕ) → failure_in status ≢ Commands
 not-commands status = not_commands_by (status == 4) (status == 5)
+
+of_endpoint_by : (b : Bool) → (if b then Commands else Control) ≡ Commands → b ≡ true
+of_endpoint_by true is = refl
+of_endpoint_by false is = absurd (let wrong : Control ≡ Commands = is in cc)
+
+-- a text that is not that of the end which a file names is that of another one, where the commands are the cause
+pub of-endpoint : (text octets : List ℕ) (failure : Failure) → failure ≡ failure_of_other octets → octets ≡ text
+    → failure ≡ Commands → is_of_endpoint text ≡ true
+of-endpoint text octets failure cause whole is =
+    subst (λ (t : List ℕ). is_of_endpoint t ≡ true) whole (of_endpoint_by (is_of_endpoint octets) (sym cause ∙ is))
 
 pub no-answer : (failure : Failure) → (failure ≡ Memory) ⊎ (failure ≡ Control) → IsEarly failure
 no-answer failure (inl memory) = inl memory

@@ -1,12 +1,20 @@
 -- What `ask` prints, and how it fails.
 use Rattle.std.specs.Prelude.{◌≡◌, ◌≢◌, ◌==◌, if◌then◌else◌, ⊤, ℕ, Bool, true, List, Option, Result, IfErr, IfOk}
-use Rattle.std.specs.Prelude.{◌++◌, codes}
+use Rattle.std.specs.Prelude.{◌⊎◌, ◌++◌, codes, Some, None, Err}
+use Rattle.std.specs.Prelude.{◌∷◌, [], nat_eq}
 use Rattle.std.specs.Io.KnownBytes.{Appends}
+use Rattle.std.specs.List.{starts_with}
 use Rattle.hex.specs.Hex.{encode_lower}
+use Rattle.macs_config.specs.declared.command.Command.{Command}
 use Rattle.macs_config.specs.declared.refusal.Refusal.{Refusal}
+use Rattle.macs_control.specs.Asking.{BeginsWithAnswer, seat_of, unread}
+use Rattle.macs_control.specs.Links.{Link}
+use Rattle.macs_control.specs.Seats.{connection_of, held_by}
+use Rattle.macs_control.specs.declared.asking.Asker.{Asker}
+use Rattle.macs_record.specs.Sectors.{Begins}
 use Rattle.macs_words.specs.declared.action.Question.{Question}
 use Rattle.macs_words.specs.declared.action.Question.TheVariants.{Apply}
-use Rattle.macs_program.specs.Applying.{outcome_lines, outcomes_status}
+use Rattle.macs_program.specs.Applying.{SaidByFile, outcome_lines, outcomes_status}
 use Rattle.macs_program.specs.declared.failure.DiskFault.TheVariants as disk
 use Rattle.macs_program.specs.declared.failure.Failure.{Failure}
 use Rattle.macs_program.specs.declared.failure.Failure.TheVariants as failures
@@ -37,13 +45,47 @@ IsOfAsking failures.Memory = ⊤
 IsOfAsking failures.Output = ⊤
 IsOfAsking other = ⊥
 
--- they are these but for the output before a command is handed in
+-- before a command is sent they are these, but for standard output
 abbrev pub IsBeforeCommands : Failure → Type 0
 IsBeforeCommands failure = IsOfAsking failure × (failure ≢ failures.Output)
 
--- the line by which the text of an endpoint with this SCI begins
+-- the line with which the text of the endpoint with this SCI begins
 abbrev pub sci_line : List ℕ → List ℕ
 sci_line sci = line (codes "sci " ++ encode_lower sci)
+
+-- "sci ", with which the text of each endpoint begins
+abbrev pub sci_word : List ℕ
+sci_word = 0x73 ∷ 0x63 ∷ 0x69 ∷ 0x20 ∷ []
+
+-- a text is that of some endpoint
+abbrev pub is_of_endpoint : List ℕ → Bool
+is_of_endpoint text = starts_with nat_eq text sci_word
+
+-- why a text is not that of the end which a command file names: it is that of another end, or of none
+abbrev pub failure_of_other : List ℕ → Failure
+failure_of_other text = if is_of_endpoint text then failures.Commands else failures.Control
+
+-- what a relay that is asked said and that was not read, where it is known what comes over its connection
+abbrev pub unread_by : {S : Type 0} → (S → Option Link) → Asker S → Option (List ℕ)
+unread_by link asker = unread (held_by (seat_of asker)) (link (connection_of (seat_of asker)))
+
+-- what a relay said begins with an answer of status 0 whose text is that of the endpoint with this SCI
+abbrev pub BeginsWithOwn : Option (List ℕ) → List ℕ → Option (List ℕ) → Type 0
+BeginsWithOwn all sci rest = (text : List ℕ) × Begins (sci_line sci) text × BeginsWithAnswer all text 0 rest
+
+-- so it does where a command file names an end, by its SCI
+abbrev pub BeginsWithEnd : Option (List ℕ) → Option (List ℕ) → Option (List ℕ) → Type 0
+BeginsWithEnd all None rest = ⊤
+BeginsWithEnd all (Some sci) rest = BeginsWithOwn all sci rest
+
+-- Some file says these commands, and names no end, or the one whose text is the first answer of the relay; or the run
+-- fails, and nothing is printed
+abbrev pub IsForRelay : {F : Type 0} → (F → Option (List ℕ)) → Option (List ℕ) → Option (List ℕ)
+    → Result Status Failure → Option (List ℕ) → Type 0
+IsForRelay remaining all before result after =
+    ((end : Option (List ℕ)) × (commands : List Command) × (rest : Option (List ℕ))
+    × SaidByFile remaining end commands × BeginsWithEnd all end rest)
+    ⊎ ((failure : Failure) × (result ≡ Err failure) × (after ≡ before))
 
 -- a relay is asked for a text, which is printed; or that fails, with nothing printed
 pub record AsksForText {W : Type 0} (contents : W → Option (List ℕ)) (has_failed : W → Bool) (before : W)
@@ -54,7 +96,7 @@ pub record AsksForText {W : Type 0} (contents : W → Option (List ℕ)) (has_fa
   pub silent : IfErr result (λ failure. failure ≢ failures.Output → after ≡ before)
   pub broken : IfErr result (λ failure. failure ≡ failures.Output → has_failed after ≡ true)
 
--- a relay is handed commands, and a line is printed for each; or that fails, after the lines of those before
+-- a relay is sent commands, and a line is printed for each; or that fails, after the lines of those before
 pub record HandsCommands {W : Type 0} (contents : W → Option (List ℕ)) (has_failed : W → Bool) (before : W)
     (result : Result Status Failure) (after : W) : Type 0 where
   pub printed : IfOk result (λ status. (outcomes : List (Option Refusal))

@@ -18,17 +18,20 @@ use Rattle.macs_rxsc.specs.Receive.{Numbers}
 use Rattle.macs_texts.specs.Showing.{blocks_line, channel_text, encoding_line, mode_line, protection_words}
 use Rattle.macs_texts.specs.Showing.{replay_line, rx_text, sci_line, show_text, spent_line, tx_text}
 use Rattle.macs_texts.specs.Showing.{validate_line}
+use Rattle.macs_program.specs.Asking as asking
 
 -- First the identity, then the settings, then the transmit associations by their numbers, each with its next packet
 -- number; then each channel with its receive associations by their numbers, each with its next and its lowest
 -- acceptable packet number; last how many keys are spent on either side. An association whose numbers are not known has
--- no line. Each number is in decimal, each SCI in hex.
+-- no line. Each number is in decimal, each SCI in hex. The first line is the one by which `ask` knows an endpoint.
 pub record ShowTexts : Type 0 where
   pub order : (s : State) → show_text s ≡ sci_line s.identity ++ (blocks_line s.identity
       ++ (validate_line s.config.validate ++ (replay_line s.config.replay ++ (mode_line s.config.mode
       ++ (encoding_line s.config.encoding ++ (concat (map (tx_text s) (0 ∷ 1 ∷ 2 ∷ 3 ∷ []))
       ++ (concat (map (channel_text s) s.config.channels) ++ spent_line s.config)))))))
   pub sci : (identity : Identity) → sci_line identity ≡ (codes "sci " ++ encode_lower identity.sci) ++ 10 ∷ []
+  pub asked_line : (identity : Identity) → asking.sci_line identity.sci ≡ sci_line identity
+  pub asked : (s : State) → (rest : List ℕ) × (show_text s ≡ asking.sci_line s.identity.sci ++ rest)
   pub blocks : (identity : Identity) → blocks_line identity
       ≡ (codes "blocks tx " ++ (decimal identity.tx_block ++ (codes " rx " ++ decimal identity.rx_block))) ++ 10 ∷ []
   pub validates : (validate_line validate.Strict ≡ codes "validate strict" ++ 10 ∷ [])

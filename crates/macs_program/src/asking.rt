@@ -4,10 +4,12 @@ ghost use Rattle.std.specs.Prelude.{◌≡◌, ◌≢◌, ◌⊎◌, ◌↔◌, 
 ghost use Rattle.std.specs.Prelude.{IfErr, IfOk, IfSome, IsTrue, Ok, OnOk, string_bytes};
 ghost use Rattle.std.specs.Io.KnownBytes.{Appends};
 ghost use Rattle.macs_config.specs.declared.refusal.Refusal.{Refusal};
+ghost use Rattle.macs_control.specs.Asking.{BeginsWithAnswer};
 ghost use Rattle.macs_program.specs.Applying.{outcome_line};
-ghost use Rattle.macs_program.specs.Asking.{AsksForText, HandsCommands, IsBeforeCommands};
+ghost use Rattle.macs_program.specs.Asking.{AsksForText, BeginsWithEnd, BeginsWithOwn};
+ghost use Rattle.macs_program.specs.Asking.{HandsCommands, IsBeforeCommands, IsForRelay};
 ghost use Rattle.macs_program.specs.Asking.{IsOfAsking, PrintsAnswer, PrintsFront, failure_in};
-ghost use Rattle.macs_program.specs.Asking.{sci_line};
+ghost use Rattle.macs_program.specs.Asking.{failure_of_other, is_of_endpoint, sci_line, unread_by};
 ghost use Rattle.macs_record.specs.Sectors.{Begins};
 ghost use Rattle.macs_texts.specs.Refusals.{refusal_name};
 
@@ -44,6 +46,9 @@ const REFUSALS: [Refusal; 12] = [
     Refusal::SpentFull,
 ];
 
+/// What the text of each endpoint begins with.
+const SCI_WORD: &[u8] = b"sci ";
+
 /// Who asks the relay that listens at a name. It fails as `Control`, where none does.
 fn asker_at<N: Net>(net: &N, path: &str) -> Result<Asker<PatientStream>, Failure>
     ensures { IfErr result (λ failure. failure ≡ Failure.Control) }
@@ -54,14 +59,17 @@ fn asker_at<N: Net>(net: &N, path: &str) -> Result<Asker<PatientStream>, Failure
     }
 }
 
-/// What a relay answers to a request. It fails as `Memory`, where there is none here, and as
+/// What a relay answers to a request. It fails as `Memory`, where this program has none, and as
 /// `Control` where the relay goes away or does not answer.
 fn answer_to<S: Connection>(
     alloc: Global,
     asker: &mut Asker<S>,
     request: &Request,
 ) -> Result<Answer, Failure>
-    ensures { IfErr result (λ failure. (failure ≡ Failure.Memory) ⊎ (failure ≡ Failure.Control)) }
+    ensures heard { IfOk result (λ answer. BeginsWithAnswer (unread_by S.link asker.old)
+        answer.text.items answer.status (unread_by S.link asker.new)) }
+    ensures failed { IfErr result
+        (λ failure. (failure ≡ Failure.Memory) ⊎ (failure ≡ Failure.Control)) }
 {
     let line = line_of_request(alloc, request)?;
     asker.send(alloc, line.as_str())?;
@@ -69,7 +77,7 @@ fn answer_to<S: Connection>(
     Ok(answer)
 }
 
-/// The failure that a status of an answer says, where it says that the request was not done.
+/// What the status of an answer means where the request was not done.
 fn failure_in(status: u8) -> Failure
     ensures { result ≡ failure_in status }
 {
@@ -134,7 +142,8 @@ fn refusal_in(text: &[u8]) -> Option<Refusal> {
     None
 }
 
-/// What a relay made of a command, by its answer: it is kept, or refused. Else it fails.
+/// What a relay made of a command, by its answer: it is kept, or refused. It fails where the answer
+/// says neither.
 fn outcome_in(answer: &Answer) -> Result<Option<Refusal>, Failure>
     ensures { IfErr result (λ failure. failure ≡ failure_in answer.now.status) }
 {
@@ -148,7 +157,21 @@ fn outcome_in(answer: &Answer) -> Result<Option<Refusal>, Failure>
     }
 }
 
-/// Hands a command to a relay, and prints its line once it is answered. Whether it was refused.
+/// Sends a command to a relay, which keeps or refuses it. It fails as `answer_to`, and where the
+/// answer says neither.
+fn outcome_from<S: Connection>(
+    alloc: Global,
+    asker: &mut Asker<S>,
+    command: Command,
+) -> Result<Option<Refusal>, Failure>
+    ensures { IfErr result IsBeforeCommands }
+{
+    let answer = answer_to(alloc, asker, &Request::Apply(command))?;
+    outcome_in(&answer)
+}
+
+/// Sends a command to a relay, prints its line once it is answered, and answers whether it was
+/// refused.
 fn apply_one<S: Connection, W: Stream>(
     alloc: Global,
     asker: &mut Asker<S>,
@@ -163,13 +186,12 @@ fn apply_one<S: Connection, W: Stream>(
     ensures silent { IfErr result (λ failure. failure ≢ Failure.Output → out.new ≡ out.old) }
     ensures broken { IfErr result (λ failure. failure ≡ Failure.Output → W.failed out.new ≡ true) }
 {
-    let answer = answer_to(alloc, asker, &Request::Apply(command))?;
-    let outcome = outcome_in(&answer)?;
+    let outcome = outcome_from(alloc, asker, command)?;
     print_octets(out, outcome_line(at, outcome).as_slice())?;
     Ok(outcome.is_some())
 }
 
-/// Hands commands to a relay, one after another, and prints a line for each once it is answered.
+/// Sends commands to a relay, one after another, and prints a line for each once it is answered.
 fn apply_each<S: Connection, W: Stream>(
     alloc: Global,
     asker: &mut Asker<S>,
@@ -186,7 +208,7 @@ fn apply_each<S: Connection, W: Stream>(
     Ok(status)
 }
 
-/// The line by which the text of an endpoint begins that has this SCI.
+/// The line with which the text of the endpoint with this SCI begins.
 fn sci_line(alloc: Global, sci: Sci) -> Result<String, AllocError>
     ensures { IfOk result (λ text. string_bytes text ≡ sci_line sci) }
 {
@@ -194,7 +216,7 @@ fn sci_line(alloc: Global, sci: Sci) -> Result<String, AllocError>
     ended(format!(in alloc; "sci {sci}")?)
 }
 
-/// Whether an answer is the text of the endpoint with this SCI.
+/// Whether an answer is the text of the endpoint with this SCI: it begins with that line.
 fn is_shown(alloc: Global, answer: &Answer, sci: Sci) -> Result<bool, AllocError>
     ensures { IfOk result
         (λ is. IsTrue is ↔ Begins (sci_line sci) answer.now.text.items) }
@@ -203,13 +225,34 @@ fn is_shown(alloc: Global, answer: &Answer, sci: Sci) -> Result<bool, AllocError
     Ok(answer.text.as_slice().starts_with(line.as_str().as_bytes()))
 }
 
+/// Whether a text is that of some endpoint.
+fn is_of_endpoint(text: &[u8]) -> bool
+    ensures { result ≡ is_of_endpoint text.now }
+{
+    text.starts_with(SCI_WORD)
+}
+
+/// Why a text is not that of the end which a command file names: it is that of another end, or of
+/// none.
+fn failure_of_other(text: &[u8]) -> Failure
+    ensures cause { result ≡ failure_of_other text.now }
+    ensures early { IsBeforeCommands result }
+{
+    if is_of_endpoint(text) {
+        return Failure::Commands;
+    }
+    Failure::Control
+}
+
 /// Refuses an answer that is not the text of the endpoint with this SCI. It fails as `Commands`
-/// where it is that of another.
+/// where it is that of another, and as `Control` where it is that of none.
 fn refuse_other(alloc: Global, answer: &Answer, sci: Sci) -> Result<(), Failure>
     ensures own { OnOk result
         ((answer.now.status ≡ 0) × Begins (sci_line sci) answer.now.text.items) }
     ensures other { IfErr result (λ failure. failure ≡ Failure.Commands
         → ¬ Begins (sci_line sci) answer.now.text.items) }
+    ensures another { IfErr result (λ failure. failure ≡ Failure.Commands
+        → is_of_endpoint answer.now.text.items ≡ true) }
     ensures failed { IfErr result IsBeforeCommands }
 {
     let status = answer.status;
@@ -217,28 +260,32 @@ fn refuse_other(alloc: Global, answer: &Answer, sci: Sci) -> Result<(), Failure>
         return Err(failure_in(status));
     }
     if !is_shown(alloc, answer, sci)? {
-        return Err(Failure::Commands);
+        return Err(failure_of_other(answer.text.as_slice()));
     }
     Ok(())
 }
 
-/// Asks a relay for the text of its endpoint, which has to have this SCI. It fails as `Commands`
-/// where that has another.
+/// Asks a relay for the text of its endpoint, which has to have this SCI. It fails as `answer_to`,
+/// and as `Commands` where it has another one.
 fn find_own<S: Connection>(alloc: Global, asker: &mut Asker<S>, sci: Sci) -> Result<(), Failure>
-    ensures { IfErr result IsBeforeCommands }
+    ensures own { OnOk result
+        (BeginsWithOwn (unread_by S.link asker.old) sci (unread_by S.link asker.new)) }
+    ensures failed { IfErr result IsBeforeCommands }
 {
     let answer = answer_to(alloc, asker, &Request::Show)?;
     refuse_other(alloc, &answer, sci)
 }
 
-/// Looks whether a command file is for the endpoint of a relay, which is asked only where the file
-/// names an end.
+/// Asks a relay whether it is that of the end which a command file names. Where the file names none
+/// it is for each end, and the relay is not asked.
 fn find_end<S: Connection>(
     alloc: Global,
     asker: &mut Asker<S>,
     end: Option<Sci>,
 ) -> Result<(), Failure>
     ensures any { end ≡ None → (result ≡ Ok tt) × (asker.new ≡ asker.old) }
+    ensures own { OnOk result
+        (BeginsWithEnd (unread_by S.link asker.old) end (unread_by S.link asker.new)) }
     ensures failed { IfErr result IsBeforeCommands }
 {
     match end {
@@ -247,7 +294,7 @@ fn find_end<S: Connection>(
     }
 }
 
-/// Hands the commands of a file to a relay, if the file is for its endpoint.
+/// Sends the commands of a file to a relay, if the file is for its endpoint.
 fn apply_file<T: Files, S: Connection, W: Stream>(
     rt: &T,
     alloc: Global,
@@ -255,7 +302,9 @@ fn apply_file<T: Files, S: Connection, W: Stream>(
     file: &str,
     out: &mut W,
 ) -> Result<Status, Failure>
-    ensures { HandsCommands W.contents W.failed out.old result out.new }
+    ensures handed { HandsCommands W.contents W.failed out.old result out.new }
+    ensures own { IsForRelay T.File.remaining (unread_by S.link asker.old)
+        (W.contents out.old) result (W.contents out.new) }
 {
     let told = commands_of_file(rt, alloc, file)?;
     find_end(alloc, asker, told.end)?;
@@ -277,9 +326,10 @@ fn ask_apply<T: Files + Net, W: Stream>(
 }
 
 /// `ask`: asks a running relay, and prints its answer. It fails first as `Control`, where no relay
-/// is at the socket; then for the command file, as `Commands` also where that is for another end
-/// than the relay's, which is asked for its text first; as `Disk` with `Stopped`, where the relay
-/// ended before it answered a command; and as `Control`, where it went away.
+/// is at the socket; then for the command file, as `Commands`. A file that names its end is refused
+/// so too where the relay's endpoint has another SCI: before the first command the relay is asked
+/// for its text. Then it fails as `Disk` with `Stopped`, where the relay ended before it answered a
+/// command; and as `Control`, where it went away, or gave no answer that a relay gives.
 pub fn ask<T: Files + Net, W: Stream>(
     rt: &T,
     alloc: Global,

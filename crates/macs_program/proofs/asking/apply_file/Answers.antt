@@ -1,18 +1,35 @@
+use Rattle.std.proofs.Common.{inl, inr, refl}
 use Rattle.std.proofs.lemmas.Result.{err_from_is_err_and}
+use Rattle.macs_program.specs.Asking.{unread_by}
 use Rattle.macs_program.proofs.Told.{no-commands, not-found, not-handed}
 use Rattle.macs_program.proofs.asking.apply_file.Goals as goal
 
-pub returns-in_err-told : goal.returns-in_err-told
-returns-in_err-told g c =
+pub returns-in_err-told-clause-handed : goal.returns-in_err-told-clause-handed
+returns-in_err-told-clause-handed g c =
     let p = err_from_is_err_and c.from_residual.result c.from_residual.ensures.1 in
     not-handed _ _ _ c.in_err-told.field-0.0 p.0 c.from_residual.result p.1 p.2
     (no-commands _ c.in_err-told.ensures.failed)
 
-pub returns-in_err-find_end : goal.returns-in_err-find_end
-returns-in_err-find_end g c =
+pub returns-in_err-told-clause-own : goal.returns-in_err-told-clause-own
+returns-in_err-told-clause-own g c =
+    let p = err_from_is_err_and c.from_residual.result c.from_residual.ensures.1 in
+    inr (p.0, p.1, refl)
+
+pub returns-in_err-find_end-clause-handed : goal.returns-in_err-find_end-clause-handed
+returns-in_err-find_end-clause-handed g c =
     let p = err_from_is_err_and c.from_residual-in_err-find_end.result c.from_residual-in_err-find_end.ensures.1 in
     not-found _ _ _ c.in_err-find_end.field-0.0 p.0 c.from_residual-in_err-find_end.result p.1 p.2
     c.in_err-find_end.ensures.failed
 
-pub returns : goal.returns
-returns g c = c.apply_each.ensures
+pub returns-in_err-find_end-clause-own : goal.returns-in_err-find_end-clause-own
+returns-in_err-find_end-clause-own g c =
+    let p = err_from_is_err_and c.from_residual-in_err-find_end.result c.from_residual-in_err-find_end.ensures.1 in
+    inr (p.0, p.1, refl)
+
+pub returns-clause-handed : goal.returns-clause-handed
+returns-clause-handed g c = c.apply_each.ensures
+
+pub returns-clause-own : goal.returns-clause-own
+returns-clause-own g c =
+    inl (c.in_ok-told.told.end, c.in_ok-told.told.commands.items,
+    unread_by g.S.Connection.link c.find_end.new.asker, c.in_ok-told.ensures.said, c.in_ok-find_end.ensures.own)

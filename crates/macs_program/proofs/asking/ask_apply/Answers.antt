@@ -9,4 +9,4 @@ returns-in_err-asker g c =
     not-handed _ _ _ c.in_err-asker.field-0.0 p.0 c.from_residual.result p.1 p.2 (inr (inl c.in_err-asker.ensures))
 
 pub returns : goal.returns
-returns g c = c.apply_file.ensures
+returns g c = c.apply_file.ensures.handed

@@ -12,7 +12,7 @@ pub returns-in_err-answer : goal.returns-in_err-answer
 returns-in_err-answer g c =
     let p = err_from_is_err_and c.from_residual-in_err-answer.result c.from_residual-in_err-answer.ensures.1 in
     not-asked _ _ _ c.in_err-answer.field-0.0 p.0 c.from_residual-in_err-answer.result p.1 p.2
-    (no-answer _ c.in_err-answer.ensures)
+    (no-answer _ c.in_err-answer.ensures.failed)
 
 pub returns : goal.returns
 returns g c = c.print_answer.ensures.asked
