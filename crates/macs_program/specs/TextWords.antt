@@ -285,7 +285,7 @@ pub record CheckTexts : Type 0 where
       × (((end_in members ≡ Err told.Sci) × (said ≡ codes "command file sci: not 16 hex digits"))
       ⊎ ((end : Option (List ℕ)) × (fault : ConfigFault) × (end_in members ≡ Ok end)
       × (end_commands members ≡ Err fault) × (said ≡ fault_text fault))))))
-  pub shape : fault_text config.Shape ≡ codes "command file: not tables [[command]] alone"
+  pub shape : fault_text config.Shape ≡ codes "command file: not sci and tables [[command]] alone"
   pub word : (at : ℕ) → fault_text (config.Word at) ≡ codes "command " ++ (decimal at ++ codes " do: not a command")
   pub of_key : (at : ℕ) (name : KeyName) → fault_text (config.Key at name)
       ≡ codes "command " ++ (decimal at ++ (codes " " ++ (key_word name ++ (codes ": " ++ key_reason name))))

@@ -81,7 +81,7 @@ fn fault_text(alloc: Global, fault: ConfigFault) -> Result<String, AllocError>
 {
     match fault {
         ConfigFault::Shape => {
-            String::from_str(alloc, "command file: not tables [[command]] alone")
+            String::from_str(alloc, "command file: not sci and tables [[command]] alone")
         }
         ConfigFault::Word { at } => format!(in alloc; "command {at} do: not a command"),
         ConfigFault::Key { at, name } => {

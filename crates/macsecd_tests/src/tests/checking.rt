@@ -110,7 +110,7 @@ const FURTHER_FAULTS: &[(&str, &str)] = &[
     ),
     (
         "key = '12153524c0895e81'\n",
-        "macsecd: command file: not tables [[command]] alone\n",
+        "macsecd: command file: not sci and tables [[command]] alone\n",
     ),
     ("[[command]\n", "macsecd: command file: not TOML\n"),
 ];
@@ -127,7 +127,7 @@ const END_FAULTS: &[(&str, &str)] = &[
     ),
     (
         "sci = '12153524c0895e81'\nkey = 1\n",
-        "macsecd: command file: not tables [[command]] alone\n",
+        "macsecd: command file: not sci and tables [[command]] alone\n",
     ),
     (
         "sci = '12153524c0895e81'\n[[command]]\ndo = 'tx-use'\nan = 4\n",
