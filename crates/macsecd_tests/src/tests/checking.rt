@@ -133,6 +133,15 @@ const END_FAULTS: &[(&str, &str)] = &[
         "sci = '12153524c0895e81'\n[[command]]\ndo = 'tx-use'\nan = 4\n",
         "macsecd: command 1 an: not 0 to 3\n",
     ),
+    // After a table `sci` is a key of that command.
+    (
+        "[[command]]\ndo = 'tx-use'\nan = 0\nsci = '12153524c0895e81'\n",
+        "macsecd: command 1: a key that it does not have\n",
+    ),
+    (
+        "[[command]]\ndo = 'rx-add'\nsci = '12153524c0895e83'\nsci = '12153524c0895e81'\n",
+        "macsecd: command file: not TOML\n",
+    ),
 ];
 
 /// Checks a file of this text, in which the first fault is that of a line.
