@@ -8,6 +8,7 @@ pub mod Codes
 pub mod Commanded
 pub mod Complaining
 pub mod EachLine
+mod EndShapes
 pub mod Failed
 pub mod Faults
 pub mod Failures
