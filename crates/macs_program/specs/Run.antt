@@ -161,7 +161,7 @@ FailsAs state_of left_in (Plan file end stage) octets before after failure =
 FailsAs state_of left_in (Examine disk) octets before after failure = ExamineFails state_of failure
 FailsAs state_of left_in About octets before after failure = (failure ≡ Memory) ⊎ (failure ≡ Output)
 
--- it is one that reads no input and opens no endpoint in a file
+-- it is one that reads no standard input and opens no disk file to write it
 abbrev pub is_apart : Action → Bool
 is_apart (Ask path asked) = true
 is_apart (Key is_long) = true

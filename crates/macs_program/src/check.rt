@@ -275,7 +275,9 @@ where
 
 /// `check`: prints how many commands a file says, or what each of them would be answered by the
 /// endpoint on the disk in a file, and the mode of the command file where others can read it.
-/// Neither file is changed.
+/// Neither file is changed. It fails as `Commands` where the command file cannot be opened or read,
+/// and as `CommandFile` with its first fault; then, with a disk, as `try_in` does; and as `Memory`,
+/// and as `Output` where a line cannot be printed.
 pub fn check<T: Files, W: Stream>(
     rt: &T,
     alloc: Global,

@@ -30,7 +30,7 @@ pub enum DiskFault {
     Journal(JournalFault),
 }
 
-/// Why a link is refused of which a file says all that is asked for.
+/// Why a link is refused though its file says all that a link has.
 #[derive(Clone, Copy)]
 pub enum LinkRefusal {
     /// Both ends have one SCI.
@@ -54,7 +54,8 @@ pub enum Failure {
     Disk(DiskFault),
     /// A capture cannot be opened, read or written.
     Capture,
-    /// A command file cannot be read, or spells no commands; or a link's file cannot be read.
+    /// A command file cannot be read, spells no commands, or is for another end; or a link's file
+    /// cannot be read.
     Commands,
     /// A wire cannot be bound.
     Wire,

@@ -51,7 +51,8 @@ fn mode_line(mode: u32) -> Line
     line
 }
 
-/// Prints the line of a mode, where others can read the file that has it.
+/// Prints the line of a mode, where others can read the file that has it. It fails as `Output`
+/// where the line cannot be printed.
 pub fn print_mode<W: Stream>(mode: Option<u32>, out: &mut W) -> Result<(), Failure>
     ensures printed { OnOk result
         (Appends (W.contents out.old) (W.contents out.new) (mode_warning mode)) }

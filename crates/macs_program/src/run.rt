@@ -113,7 +113,7 @@ where
     }
 }
 
-/// Does what an action asks for that reads no input and opens no endpoint in a file.
+/// Does what an action asks for that reads no standard input and opens no disk file to write it.
 fn perform_apart<T: Files + Net + RandomSource, W: Stream>(
     rt: &T,
     alloc: Global,
