@@ -379,9 +379,9 @@ fail-words file left_in = record {
   copying = λ disk_file failure is. is;
   trying = λ copy end commands failure is. elim is [
     | inl refused ↦ inl refused
-    | inr (old, opens, inl (is_commands, other)) ↦
+    | inr (old, opens, inl (is_said, other)) ↦
         let (named, is_named, not_own) = other-end end (own_sci old) other in
-        inr (old, opens, inl (is_commands, named, is_named, not_own))
+        inr (old, opens, inl (is_said, named, is_named, not_own))
     | inr (old, opens, inr (own, inl memory)) ↦
         inr (old, opens, inr (own-end end (own_sci old) own, inl memory))
     | inr (opened, opens, inr (own, inr stops)) ↦ inr (

@@ -101,6 +101,7 @@ failure-texts = record {
   of_input = λ fault. (refl, refl);
   of_usage = λ cause. (refl, refl);
   of_file = λ cause. (refl, refl);
+  other_end = (refl, refl);
   of_link = λ refusal. (refl, refl);
   new_statuses = (refl, refl);
   files = refl;

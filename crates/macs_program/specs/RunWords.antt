@@ -273,7 +273,8 @@ pub record ReplyWords {F : Type 0} (file : F → FileState) (left_in : F → Opt
 -- `about`, `plan` and `check` for what is named here, and for nothing else. `examine` fails for its output, for a file
 -- that is not opened or of which there is no copy, for memory, or for a fault that is of no sector, for which no
 -- endpoint is opened on the copy. `check` with a disk fails as without one; or the file is not opened, or there is no
--- copy of its disk; or no endpoint is opened on that, there is no memory, or a command ends the run.
+-- copy of its disk; or no endpoint is opened on that, or another one than the file is for, there is no memory, or a
+-- command ends the run.
 pub record FailWords {F : Type 0} (file : F → FileState) (left_in : F → Option (List ℕ)) : Type 0 where
   pub failed : (words : List Text) (input : InputRead) (before after : Option (List ℕ)) (failure : Failure)
       → FailsFor file left_in words input before after failure
@@ -399,7 +400,7 @@ pub record FailWords {F : Type 0} (file : F → FileState) (left_in : F → Opti
       → EndsOn disk_of copy end commands failure
       → ((left : MemDisk Global) × (fault : JournalFault) × RefusesOpening disk_of copy left fault
       × (failure ≡ failure_in_memory (disk.Journal fault)))
-      ⊎ ((old : EndpointValue (MemDisk Global)) × Opens disk_of copy old × (((failure ≡ failures.Commands)
+      ⊎ ((old : EndpointValue (MemDisk Global)) × Opens disk_of copy old × (((failure ≡ failures.OtherEnd)
       × (named : List ℕ) × (end ≡ Some named) × (named ≢ (state_of old no_logs).identity.sci))
       ⊎ (((end ≡ None) ⊎ (end ≡ Some (state_of old no_logs).identity.sci)) × ((failure ≡ failures.Memory)
       ⊎ ((done : List Command) × (next : Command) × (left : List Command) × (commands ≡ done ++ next ∷ left)

@@ -168,6 +168,8 @@ pub record FailureTexts : Type 0 where
       × (failure_status (failures.Usage cause) ≡ ends.Usage)
   pub of_file : (cause : _) → (failure_text (failures.CommandFile cause) ≡ string_bytes cause)
       × (failure_status (failures.CommandFile cause) ≡ ends.Fault)
+  pub other_end : (failure_text failures.OtherEnd ≡ codes "command file sci: not that of DISK")
+      × (failure_status failures.OtherEnd ≡ ends.Fault)
   pub of_link : (refusal : LinkRefusal) → (failure_text (failures.Link refusal) ≡ link_refusal_text refusal)
       × (failure_status (failures.Link refusal) ≡ ends.Refused)
   pub new_statuses : (failure_status failures.Control ≡ ends.Fault) × (failure_status failures.Random ≡ ends.Fault)

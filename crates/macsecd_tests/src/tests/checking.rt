@@ -225,7 +225,7 @@ const ENDS: &[Step] = &[
     Keeping(
         &[DISK],
         &["check", OTHER, DISK],
-        Outcome::Fault("macsecd: commands\n"),
+        Outcome::Fault("macsecd: command file sci: not that of DISK\n"),
     ),
     Run(
         &["apply", DISK, OWN],
