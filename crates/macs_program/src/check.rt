@@ -207,12 +207,13 @@ fn count_line(count: usize) -> Line
     line
 }
 
-/// What a command file says. It fails as `Commands` where it cannot be opened or read, else as
-/// `CommandFile` with the first fault, or as `Memory`.
+/// What a command file says, whose mode is left in `mode`. It fails as `Commands` where it cannot
+/// be opened or read, else as `CommandFile` with the first fault, or as `Memory`.
 fn checked_commands<T: Files>(
     rt: &T,
     alloc: Global,
     path: &str,
+    mode: &mut Option<u32>,
 ) -> Result<CommandFile<Global>, Failure>
     // A file was opened, and it says this.
     ensures said { IfOk result
@@ -224,7 +225,10 @@ fn checked_commands<T: Files>(
         × ((failure ≡ Failure.Memory) ⊎ ComplainsOfFile IsSaidOfFile T.File.remaining failure))) }
 {
     match fs::open(rt, path) {
-        Ok(mut file) => commands_read(alloc, &mut file),
+        Ok(mut file) => {
+            *mode = mode_of(&file);
+            commands_read(alloc, &mut file)
+        }
         Err(error) => Err(failure_of(error, Failure::Commands)),
     }
 }
@@ -293,8 +297,8 @@ where
     ensures silent { IfErr result (λ failure. failure ≢ Failure.Output → out.new ≡ out.old) }
     ensures broken { IfErr result (λ failure. failure ≡ Failure.Output → W.failed out.new ≡ true) }
 {
-    let told = checked_commands(rt, alloc, path)?;
-    let mode = mode_of(rt, path);
+    let mut mode = None;
+    let told = checked_commands(rt, alloc, path, &mut mode)?;
     let commands = told.commands.as_slice();
     match disk {
         None => print_count(commands.len(), mode, out),

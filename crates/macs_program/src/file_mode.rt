@@ -7,13 +7,20 @@ ghost use Rattle.macs_program.specs.FileModes.{mode_line, mode_warning, octal_di
 use crate::failure::Failure;
 use crate::output::{Line, append_text, print_octets};
 use crate::stream::Stream;
+use std::fs::OpenFile;
 use std::os::unix::fs::MetadataExt;
-use std::rt::Files;
 
-/// The mode of the file at a path, where the system says it.
-pub fn mode_of<T: Files>(rt: &T, path: &str) -> Option<u32> {
-    match rt.metadata(path) {
-        Ok(metadata) => Some(metadata.mode()),
+/// The mode of an open file, where it is a regular one and the system says it. Where a link was
+/// opened, it is that of the file to which the link leads.
+pub fn mode_of<F: OpenFile>(file: &F) -> Option<u32> {
+    match file.metadata() {
+        Ok(about) => {
+            if about.is_file() {
+                Some(about.mode())
+            } else {
+                None
+            }
+        }
         Err(_) => None,
     }
 }

@@ -274,6 +274,8 @@ const MODES: &[Step] = &[
     Run(&["check", SEEN], Outcome::Done("1 command\nmode 644\n")),
     Mode(SEEN, 0o1604),
     Run(&["check", SEEN], Outcome::Done("1 command\nmode 1604\n")),
+    // Of what is no regular file no mode is printed.
+    Run(&["check", "/dev/null"], Outcome::Done("0 commands\n")),
     Run(
         &["format", SEEN_DISK, "12153524c0895e81", "4", "4"],
         Outcome::Done("formatted\n"),
