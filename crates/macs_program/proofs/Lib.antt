@@ -18,6 +18,7 @@ pub mod InFiles
 pub mod JudgedFiles
 pub mod Inspected
 mod Laid
+mod LinkFails
 pub mod Examined
 pub mod Looks
 pub mod Made

@@ -266,6 +266,7 @@ pub record ReplyWords {F : Type 0} (file : F → FileState) (left_in : F → Opt
   pub copied : (disk_file : FileState) (copy : Disk) → IsCopy disk_file copy → (copy.sectors ≡ 1028) × IsHonest copy
       × ((at : ℕ) → at < 1028 → (now copy).seen at ≡ (state_in_file (layout_in disk_file) disk_file).seen at)
 
+-- Only a `plan` fails for a link that is refused, and its words are taken.
 -- A run that fails has words that are refused, or cannot print help, or they are taken and name the action that fails
 -- so. Each action fails for this: `open` for a read that failed, for the first fault of its input, for memory or its
 -- output; `format` for the first fault of its values, for the file, or for its output; those with an endpoint for its
@@ -282,6 +283,10 @@ pub record FailWords {F : Type 0} (file : F → FileState) (left_in : F → Opti
       ⊎ ((topic : Topic) × AsksFor words topic × (failure ≡ failures.Output))
       ⊎ ((takes macsecd words ≡ true) × (action : Action) × Names (subcommand_of macsecd words) action
       × FailsAs file left_in action input before after failure)
+  pub of_link : (words : List Text) (input : InputRead) (before after : Option (List ℕ)) (refusal : LinkRefusal)
+      → FailsFor file left_in words input before after (failures.Link refusal)
+      → (takes macsecd words ≡ true) × (from : Bor Text) × (end : PlanEnd) × (stage : PlanStage)
+      × Names (subcommand_of macsecd words) (Plan from end stage)
   pub of_open : (input : InputRead) (before after : Option (List ℕ)) (failure : Failure)
       → FailsAs file left_in Open input before after failure
       → ((failure ≡ failures.Input request_faults.Input) × (input.has_failed ≡ true))
