@@ -116,7 +116,7 @@ module _ {F R W : Type 0} (state_of : F → FileState) (left_in : F → Option (
     disk = IfErr-weaker result _ _ (λ failure other disk. (known, action, names, (other disk).0, (other disk).1))
         performs.disk;
     before = IfErr-weaker result _ _ (λ failure printed other. inr (action, names, printed other)) performs.before;
-    fails = IfErr-weaker result _ _ (λ failure fails. inr (inr (action, names, fails))) performs.fails;
+    fails = IfErr-weaker result _ _ (λ failure fails. inr (inr (known, action, names, fails))) performs.fails;
     broken = performs.broken;
     unread =
         λ wrong. unread (λ is. wrong (known, subst (λ (a : Action). Names (subcommand_of macsecd told) a) is names));

@@ -8,6 +8,7 @@ pub mod Codes
 pub mod Commanded
 pub mod Complaining
 pub mod EachLine
+mod EndShapes
 pub mod Failed
 pub mod Faults
 pub mod Failures
@@ -17,6 +18,7 @@ pub mod InFiles
 pub mod JudgedFiles
 pub mod Inspected
 mod Laid
+mod LinkFails
 pub mod Examined
 pub mod Looks
 pub mod Made

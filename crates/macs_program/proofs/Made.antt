@@ -118,6 +118,7 @@ after-no-usage failures.Wire is = absurd is
 after-no-usage failures.Control is = absurd is
 after-no-usage failures.Random is = absurd is
 after-no-usage (failures.CommandFile cause) is = absurd is
+after-no-usage failures.OtherEnd is = absurd is
 after-no-usage (failures.Link refusal) is = absurd is
 after-no-usage (failures.Usage cause) is = absurd is
 after-no-usage (failures.Value fault) is = absurd is

@@ -34,6 +34,7 @@ use Rattle.macs_program.specs.Contents.{number_of, sector_in}
 use Rattle.macs_program.specs.Endpoints.{IsEndpointIn, PassEnds, PassesIn}
 use Rattle.macs_program.specs.FileModes.{mode_warning}
 use Rattle.macs_program.specs.Inspecting.{AreLinesOf, InspectsCapture}
+use Rattle.macs_program.proofs.LinkFails.{link-fails}
 use Rattle.macs_program.proofs.OwnEnds.{other-end, own-end}
 use Rattle.macs_program.specs.Judging.{EndsEach, JudgesCapture, JudgesIn, JudgingEnds, verdict_lines}
 use Rattle.macs_program.specs.Keys.{IsOfKey}
@@ -340,6 +341,7 @@ judging disk_of old failure new (inr stops) =
 pub fail-words : {F : Type 0} (file : F → FileState) (left_in : F → Option (List ℕ)) → FailWords file left_in
 fail-words file left_in = record {
   failed = λ words input before after failure is. is;
+  of_link = λ words input before after refusal fails. link-fails file left_in refusal input before after words fails;
   of_open = λ input before after failure is. is;
   of_format = λ path sci tx_block rx_block block is_over input before after failure is. is;
   of_apply = λ path from input before after failure is. is;
@@ -379,9 +381,9 @@ fail-words file left_in = record {
   copying = λ disk_file failure is. is;
   trying = λ copy end commands failure is. elim is [
     | inl refused ↦ inl refused
-    | inr (old, opens, inl (is_commands, other)) ↦
+    | inr (old, opens, inl (is_said, other)) ↦
         let (named, is_named, not_own) = other-end end (own_sci old) other in
-        inr (old, opens, inl (is_commands, named, is_named, not_own))
+        inr (old, opens, inl (is_said, named, is_named, not_own))
     | inr (old, opens, inr (own, inl memory)) ↦
         inr (old, opens, inr (own-end end (own_sci old) own, inl memory))
     | inr (opened, opens, inr (own, inr stops)) ↦ inr (

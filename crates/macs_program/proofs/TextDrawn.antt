@@ -30,6 +30,7 @@ use Rattle.macs_pcap.specs.Numbers.{number_at, octets_of}
 use Rattle.macs_program.specs.CaptureOctets.{CaptureOctets}
 use Rattle.macs_program.specs.ShowTexts.{ShowTexts}
 use Rattle.macs_journal.specs.declared.fault.JournalFault.TheVariants as journal
+use Rattle.macs_program.proofs.EndShapes.{no_array, no_table}
 use Rattle.macs_program.specs.Applying.{outcome_line, outcome_lines}
 use Rattle.macs_program.specs.Asking.{failure_in}
 use Rattle.macs_program.specs.Checking.{IsSaidOfFile, count_line, fault_text, file_fault_text}
@@ -103,6 +104,7 @@ failure-texts = record {
   of_input = λ fault. (refl, refl);
   of_usage = λ cause. (refl, refl);
   of_file = λ cause. (refl, refl);
+  other_end = (refl, refl);
   of_link = λ refusal. (refl, refl);
   new_statuses = (refl, refl);
   files = refl;
@@ -206,6 +208,8 @@ check-texts = record {
   several = several;
   said = said_of;
   shape = refl;
+  no_array = no_array;
+  no_table = no_table;
   word = λ at. refl;
   of_key = λ at name. refl;
   extra = λ at. refl;

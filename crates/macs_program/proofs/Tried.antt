@@ -25,7 +25,7 @@ use Rattle.macs_program.specs.Trying.{trial_lines, trial_report}
 use Rattle.macs_program.specs.declared.failure.DiskFault.{DiskFault}
 use Rattle.macs_program.specs.declared.failure.DiskFault.TheVariants as disk
 use Rattle.macs_program.specs.declared.failure.Failure.{Failure}
-use Rattle.macs_program.specs.declared.failure.Failure.TheVariants.{Commands as OfCommands, Memory, Output}
+use Rattle.macs_program.specs.declared.failure.Failure.TheVariants.{Memory, OtherEnd, Output}
 use Rattle.macs_program.proofs.Applied.{applies-more, parted, status-more}
 use Rattle.macs_program.specs.declared.status.Status.{Status}
 use Rattle.macs_program.specs.declared.status.Status.TheVariants.{Refused, Usage}
@@ -138,15 +138,15 @@ in-memory (disk.Journal journal.GenerationsSpent) failure is = inr (disk.Journal
 
 -- that, or it is for another end than the file's
 abbrev pub IsOfTrial : Failure → Type 0
-IsOfTrial failure = IsOfDisk failure ⊎ (failure ≡ OfCommands)
+IsOfTrial failure = IsOfDisk failure ⊎ (failure ≡ OtherEnd)
 
 pub trial-no-output : (failure : Failure) → IsOfTrial failure → failure ≢ Output
 trial-no-output failure (inl ours) is = disk-no-output failure ours is
-trial-no-output failure (inr commands) is = let e = sym commands ∙ is in cc
+trial-no-output failure (inr other) is = let e = sym other ∙ is in cc
 
 pub trial-no-usage : (failure : Failure) → IsOfTrial failure → failure_status failure ≢ Usage
 trial-no-usage failure (inl ours) is = disk-no-usage failure ours is
-trial-no-usage failure (inr commands) is = let e = ap failure_status (sym commands) ∙ is in cc
+trial-no-usage failure (inr other) is = let e = ap failure_status (sym other) ∙ is in cc
 
 ends-on : {D : Type 0} (disk_of : D → Disk) (copy : D) (end : Option (List ℕ)) (commands : List Command)
     (failure : Failure)

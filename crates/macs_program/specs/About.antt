@@ -9,10 +9,14 @@ use Rattle.macs_program.specs.declared.build.TheConstants.{COMMIT, LEVEL, TOOLCH
 abbrev pub word_line : List ℕ → List ℕ → List ℕ
 word_line name word = line (name ++ (codes " " ++ word))
 
--- its version, the commit of its sources, the toolchain that built it, the processors that it is built for, and the
--- formats of the journal that it writes and reads
+-- the formats of the journal that it writes and reads
+abbrev pub formats_text : List ℕ
+formats_text =
+    word_line (codes "journal writes format") (codes "2") ++ word_line (codes "journal reads formats") (codes "1, 2")
+
+-- its version, the commit of its sources, the toolchain that built it, the processors that it is built for, and those
+-- formats
 abbrev pub about_text : List ℕ
 about_text =
     topic_text Version ++ (word_line (codes "commit") COMMIT.now ++ (word_line (codes "toolchain") TOOLCHAIN.now
-    ++ (word_line (codes "built for") LEVEL.now ++ (word_line (codes "journal writes format") (codes "2")
-    ++ word_line (codes "journal reads formats") (codes "1, 2")))))
+    ++ (word_line (codes "built for") LEVEL.now ++ formats_text)))

@@ -58,7 +58,7 @@ key_reason name.Sci = codes "not 16 hex digits"
 
 -- the first fault of the commands of a file, by its place, key and reason
 abbrev pub fault_text : ConfigFault → List ℕ
-fault_text config.Shape = codes "command file: not tables [[command]] alone"
+fault_text config.Shape = codes "command file: not sci and tables [[command]] alone"
 fault_text (config.Word at) = codes "command " ++ (decimal at ++ codes " do: not a command")
 fault_text (config.Key at name) =
     codes "command " ++ (decimal at ++ (codes " " ++ (key_word name ++ (codes ": " ++ key_reason name))))

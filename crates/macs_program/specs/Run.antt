@@ -161,7 +161,7 @@ FailsAs state_of left_in (Plan file end stage) octets before after failure =
 FailsAs state_of left_in (Examine disk) octets before after failure = ExamineFails state_of failure
 FailsAs state_of left_in About octets before after failure = (failure ≡ Memory) ⊎ (failure ≡ Output)
 
--- it is one that reads no input and opens no endpoint in a file
+-- it is one that reads no standard input and opens no disk file to write it
 abbrev pub is_apart : Action → Bool
 is_apart (Ask path asked) = true
 is_apart (Key is_long) = true
@@ -201,13 +201,14 @@ pub record Performs {F W : Type 0} (state_of : F → FileState) (left_in : F →
   pub fails : IfErr result (FailsAs state_of left_in action input (contents old) (contents new))
   pub broken : IfErr result (λ failure. failure ≡ Output → failed new ≡ true)
 
--- how a run fails: its words are refused, or help cannot be printed, or the words name an action that fails so
+-- how a run fails: its words are refused, or help cannot be printed, or they are taken and name an action that fails so
 abbrev pub FailsFor : {F : Type 0} → (F → FileState) → (F → Option (List ℕ)) → List Text → InputRead
     → Option (List ℕ) → Option (List ℕ) → Failure → Type 0
 FailsFor state_of left_in words octets before after failure =
     ((fault : UsageFault) × (failure ≡ failure_of_words fault))
     ⊎ ((topic : Topic) × AsksFor words topic × (failure ≡ Output))
-    ⊎ ((action : Action) × Names (subcommand_of macsecd words) action
+    ⊎ ((takes macsecd words ≡ true)
+    × (action : Action) × Names (subcommand_of macsecd words) action
     × FailsAs state_of left_in action octets before after failure)
 
 -- what was printed before a failure: nothing, or the lines of the commands or frames before it

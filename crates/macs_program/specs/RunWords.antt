@@ -266,21 +266,27 @@ pub record ReplyWords {F : Type 0} (file : F → FileState) (left_in : F → Opt
   pub copied : (disk_file : FileState) (copy : Disk) → IsCopy disk_file copy → (copy.sectors ≡ 1028) × IsHonest copy
       × ((at : ℕ) → at < 1028 → (now copy).seen at ≡ (state_in_file (layout_in disk_file) disk_file).seen at)
 
--- A run that fails has words that are refused, or cannot print help, or the words name the action that fails so. Each
--- action fails for this: `open` for a read that failed, for the first fault of its input, for memory or its output;
--- `format` for the first fault of its values, for the file, or for its output; those with an endpoint for its opening,
--- or as what is done with it ends; `relay` also for the first fault of its addresses; `ask`, `key`, `inspect`, `about`,
--- `plan` and `check` for what is named here, and for nothing else. `examine` fails for its output, for a file that is
--- not opened or of which there is no copy, for memory, or for a fault that is of no sector, for which no endpoint is
--- opened on the copy. `check` with a disk fails as without one; or the file is not opened, or there is no copy of its
--- disk; or no endpoint is opened on that, there is no memory, or a command ends the run.
+-- Only a `plan` fails for a link that is refused, and its words are taken.
+-- A run that fails has words that are refused, or cannot print help, or they are taken and name the action that fails
+-- so. Each action fails for this: `open` for a read that failed, for the first fault of its input, for memory or its
+-- output; `format` for the first fault of its values, for the file, or for its output; those with an endpoint for its
+-- opening, or as what is done with it ends; `relay` also for the first fault of its addresses; `ask`, `key`, `inspect`,
+-- `about`, `plan` and `check` for what is named here, and for nothing else. `examine` fails for its output, for a file
+-- that is not opened or of which there is no copy, for memory, or for a fault that is of no sector, for which no
+-- endpoint is opened on the copy. `check` with a disk fails as without one; or the file is not opened, or there is no
+-- copy of its disk; or no endpoint is opened on that, or another one than the file is for, there is no memory, or a
+-- command ends the run.
 pub record FailWords {F : Type 0} (file : F → FileState) (left_in : F → Option (List ℕ)) : Type 0 where
   pub failed : (words : List Text) (input : InputRead) (before after : Option (List ℕ)) (failure : Failure)
       → FailsFor file left_in words input before after failure
       → ((fault : UsageFault) × (failure ≡ failure_of_words fault))
       ⊎ ((topic : Topic) × AsksFor words topic × (failure ≡ failures.Output))
-      ⊎ ((action : Action) × Names (subcommand_of macsecd words) action
+      ⊎ ((takes macsecd words ≡ true) × (action : Action) × Names (subcommand_of macsecd words) action
       × FailsAs file left_in action input before after failure)
+  pub of_link : (words : List Text) (input : InputRead) (before after : Option (List ℕ)) (refusal : LinkRefusal)
+      → FailsFor file left_in words input before after (failures.Link refusal)
+      → (takes macsecd words ≡ true) × (from : Bor Text) × (end : PlanEnd) × (stage : PlanStage)
+      × Names (subcommand_of macsecd words) (Plan from end stage)
   pub of_open : (input : InputRead) (before after : Option (List ℕ)) (failure : Failure)
       → FailsAs file left_in Open input before after failure
       → ((failure ≡ failures.Input request_faults.Input) × (input.has_failed ≡ true))
@@ -399,7 +405,7 @@ pub record FailWords {F : Type 0} (file : F → FileState) (left_in : F → Opti
       → EndsOn disk_of copy end commands failure
       → ((left : MemDisk Global) × (fault : JournalFault) × RefusesOpening disk_of copy left fault
       × (failure ≡ failure_in_memory (disk.Journal fault)))
-      ⊎ ((old : EndpointValue (MemDisk Global)) × Opens disk_of copy old × (((failure ≡ failures.Commands)
+      ⊎ ((old : EndpointValue (MemDisk Global)) × Opens disk_of copy old × (((failure ≡ failures.OtherEnd)
       × (named : List ℕ) × (end ≡ Some named) × (named ≢ (state_of old no_logs).identity.sci))
       ⊎ (((end ≡ None) ⊎ (end ≡ Some (state_of old no_logs).identity.sci)) × ((failure ≡ failures.Memory)
       ⊎ ((done : List Command) × (next : Command) × (left : List Command) × (commands ≡ done ++ next ∷ left)

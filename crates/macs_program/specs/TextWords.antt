@@ -7,8 +7,9 @@ use Rattle.std.specs.Fmt.{decimal}
 use Rattle.std.specs.Int.{w32, to_be_bytes}
 use Rattle.std.specs.Str.{IsUtf8}
 use Rattle.hex.specs.Hex.{encode_lower}
-use Rattle.toml.specs.Data.{Members}
+use Rattle.toml.specs.Data.{Data, Items, Members, array, get_member}
 use Rattle.toml.specs.Parse.{parse_document}
+use Rattle.macs_commands.specs.CommandFiles.{are_tables}
 use Rattle.macs_commands.specs.Ends.{end_commands, end_in}
 use Rattle.macs_commands.specs.declared.config_fault.ConfigFault.{ConfigFault}
 use Rattle.macs_commands.specs.declared.config_fault.ConfigFault.TheVariants as config
@@ -167,6 +168,8 @@ pub record FailureTexts : Type 0 where
       × (failure_status (failures.Usage cause) ≡ ends.Usage)
   pub of_file : (cause : _) → (failure_text (failures.CommandFile cause) ≡ string_bytes cause)
       × (failure_status (failures.CommandFile cause) ≡ ends.Fault)
+  pub other_end : (failure_text failures.OtherEnd ≡ codes "command file sci: not that of DISK")
+      × (failure_status failures.OtherEnd ≡ ends.Fault)
   pub of_link : (refusal : LinkRefusal) → (failure_text (failures.Link refusal) ≡ link_refusal_text refusal)
       × (failure_status (failures.Link refusal) ≡ ends.Refused)
   pub new_statuses : (failure_status failures.Control ≡ ends.Fault) × (failure_status failures.Random ≡ ends.Fault)
@@ -269,10 +272,11 @@ pub record FrameTexts : Type 0 where
 
 -- `check` says how many commands there are, or that the file is too long, no text, no TOML, or that its `sci` is none,
 -- or the first fault of its commands: that of its tables, of a command's word, of a key, by its name and what it is
--- not, or that there is a key too many. With a disk the line of a command has its number and says `would be ok`, or
--- `would be refused` with the name of its refusal; the lines follow each other, numbered on. Of a file that others can
--- read it prints the mode too, in three octal digits, and a fourth in front that is no zero; of another file, or where
--- the system says no mode, nothing.
+-- not, or that there is a key too many. A file has that of its tables, whether it names its end or not, where its
+-- `command` is no array, or an item of it no table. With a disk the line of a command has its number and says `would be
+-- ok`, or `would be refused` with the name of its refusal; the lines follow each other, numbered on. Of a file that
+-- others can read it prints the mode too, in three octal digits, and a fourth in front that is no zero; of another
+-- file, or where the system says no mode, nothing.
 pub record CheckTexts : Type 0 where
   pub one : count_line 1 ≡ (decimal 1 ++ codes " command") ++ 10 ∷ []
   pub none : count_line 0 ≡ (decimal 0 ++ codes " commands") ++ 10 ∷ []
@@ -285,7 +289,11 @@ pub record CheckTexts : Type 0 where
       × (((end_in members ≡ Err told.Sci) × (said ≡ codes "command file sci: not 16 hex digits"))
       ⊎ ((end : Option (List ℕ)) × (fault : ConfigFault) × (end_in members ≡ Ok end)
       × (end_commands members ≡ Err fault) × (said ≡ fault_text fault))))))
-  pub shape : fault_text config.Shape ≡ codes "command file: not tables [[command]] alone"
+  pub shape : fault_text config.Shape ≡ codes "command file: not sci and tables [[command]] alone"
+  pub no_array : (m : Members) (other : Data) → get_member (codes "command") m ≡ Some other
+      → ((items : Items) → other ≢ array items) → end_commands m ≡ Err config.Shape
+  pub no_table : (m : Members) (items : Items) → get_member (codes "command") m ≡ Some (array items)
+      → are_tables items ≡ false → end_commands m ≡ Err config.Shape
   pub word : (at : ℕ) → fault_text (config.Word at) ≡ codes "command " ++ (decimal at ++ codes " do: not a command")
   pub of_key : (at : ℕ) (name : KeyName) → fault_text (config.Key at name)
       ≡ codes "command " ++ (decimal at ++ (codes " " ++ (key_word name ++ (codes ": " ++ key_reason name))))

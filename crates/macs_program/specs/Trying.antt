@@ -85,7 +85,7 @@ TrialEnds disk_of old commands failure = (failure ≡ failures.Memory) ⊎ Stops
 -- the file that says them is for another end; or it is for this one, and not all commands are kept or refused
 abbrev pub OwnEnds : {D : Type 0} → (D → Disk) → EndpointValue D → Option (List ℕ) → List Command → Failure → Type 0
 OwnEnds disk_of old end commands failure =
-    ((failure ≡ failures.Commands) × (is_for end (own_sci old) ≡ false))
+    ((failure ≡ failures.OtherEnd) × (is_for end (own_sci old) ≡ false))
     ⊎ ((is_for end (own_sci old) ≡ true) × TrialEnds disk_of old commands failure)
 
 -- an endpoint is opened on a disk, and these commands are given to it, one after another: it is the end that the file

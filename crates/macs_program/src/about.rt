@@ -2,7 +2,7 @@
 
 ghost use Rattle.std.specs.Prelude.{◌≡◌, ◌≢◌, ◌⊎◌, true, IfErr, IfOk, string_bytes};
 ghost use Rattle.std.specs.Io.KnownBytes.{Appends};
-ghost use Rattle.macs_program.specs.About.{about_text, word_line};
+ghost use Rattle.macs_program.specs.About.{about_text, formats_text, word_line};
 
 use crate::build::{COMMIT, LEVEL, TOOLCHAIN};
 use crate::failure::Failure;
@@ -20,16 +20,22 @@ fn word_line(alloc: Global, name: &str, word: &str) -> Result<String, AllocError
     ended(format!(in alloc; "{name} {word}")?)
 }
 
+/// Which formats of the journal the program writes and reads.
+fn formats_text(alloc: Global) -> Result<String, AllocError>
+    ensures { IfOk result (λ text. string_bytes text ≡ formats_text) }
+{
+    joined(
+        word_line(alloc, "journal writes format", "2"),
+        word_line(alloc, "journal reads formats", "1, 2"),
+    )
+}
+
 /// What is said of the program: its version, the commit of its sources, the toolchain, its
 /// processors, and which formats of the journal it writes and reads.
 fn about_text(alloc: Global) -> Result<String, AllocError>
     ensures { IfOk result (λ text. string_bytes text ≡ about_text) }
 {
-    let text = joined(
-        word_line(alloc, "journal writes format", "2"),
-        word_line(alloc, "journal reads formats", "1, 2"),
-    );
-    let text = joined(word_line(alloc, "built for", LEVEL), text);
+    let text = joined(word_line(alloc, "built for", LEVEL), formats_text(alloc));
     let text = joined(word_line(alloc, "toolchain", TOOLCHAIN), text);
     let text = joined(word_line(alloc, "commit", COMMIT), text);
     joined(String::from_str(alloc, Topic::Version.text()), text)

@@ -90,7 +90,7 @@ fn is_for(end: Option<Sci>, sci: Sci) -> bool
     }
 }
 
-/// Whether it is for this endpoint.
+/// Whether a command file that names this end, or none, is for this endpoint.
 pub fn is_own<D: SectorDisk>(endpoint: &Endpoint<D>, end: Option<Sci>) -> bool
     ensures { result ≡ is_for end (own_sci endpoint.now) }
 {

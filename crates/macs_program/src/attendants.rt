@@ -22,6 +22,21 @@ fn limit_of(pace: Pace) -> u16 {
     }
 }
 
+/// The control socket, where there is to be one, over the sockets of both wires. It fails as
+/// `Memory`; and as `Control`, where it cannot be bound.
+fn clients_for<'a, T: Files + Net + Clock>(
+    rt: &'a T,
+    alloc: Global,
+    running: &Running<'a>,
+    wires: Wires,
+) -> Result<ControlSocket<'a, T>, Failure>
+    ensures { IfErr result (λ failure. (failure ≡ Failure.Memory) ⊎ (failure ≡ Failure.Control)) }
+{
+    let limit = limit_of(running.pace);
+    let clients = ControlSocket::bind(rt, alloc, running.control, wires, limit)?;
+    Ok(clients)
+}
+
 /// A desk over the sockets of both wires, over this place of the counters, and over the control
 /// socket, where there is to be one. It fails as `Memory`; and as `Control`, where the control
 /// socket cannot be bound.
@@ -34,8 +49,7 @@ fn desk_over<'a, T: Files + Net + Clock>(
 ) -> Result<SystemDesk<'a, T>, Failure>
     ensures { IfErr result (λ failure. (failure ≡ Failure.Memory) ⊎ (failure ≡ Failure.Control)) }
 {
-    let limit = limit_of(running.pace);
-    let clients = ControlSocket::bind(rt, alloc, running.control, wires, limit)?;
+    let clients = clients_for(rt, alloc, running, wires)?;
     Ok(ControlDesk::new(alloc, clients, metrics))
 }
 

@@ -81,7 +81,7 @@ fn fault_text(alloc: Global, fault: ConfigFault) -> Result<String, AllocError>
 {
     match fault {
         ConfigFault::Shape => {
-            String::from_str(alloc, "command file: not tables [[command]] alone")
+            String::from_str(alloc, "command file: not sci and tables [[command]] alone")
         }
         ConfigFault::Word { at } => format!(in alloc; "command {at} do: not a command"),
         ConfigFault::Key { at, name } => {
@@ -207,12 +207,13 @@ fn count_line(count: usize) -> Line
     line
 }
 
-/// What a command file says. It fails as `Commands` where it cannot be opened or read, else as
-/// `CommandFile` with the first fault, or as `Memory`.
+/// What a command file says, whose mode is left in `mode`. It fails as `Commands` where it cannot
+/// be opened or read, else as `CommandFile` with the first fault, or as `Memory`.
 fn checked_commands<T: Files>(
     rt: &T,
     alloc: Global,
     path: &str,
+    mode: &mut Option<u32>,
 ) -> Result<CommandFile<Global>, Failure>
     // A file was opened, and it says this.
     ensures said { IfOk result
@@ -224,7 +225,10 @@ fn checked_commands<T: Files>(
         × ((failure ≡ Failure.Memory) ⊎ ComplainsOfFile IsSaidOfFile T.File.remaining failure))) }
 {
     match fs::open(rt, path) {
-        Ok(mut file) => commands_read(alloc, &mut file),
+        Ok(mut file) => {
+            *mode = mode_of(&file);
+            commands_read(alloc, &mut file)
+        }
         Err(error) => Err(failure_of(error, Failure::Commands)),
     }
 }
@@ -275,7 +279,9 @@ where
 
 /// `check`: prints how many commands a file says, or what each of them would be answered by the
 /// endpoint on the disk in a file, and the mode of the command file where others can read it.
-/// Neither file is changed.
+/// Neither file is changed. It fails as `Commands` where the command file cannot be opened or read,
+/// and as `CommandFile` with its first fault; then, with a disk, as `try_in` does; and as `Memory`,
+/// and as `Output` where a line cannot be printed.
 pub fn check<T: Files, W: Stream>(
     rt: &T,
     alloc: Global,
@@ -291,8 +297,8 @@ where
     ensures silent { IfErr result (λ failure. failure ≢ Failure.Output → out.new ≡ out.old) }
     ensures broken { IfErr result (λ failure. failure ≡ Failure.Output → W.failed out.new ≡ true) }
 {
-    let told = checked_commands(rt, alloc, path)?;
-    let mode = mode_of(rt, path);
+    let mut mode = None;
+    let told = checked_commands(rt, alloc, path, &mut mode)?;
     let commands = told.commands.as_slice();
     match disk {
         None => print_count(commands.len(), mode, out),

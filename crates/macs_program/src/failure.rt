@@ -30,7 +30,7 @@ pub enum DiskFault {
     Journal(JournalFault),
 }
 
-/// Why a link is refused of which a file says all that is asked for.
+/// Why a link is refused though its file says all that a link has.
 #[derive(Clone, Copy)]
 pub enum LinkRefusal {
     /// Both ends have one SCI.
@@ -54,7 +54,8 @@ pub enum Failure {
     Disk(DiskFault),
     /// A capture cannot be opened, read or written.
     Capture,
-    /// A command file cannot be read, or spells no commands; or a link's file cannot be read.
+    /// A command file cannot be read, spells no commands, or is given to an endpoint and is for
+    /// another one; or a link's file cannot be read.
     Commands,
     /// A wire cannot be bound.
     Wire,
@@ -64,6 +65,8 @@ pub enum Failure {
     Random,
     /// A command file or a link's file has a fault, of which this is said.
     CommandFile(String),
+    /// A command file that is tried on a disk is for another end.
+    OtherEnd,
     /// A link that a file says is refused.
     Link(LinkRefusal),
     /// Out of memory.
@@ -131,6 +134,7 @@ impl Failure {
             Failure::Control => "control",
             Failure::Random => "random source",
             Failure::CommandFile(cause) => cause.as_str(),
+            Failure::OtherEnd => "command file sci: not that of DISK",
             Failure::Link(refusal) => refusal.text(),
             Failure::Memory => "memory",
             Failure::Input(fault) => fault.text(),
@@ -152,6 +156,7 @@ impl Failure {
             | Failure::Control
             | Failure::Random
             | Failure::CommandFile(_)
+            | Failure::OtherEnd
             | Failure::Memory
             | Failure::Input(_)
             | Failure::Output => Status::Fault,

@@ -7,13 +7,20 @@ ghost use Rattle.macs_program.specs.FileModes.{mode_line, mode_warning, octal_di
 use crate::failure::Failure;
 use crate::output::{Line, append_text, print_octets};
 use crate::stream::Stream;
+use std::fs::OpenFile;
 use std::os::unix::fs::MetadataExt;
-use std::rt::Files;
 
-/// The mode of the file at a path, where the system says it.
-pub fn mode_of<T: Files>(rt: &T, path: &str) -> Option<u32> {
-    match rt.metadata(path) {
-        Ok(metadata) => Some(metadata.mode()),
+/// The mode of an open file, where it is a regular one and the system says it. Where a link was
+/// opened, it is that of the file to which the link leads.
+pub fn mode_of<F: OpenFile>(file: &F) -> Option<u32> {
+    match file.metadata() {
+        Ok(about) => {
+            if about.is_file() {
+                Some(about.mode())
+            } else {
+                None
+            }
+        }
         Err(_) => None,
     }
 }
@@ -51,7 +58,8 @@ fn mode_line(mode: u32) -> Line
     line
 }
 
-/// Prints the line of a mode, where others can read the file that has it.
+/// Prints the line of a mode, where others can read the file that has it. It fails as `Output`
+/// where the line cannot be printed.
 pub fn print_mode<W: Stream>(mode: Option<u32>, out: &mut W) -> Result<(), Failure>
     ensures printed { OnOk result
         (Appends (W.contents out.old) (W.contents out.new) (mode_warning mode)) }

@@ -205,7 +205,9 @@ impl<T: Files, D: SectorDisk, W: Stream> Task<D, W> for ApplyFile<'_, T> {
     }
 }
 
-/// `apply`: applies the commands of a file that is for the endpoint.
+/// `apply`: applies the commands of a file that is for the endpoint. Once the endpoint is opened it
+/// fails as `Commands`, with nothing applied, where the file cannot be read, says no commands or is
+/// for another end; and then as `apply_commands` does.
 #[inline(never)]
 pub fn apply<'a, T: Files, W: Stream>(
     rt: &'a T,

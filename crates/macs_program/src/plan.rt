@@ -243,7 +243,9 @@ fn planned_file<T: Files>(
 }
 
 /// `plan`: prints the command file of an end of the link that a file says, for a stage of its keys.
-/// The file is not changed.
+/// The file is not changed. It fails as `Commands` where it cannot be opened or read, as
+/// `CommandFile` with its first fault, as `Link` where the link is refused, as `Memory`, and as
+/// `Output` where the text cannot be printed.
 pub fn plan<T: Files, W: Stream>(
     rt: &T,
     alloc: Global,

@@ -113,7 +113,7 @@ where
     }
 }
 
-/// Does what an action asks for that reads no input and opens no endpoint in a file.
+/// Does what an action asks for that reads no standard input and opens no disk file to write it.
 fn perform_apart<T: Files + Net + RandomSource, W: Stream>(
     rt: &T,
     alloc: Global,
@@ -276,9 +276,9 @@ where
     // The status is one of 0, 2, 3, 4 and 5.
     ensures status { (status : Status) × (result ≡ code_of status) }
     // At 0 and 3 the words ask for help or are taken, the help or what the action prints is written
-    // to standard output, and nothing on standard error. Or, at 3, a link is refused: this is the
-    // failure of the action that the words name, and its line is printed on standard error, whole,
-    // unless that fails.
+    // to standard output, and nothing is written to standard error. Or, at 3, a link is refused:
+    // the words are taken, this is the failure of the action that they name, and its line is
+    // printed on standard error, whole, unless that fails.
     ensures replied { (result ≡ 0) ⊎ (result ≡ 3) → ((status : Status) × (result ≡ code_of status)
         × Replies T.File.file T.File.remaining (texts words.now)
         (read_of R.remaining R.failed input.old input.new) (W.contents out.old)
@@ -303,10 +303,10 @@ where
         × (action : Action) × Names (subcommand_of macsecd (texts words.now)) action
         × (action ≢ Action.Open)
         × HasPrinted action (W.contents out.old) (W.contents out.new) }
-    // At 2, 4 and 5 there is a failure of this status, of the words or of the action that they
-    // name, whose line is printed on standard error, whole, unless that fails. Nothing was printed
-    // on standard output before it but, of `apply`, `ask` and `inspect`, the lines before the
-    // failure; where the failure is that of standard output, a print there failed.
+    // At 2, 4 and 5 there is a failure of this status, of the words or, where they are taken, of
+    // the action that they name, whose line is printed on standard error, whole, unless that fails.
+    // Nothing was printed on standard output before it but, of `apply`, `ask` and `inspect`, the
+    // lines before the failure; where the failure is that of standard output, a print there failed.
     ensures reported { (result ≢ 0) → (result ≢ 3)
         → (failure : Failure) × (result ≡ code_of (failure_status failure))
         × PrintsUnlessFailed (E.contents err.old) (E.contents err.new) (E.failed err.new)

@@ -78,7 +78,7 @@ fn try_commands<D: SectorDisk>(
 }
 
 /// Gives these commands to the endpoint in memory, if the file that says them is for it. It fails
-/// as `Commands` where it is for another end.
+/// as `OtherEnd` where it is for another one.
 fn try_own<D: SectorDisk>(
     alloc: Global,
     endpoint: &mut Endpoint<D>,
@@ -92,7 +92,7 @@ fn try_own<D: SectorDisk>(
     ensures ended { IfErr result (OwnEnds D.disk endpoint.old end commands.now) }
 {
     if !is_own(endpoint, end) {
-        return Err(Failure::Commands);
+        return Err(Failure::OtherEnd);
     }
     try_commands(alloc, endpoint, commands)
 }
@@ -136,7 +136,7 @@ fn try_on(
 
 /// What these commands would be answered by the endpoint on the disk in a file, which is opened to
 /// be read alone. It fails as `Disk` with `File` where there is no regular file that can be opened;
-/// then as `copy_of` does, as the opening of an endpoint does, as `Commands` where the file that
+/// then as `copy_of` does, as the opening of an endpoint does, as `OtherEnd` where the file that
 /// says them is for another end, and with `GenerationsSpent` where a command would be answered so;
 /// and as `Memory`.
 pub fn try_in<T: Files>(

@@ -110,7 +110,7 @@ const FURTHER_FAULTS: &[(&str, &str)] = &[
     ),
     (
         "key = '12153524c0895e81'\n",
-        "macsecd: command file: not tables [[command]] alone\n",
+        "macsecd: command file: not sci and tables [[command]] alone\n",
     ),
     ("[[command]\n", "macsecd: command file: not TOML\n"),
 ];
@@ -127,11 +127,20 @@ const END_FAULTS: &[(&str, &str)] = &[
     ),
     (
         "sci = '12153524c0895e81'\nkey = 1\n",
-        "macsecd: command file: not tables [[command]] alone\n",
+        "macsecd: command file: not sci and tables [[command]] alone\n",
     ),
     (
         "sci = '12153524c0895e81'\n[[command]]\ndo = 'tx-use'\nan = 4\n",
         "macsecd: command 1 an: not 0 to 3\n",
+    ),
+    // After a table `sci` is a key of that command.
+    (
+        "[[command]]\ndo = 'tx-use'\nan = 0\nsci = '12153524c0895e81'\n",
+        "macsecd: command 1: a key that it does not have\n",
+    ),
+    (
+        "[[command]]\ndo = 'rx-add'\nsci = '12153524c0895e83'\nsci = '12153524c0895e81'\n",
+        "macsecd: command file: not TOML\n",
     ),
 ];
 
@@ -216,7 +225,7 @@ const ENDS: &[Step] = &[
     Keeping(
         &[DISK],
         &["check", OTHER, DISK],
-        Outcome::Fault("macsecd: commands\n"),
+        Outcome::Fault("macsecd: command file sci: not that of DISK\n"),
     ),
     Run(
         &["apply", DISK, OWN],
@@ -265,6 +274,8 @@ const MODES: &[Step] = &[
     Run(&["check", SEEN], Outcome::Done("1 command\nmode 644\n")),
     Mode(SEEN, 0o1604),
     Run(&["check", SEEN], Outcome::Done("1 command\nmode 1604\n")),
+    // Of what is no regular file no mode is printed.
+    Run(&["check", "/dev/null"], Outcome::Done("0 commands\n")),
     Run(
         &["format", SEEN_DISK, "12153524c0895e81", "4", "4"],
         Outcome::Done("formatted\n"),

@@ -22,7 +22,7 @@ returns-clause-printed g c =
       by_file = by_file;
       outcomes = outcomes;
       tries = tries;
-      mode = c.mode_of-mode.result;
+      mode = c.checked_commands.new.mode;
       printed = printed;
       status_is = is;
     }) c.print_trial.ensures.printed)
