@@ -11,6 +11,7 @@ layout is left out there.
 """
 
 import os
+import re
 import resource
 import statistics
 import subprocess
@@ -75,9 +76,17 @@ def is_in_second_area(disk, block):
         return any(file.read(512))
 
 
+def commands_beside(disk):
+    """The commands of the example's left end, in a file beside the disk that names no end: older programs know no such name."""
+    path = disk + ".toml"
+    with open(os.path.join(TOP, "examples", "left.toml")) as example, open(path, "w") as commands:
+        commands.write(re.sub(r"^sci = .*$", "", example.read(), count=1, flags=re.MULTILINE))
+    return path
+
+
 def move_to_second_area(program, disk, block):
     """Has an endpoint reserve packet numbers until its journal is compacted."""
-    run(program, "apply", disk, os.path.join(TOP, "examples", "left.toml"))
+    run(program, "apply", disk, commands_beside(disk))
     while not is_in_second_area(disk, block):
         run(program, "protect", disk, os.path.join(TOP, "examples", "plain.pcap"), disk + ".pcap")
 

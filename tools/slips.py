@@ -11,6 +11,7 @@ that is not the run's own output, and one after which a packet number comes twic
 """
 import fcntl
 import os
+import re
 import shlex
 import shutil
 import struct
@@ -70,7 +71,9 @@ class Room:
 
     def fill(self):
         examples = os.path.join(TOP, "examples")
-        shutil.copy(os.path.join(examples, "left.toml"), os.path.join(self.folder, COMMANDS))
+        # The commands name no end here: there are four.
+        with open(os.path.join(examples, "left.toml")) as example, open(os.path.join(self.folder, COMMANDS), "w") as commands:
+            commands.write(re.sub(r"^sci = .*$", "", example.read(), count=1, flags=re.MULTILINE))
         shutil.copy(os.path.join(examples, "plain.pcap"), os.path.join(self.folder, CAPTURE))
         for name, last, more in ((DISK, "1", []), (IN_USE, "2", []), (IDLE, "3", []), (SPACED, "4", ["--block", "4096"])):
             self.must("format", name, SCI[:-1] + last, BLOCK, BLOCK, *more)

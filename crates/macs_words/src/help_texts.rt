@@ -78,7 +78,10 @@ each once it is kept: '1 ok', '2 refused KeySpent' and so on.
            rx-remove      sci, an
          an = 0 to 3, key = \"32 or 64 hex digits\", sci = \"16 hex digits\",
          start = 1 to 4294967295, offset = 0, 30 or 50
-A refused command changes nothing, and the next one is applied.
+         Before the tables it may name the end that it is for, as
+           sci = \"0200000000010001\"
+A refused command changes nothing, and the next one is applied. Where FILE names
+an end that is not the one of DISK, none is applied: 'commands', status 5.
 
 example: macsecd apply left.disk examples/left.toml
 status: 0 done, 2 usage, 3 a command refused, 4 disk, 5 input, output or memory
@@ -164,7 +167,8 @@ Asks a running relay over its control socket, and prints its answer.
   show         the configuration and the packet numbers, as they are now
   counters     each counter of the endpoint and of both wires, a line each
   apply FILE   applies the commands of a TOML file, as 'macsecd apply' does: a
-               line for each once it is kept, '1 ok', '2 refused KeySpent'
+               line for each once it is kept, '1 ok', '2 refused KeySpent';
+               none of a file that names another end: 'commands', status 5
   stop         ends the relay, which prints its last line
 
 example: macsecd ask /run/macsecd/left/control apply new_keys.toml
@@ -209,6 +213,8 @@ each instead, with what 'macsecd apply' would answer there, as
   1 would be ok
   2 would be refused KeySpent
 A command that can be read may still be refused: with DISK alone that is said.
+A file that names an end that is not the one of DISK is refused, with status 5.
+Where others can read FILE, its mode comes last: 'mode 644'.
 Nothing is changed. DISK is only read, and no relay may run on it meanwhile.
   FILE   as of apply: see 'macsecd apply --help'
   DISK   a disk file that was formatted

@@ -14,34 +14,29 @@ use clap::ArgMatches;
 use clap::error::ErrorKind;
 use std::alloc::{AllocError, Global};
 
-/// The reason that an error gives: all of it, or up to an empty line, after which come its tips or
-/// usage is explained.
-fn reason_of(text: &str) -> &str {
-    match text.split_once("\n\n") {
-        Some((reason, _)) => reason,
+/// What an error says before it explains usage: the reason, and its tips. Usage comes last, and a
+/// word that the reason repeats may have lines like it.
+fn said_of(text: &str) -> &str {
+    match text.rsplit_once("\n\nUsage:") {
+        Some((said, _)) => said,
         None => text.strip_suffix("\n").unwrap_or(text),
     }
 }
 
-/// The tips that an error gives, from the blank before the first one on: the lines after the first
-/// empty line, up to the next one, where they are indented, as those of usage are not. Else none.
-fn tips_of(text: &str) -> &str {
-    let Some((_, rest)) = text.split_once("\n\n") else {
-        return "";
-    };
-    match rest.strip_prefix(" ") {
-        Some(tips) => reason_of(tips),
-        None => "",
+/// The same without the tip to pass a word as a value, since most often no further value is taken.
+/// Where it comes, it is the only tip.
+fn useful_in(said: &str) -> &str {
+    match said.rsplit_once("\n\n  tip: to pass '") {
+        Some((reason, _)) => reason,
+        None => said,
     }
 }
 
 /// The reason and the tips that an error gives, in one line: what is missing and each tip have
-/// lines of their own there.
+/// lines of their own there, and an empty line comes before the first tip.
 fn line_of(alloc: Global, text: &str) -> Result<String, AllocError> {
-    let mut line = reason_of(text).replace(alloc, "\n ", "")?;
-    let tips = tips_of(text).replace(alloc, "\n ", "")?;
-    line.push_str(tips.as_str())?;
-    Ok(line)
+    let tipped = useful_in(said_of(text)).replace(alloc, "\n\n ", "")?;
+    tipped.as_str().replace(alloc, "\n ", "")
 }
 
 /// The reason and the tips that an error gives, in one line. They repeat the words, so control

@@ -2,7 +2,10 @@
 
 /// The commands of the left end.
 pub const LEFT: &str =
-    "# The left end of a link, SCI 0200000000010001. The keys are examples: take random ones, and another one for each direction.
+    "# The left end of a link. The keys are examples: take random ones, and another one for each direction.
+
+# The end that these commands are for: no other one takes them.
+sci = \"0200000000010001\"
 
 # What goes out: association 0, encrypted whole.
 [[command]]
@@ -33,7 +36,10 @@ offset = 0
 
 /// The commands of the right end.
 pub const RIGHT: &str =
-    "# The right end of a link, SCI 0200000000020001: what goes out at the left end comes in here, and the other way round.
+    "# The right end of a link: what goes out at the left end comes in here, and the other way round.
+
+# The end that these commands are for: no other one takes them.
+sci = \"0200000000020001\"
 
 # What goes out: association 0, encrypted whole.
 [[command]]
