@@ -41,3 +41,4 @@ mod Drawn
 mod RelayDrawn
 mod RunDrawn
 mod TextDrawn
+mod AskDrawn
