@@ -43,3 +43,4 @@ mod Drawn
 mod RelayDrawn
 mod RunDrawn
 mod TextDrawn
+mod AskDrawn

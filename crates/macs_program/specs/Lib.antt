@@ -35,6 +35,7 @@ pub mod RelayDrawn
 pub mod RunWords
 pub mod TextWords
 pub mod ShowTexts
+pub mod AskWords
 pub mod ExamineTexts
 pub mod PlanTexts
 pub mod CaptureOctets

@@ -5,6 +5,7 @@ ghost use Rattle.macs_config.specs.Identity.{Identity};
 ghost use Rattle.macs_disk.specs.Files.{Behaves, FileState, Settles};
 ghost use Rattle.macs_disk.specs.declared.layout.Layout.{Layout};
 ghost use Rattle.macs_disk.specs.FileDisks.{file_given};
+ghost use Rattle.macs_program.specs.AskWords.{AskWords};
 ghost use Rattle.macs_program.specs.CaptureOctets.{CaptureOctets};
 ghost use Rattle.macs_program.specs.ContentWords.{BlankWords, InUseWords};
 ghost use Rattle.macs_program.specs.Contents.{ContentsAre, HasOpenGate, IsBlankFile};
@@ -67,6 +68,8 @@ pub fn words<D: SectorDisk, F: DiskFile>()
     ensures text_lines { TextLineWords }
     // What `apply` does, line by line.
     ensures applies { (left_in : F → Option (List ℕ)) → ApplyWords D.disk left_in }
+    // To which relay `ask .. apply` sends commands: to that of the end which the file names.
+    ensures asks { (left_in : F → Option (List ℕ)) → AskWords left_in }
     // What a run over captures asks for, and how it ends.
     ensures captures { CaptureWords D.disk }
     // Which endpoint is opened, and which file becomes a disk.

@@ -1,3 +1,4 @@
+use Rattle.macs_program.proofs.AskDrawn.{ask-words}
 use Rattle.macs_program.proofs.Drawn.{answer-words, apply-words, capture-words, file-words, line-words, text-line-words}
 use Rattle.macs_program.proofs.Drawn.{value-words}
 use Rattle.macs_program.proofs.laws.words.Goals as goal
@@ -10,6 +11,9 @@ returns-clause-text_lines g c = text-line-words
 
 pub returns-clause-applies : goal.returns-clause-applies
 returns-clause-applies g c = λ left_in. apply-words g.D.SectorDisk.disk left_in
+
+pub returns-clause-asks : goal.returns-clause-asks
+returns-clause-asks g c = λ left_in. ask-words left_in
 
 pub returns-clause-captures : goal.returns-clause-captures
 returns-clause-captures g c = capture-words g.D.SectorDisk.disk
