@@ -31,5 +31,10 @@ returns-clause-handed g c = c.apply_each.ensures
 
 pub returns-clause-own : goal.returns-clause-own
 returns-clause-own g c =
-    inl (c.in_ok-told.told.end, c.in_ok-told.told.commands.items,
-    unread_by g.S.Connection.link c.find_end.new.asker, c.in_ok-told.ensures.said, c.in_ok-find_end.ensures.own)
+    inl (
+      c.in_ok-told.told.end,
+      c.in_ok-told.told.commands.items,
+      unread_by g.S.Connection.link c.find_end.new.asker,
+      c.in_ok-told.ensures.said,
+      c.in_ok-find_end.ensures.own,
+    )
