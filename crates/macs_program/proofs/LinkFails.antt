@@ -1,6 +1,6 @@
 -- A link that is refused is a failure of `plan` alone, whose words are taken.
-use Rattle.std.proofs.Common.{◌≡◌, ◌≢◌, inl, inr, ℕ, true, false, List, Option, Some, None, Result, Ok, Err, refl}
-use Rattle.std.proofs.Common.{subst}
+use Rattle.std.proofs.Common.{◌≡◌, ◌≢◌, inl, inr, ℕ, Bool, true, false, List, Option, Some, None, Result, Ok, Err}
+use Rattle.std.proofs.Common.{refl, subst}
 use Rattle.std.specs.Borrow.{Bor}
 use Rattle.clap.specs.Words.{Text, subcommand_of, takes}
 use Rattle.macs_config.specs.Identity.{Identity}
@@ -173,7 +173,7 @@ pass-ends disk_of side refusal old new (inr stops) = ends-pass disk_of side refu
 
 ends-each : {D : Type 0} (disk_of : D → Disk) (refusal : LinkRefusal) (old new : Run D)
     → EndsEach disk_of old (failures.Link refusal) new → ⊥
-ends-each disk_of refusal old new (inl (verdicts, sink, answer, runs, ends)) =
+ends-each disk_of refusal old new (inl (verdicts, (sink, answer, runs, ends))) =
     ends-with refusal answer sink new.sink ends
 ends-each disk_of refusal old new (inr (is, answer, verdicts, judged)) = no-output refusal is
 
