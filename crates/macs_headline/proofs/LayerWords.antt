@@ -16,5 +16,8 @@ layer-words disk_of = record {
   recovered = λ disk r is. is;
   not_recovered = λ disk refused is. (is.name, is.found, is.any_moment);
   compacted = λ old new records result is. (is.most, λ at. (is.halted at).0, is.at_fault, is.place);
+  format_settles = λ old new identity is honest.
+      let ready = is.done honest in
+      (λ i. (ready.clean i, ready.fresh i), ready.finds);
   blown = λ old new at fill blows. (blows.0, blows.1.effect);
 }

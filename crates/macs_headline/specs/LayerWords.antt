@@ -2,6 +2,7 @@
 use Rattle.std.specs.Prelude.{◌≡◌, ◌≢◌, ◌≤◌, ◌⊎◌, ◌↔◌, ◌+◌, true, false, ℕ, List, length, Result, Ok, Err, IsErrOf}
 use Rattle.std.specs.Prelude.{OnErr, OnOk}
 use Rattle.macs_config.specs.Config.{this_edition}
+use Rattle.macs_config.specs.Identity.{Identity}
 use Rattle.macs_disk.specs.Disk.{Disk, IsHonest, LeftSince, MayLeave, Writes, now}
 use Rattle.macs_disk.specs.Fuses.{BlowsWrite, FuseValue}
 use Rattle.macs_disk.specs.Runs.{LeavesNothingNew}
@@ -11,7 +12,8 @@ use Rattle.macs_record.specs.declared.format.Format.TheVariants.{Two}
 use Rattle.macs_record.specs.declared.record.Record.{Record}
 use Rattle.macs_journal.specs.Areas.{other_area}
 use Rattle.macs_journal.specs.Compacting.{Compacts, next_head}
-use Rattle.macs_journal.specs.Found.{HasFormat, JournalIs}
+use Rattle.macs_journal.specs.Formatting.{IsJournalFormat, first_content}
+use Rattle.macs_journal.specs.Found.{HasFormat, HasJournal, JournalIs}
 use Rattle.macs_journal.specs.Opening.{IsRecovery, Recovers}
 use Rattle.macs_journal.specs.Recovery.{IsRecoverName}
 use Rattle.macs_journal.specs.Value.{JournalValue}
@@ -42,7 +44,8 @@ use Rattle.macs_store.specs.Value as store
 -- with its records is what a recovery into a room is, and is refused for the same, with nothing new on the disk. One
 -- that starts over goes on in its other area, in the next generation, after its records; where that is refused, or a
 -- call fails, it stays where it was. It is stopped where a call failed, and makes 519 device calls and one for each
--- record at most. In the place of a write that a fuse fails once, its own octets are written to that sector.
+-- record at most. Once a `format` of the journal is answered Ok nothing is pending, and what is seen of each sector is
+-- durable: the new journal. In the place of a write that a fuse fails once, its own octets are written to that sector.
 pub record LayerWords {D : Type 0} (disk_of : D → Disk) : Type 0 where
   pub reserved : (old new : StoreValue D) (after : Standing) (result : Result (Unit {0}) JournalFault)
       → Keeps disk_of old after result new
@@ -91,6 +94,10 @@ pub record LayerWords {D : Type 0} (disk_of : D → Disk) : Type 0 where
         head = next_head old.place.head (length records);
         free = length records;
       })
+  pub format_settles : (old new : D) (identity : Identity) → IsJournalFormat disk_of old identity (Ok tt) new
+      → IsHonest (disk_of new) → ((i : ℕ) → ((now (disk_of new)).pending i ≡ false)
+      × ((now (disk_of new)).seen i ≡ (now (disk_of new)).durable i))
+      × HasJournal (now (disk_of new)).durable (first_content identity)
   pub blown : (old new : FuseValue D) (at : ℕ) (fill : List ℕ) → BlowsWrite disk_of old new at fill
       → (answer : Result (Unit {0}) DeviceFault)
       × (IsHonest (disk_of new.inner) → Writes (now (disk_of old.inner)) (now (disk_of new.inner)) at fill answer)
