@@ -286,6 +286,7 @@ life-words sectors = record {
   handed_in = handed_in;
   begun = begun;
   made = λ identity old new edition image exchanges cut rest makes. makes;
+  in_front = λ front whole is. is;
   make_none = λ edition identity old new makes. makes;
   make_more = λ edition identity old new command commands makes. makes;
   made_of_first = λ lives found is. is.made;

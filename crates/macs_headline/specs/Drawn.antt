@@ -132,12 +132,12 @@ pub record NumberWords : Type 0 where
 -- first or later, the commands that are kept make the next configuration, from which the other lives go on, and it
 -- opened what stands for the one before; no other life makes anything. Commands that make a configuration are each
 -- accepted in what those before it made, and where there are none it stays. So what is found is made of the first
--- configuration, under the identity that is found. Those commands are a prefix of those that were accepted which holds
--- every acknowledged one; the one under way is that at the end of such a life, with these answers, was begun and was
--- given to a call of it. Lives that left a disk unformatted are formats that did not answer Ok, and openings that were
--- refused. A past that is as before admits the same images, either way, and has the same logs. A journal that is to
--- start over is not in generation 2^64 - 1. What the two sides of an endpoint have is its configuration, with its
--- numbers.
+-- configuration, under the identity that is found. Those commands are a prefix of those that were accepted, from the
+-- first one on, which holds every acknowledged one; the one under way is that at the end of such a life, with these
+-- answers, was begun and was given to a call of it. Lives that left a disk unformatted are formats that did not answer
+-- Ok, and openings that were refused. A past that is as before admits the same images, either way, and has the same
+-- logs. A journal that is to start over is not in generation 2^64 - 1. What the two sides of an endpoint have is its
+-- configuration, with its numbers.
 pub record LifeWords (sectors : ℕ) : Type 0 where
   pub restarted : (old new : State) → Restart old new
       → (new.logs ≡ old.logs) × (new.stopped ≡ false) × (new.in_hand ≡ None) × (new.waiting ≡ [])
@@ -156,6 +156,7 @@ pub record LifeWords (sectors : ℕ) : Type 0 where
       → ((found : Standing) × StandingIs edition sectors image (Ok found) × (found.config ≡ old))
       × (kept : List Command) × AreKept sectors edition image exchanges cut kept
       × (mid : Config) × CommandsMake edition identity old kept mid × LivesMake sectors identity mid rest new
+  pub in_front : (front whole : List Command) → IsPrefix front whole → (rest : List Command) × (front ++ rest ≡ whole)
   pub make_none : (edition : Edition) (identity : Identity) (old new : Config)
       → CommandsMake edition identity old [] new → new ≡ old
   pub make_more : (edition : Edition) (identity : Identity) (old new : Config) (command : Command)
