@@ -120,6 +120,7 @@ frame-words sectors = record {
       (numbers_moved s.config.replay.window d.numbers (tag_of frame).pn, d.moved, refl, refl, refl);
   greatest = λ seen pn. (refl, refl);
   held = λ s new frame a. (a.named, a.association, a.are_numbers, a.ahead, a.verified);
+  held_still = λ s new frame sci an a. (a.next sci an, a.lowest sci an);
   unnamed = unnamed;
   other_frame = λ lives logs plain out key pn number o. o.other;
   other_delivery = λ lives logs frame out sci key kind pn o. o.other;

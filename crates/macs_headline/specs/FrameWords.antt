@@ -4,6 +4,7 @@ use Rattle.std.specs.Prelude.{◌≡◌, ◌≢◌, ◌↔◌, ◌<◌, ◌≤�
 use Rattle.std.specs.Prelude.{[], ◌∷◌, length, max, nat_lt, slice_index, slice_range, take, drop, All, Contains, Some}
 use Rattle.std.specs.Prelude.{None}
 use Rattle.std.specs.Int.{w32, from_be_bytes, to_be_bytes}
+use Rattle.std.specs.Option.{option_map}
 use Rattle.macs_fields.specs.Fields.{octets_of}
 use Rattle.macs_gcm.specs.Gcm.{seal}
 use Rattle.macs_frame.specs.Opening.{Verified, named_sci}
@@ -49,11 +50,11 @@ iv_in sci frame = sci ++ to_be_bytes w32 (from_be_bytes w32 (slice_range frame 1
 -- verified verifies under the association that its tag names, gives its plain frame and no other, and where replay
 -- protection is on is not below the lowest acceptable number there. It is Delayed exactly where it is below that, else
 -- Ok; and it moves the numbers there: next is beyond it, lowest follows next within the window, and it may be the
--- greatest that was seen. One that is held back verifies too, with a number of next or beyond. A frame whose tag names
--- no SCI is of a channel where that is the only one. What is another frame, or another delivery, than one of a key has
--- another number under that key, and SCI; and what is found after one is beyond its number, under a key, and SCI, with
--- which it was used or delivered in those lives. Each such frame was written in those lives, or delivered, under that
--- key, and SCI. A frame that is given has octets below 256.
+-- greatest that was seen. One that is held back verifies too, with a number of next or beyond, and moves neither next
+-- nor lowest of any association. A frame whose tag names no SCI is of a channel where that is the only one. What is
+-- another frame, or another delivery, than one of a key has another number under that key, and SCI; and what is found
+-- after one is beyond its number, under a key, and SCI, with which it was used or delivered in those lives. Each such
+-- frame was written in those lives, or delivered, under that key, and SCI. A frame that is given has octets below 256.
 --
 -- What verifies is sealed (IEEE Std 802.1AE-2018, clause 14): under the SCI and the PN, with all octets up to the end
 -- of the SecTAG, and those of Secure Data that are in the clear, as what is authenticated alone. Where E is set those
@@ -100,6 +101,11 @@ pub record FrameWords (sectors : ℕ) : Type 0 where
       → (channel_of (rx_side s) frame ≡ Some a.sci) × (s.config.rx a.sci (tag_of frame).an ≡ Some a.sa)
       × (s.numbers a.sci (tag_of frame).an ≡ Some a.numbers) × (a.numbers.next ≤ (tag_of frame).pn)
       × Verified frame a.sa.key a.sci (octets_of a.sa.offset) a.plain
+  pub held_still : (s new : State) (frame sci : List ℕ) (an : ℕ) → IsAhead s frame new
+      → (option_map (λ (n : Numbers). n.next) (new.numbers sci an)
+      ≡ option_map (λ (n : Numbers). n.next) (s.numbers sci an))
+      × (option_map (λ (n : Numbers). n.lowest) (new.numbers sci an)
+      ≡ option_map (λ (n : Numbers). n.lowest) (s.numbers sci an))
   pub unnamed : (s : State) (frame sci : List ℕ) → IsOfChannel s frame sci → named_sci frame (name_of frame) ≡ None
       → s.config.channels ≡ sci ∷ []
   pub other_frame : (lives : List Life) (logs : Logs) (plain out key : List ℕ) (pn number : ℕ)
