@@ -1,6 +1,6 @@
 -- What is to be drawn from words in conclusions.
-use Rattle.std.proofs.Common.{◌≡◌, ◌≢◌, ◌⊎◌, ◌+◌, ◌-◌, ◌++◌, inl, inr, ℕ, suc, ◌==◌, Bool, true, false, cond, List, []}
-use Rattle.std.proofs.Common.{◌∷◌, length, Ok, refl, sym, ◌∙◌, ap, subst, arith}
+use Rattle.std.proofs.Common.{◌≡◌, ◌≢◌, ◌⊎◌, ◌<◌, ◌+◌, ◌-◌, ◌++◌, inl, inr, ℕ, suc, ◌==◌, Bool, true, false, cond}
+use Rattle.std.proofs.Common.{List, [], ◌∷◌, length, Ok, refl, sym, ◌∙◌, ap, subst, arith}
 use Rattle.std.specs.Prelude.{AllPairs, max, Contains, Option, Some, None}
 use Rattle.std.specs.List.{range_with_len}
 use Rattle.std.specs.Option.{option_and_then, option_map}
@@ -37,7 +37,7 @@ use Rattle.macs_headline.specs.Tickets.{AreInOrder}
 use Rattle.macs_headline.proofs.Ledger.{some_one}
 use Rattle.macs_headline.proofs.Lists.{contains-cases, contains-either, contains-first, contains-later, contains-none}
 use Rattle.macs_headline.proofs.Lists.{contains-rear, not-twice}
-use Rattle.macs_headline.proofs.LookUps.{none-some}
+use Rattle.macs_headline.proofs.LookUps.{none-some, some-and}
 
 -- ---- logs
 
@@ -169,6 +169,10 @@ number-words = record {
       set sci an ∙ ap (λ (o : Option Numbers).
       option_map (λ (m : Numbers). record m { lowest = max m.lowest (m.next - window) }) o) is;
   seen = seen_by;
+  beyond_tx = λ found key pn b.
+      (b.spent, λ an sa is same. some-and (found.ceilings.tx an) (λ (next : ℕ). pn < next) (b.below an sa is same));
+  beyond_rx = λ found sci key pn b.
+      (b.spent, λ an sa is same. some-and (found.ceilings.rx sci an) (λ (next : ℕ). pn < next) (b.below an sa is same));
 }
 
 -- ---- lives
@@ -282,6 +286,7 @@ life-words sectors = record {
   handed_in = handed_in;
   begun = begun;
   made = λ identity old new edition image exchanges cut rest makes. makes;
+  in_front = λ front whole is. is;
   make_none = λ edition identity old new makes. makes;
   make_more = λ edition identity old new command commands makes. makes;
   made_of_first = λ lives found is. is.made;

@@ -149,6 +149,29 @@ one_start : (b : Bool) (used number : ℕ) (s : Standing) (raise : Raise) (raise
 one_start true used number s raise raises = (λ is. refl, λ is. absurd (cc))
 one_start false used number s raise raises = (λ is. absurd (cc), λ is. refl)
 
+-- the same of device calls, and of slots
+one_call : (b : Bool) (used : ℕ) (s : Standing) (raise : Raise) (raises : List Raise)
+    → (b ≡ true
+    → cond b (523 + length (snapshot s)) 4
+    + most_in_raises (cond b (length (snapshot s) + 1) (used + 1)) (standing_with_raise s raise) raises
+    ≡ 523 + length (snapshot s) + most_in_raises (length (snapshot s) + 1) (standing_with_raise s raise) raises)
+    × (b ≡ false
+    → cond b (523 + length (snapshot s)) 4
+    + most_in_raises (cond b (length (snapshot s) + 1) (used + 1)) (standing_with_raise s raise) raises
+    ≡ 4 + most_in_raises (used + 1) (standing_with_raise s raise) raises)
+one_call true used s raise raises = (λ is. refl, λ is. absurd (cc))
+one_call false used s raise raises = (λ is. absurd (cc), λ is. refl)
+
+slot_before : (b : Bool) (used : ℕ) (s : Standing) (raise : Raise) (raises : List Raise)
+    → (b ≡ true
+    → slots_in_raises (cond b (length (snapshot s) + 1) (used + 1)) (standing_with_raise s raise) raises
+    ≡ slots_in_raises (length (snapshot s) + 1) (standing_with_raise s raise) raises)
+    × (b ≡ false
+    → slots_in_raises (cond b (length (snapshot s) + 1) (used + 1)) (standing_with_raise s raise) raises
+    ≡ slots_in_raises (used + 1) (standing_with_raise s raise) raises)
+slot_before true used s raise raises = (λ is. refl, λ is. absurd (cc))
+slot_before false used s raise raises = (λ is. absurd (cc), λ is. refl)
+
 -- ceilings that are raised in one generation take a slot each, and four device calls at most
 raised_so : (used number : ℕ) (s : Standing) (raises : List Raise) → generation_in_raises used number s raises ≡ number
     → (slots_in_raises used s raises ≡ used + length raises) × (most_in_raises used s raises ≤ 4 * length raises)
@@ -398,6 +421,19 @@ module _ {D : Type 0} (disk_of : D → Disk) where
     spends = spends_so;
     each_slot = each_slot;
     each_start = λ old new (raises, has). (raises, has.raised, has.generation);
+    each_call = λ old new (raises, has). (raises, has.raised, has.slots, has.generation, has.most);
+    each_call_spent = λ old new (raises, has). (raises, has.raised, has.slots, has.generation, has.most);
+    calls_behind = λ old raises. refl;
+    call_more = λ used s raise raises. (
+      refl,
+      λ full. (one_call (used == 256) used s raise raises).0 (eq-eqb used 256 full),
+      λ other. (one_call (used == 256) used s raise raises).1 (ne_eqb used 256 other),
+    );
+    slot_more = λ used s raise raises. (
+      refl,
+      λ full. (slot_before (used == 256) used s raise raises).0 (eq-eqb used 256 full),
+      λ other. (slot_before (used == 256) used s raise raises).1 (ne_eqb used 256 other),
+    );
     start_more = λ used number s raise raises. (
       refl,
       λ full. (one_start (used == 256) used number s raise raises).0 (eq-eqb used 256 full),

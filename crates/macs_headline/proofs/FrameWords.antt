@@ -120,11 +120,16 @@ frame-words sectors = record {
       (numbers_moved s.config.replay.window d.numbers (tag_of frame).pn, d.moved, refl, refl, refl);
   greatest = λ seen pn. (refl, refl);
   held = λ s new frame a. (a.named, a.association, a.are_numbers, a.ahead, a.verified);
+  held_still = λ s new frame sci an a. (a.next sci an, a.lowest sci an);
   unnamed = unnamed;
   other_frame = λ lives logs plain out key pn number o. o.other;
   other_delivery = λ lives logs frame out sci key kind pn o. o.other;
   beyond_frame = λ lives logs plain out pn found b. b.beyond;
   beyond_delivery = λ lives logs frame out kind found b. b.beyond;
+  other_written = λ lives logs plain out key pn number o. (o.answered, o.frame, refl);
+  other_made = λ lives logs frame out sci key kind pn o. (o.answered, o.delivery, refl, refl);
+  frame_written = λ lives logs plain out pn found b. (b.answered, b.frame, refl);
+  delivery_made = λ lives logs frame out kind found b. (b.answered, b.delivery, refl, refl);
   frame_used = λ lives logs plain out pn found b.
       used_held b.answered.after.logs logs (record { key = b.frame.sa.key; pn = pn }) b.answered.at.logs.used
       b.answered.held b.frame.logged;

@@ -52,6 +52,7 @@ opening-words = record {
   as_read = λ old image s alike stands.
       subst (λ (t : Standing). StandsFor this_edition image t)
       (stands_once (now old).seen alike.0 s alike.1 stands) alike.2;
+  both = λ old image alike. alike;
 }
 
 -- ---- why an opening is refused
@@ -176,6 +177,8 @@ journal-words = record {
   left_small = λ old new is. is;
   left_read = left_read;
   failures = failures;
+  failed = λ old new fails. fails;
+  in_format = λ image format has. (has.content, has.found, has.is);
   until = λ old new limit k c image finds from to before left. finds k from to before image left;
   new_gates = new_gates;
   spared = λ old new i k is from to. (

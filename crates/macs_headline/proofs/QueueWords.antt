@@ -1,6 +1,7 @@
 -- What is to be drawn from words on commands that wait, and on their tickets.
-use Rattle.std.proofs.Common.{◌≡◌, ◌⊎◌, ◌++◌, inl, inr, List, [], ◌∷◌, refl, ◌∙◌, ap}
+use Rattle.std.proofs.Common.{◌≡◌, ◌⊎◌, ◌++◌, inl, inr, Bool, cond, List, [], ◌∷◌, refl, ◌∙◌, ap}
 use Rattle.std.specs.Prelude.{Contains, Option, Some}
+use Rattle.std.proofs.lemmas.Bool.{eq-eqb, ne_eqb}
 use Rattle.macs_config.specs.declared.command.Command.{Command}
 use Rattle.macs_endpoint.specs.Queue.{first_command}
 use Rattle.macs_endpoint.specs.State.{Call, Commands, Reply}
@@ -33,4 +34,12 @@ queue-words = record {
   each_done_long = λ e exchanges ticket is. ap (λ (r : Reply). done_by r ++ tickets_done exchanges) is;
   each_waits = λ w waiting. refl;
   handed_in = handed_in;
+  under = λ w rest ticket is. (
+    ap (λ (b : Bool). cond b (w.command ∷ []) []) (eq-eqb w.ticket ticket is),
+    ap (λ (b : Bool). cond b rest (w ∷ rest)) (eq-eqb w.ticket ticket is),
+  );
+  not_under = λ w rest ticket differ. (
+    ap (λ (b : Bool). cond b (w.command ∷ []) []) (ne_eqb w.ticket ticket differ),
+    ap (λ (b : Bool). cond b rest (w ∷ rest)) (ne_eqb w.ticket ticket differ),
+  );
 }

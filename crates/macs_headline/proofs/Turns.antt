@@ -12,7 +12,7 @@ use Rattle.macs_endpoint.specs.WorkThroughCalls.{reservations_in_reply, reservat
 use Rattle.macs_endpoint.specs.Queue.{first_command}
 use Rattle.macs_endpoint.specs.Rooms.{SparesRx, SparesTx, frames_in_reply, frames_sent}
 use Rattle.macs_endpoint.specs.State.{Advanced, Advances, Call, Commands, Protected, Protects, Receives, Refilled}
-use Rattle.macs_endpoint.specs.State.{Refills, Reply, Submits}
+use Rattle.macs_endpoint.specs.State.{Ran, Refills, Reply, State, Submits, command_made}
 use Rattle.macs_endpoint.specs.declared.fault.CommandFault.{CommandFault}
 use Rattle.macs_endpoint.specs.declared.fault.RefillFault.TheVariants as refill
 use Rattle.macs_endpoint.specs.declared.fault.StepFault.TheVariants as step
@@ -64,6 +64,15 @@ sent_under_another (Some encoding) an (Protected (Ok pn) out) differ =
     ap (λ (b : Bool). cond b 1 0) (ne_eqb encoding an (λ same. differ (ap Some same)))
 sent_under_another encoding an reply differ = refl
 
+none_made : (s : State) (call : Call) (reply : Reply)
+    → ((command : Command) (made : Unit {0}) → call ≡ Commands command → reply ≢ Ran (Ok made))
+    → ((ticket : ℕ) (made : Unit {0}) → call ≡ Advances → reply ≢ Advanced (Ok (Done ticket (Ok made))))
+    → command_made s call reply ≡ None
+none_made s (Commands command) (Ran (Ok made)) no_command no_step = absurd (no_command command made refl refl)
+none_made s Advances (Advanced (Ok (Done ticket (Ok made)))) no_command no_step =
+    absurd (no_step ticket made refl refl)
+none_made s call reply no_command no_step = refl
+
 pub turns-are-counted : {D : Type 0} → TurnsAreCounted D
 turns-are-counted {D} = record {
   stepped = λ turn turns is. ap (λ (call : Call). steps_in_call call + steps_made turns) is;
@@ -84,6 +93,7 @@ turns-are-counted {D} = record {
   none_sent = λ an e. refl;
   made = λ s command. refl;
   made_later = λ s ticket w rest is. ap first_command is;
+  made_by_none = none_made;
 }
 
 -- ---- what is asked for of one call

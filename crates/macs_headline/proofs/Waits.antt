@@ -10,10 +10,12 @@ use Rattle.macs_endpoint.specs.declared.fault.CommandFault.TheVariants as ran
 use Rattle.macs_endpoint.specs.declared.fault.SubmitFault.{SubmitFault}
 use Rattle.macs_endpoint.specs.declared.fault.SubmitFault.TheVariants as submit
 use Rattle.macs_endpoint.specs.declared.queue.Waiting.{Waiting}
-use Rattle.macs_endpoint.specs.State.{Call, Commands, Ran, RefusedLong, Reply, State, Submits, Submitted}
-use Rattle.macs_endpoint.specs.Step.{CommandStep, Exchange, RunningStep, Step, Steps, SubmitStep}
+use Rattle.macs_endpoint.specs.State.{Advanced, Advances, Call, Commands, Protected, Protects, Ran, RefusedLong, Reply}
+use Rattle.macs_endpoint.specs.State.{State, Submits, Submitted}
+use Rattle.macs_endpoint.specs.Step.{CommandStep, Ends, Exchange, RunningStep, Step, Steps, SubmitStep}
+use Rattle.macs_endpoint.specs.declared.progress.Step.TheVariants.{Done}
 use Rattle.macs_headline.specs.Tickets.{AreInOrder, done_by, tickets_of}
-use Rattle.macs_headline.specs.Waits.{CommandsWait}
+use Rattle.macs_headline.specs.Waits.{CommandsWait, waits_under}
 use Rattle.macs_headline.proofs.Tickets.{IsStepBy, by_step}
 
 -- of an endpoint that runs
@@ -109,6 +111,53 @@ ticket_is : (s new : State) (c : Command) (ticket : ℕ) → Step s (Submits c) 
 ticket_is s new c ticket (inl (stopped, answer, is)) = absurd answer
 ticket_is s new c ticket (inr (running, (few, left, is_ticket, is))) = is_ticket
 
+-- ---- what is left alone
+
+-- with what may change taken from this other state
+abbrev with_made : State → List Waiting → State → State
+with_made s waiting made = record s {
+  config = made.config;
+  next = made.next;
+  numbers = made.numbers;
+  waiting = waiting;
+  in_hand = None;
+}
+
+submitted_so : (s new : State) (c : Command) (ticket : ℕ) → Step s (Submits c) (Submitted (Ok ticket)) new
+    → new ≡ record s { waiting = s.waiting ++ waits_under (s.tickets + 1) c ∷ []; tickets = s.tickets + 1 }
+submitted_so s new c ticket (inl (stopped, answer, is)) = absurd answer
+submitted_so s new c ticket (inr (running, (few, left, is_ticket, is))) = is
+
+obeyed : (s new : State) (c : Command) → Step s (Commands c) (Ran (Ok tt)) new → new ≡ with_made s s.waiting new
+obeyed s new c (inl (stopped, answer, is)) = absurd answer
+obeyed s new c (inr (running, (none, (config, made, is)))) =
+    subst (λ (t : State). t ≡ with_made s s.waiting t) (sym is) refl
+
+ended_by : (s new : State) (first : Waiting) (rest : List Waiting) (result : Result (Unit {0}) CommandFault)
+    → Ends s first rest result new → new ≡ with_made s rest new
+ended_by s new first rest (Ok done) (config, made, is) =
+    subst (λ (t : State). t ≡ with_made s rest t) (sym is) refl
+ended_by s new first rest (Err (ran.Refused refusal)) (none, why, is) =
+    subst (λ (t : State). t ≡ with_made s rest t) (sym is) refl
+ended_by s new first rest (Err ran.GenerationsSpent) (none, accepts, is) =
+    subst (λ (t : State). t ≡ with_made s rest t) (sym is) refl
+ended_by s new first rest (Err ran.Busy) h = absurd h
+ended_by s new first rest (Err ran.Disk) h = absurd h
+ended_by s new first rest (Err ran.Stopped) h = absurd h
+
+ended : (s new : State) (ticket : ℕ) (result : Result (Unit {0}) CommandFault)
+    → Step s Advances (Advanced (Ok (Done ticket result))) new
+    → (first : Waiting) × (rest : List Waiting) × (s.waiting ≡ first ∷ rest) × (new ≡ with_made s rest new)
+ended s new ticket result (inl (stopped, answer, is)) = absurd answer
+ended s new ticket result (inr (running, (first, rest, waits, is_ticket, ends))) =
+    (first, rest, waits, ended_by s new first rest result ends)
+
+sent : (s new : State) (plain out : List ℕ) (pn : ℕ) → Step s (Protects plain) (Protected (Ok pn) out) new
+    → new.logs.given ≡ s.logs.given
+sent s new plain out pn (inl (stopped, answer, is)) = absurd answer
+sent s new plain out pn (inr (running, (good, (o, is_next, is_pn, is_out, is)))) =
+    ap (λ (t : State). t.logs.given) is
+
 pub commands-wait : (sectors : ℕ) → CommandsWait sectors
 commands-wait sectors = record {
   busy = λ s new c reply running waits step. busy s new c reply waits (runs s new (Commands c) reply running step);
@@ -119,4 +168,9 @@ commands-wait sectors = record {
   done = λ s new c is. is;
   done_later = λ s new ticket is. (is.0, is.1, is.2, sym is.3, is.4, is.5);
   taken = λ s new c ticket is. is;
+  submitted = submitted_so;
+  obeyed = obeyed;
+  ended = ended;
+  faulted = λ s c rest. (refl, refl, refl);
+  sent = sent;
 }

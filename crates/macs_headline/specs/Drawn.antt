@@ -1,10 +1,12 @@
 -- The headline on words in what its clauses conclude: what is to be drawn from each of them.
-use Rattle.std.specs.Prelude.{◌≡◌, ◌≢◌, ◌⊎◌, ◌↔◌, ◌≤◌, ◌+◌, ◌++◌, ◌-◌, ◌/◌, ◌^◌, ℕ, true, false, List, [], ◌∷◌, length}
-use Rattle.std.specs.Prelude.{map, max, min, Bool, Contains, Option, Some, None, Ok}
+use Rattle.std.specs.Prelude.{◌≡◌, ◌≢◌, ◌⊎◌, ◌↔◌, ◌<◌, ◌≤◌, ◌+◌, ◌++◌, ◌-◌, ◌/◌, ◌^◌, ℕ, true, false, List, [], ◌∷◌}
+use Rattle.std.specs.Prelude.{length, map, max, min, Bool, Contains, Option, Some, None, Ok}
 use Rattle.std.specs.List.{range_with_len}
 use Rattle.macs_config.specs.Apply.{apply}
-use Rattle.macs_config.specs.Config.{Config, Edition, default, this_edition}
+use Rattle.macs_config.specs.Config.{Config, Edition, default, is_spent, rx_fingerprint, this_edition, tx_fingerprint}
 use Rattle.macs_config.specs.Identity.{Identity}
+use Rattle.macs_config.specs.declared.association.RxSa.{RxSa}
+use Rattle.macs_config.specs.declared.association.TxSa.{TxSa}
 use Rattle.macs_config.specs.declared.command.Command.{Command}
 use Rattle.macs_config.specs.declared.command.Command.TheVariants.{SetReplay}
 use Rattle.macs_disk.specs.Disk.{Disk}
@@ -36,7 +38,7 @@ use Rattle.macs_headline.specs.History.{FitsPast, Formats, Life, Past, Refuses, 
 use Rattle.macs_headline.specs.AnsweredLogs.{AreAnswers, WasDelivered, WasWritten}
 use Rattle.macs_headline.specs.Moments.{Moment}
 use Rattle.macs_headline.specs.NumbersMoved.{AreSet}
-use Rattle.macs_headline.specs.Numbers.{AreHeldIn, HasNoneTwice, IsMoved, IsSkipped}
+use Rattle.macs_headline.specs.Numbers.{AreHeldIn, HasNoneTwice, IsBeyondRx, IsBeyondTx, IsMoved, IsSkipped}
 use Rattle.macs_headline.specs.Openings.{AreAsBefore}
 use Rattle.macs_headline.specs.Received.{IsSeenBy}
 use Rattle.macs_headline.specs.Refused.{refusal_at}
@@ -91,7 +93,9 @@ pub record LogWords (sectors : ℕ) : Type 0 where
 -- seen; else it is at most that, or a block beyond the greatest one that was seen, as far as 2^32. Within a window the
 -- lowest acceptable number is not above the next one, and no further below it than the window is wide; within one of 0
 -- it is the next one. A command on replay protection moves it up into the window, and no other number. A number that
--- was seen is that of a frame which the call was given, and which is not one that does not verify.
+-- was seen is that of a frame which the call was given, and which is not one that does not verify. Where what is found
+-- is beyond a number the key is spent, on the receive side for its SCI, and each association that has the key has a
+-- next packet number, which is greater.
 pub record NumberWords : Type 0 where
   pub tickets : (tickets : List ℕ) → AreInOrder 0 tickets → tickets ≡ range_with_len 1 (length tickets)
   pub moved : (block : ℕ) (old new : Numbers) → IsMoved block old new
@@ -114,18 +118,26 @@ pub record NumberWords : Type 0 where
       → (frame : List ℕ) × (call ≡ Receives frame) × (channel_of (rx_side s) frame ≡ Some sci)
       × ((tag_of frame).an ≡ an) × ((tag_of frame).pn ≡ pn)
       × (¬ RxStepHolds (rx_side s) frame NotVerified)
+  pub beyond_tx : (found : Standing) (key : List ℕ) (pn : ℕ) → IsBeyondTx found key pn
+      → (is_spent found.config.spent_tx (tx_fingerprint key) ≡ true)
+      × ((an : ℕ) (sa : TxSa) → found.config.tx an ≡ Some sa → sa.key ≡ key
+      → (next : ℕ) × (found.ceilings.tx an ≡ Some next) × (pn < next))
+  pub beyond_rx : (found : Standing) (sci key : List ℕ) (pn : ℕ) → IsBeyondRx found sci key pn
+      → (is_spent found.config.spent_rx (rx_fingerprint sci key) ≡ true)
+      × ((an : ℕ) (sa : RxSa) → found.config.rx sci an ≡ Some sa → sa.key ≡ key
+      → (next : ℕ) × (found.ceilings.rx sci an ≡ Some next) × (pn < next))
 
 -- A restart begins with the logs as they were, runs, and has nothing under way, no command that waits and no ticket
 -- given. What is under way was given to a call of its life, and is accepted. Of each life in which an endpoint served,
 -- first or later, the commands that are kept make the next configuration, from which the other lives go on, and it
 -- opened what stands for the one before; no other life makes anything. Commands that make a configuration are each
 -- accepted in what those before it made, and where there are none it stays. So what is found is made of the first
--- configuration, under the identity that is found. Those commands are a prefix of those that were accepted which holds
--- every acknowledged one; the one under way is that at the end of such a life, with these answers, was begun and was
--- given to a call of it. Lives that left a disk unformatted are formats that did not answer Ok, and openings that were
--- refused. A past that is as before admits the same images, either way, and has the same logs. A journal that is to
--- start over is not in generation 2^64 - 1. What the two sides of an endpoint have is its configuration, with its
--- numbers.
+-- configuration, under the identity that is found. Those commands are a prefix of those that were accepted, from the
+-- first one on, which holds every acknowledged one; the one under way is that at the end of such a life, with these
+-- answers, was begun and was given to a call of it. Lives that left a disk unformatted are formats that did not answer
+-- Ok, and openings that were refused. A past that is as before admits the same images, either way, and has the same
+-- logs. A journal that is to start over is not in generation 2^64 - 1. What the two sides of an endpoint have is its
+-- configuration, with its numbers.
 pub record LifeWords (sectors : ℕ) : Type 0 where
   pub restarted : (old new : State) → Restart old new
       → (new.logs ≡ old.logs) × (new.stopped ≡ false) × (new.in_hand ≡ None) × (new.waiting ≡ [])
@@ -144,6 +156,7 @@ pub record LifeWords (sectors : ℕ) : Type 0 where
       → ((found : Standing) × StandingIs edition sectors image (Ok found) × (found.config ≡ old))
       × (kept : List Command) × AreKept sectors edition image exchanges cut kept
       × (mid : Config) × CommandsMake edition identity old kept mid × LivesMake sectors identity mid rest new
+  pub in_front : (front whole : List Command) → IsPrefix front whole → (rest : List Command) × (front ++ rest ≡ whole)
   pub make_none : (edition : Edition) (identity : Identity) (old new : Config)
       → CommandsMake edition identity old [] new → new ≡ old
   pub make_more : (edition : Edition) (identity : Identity) (old new : Config) (command : Command)

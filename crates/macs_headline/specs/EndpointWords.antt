@@ -38,7 +38,8 @@ use Rattle.macs_endpoint.specs.Lives.{FitsLife, LeavesLife, Transition}
 use Rattle.macs_endpoint.specs.Opening.{IsOpening}
 use Rattle.macs_endpoint.specs.Restart.{Fits, state_during}
 use Rattle.macs_endpoint.specs.Serving.{EndsAs, IsServed, Told, call_of, is_halt, reply_of}
-use Rattle.macs_endpoint.specs.RefillCosts.{RaisesBehind, Spends, generation_in_raises, reserved_in}
+use Rattle.macs_endpoint.specs.RefillCosts.{RaisesBehind, Spends, generation_in_raises, most_behind, most_in_raises}
+use Rattle.macs_endpoint.specs.RefillCosts.{reserved_in, slots_in_raises}
 use Rattle.macs_endpoint.specs.State.{Advanced, Advances, Commands, Protected, Protects, Ran, Received, Receives}
 use Rattle.macs_endpoint.specs.State.{Refilled, Refills, Reply, Submits, Submitted, no_logs, rx_side, tx_side}
 use Rattle.macs_endpoint.specs.Value.{EndpointValue, disk_in, state_of}
@@ -100,14 +101,15 @@ pub record OpeningsCount {D : Type 0} (disk_of : D → Disk) : Type 0 where
 -- refill that is answered as Disk, where none was under way, what was raised so. Where one was under way it leaves the
 -- standing, or what was raised so after that. One that is answered as Ok leaves what was raised so, the reservation
 -- under way first, until none is needed; and its slots and device calls are those of ceilings that were raised so: each
--- takes a slot, where the journal does not start over, and each start over is one generation more. After one that is
--- answered as GenerationsSpent a ceiling is still needed, and what was raised comes after the reservation that was
--- under way, which is done, or was raised so where none was. A step that a device call fails leaves the standing, and
--- so does one after which work goes on. What a command that is answered as Ok makes, it makes of the standing with the
--- reservation that was under way; and one that waited, once it is done, of the standing. A refill, and a command that
--- is kept, of an endpoint with no work under way, make four device calls at most for each slot that they use, where the
--- journal does not start over; and the command uses one. Where work is under way its slot and its device calls come
--- before these.
+-- takes a slot and four device calls at most; where all 256 slots are used the journal starts over, which is one
+-- generation more, with 523 device calls at most and one for each record of a snapshot, and uses a slot for each of
+-- these records and one for the ceiling. So it is of one that is answered as GenerationsSpent. After that a ceiling is
+-- still needed, and what was raised comes after the reservation that was under way, which is done, or was raised so
+-- where none was. A step that a device call fails leaves the standing, and so does one after which work goes on. What a
+-- command that is answered as Ok makes, it makes of the standing with the reservation that was under way; and one that
+-- waited, once it is done, of the standing. A refill, and a command that is kept, of an endpoint with no work under
+-- way, make four device calls at most for each slot that they use, where the journal does not start over; and the
+-- command uses one. Where work is under way its slot and its device calls come before these.
 pub record CeilingsAreRaised {D : Type 0} (disk_of : D → Disk) : Type 0 where
   pub none : (t : TxSide) (r : RxSide) (old new : Standing) (next : Option Raise) → IsRefilled t r old new next
       → first_raise old t r ≡ None → new ≡ old
@@ -203,6 +205,44 @@ pub record CeilingsAreRaised {D : Type 0} (disk_of : D → Disk) : Type 0 where
       (standing_in new)
       × (generation new
       ≡ generation_in_raises (slots_then old.store) (generation_then old.store) (reserved_in old) raises)
+  pub each_call : (old : EndpointValue D) (new : StoreValue D) → Spends disk_of old (Ok tt) new
+      → (raises : List Raise)
+      × Raises (tx_side (state_of old no_logs)) (rx_side (state_of old no_logs)) (reserved_in old) raises
+      (standing_in new)
+      × (used_slots new ≡ slots_in_raises (slots_then old.store) (reserved_in old) raises)
+      × (generation new
+      ≡ generation_in_raises (slots_then old.store) (generation_then old.store) (reserved_in old) raises)
+      × ((store.disk_in disk_of new).clock
+      ≤ (disk_in disk_of old).clock
+      + (calls_left old.store + most_in_raises (slots_then old.store) (reserved_in old) raises))
+  pub each_call_spent : (old : EndpointValue D) (new : StoreValue D)
+      → Spends disk_of old (Err refill.GenerationsSpent) new
+      → (raises : List Raise)
+      × Raises (tx_side (state_of old no_logs)) (rx_side (state_of old no_logs)) (reserved_in old) raises
+      (standing_in new)
+      × (used_slots new ≡ slots_in_raises (slots_then old.store) (reserved_in old) raises)
+      × (generation new
+      ≡ generation_in_raises (slots_then old.store) (generation_then old.store) (reserved_in old) raises)
+      × ((store.disk_in disk_of new).clock
+      ≤ (disk_in disk_of old).clock
+      + (calls_left old.store + most_in_raises (slots_then old.store) (reserved_in old) raises))
+  pub calls_behind : (old : EndpointValue D) (raises : List Raise)
+      → most_behind old raises
+      ≡ calls_left old.store + most_in_raises (slots_then old.store) (reserved_in old) raises
+  pub call_more : (used : ℕ) (s : Standing) (raise : Raise) (raises : List Raise)
+      → (most_in_raises used s [] ≡ 0)
+      × (used ≡ 256
+      → most_in_raises used s (raise ∷ raises)
+      ≡ 523 + length (snapshot s) + most_in_raises (length (snapshot s) + 1) (standing_with_raise s raise) raises)
+      × (used ≢ 256
+      → most_in_raises used s (raise ∷ raises) ≡ 4 + most_in_raises (used + 1) (standing_with_raise s raise) raises)
+  pub slot_more : (used : ℕ) (s : Standing) (raise : Raise) (raises : List Raise)
+      → (slots_in_raises used s [] ≡ used)
+      × (used ≡ 256
+      → slots_in_raises used s (raise ∷ raises)
+      ≡ slots_in_raises (length (snapshot s) + 1) (standing_with_raise s raise) raises)
+      × (used ≢ 256
+      → slots_in_raises used s (raise ∷ raises) ≡ slots_in_raises (used + 1) (standing_with_raise s raise) raises)
   pub start_more : (used number : ℕ) (s : Standing) (raise : Raise) (raises : List Raise)
       → (generation_in_raises used number s [] ≡ number)
       × (used ≡ 256

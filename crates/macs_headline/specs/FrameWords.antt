@@ -4,6 +4,7 @@ use Rattle.std.specs.Prelude.{◌≡◌, ◌≢◌, ◌↔◌, ◌<◌, ◌≤�
 use Rattle.std.specs.Prelude.{[], ◌∷◌, length, max, nat_lt, slice_index, slice_range, take, drop, All, Contains, Some}
 use Rattle.std.specs.Prelude.{None}
 use Rattle.std.specs.Int.{w32, from_be_bytes, to_be_bytes}
+use Rattle.std.specs.Option.{option_map}
 use Rattle.macs_fields.specs.Fields.{octets_of}
 use Rattle.macs_gcm.specs.Gcm.{seal}
 use Rattle.macs_frame.specs.Opening.{Verified, named_sci}
@@ -20,8 +21,10 @@ use Rattle.macs_rxsc.specs.declared.verdict.Kind.TheVariants.{Delayed, Ok as AsO
 use Rattle.macs_store.specs.Standing.{Standing}
 use Rattle.macs_endpoint.specs.Calls.{IsInRange}
 use Rattle.macs_endpoint.specs.State.{Logs, Protects, Receives, State, rx_side}
-use Rattle.macs_headline.specs.Deliveries.{IsFoundBeyondDelivery, IsOtherDelivery, IsVerifiedDelivery, greatest_seen}
-use Rattle.macs_headline.specs.Frames.{IsFoundBeyondFrame, IsOtherFrame, IsStandardFrame}
+use Rattle.macs_headline.specs.Answered.{WasAnswered}
+use Rattle.macs_headline.specs.Deliveries.{IsFoundBeyondDelivery, IsOtherDelivery, IsVerifiedDelivery, delivering}
+use Rattle.macs_headline.specs.Deliveries.{greatest_seen}
+use Rattle.macs_headline.specs.Frames.{IsFoundBeyondFrame, IsOtherFrame, IsStandardFrame, writing}
 use Rattle.macs_headline.specs.History.{Life}
 use Rattle.macs_headline.specs.Numbers.{IsBeyondRx, IsBeyondTx}
 use Rattle.macs_headline.specs.Received.{IsAhead, IsOfChannel}
@@ -47,10 +50,11 @@ iv_in sci frame = sci ++ to_be_bytes w32 (from_be_bytes w32 (slice_range frame 1
 -- verified verifies under the association that its tag names, gives its plain frame and no other, and where replay
 -- protection is on is not below the lowest acceptable number there. It is Delayed exactly where it is below that, else
 -- Ok; and it moves the numbers there: next is beyond it, lowest follows next within the window, and it may be the
--- greatest that was seen. One that is held back verifies too, with a number of next or beyond. A frame whose tag names
--- no SCI is of a channel where that is the only one. What is another frame, or another delivery, than one of a key has
--- another number under that key, and SCI; and what is found after one is beyond its number, under a key, and SCI, with
--- which it was used or delivered in those lives. A frame that is given has octets below 256.
+-- greatest that was seen. One that is held back verifies too, with a number of next or beyond, and moves neither next
+-- nor lowest of any association. A frame whose tag names no SCI is of a channel where that is the only one. What is
+-- another frame, or another delivery, than one of a key has another number under that key, and SCI; and what is found
+-- after one is beyond its number, under a key, and SCI, with which it was used or delivered in those lives. Each such
+-- frame was written in those lives, or delivered, under that key, and SCI. A frame that is given has octets below 256.
 --
 -- What verifies is sealed (IEEE Std 802.1AE-2018, clause 14): under the SCI and the PN, with all octets up to the end
 -- of the SecTAG, and those of Secure Data that are in the clear, as what is authenticated alone. Where E is set those
@@ -97,6 +101,11 @@ pub record FrameWords (sectors : ℕ) : Type 0 where
       → (channel_of (rx_side s) frame ≡ Some a.sci) × (s.config.rx a.sci (tag_of frame).an ≡ Some a.sa)
       × (s.numbers a.sci (tag_of frame).an ≡ Some a.numbers) × (a.numbers.next ≤ (tag_of frame).pn)
       × Verified frame a.sa.key a.sci (octets_of a.sa.offset) a.plain
+  pub held_still : (s new : State) (frame sci : List ℕ) (an : ℕ) → IsAhead s frame new
+      → (option_map (λ (n : Numbers). n.next) (new.numbers sci an)
+      ≡ option_map (λ (n : Numbers). n.next) (s.numbers sci an))
+      × (option_map (λ (n : Numbers). n.lowest) (new.numbers sci an)
+      ≡ option_map (λ (n : Numbers). n.lowest) (s.numbers sci an))
   pub unnamed : (s : State) (frame sci : List ℕ) → IsOfChannel s frame sci → named_sci frame (name_of frame) ≡ None
       → s.config.channels ≡ sci ∷ []
   pub other_frame : (lives : List Life) (logs : Logs) (plain out key : List ℕ) (pn number : ℕ)
@@ -110,6 +119,24 @@ pub record FrameWords (sectors : ℕ) : Type 0 where
   pub beyond_delivery : (lives : List Life) (logs : Logs) (frame out : List ℕ) (kind : Kind) (found : Standing)
       (b : IsFoundBeyondDelivery sectors lives logs frame kind out found)
       → IsBeyondRx found b.delivery.sci b.delivery.sa.key (tag_of frame).pn
+  pub other_written : (lives : List Life) (logs : Logs) (plain out key : List ℕ) (pn number : ℕ)
+      (o : IsOtherFrame sectors lives logs plain pn out key number)
+      → (was : WasAnswered sectors lives (writing plain pn out) logs)
+      × (f : IsStandardFrame was.at plain pn out was.after) × (f.sa.key ≡ o.frame.sa.key)
+  pub other_made : (lives : List Life) (logs : Logs) (frame out sci key : List ℕ) (kind : Kind) (pn : ℕ)
+      (o : IsOtherDelivery sectors lives logs frame kind out sci key pn)
+      → (was : WasAnswered sectors lives (delivering frame kind out) logs)
+      × (v : IsVerifiedDelivery was.at frame kind out was.after) × (v.sci ≡ o.delivery.sci)
+      × (v.sa.key ≡ o.delivery.sa.key)
+  pub frame_written : (lives : List Life) (logs : Logs) (plain out : List ℕ) (pn : ℕ) (found : Standing)
+      (b : IsFoundBeyondFrame sectors lives logs plain pn out found)
+      → (was : WasAnswered sectors lives (writing plain pn out) logs)
+      × (f : IsStandardFrame was.at plain pn out was.after) × (f.sa.key ≡ b.frame.sa.key)
+  pub delivery_made : (lives : List Life) (logs : Logs) (frame out : List ℕ) (kind : Kind) (found : Standing)
+      (b : IsFoundBeyondDelivery sectors lives logs frame kind out found)
+      → (was : WasAnswered sectors lives (delivering frame kind out) logs)
+      × (v : IsVerifiedDelivery was.at frame kind out was.after) × (v.sci ≡ b.delivery.sci)
+      × (v.sa.key ≡ b.delivery.sa.key)
   pub frame_used : (lives : List Life) (logs : Logs) (plain out : List ℕ) (pn : ℕ) (found : Standing)
       (b : IsFoundBeyondFrame sectors lives logs plain pn out found)
       → Contains logs.used (record { key = b.frame.sa.key; pn = pn })

@@ -1,7 +1,9 @@
 -- What the contracts of the store, of the journal and of a fuse promise that no call of an endpoint asks for.
-use Rattle.std.specs.Prelude.{◌≡◌, ◌≢◌, ◌≤◌, ◌⊎◌, ◌↔◌, ◌+◌, true, ℕ, List, length, Result, Ok, Err, IsErrOf, OnErr}
-use Rattle.std.specs.Prelude.{OnOk}
-use Rattle.macs_disk.specs.Disk.{Disk, IsHonest, LeftSince, Writes, now}
+use Rattle.std.specs.Prelude.{◌≡◌, ◌≢◌, ◌≤◌, ◌⊎◌, ◌↔◌, ◌+◌, true, false, ℕ, List, length, Result, Ok, Err, IsErrOf}
+use Rattle.std.specs.Prelude.{OnErr, OnOk}
+use Rattle.macs_config.specs.Config.{this_edition}
+use Rattle.macs_config.specs.Identity.{Identity}
+use Rattle.macs_disk.specs.Disk.{Disk, IsHonest, LeftSince, MayLeave, Writes, now}
 use Rattle.macs_disk.specs.Fuses.{BlowsWrite, FuseValue}
 use Rattle.macs_disk.specs.Runs.{LeavesNothingNew}
 use Rattle.macs_disk.specs.States.{Image}
@@ -10,7 +12,8 @@ use Rattle.macs_record.specs.declared.format.Format.TheVariants.{Two}
 use Rattle.macs_record.specs.declared.record.Record.{Record}
 use Rattle.macs_journal.specs.Areas.{other_area}
 use Rattle.macs_journal.specs.Compacting.{Compacts, next_head}
-use Rattle.macs_journal.specs.Found.{HasFormat, JournalIs}
+use Rattle.macs_journal.specs.Formatting.{IsJournalFormat, first_content}
+use Rattle.macs_journal.specs.Found.{HasFormat, HasJournal, JournalIs}
 use Rattle.macs_journal.specs.Opening.{IsRecovery, Recovers}
 use Rattle.macs_journal.specs.Recovery.{IsRecoverName}
 use Rattle.macs_journal.specs.Value.{JournalValue}
@@ -34,13 +37,15 @@ use Rattle.macs_store.specs.Value as store
 -- exactly where the store is stopped, as GenerationsSpent exactly where the journal is at its end, and both change
 -- nothing; a call of the disk failed exactly where it is answered Disk. It leaves nothing under way, and makes as many
 -- device calls as a change does, at most. Once it is kept it used a slot, where the journal did not start over. At each
--- moment a power loss leaves the standing before or after it, in format two. A step, and work that is finished, change
--- nothing where the store is stopped, nor does a step with nothing under way; and a step leaves the slots and the
--- generation that are to come. A journal that is recovered with its records is what a recovery into a room is, and is
--- refused for the same, with nothing new on the disk. One that starts over goes on in its other area, in the next
--- generation, after its records; where that is refused, or a call fails, it stays where it was. It is stopped where a
--- call failed, and makes 519 device calls and one for each record at most. In the place of a write that a fuse fails
--- once, its own octets are written to that sector.
+-- moment a power loss leaves the standing before or after it, in format two. It is refused for no other reason; after
+-- Disk the store is stopped with the standing before, and after Ok it runs, holds what is in memory on its disk, and a
+-- power loss leaves that. A step, and work that is finished, change nothing where the store is stopped, nor does a step
+-- with nothing under way; and a step leaves the slots and the generation that are to come. A journal that is recovered
+-- with its records is what a recovery into a room is, and is refused for the same, with nothing new on the disk. One
+-- that starts over goes on in its other area, in the next generation, after its records; where that is refused, or a
+-- call fails, it stays where it was. It is stopped where a call failed, and makes 519 device calls and one for each
+-- record at most. Once a `format` of the journal is answered Ok nothing is pending, and what is seen of each sector is
+-- durable: the new journal. In the place of a write that a fuse fails once, its own octets are written to that sector.
 pub record LayerWords {D : Type 0} (disk_of : D → Disk) : Type 0 where
   pub reserved : (old new : StoreValue D) (after : Standing) (result : Result (Unit {0}) JournalFault)
       → Keeps disk_of old after result new
@@ -59,6 +64,14 @@ pub record LayerWords {D : Type 0} (disk_of : D → Disk) : Type 0 where
       → (StandsFor (standing_in old).edition image (standing_in old)
       ⊎ StandsFor (standing_in old).edition image after)
       × HasFormat image Two
+  pub reserved_after : (old new : StoreValue D) (after : Standing) (result : Result (Unit {0}) JournalFault)
+      → Keeps disk_of old after result new
+      → OnErr result (IsErrOf result Stopped ⊎ (IsErrOf result GenerationsSpent ⊎ IsErrOf result DiskFault))
+      × (IsErrOf result DiskFault → (store.is_stopped new ≡ true) × (standing_in new ≡ standing_in old))
+      × OnOk result (store.is_stopped new ≡ false)
+      × OnOk result (IsHonest (store.disk_in disk_of new) → IsStored disk_of old → IsStored disk_of new)
+      × OnOk result (IsHonest (store.disk_in disk_of new) → IsStored disk_of old
+      → (image : Image) → MayLeave (store.disk_in disk_of new) image → StandsFor this_edition image (standing_in new))
   pub steps : (old new : StoreValue D) (result : Result JournalStep JournalFault) → Steps disk_of old result new
       → OnOk result (slots_then new ≡ slots_then old) × OnOk result (generation_then new ≡ generation_then old)
       × ((IsErrOf result Stopped ⊎ (result ≡ Ok Idle)) → new ≡ old)
@@ -81,6 +94,10 @@ pub record LayerWords {D : Type 0} (disk_of : D → Disk) : Type 0 where
         head = next_head old.place.head (length records);
         free = length records;
       })
+  pub format_settles : (old new : D) (identity : Identity) → IsJournalFormat disk_of old identity (Ok tt) new
+      → IsHonest (disk_of new) → ((i : ℕ) → ((now (disk_of new)).pending i ≡ false)
+      × ((now (disk_of new)).seen i ≡ (now (disk_of new)).durable i))
+      × HasJournal (now (disk_of new)).durable (first_content identity)
   pub blown : (old new : FuseValue D) (at : ℕ) (fill : List ℕ) → BlowsWrite disk_of old new at fill
       → (answer : Result (Unit {0}) DeviceFault)
       × (IsHonest (disk_of new.inner) → Writes (now (disk_of old.inner)) (now (disk_of new.inner)) at fill answer)

@@ -1,18 +1,19 @@
 -- What the words say that give the reason why an opening is refused, what it leaves, and which sectors are written.
 use Rattle.std.specs.Prelude.{◌≡◌, ◌≢◌, ◌⊎◌, ◌↔◌, ◌≤◌, ◌<◌, ◌+◌, ◌*◌, ◌-◌, ◌^◌, ◌==◌, if◌then◌else◌, ℕ, true, length}
-use Rattle.std.specs.Prelude.{false, List, Some, None, Ok}
+use Rattle.std.specs.Prelude.{false, List, Some, None, Ok, Err}
 use Rattle.macs_config.specs.Config.{Edition, this_edition}
 use Rattle.macs_disk.specs.Disk.{Disk, MayLeave, now}
 use Rattle.macs_disk.specs.States.{DiskState, Image, IsImage, IsSector, settled_state}
 use Rattle.macs_record.specs.Gates.{IsOpen, closed_gate}
+use Rattle.macs_record.specs.declared.format.Format.{Format}
 use Rattle.macs_record.specs.declared.format.Format.TheVariants.{One}
 use Rattle.macs_journal.specs.Areas.{least_sectors}
 use Rattle.macs_journal.specs.Compacting.{CompactWrites, FindsUntil}
 use Rattle.macs_journal.specs.Formatting.{FormatWrites}
-use Rattle.macs_journal.specs.Found.{Content, HasJournal, IsBadJournal, IsNotFormatted}
+use Rattle.macs_journal.specs.Found.{Content, HasFormat, HasJournal, IsBadJournal, IsNotFormatted}
 use Rattle.macs_journal.specs.Recovery.{IsLeftBy, IsRecoverName}
 use Rattle.macs_journal.specs.Rewriting.{HasNewGates}
-use Rattle.macs_journal.specs.Work.{FailsWith, IsSpared}
+use Rattle.macs_journal.specs.Work.{FailsAs, FailsWith, IsSpared}
 use Rattle.macs_journal.specs.declared.fault.JournalFault.{JournalFault}
 use Rattle.macs_journal.specs.declared.fault.JournalFault.TheVariants.{BadJournal, Disk as DiskFault, GenerationsSpent}
 use Rattle.macs_journal.specs.declared.fault.JournalFault.TheVariants.{NotFormatted, TooSmall}
@@ -26,7 +27,7 @@ use Rattle.macs_headline.specs.Binding.{IsUnwritten, StandsAsRead}
 
 -- Where nothing is written, the disk is at each moment as it was, or all that reads gave is durable and nothing is
 -- pending; and an image that is left at any moment on the way could be left before, or is what reads give. What stands
--- for the same as what was read stands for whatever that stands for.
+-- for the same as what was read stands for whatever that stands for, and there is something that both do.
 pub record OpeningWords : Type 0 where
   pub unwritten : (old new : Disk) (k : ℕ) (image : Image) → IsUnwritten old new → old.clock ≤ k → k ≤ new.clock
       → IsImage (new.past k) image
@@ -36,6 +37,8 @@ pub record OpeningWords : Type 0 where
   pub as_read : (old : Disk) (image : Image) (s : Standing) → StandsAsRead old image
       → StandsFor this_edition (now old).seen s
       → StandsFor this_edition image s
+  pub both : (old : Disk) (image : Image) → StandsAsRead old image
+      → (s : Standing) × StandsFor this_edition (now old).seen s × StandsFor this_edition image s
 
 -- Why an edition does not open a disk of so many sectors with this image: it is too small; no head gate is open; what
 -- is there is no journal, or its records mean nothing to the edition; or it is a journal of format one that means
@@ -67,11 +70,12 @@ pub record RefusalWords : Type 0 where
 -- of the first area that reads open. Those of a journal that starts over in an area: its first two, the bodies of so
 -- many slots, and each gate of it that reads open. An opening is refused for what `RefusalWords` names, or as Disk;
 -- where it writes nothing the disk is as it was if it is too small, as a sync leaves it if that is refused which is on
--- it, and one or the other if a device call failed; and no failed call is counted unless one is reported. While a
--- journal starts over, each image that is left before its head gate is written has the journal as it was. The gates of
--- an area that starts over are open at the head, and closed where they read open. A sector that is left alone reads at
--- each moment as before, and what a power loss may leave in it at each moment it could leave there before. To keep a
--- change takes 4 device calls at most; or, where all 256 slots are used, 523 and one for each record of a snapshot.
+-- it, and one or the other if a device call failed; and no failed call is counted unless one is reported; then one is,
+-- or the disk is worn. A journal of a format has a head that says so. While a journal starts over, each image that is
+-- left before its head gate is written has the journal as it was. The gates of an area that starts over are open at the
+-- head, and closed where they read open. A sector that is left alone reads at each moment as before, and what a power
+-- loss may leave in it at each moment it could leave there before. To keep a change takes 4 device calls at most; or,
+-- where all 256 slots are used, 523 and one for each record of a snapshot.
 pub record JournalWords : Type 0 where
   pub format_writes : (seen : Image) (i : ℕ) → FormatWrites seen i
       → (i ≤ 2) ⊎ ((k : ℕ) × (k < 257) × (i ≡ 2 * k + 1) × IsOpen (seen i))
@@ -91,6 +95,10 @@ pub record JournalWords : Type 0 where
       → IsLeftBy fault old new → new ≡ settled_state old.seen
   pub failures : (old new : Disk) (fault : JournalFault) → fault ≢ DiskFault → FailsWith old new fault
       → new.failures ≡ old.failures
+  pub failed : (old new : Disk) → FailsAs {T = Unit {0}} old new (Err DiskFault)
+      → (new.failures ≡ old.failures + 1) ⊎ (new.worn ≡ true)
+  pub in_format : (image : Image) (format : Format) → HasFormat image format
+      → (c : Content) × HasJournal image c × (c.head.format ≡ format)
   pub until : (old new : Disk) (limit k : ℕ) (c : Content) (image : Image) → FindsUntil old new limit c → old.clock ≤ k
       → k ≤ new.clock → k < limit
       → IsImage (new.past k) image → HasJournal image c

@@ -1,5 +1,5 @@
 -- What is to be drawn from words on commands that wait, and on their tickets.
-use Rattle.std.specs.Prelude.{◌≡◌, ◌⊎◌, ◌++◌, ℕ, List, [], ◌∷◌, length, Contains, Option, Some, Result, Ok}
+use Rattle.std.specs.Prelude.{◌≡◌, ◌≢◌, ◌⊎◌, ◌++◌, ℕ, List, [], ◌∷◌, length, Contains, Option, Some, Result, Ok}
 use Rattle.std.specs.List.{range_with_len}
 use Rattle.macs_config.specs.declared.command.Command.{Command}
 use Rattle.macs_endpoint.specs.State.{Advanced, AdvancedLong, Call, Commands, Submitted}
@@ -7,14 +7,15 @@ use Rattle.macs_endpoint.specs.Step.{Exchange}
 use Rattle.macs_endpoint.specs.declared.fault.CommandFault.{CommandFault}
 use Rattle.macs_endpoint.specs.declared.progress.Step.TheVariants.{Done}
 use Rattle.macs_endpoint.specs.declared.queue.Waiting.{Waiting}
-use Rattle.macs_headline.specs.Commands.{WasHandedIn, failing, waiting_at_end}
+use Rattle.macs_headline.specs.Commands.{WasHandedIn, failing, first_under, waiting_at_end, without_first}
 use Rattle.macs_headline.specs.Tickets.{AreTicketsKept, tickets_done, tickets_given, tickets_of}
 
 -- Tickets that are kept: those that were given are 1, 2 and so on; those that are done with, and then those that wait,
 -- are as many of the same. Each that `submit` answered is among those that were given, in its place; each whose command
 -- a step is done with, whatever became of it, among those that are done with; and each that waits among those that
 -- wait. A command that was handed in is the first that waits at the end; or none waits there, and it was given to
--- `command`, which answered Disk or is the call that was cut short.
+-- `command`, which answered Disk or is the call that was cut short. A ticket takes the first command that waits, if it
+-- is that one's, and else none.
 pub record QueueWords : Type 0 where
   pub given : (exchanges : List Exchange) (waiting : List Waiting) → AreTicketsKept exchanges waiting
       → tickets_given exchanges ≡ range_with_len 1 (length (tickets_given exchanges))
@@ -31,3 +32,7 @@ pub record QueueWords : Type 0 where
       → WasHandedIn exchanges cut command
       → ((w : Waiting) × (rest : List Waiting) × (waiting_at_end exchanges ≡ w ∷ rest) × (w.command ≡ command))
       ⊎ ((waiting_at_end exchanges ≡ []) × (Contains exchanges (failing command) ⊎ (cut ≡ Some (Commands command))))
+  pub under : (w : Waiting) (rest : List Waiting) (ticket : ℕ) → w.ticket ≡ ticket
+      → (first_under ticket (w ∷ rest) ≡ w.command ∷ []) × (without_first ticket (w ∷ rest) ≡ rest)
+  pub not_under : (w : Waiting) (rest : List Waiting) (ticket : ℕ) → w.ticket ≢ ticket
+      → (first_under ticket (w ∷ rest) ≡ []) × (without_first ticket (w ∷ rest) ≡ w ∷ rest)

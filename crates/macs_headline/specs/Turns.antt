@@ -11,8 +11,8 @@ use Rattle.macs_endpoint.specs.WorkThroughCalls.{steps_made}
 use Rattle.macs_endpoint.specs.Lives.{Transition}
 use Rattle.macs_endpoint.specs.Needed.{raise_in}
 use Rattle.macs_endpoint.specs.Rooms.{IsEncodingAn, RxStays, TxStays, frames_sent}
-use Rattle.macs_endpoint.specs.State.{Advanced, Advances, Commands, Protected, Ran, Refilled, State, command_made}
-use Rattle.macs_endpoint.specs.State.{no_logs}
+use Rattle.macs_endpoint.specs.State.{Advanced, Advances, Call, Commands, Protected, Ran, Refilled, Reply, State}
+use Rattle.macs_endpoint.specs.State.{command_made, no_logs}
 use Rattle.macs_endpoint.specs.Value.{EndpointValue, IsSoundEndpoint, is_stopped, state_of}
 use Rattle.macs_endpoint.specs.declared.fault.CommandFault.{CommandFault}
 use Rattle.macs_endpoint.specs.declared.fault.RefillFault.TheVariants as refill
@@ -23,7 +23,8 @@ use Rattle.macs_endpoint.specs.declared.queue.Waiting.{Waiting}
 -- Of calls, one more is counted where the first is a step; where its answer says that a reservation used its turn, made
 -- or refused; where it says that a submitted command is done with, kept or refused; and where a frame went out under
 -- the association, which is the encoding one then. Else no more than of the others. What a command that is answered as
--- Ok makes durable is that command, and what a step does that is done with one is the first that waited.
+-- Ok makes durable is that command, and what a step does that is done with one is the first that waited. With any other
+-- answer, and by any other call, no command is made durable.
 pub record TurnsAreCounted (D : Type 0) : Type 0 where
   pub stepped : (turn : Transition D) (turns : List (Transition D)) → turn.call ≡ Advances
       → steps_made (turn ∷ turns) ≡ 1 + steps_made turns
@@ -55,6 +56,10 @@ pub record TurnsAreCounted (D : Type 0) : Type 0 where
   pub made : (s : State) (command : Command) → command_made s (Commands command) (Ran (Ok tt)) ≡ Some command
   pub made_later : (s : State) (ticket : ℕ) (w : Waiting) (rest : List Waiting) → s.waiting ≡ w ∷ rest
       → command_made s Advances (Advanced (Ok (Done ticket (Ok tt)))) ≡ Some w.command
+  pub made_by_none : (s : State) (call : Call) (reply : Reply)
+      → ((command : Command) (made : Unit {0}) → call ≡ Commands command → reply ≢ Ran (Ok made))
+      → ((ticket : ℕ) (made : Unit {0}) → call ≡ Advances → reply ≢ Advanced (Ok (Done ticket (Ok made))))
+      → command_made s call reply ≡ None
 
 -- An association stays over no calls, and over one more that neither installs it, removes it, nor drops its channel.
 -- Work lasts over no calls, and over one more before which it is under way, and after which the endpoint runs. No

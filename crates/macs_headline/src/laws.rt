@@ -261,7 +261,7 @@ pub fn headline()
     // submitted command leaves the queue.
     ensures refusals_are_exact { (sectors : ℕ) → RefusalsAreExact sectors }
     // While a command waits `command` is answered Busy; sixteen wait at most, under tickets one by
-    // one.
+    // one. What a call does not name stays as it was.
     ensures waiting { (sectors : ℕ) → CommandsWait sectors }
     // A command that is refused for a reason has it, and none before it; and one that has any is
     // refused.
