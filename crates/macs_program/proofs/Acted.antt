@@ -5,13 +5,13 @@ use Rattle.std.specs.Io.KnownBytes.{Appends}
 use Rattle.std.proofs.lemmas.Result.{IfErr-weaker, IfOk-weaker}
 use Rattle.clap.specs.Words.{Text, subcommand_of, takes}
 use Rattle.macs_disk.specs.Files.{FileState}
-use Rattle.macs_program.specs.Failing.{failure_of_words, failure_status}
+use Rattle.macs_offline.specs.Failing.{failure_of_words, failure_status}
 use Rattle.macs_program.specs.Inputs.{read_of}
 use Rattle.macs_program.specs.Run.{Acts, Performs}
-use Rattle.macs_program.specs.declared.failure.Failure.{Failure}
-use Rattle.macs_program.specs.declared.failure.Failure.TheVariants.{Output}
-use Rattle.macs_program.specs.declared.status.Status.{Status}
-use Rattle.macs_program.specs.declared.status.Status.TheVariants as ends
+use Rattle.macs_offline.specs.declared.failure.Failure.{Failure}
+use Rattle.macs_offline.specs.declared.failure.Failure.TheVariants.{Output}
+use Rattle.macs_offline.specs.declared.status.Status.{Status}
+use Rattle.macs_offline.specs.declared.status.Status.TheVariants as ends
 use Rattle.macs_words.specs.Help.{topic_text}
 use Rattle.macs_words.specs.Words.{AreRefused, AsksFor, AsksForNothing, Names, macsecd}
 use Rattle.macs_words.specs.declared.action.Action.{Action}

@@ -4,8 +4,8 @@ use Rattle.std.proofs.Common.{subst}
 use Rattle.macs_requests.specs.Requests.{end_line}
 use Rattle.macs_program.specs.AskWords.{AskWords, SaysItsEnd}
 use Rattle.macs_program.specs.Asking.{BeginsWithEnd, BeginsWithOwn, IsForRelay, sci_line}
-use Rattle.macs_program.specs.declared.failure.Failure.{Failure}
-use Rattle.macs_program.specs.declared.status.Status.{Status}
+use Rattle.macs_offline.specs.declared.failure.Failure.{Failure}
+use Rattle.macs_offline.specs.declared.status.Status.{Status}
 
 -- the line of the SCI comes first
 own_first : (octets sci : List ℕ) (rest : Option (List ℕ)) → BeginsWithOwn (Some octets) sci rest

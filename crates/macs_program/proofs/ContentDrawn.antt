@@ -18,10 +18,10 @@ use Rattle.macs_record.specs.Gates.{closed_gate, open_mark}
 use Rattle.macs_record.specs.Heads.{Head, IsHeadOf, head_mark}
 use Rattle.macs_record.specs.Sectors.{Begins}
 use Rattle.macs_program.specs.ContentWords.{BlankWords, InUseWords}
-use Rattle.macs_program.specs.Contents.{HasFront, HasHeadMark, HasOpenGate, IsBlankFile}
-use Rattle.macs_program.specs.Contents.{IsPartOf, IsUnused, leftover, number_of, sector_in}
+use Rattle.macs_offline.specs.Contents.{HasFront, HasHeadMark, HasOpenGate, IsBlankFile}
+use Rattle.macs_offline.specs.Contents.{IsPartOf, IsUnused, leftover, number_of, sector_in}
 use Rattle.macs_program.specs.NewDisks.{Permits}
-use Rattle.macs_program.specs.declared.contents.Contents.TheVariants as contents
+use Rattle.macs_offline.specs.declared.contents.Contents.TheVariants as contents
 use Rattle.macs_program.proofs.WrittenOver.{blank-permitted, closed-permitted}
 
 -- ---- sectors of a disk and sectors of its file

@@ -29,31 +29,31 @@ use Rattle.macs_frame.specs.Tag.{tag_of}
 use Rattle.macs_frame.proofs.Readings.{verified_once}
 use Rattle.macs_journal.specs.declared.fault.JournalFault.TheVariants as journal
 use Rattle.macs_pcap.specs.States.{SinkState}
-use Rattle.macs_program.specs.Opened.{Answers, AnswersRequest, answer_status, answer_text, refusal_text, valid_text}
+use Rattle.macs_offline.specs.Opened.{Answers, AnswersRequest, answer_status, answer_text, refusal_text, valid_text}
 use Rattle.macs_program.proofs.OwnEnds.{own-end}
-use Rattle.macs_program.specs.Applying.{own_sci}
-use Rattle.macs_program.specs.Applying.{Applies, EndsRun, SaysCommands, answer_of, commit_fault, outcome_lines}
+use Rattle.macs_offline.specs.Applying.{own_sci}
+use Rattle.macs_offline.specs.Applying.{Applies, EndsRun, SaysCommands, answer_of, commit_fault, outcome_lines}
 use Rattle.macs_program.specs.Capturing.{EndsWith, IsFlushed}
-use Rattle.macs_program.specs.Contents.{HasOpenGate, IsBlankFile}
+use Rattle.macs_offline.specs.Contents.{HasOpenGate, IsBlankFile}
 use Rattle.macs_program.specs.Drawn.{AnswerWords, ApplyWords, CaptureWords, FileWords, LineWords, ValueWords, is_apply}
 use Rattle.macs_program.specs.Drawn.{TextLineWords, is_silent}
-use Rattle.macs_program.specs.Failing.{failure_of_run}
+use Rattle.macs_offline.specs.Failing.{failure_of_run}
 use Rattle.macs_program.specs.NewDisks.{Permits}
 use Rattle.macs_program.specs.Inputs.{InputRead}
-use Rattle.macs_program.specs.OpenInput.{InputFaultHolds, IsFourLines, input_faults, offset_text}
+use Rattle.macs_offline.specs.OpenInput.{InputFaultHolds, IsFourLines, input_faults, offset_text}
 use Rattle.macs_program.specs.Run.{HasPrinted, OpenFails}
-use Rattle.macs_program.specs.Values.{SpellsLayout}
-use Rattle.macs_program.specs.declared.opened.Opened.{Opened}
-use Rattle.macs_program.specs.declared.opened.Opened.TheVariants.{Refused, Valid}
-use Rattle.macs_program.specs.declared.contents.Contents.TheVariants as contents
-use Rattle.macs_program.specs.declared.failure.DiskFault.{DiskFault}
-use Rattle.macs_program.specs.declared.failure.DiskFault.TheVariants as disk
-use Rattle.macs_program.specs.declared.failure.Failure.{Failure}
-use Rattle.macs_program.specs.declared.failure.Failure.TheVariants as failures
-use Rattle.macs_program.specs.declared.open_input.InputFault.{InputFault}
-use Rattle.macs_program.specs.declared.open_input.InputFault.TheVariants as fault
-use Rattle.macs_program.specs.declared.open_input.OpenInput.{OpenInput}
-use Rattle.macs_program.proofs.TextLines.{lines-ended, lines-last, lines-nil, trimmed-other, trimmed-return}
+use Rattle.macs_offline.specs.Values.{SpellsLayout}
+use Rattle.macs_offline.specs.declared.opened.Opened.{Opened}
+use Rattle.macs_offline.specs.declared.opened.Opened.TheVariants.{Refused, Valid}
+use Rattle.macs_offline.specs.declared.contents.Contents.TheVariants as contents
+use Rattle.macs_offline.specs.declared.failure.DiskFault.{DiskFault}
+use Rattle.macs_offline.specs.declared.failure.DiskFault.TheVariants as disk
+use Rattle.macs_offline.specs.declared.failure.Failure.{Failure}
+use Rattle.macs_offline.specs.declared.failure.Failure.TheVariants as failures
+use Rattle.macs_offline.specs.declared.open_input.InputFault.{InputFault}
+use Rattle.macs_offline.specs.declared.open_input.InputFault.TheVariants as fault
+use Rattle.macs_offline.specs.declared.open_input.OpenInput.{OpenInput}
+use Rattle.macs_offline.proofs.TextLines.{lines-ended, lines-last, lines-nil, trimmed-other, trimmed-return}
 use Rattle.macs_words.specs.declared.action.Action.{Action}
 use Rattle.macs_words.specs.declared.action.Action.TheVariants.{About, Apply, Check, Examine, Format, Key, Open}
 use Rattle.macs_words.specs.declared.action.Action.TheVariants.{Plan, Protect, Relay, Show, Validate}

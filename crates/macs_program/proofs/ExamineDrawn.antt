@@ -1,8 +1,8 @@
 -- All that is to be drawn from the words on what `examine` and `about` print.
 use Rattle.std.proofs.Common.{inl, inr, ℕ, Option, ap, refl}
 use Rattle.macs_program.specs.ExamineTexts.{AboutTexts, ExamineTexts}
-use Rattle.macs_program.specs.Examining.{rx_ceiling_line, tx_ceiling_line}
-use Rattle.macs_program.proofs.RecordWords.{each-once, no-line, some-line, word-of-number}
+use Rattle.macs_offline.specs.Examining.{rx_ceiling_line, tx_ceiling_line}
+use Rattle.macs_offline.proofs.RecordWords.{each-once, no-line, some-line, word-of-number}
 
 pub examine-texts : ExamineTexts
 examine-texts = record {

@@ -17,21 +17,22 @@ use Rattle.macs_endpoint.specs.Opening.{IsOpening}
 use Rattle.macs_endpoint.specs.Value.{EndpointValue}
 use Rattle.macs_journal.specs.declared.recovery.RecoverRefused.{RecoverRefused}
 use Rattle.macs_pcap.specs.States.{SinkState, SourceState}
-use Rattle.macs_program.proofs.NoneWaits.{opened-none}
-use Rattle.macs_program.proofs.Failures.{MemoryOr, capture-no-output, capture-no-usage, commands-no-output}
-use Rattle.macs_program.proofs.Failures.{commands-no-usage, disk-no-output, disk-no-usage, of-opening, output-no-usage}
-use Rattle.macs_program.specs.Applying.{AppliesAll, AppliesSome, EndsRun, SaidByFile, SaysCommands}
-use Rattle.macs_program.specs.Applying.{is_for, outcome_lines, own_sci}
+use Rattle.macs_offline.proofs.NoneWaits.{opened-none}
+use Rattle.macs_offline.proofs.Failures.{MemoryOr, capture-no-output, capture-no-usage, commands-no-output}
+use Rattle.macs_offline.proofs.Failures.{commands-no-usage, disk-no-output, disk-no-usage, of-opening, output-no-usage}
+use Rattle.macs_offline.specs.Applying.{AppliesAll, AppliesSome, EndsRun, SaidByFile, SaysCommands}
+use Rattle.macs_offline.specs.Applying.{is_for, outcome_lines, own_sci}
 use Rattle.macs_program.specs.Capturing.{EndsPass, PassesCapture}
-use Rattle.macs_program.specs.Endpoints.{AppliesIn, BreaksOff, BreaksOffIn, IsDiskIn, IsOpeningIn, OpeningFails}
+use Rattle.macs_program.specs.Endpoints.{AppliesIn, BreaksOff, BreaksOffIn}
+use Rattle.macs_offline.specs.Openings.{IsDiskIn, IsOpeningIn, OpeningFails}
 use Rattle.macs_program.specs.Endpoints.{PassEndsIn, PassesIn, ShowsIn, shown_text}
-use Rattle.macs_program.specs.Failing.{failure_of_file, failure_of_journal, failure_status}
+use Rattle.macs_offline.specs.Failing.{failure_of_file, failure_of_journal, failure_status}
 use Rattle.macs_program.specs.Summing.{pass_status, summary_line}
 use Rattle.macs_program.specs.Tasks.{DoesApply, DoesPass, DoesShow, Doing, IsRunIn}
-use Rattle.macs_program.specs.declared.failure.Failure.{Failure}
-use Rattle.macs_program.specs.declared.failure.Failure.TheVariants.{Capture, Commands, Memory, Output}
-use Rattle.macs_program.specs.declared.status.Status.{Status}
-use Rattle.macs_program.specs.declared.status.Status.TheVariants as ends
+use Rattle.macs_offline.specs.declared.failure.Failure.{Failure}
+use Rattle.macs_offline.specs.declared.failure.Failure.TheVariants.{Capture, Commands, Memory, Output}
+use Rattle.macs_offline.specs.declared.status.Status.{Status}
+use Rattle.macs_offline.specs.declared.status.Status.TheVariants as ends
 
 -- ---- opening
 

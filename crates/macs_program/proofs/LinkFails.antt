@@ -31,29 +31,29 @@ use Rattle.macs_words.specs.declared.action.UsageFault.{UsageFault}
 use Rattle.macs_words.specs.declared.action.UsageFault.TheVariants as usage
 use Rattle.macs_words.specs.declared.plan_words.PlanEnd.{PlanEnd}
 use Rattle.macs_words.specs.declared.plan_words.PlanStage.{PlanStage}
-use Rattle.macs_program.proofs.Examined.{of-examination}
-use Rattle.macs_program.proofs.Failures.{IsOfDisk, of-file, of-opening}
-use Rattle.macs_program.proofs.Inspected.{of-inspecting}
-use Rattle.macs_program.proofs.Tried.{IsOfTrial, of-trial}
-use Rattle.macs_program.specs.Applying.{EndsRun}
+use Rattle.macs_offline.proofs.Examined.{of-examination}
+use Rattle.macs_offline.proofs.Failures.{IsOfDisk, of-file, of-opening}
+use Rattle.macs_offline.proofs.Inspected.{of-inspecting}
+use Rattle.macs_offline.proofs.Tried.{IsOfTrial, of-trial}
+use Rattle.macs_offline.specs.Applying.{EndsRun}
 use Rattle.macs_program.specs.Capturing.{EndsPass, EndsWith}
-use Rattle.macs_program.specs.Checking.{CheckFails}
+use Rattle.macs_offline.specs.Checking.{CheckFails}
 use Rattle.macs_program.specs.Endpoints.{BreaksOff, PassEnds}
-use Rattle.macs_program.specs.Failing.{failure_of_file, failure_of_refill, failure_of_run, failure_of_words}
+use Rattle.macs_offline.specs.Failing.{failure_of_file, failure_of_refill, failure_of_run, failure_of_words}
 use Rattle.macs_program.specs.Inputs.{InputRead}
-use Rattle.macs_program.specs.Inspecting.{InspectFails}
+use Rattle.macs_offline.specs.Inspecting.{InspectFails}
 use Rattle.macs_program.specs.Judging.{EndsEach, JudgingEnds}
 use Rattle.macs_program.specs.NewDisks.{FormatFails}
 use Rattle.macs_program.specs.Relaying.{Course, EndsRelay, RelayEnds, course_of, new_wire}
 use Rattle.macs_program.specs.Run.{FailsAs, FailsFor, OpenFails}
-use Rattle.macs_program.specs.declared.addresses.AddressFault.{AddressFault}
-use Rattle.macs_program.specs.declared.failure.DiskFault.{DiskFault}
-use Rattle.macs_program.specs.declared.failure.DiskFault.TheVariants as disk_faults
-use Rattle.macs_program.specs.declared.failure.Failure.TheVariants as failures
-use Rattle.macs_program.specs.declared.failure.LinkRefusal.{LinkRefusal}
-use Rattle.macs_program.specs.declared.open_input.InputFault.{InputFault}
-use Rattle.macs_program.specs.declared.open_input.InputFault.TheVariants as request_faults
-use Rattle.macs_program.specs.declared.values.ValueFault.{ValueFault}
+use Rattle.macs_offline.specs.declared.addresses.AddressFault.{AddressFault}
+use Rattle.macs_offline.specs.declared.failure.DiskFault.{DiskFault}
+use Rattle.macs_offline.specs.declared.failure.DiskFault.TheVariants as disk_faults
+use Rattle.macs_offline.specs.declared.failure.Failure.TheVariants as failures
+use Rattle.macs_offline.specs.declared.failure.LinkRefusal.{LinkRefusal}
+use Rattle.macs_offline.specs.declared.open_input.InputFault.{InputFault}
+use Rattle.macs_offline.specs.declared.open_input.InputFault.TheVariants as request_faults
+use Rattle.macs_offline.specs.declared.values.ValueFault.{ValueFault}
 
 -- ---- it is no other failure
 

@@ -3,7 +3,7 @@ use Rattle.std.proofs.Common.{◌≡◌, ◌≢◌, ◌⊎◌, ◌∙◌, inl, i
 use Rattle.std.specs.Str.{bytes_eq}
 use Rattle.std.proofs.lemmas.Bool.{true≢false}
 use Rattle.macs_config.proofs.Channels.{bytes_eq-itself, same_octets}
-use Rattle.macs_program.specs.Applying.{is_for}
+use Rattle.macs_offline.specs.Applying.{is_for}
 
 pub own-end : (end : Option (List ℕ)) (sci : List ℕ) → is_for end sci ≡ true → (end ≡ None) ⊎ (end ≡ Some sci)
 own-end None sci is = inl refl

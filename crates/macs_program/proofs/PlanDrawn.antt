@@ -1,7 +1,7 @@
 -- All that is to be drawn from the words on what `plan` says.
 use Rattle.std.proofs.Common.{inl, inr, refl}
 use Rattle.macs_program.specs.PlanTexts.{PlanTexts}
-use Rattle.macs_program.proofs.Planned.{planned-of}
+use Rattle.macs_offline.proofs.Planned.{planned-of}
 
 pub plan-texts : PlanTexts
 plan-texts = record {

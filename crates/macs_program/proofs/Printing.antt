@@ -4,14 +4,15 @@ use Rattle.std.proofs.Common.{length-take, ap, subst, ◌∙◌, ◌⊎◌, inl,
 use Rattle.std.proofs.lemmas.List.{take_all}
 use Rattle.std.specs.Io.KnownBytes.{Appends}
 use Rattle.macs_fields.specs.First.{IsFirst}
-use Rattle.macs_program.specs.Opened.{Answers, answer_status, answer_text}
-use Rattle.macs_program.specs.OpenInput.{InputFaultHolds, input_faults}
+use Rattle.macs_offline.specs.Opened.{Answers, answer_status, answer_text}
+use Rattle.macs_offline.specs.OpenInput.{InputFaultHolds, input_faults}
 use Rattle.macs_program.specs.Run.{Prints}
-use Rattle.macs_program.specs.declared.opened.Opened.{Opened}
-use Rattle.macs_program.specs.declared.opened.Opened.TheVariants as answers
-use Rattle.macs_program.specs.declared.open_input.InputFault.{InputFault}
-use Rattle.macs_program.specs.declared.status.Status.{Status}
-use Rattle.macs_program.specs.declared.status.Status.TheVariants.{Done, Refused}
+use Rattle.macs_offline.proofs.Printing.{prints-text}
+use Rattle.macs_offline.specs.declared.opened.Opened.{Opened}
+use Rattle.macs_offline.specs.declared.opened.Opened.TheVariants as answers
+use Rattle.macs_offline.specs.declared.open_input.InputFault.{InputFault}
+use Rattle.macs_offline.specs.declared.status.Status.{Status}
+use Rattle.macs_offline.specs.declared.status.Status.TheVariants.{Done, Refused}
 
 -- what was appended to nothing is what was read
 pub appended-read : (remaining : Option (List ℕ)) (limit : ℕ) (text : List ℕ)
@@ -28,11 +29,6 @@ read-whole input octets answer read answers =
     let count = length-take 20001 octets in
     let whole = take_all 20001 octets (omega (arith, ap length read)) in
     subst (λ (x : List ℕ). Answers x answer) (read ∙ whole) answers
-
--- a text that was printed is an equal one
-pub prints-text : (before after : Option (List ℕ)) (text other : List ℕ) → text ≡ other → Appends before after text
-    → Appends before after other
-prints-text before after text other same printed = subst (λ (x : List ℕ). Appends before after x) same printed
 
 -- the answer to what was read is printed
 pub prints : (remaining before after : Option (List ℕ)) (input line : List ℕ) (answer : Opened) (status : Status)

@@ -10,12 +10,12 @@ use Rattle.macs_edge.specs.declared.relaying.RelaySummary.{RelaySummary}
 use Rattle.macs_endpoint.specs.Value.{EndpointValue}
 use Rattle.macs_endpoint.specs.declared.fault.RefillFault.{RefillFault}
 use Rattle.macs_endpoint.specs.declared.fault.RefillFault.TheVariants as refill
-use Rattle.macs_program.proofs.NoneWaits.{attended-not-busy, relay-not-busy}
-use Rattle.macs_program.specs.Failing.{failure_of_refill}
+use Rattle.macs_offline.proofs.NoneWaits.{attended-not-busy, relay-not-busy}
+use Rattle.macs_offline.specs.Failing.{failure_of_refill}
 use Rattle.macs_program.specs.Relaying.{Course, IsRunBy, RelayEnds, RelayEndsIn, new_wire}
 use Rattle.macs_program.specs.RelayDrawn.{RelayWords, RunsAs, fresh_wire}
-use Rattle.macs_program.specs.declared.failure.Failure.{Failure}
-use Rattle.macs_program.specs.declared.failure.Failure.TheVariants as failures
+use Rattle.macs_offline.specs.declared.failure.Failure.{Failure}
+use Rattle.macs_offline.specs.declared.failure.Failure.TheVariants as failures
 
 neither : {A B : Type 0} (a : Option A) (b : Option B) → (is_some a || is_some b) ≡ false → (a ≡ None) × (b ≡ None)
 neither None None is = (refl, refl)

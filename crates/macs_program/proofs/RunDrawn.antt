@@ -25,39 +25,40 @@ use Rattle.macs_pcap.specs.Records.{CaptureRecord}
 use Rattle.macs_pcap.specs.States.{SinkState, SourceState}
 use Rattle.macs_pcap.specs.declared.header.Header.{Header}
 use Rattle.macs_rxsc.specs.declared.verdict.Verdict.{Verdict}
-use Rattle.macs_program.specs.Addresses.{AddressFaultHolds}
+use Rattle.macs_offline.specs.Addresses.{AddressFaultHolds}
 use Rattle.macs_program.specs.Asking.{IsOfAsking}
-use Rattle.macs_program.specs.Applying.{SaidByFile, SaysCommands, own_sci}
-use Rattle.macs_program.specs.Checking.{CheckFails, Complains, IsSaidOfFile, PrintsCount, count_line}
+use Rattle.macs_offline.specs.Applying.{SaidByFile, SaysCommands, own_sci}
+use Rattle.macs_offline.specs.Checking.{CheckFails, Complains, IsSaidOfFile, PrintsCount, count_line}
 use Rattle.macs_program.specs.Capturing.{EndsPass, PassesCapture}
-use Rattle.macs_program.specs.Contents.{number_of, sector_in}
-use Rattle.macs_program.specs.Endpoints.{IsEndpointIn, PassEnds, PassesIn}
-use Rattle.macs_program.specs.FileModes.{mode_warning}
-use Rattle.macs_program.specs.Inspecting.{AreLinesOf, InspectsCapture}
+use Rattle.macs_offline.specs.Contents.{number_of, sector_in}
+use Rattle.macs_program.specs.Endpoints.{PassEnds, PassesIn}
+use Rattle.macs_offline.specs.Openings.{IsEndpointIn}
+use Rattle.macs_offline.specs.FileModes.{mode_warning}
+use Rattle.macs_offline.specs.Inspecting.{AreLinesOf, InspectsCapture}
 use Rattle.macs_program.proofs.LinkFails.{link-fails}
 use Rattle.macs_program.proofs.OwnEnds.{other-end, own-end}
 use Rattle.macs_program.specs.Judging.{EndsEach, JudgesCapture, JudgesIn, JudgingEnds, verdict_lines}
-use Rattle.macs_program.specs.Keys.{IsOfKey}
+use Rattle.macs_offline.specs.Keys.{IsOfKey}
 use Rattle.macs_plan.specs.declared.link.End.{End}
 use Rattle.macs_plan.specs.declared.planning.Stage.{Stage}
-use Rattle.macs_program.specs.Plans.{IsSaidOfLink, PlanFails, RefusesLink, SaysWhy, end_of, stage_of}
+use Rattle.macs_offline.specs.Plans.{IsSaidOfLink, PlanFails, RefusesLink, SaysWhy, end_of, stage_of}
 use Rattle.macs_program.specs.Run.{WrongValues}
 use Rattle.macs_program.specs.RunWords.{BeforeWords, FailWords, ReplyWords}
 use Rattle.macs_program.specs.Summing.{pass_status, summary_line}
-use Rattle.macs_program.specs.Values.{ValueFaultHolds}
-use Rattle.macs_program.specs.declared.addresses.AddressFault.{AddressFault}
-use Rattle.macs_program.specs.declared.failure.DiskFault.TheVariants as disk
-use Rattle.macs_program.specs.declared.failure.Failure.{Failure}
-use Rattle.macs_program.specs.declared.failure.Failure.TheVariants as failures
-use Rattle.macs_program.specs.declared.failure.LinkRefusal.{LinkRefusal}
-use Rattle.macs_program.specs.declared.status.Status.{Status}
-use Rattle.macs_program.specs.declared.status.Status.TheVariants as ends
-use Rattle.macs_program.specs.declared.values.ValueFault.{ValueFault}
+use Rattle.macs_offline.specs.Values.{ValueFaultHolds}
+use Rattle.macs_offline.specs.declared.addresses.AddressFault.{AddressFault}
+use Rattle.macs_offline.specs.declared.failure.DiskFault.TheVariants as disk
+use Rattle.macs_offline.specs.declared.failure.Failure.{Failure}
+use Rattle.macs_offline.specs.declared.failure.Failure.TheVariants as failures
+use Rattle.macs_offline.specs.declared.failure.LinkRefusal.{LinkRefusal}
+use Rattle.macs_offline.specs.declared.status.Status.{Status}
+use Rattle.macs_offline.specs.declared.status.Status.TheVariants as ends
+use Rattle.macs_offline.specs.declared.values.ValueFault.{ValueFault}
 use Rattle.macs_words.specs.declared.action.Action.{Action}
 use Rattle.macs_words.specs.declared.action.Action.TheVariants.{Format, Relay}
 use Rattle.macs_words.specs.declared.action.WireEnds.{WireEnds}
 use Rattle.macs_words.specs.declared.pace.Running.{Running}
-use Rattle.macs_program.proofs.Planned.{planned-of}
+use Rattle.macs_offline.proofs.Planned.{planned-of}
 
 -- ---- what is done
 

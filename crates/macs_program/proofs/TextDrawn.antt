@@ -31,16 +31,16 @@ use Rattle.macs_program.specs.CaptureOctets.{CaptureOctets}
 use Rattle.macs_program.specs.ShowTexts.{ShowTexts}
 use Rattle.macs_journal.specs.declared.fault.JournalFault.TheVariants as journal
 use Rattle.macs_program.proofs.EndShapes.{no_array, no_table}
-use Rattle.macs_program.specs.Applying.{outcome_line, outcome_lines}
+use Rattle.macs_offline.specs.Applying.{outcome_line, outcome_lines}
 use Rattle.macs_program.specs.Asking.{failure_in}
-use Rattle.macs_program.specs.Checking.{IsSaidOfFile, count_line, fault_text, file_fault_text}
-use Rattle.macs_program.specs.FileModes.{mode_line, mode_warning, octal_digit, three_digits}
+use Rattle.macs_offline.specs.Checking.{IsSaidOfFile, count_line, fault_text, file_fault_text}
+use Rattle.macs_offline.specs.FileModes.{mode_line, mode_warning, octal_digit, three_digits}
 use Rattle.macs_program.specs.Summing.{pass_status}
 use Rattle.macs_program.specs.TextWords.{CheckTexts, FailureTexts, FaultOrders, FrameTexts, LineTexts}
-use Rattle.macs_program.specs.Trying.{trial_line, trial_lines}
-use Rattle.macs_program.specs.declared.failure.DiskFault.TheVariants as disk
-use Rattle.macs_program.specs.declared.failure.Failure.TheVariants as failures
-use Rattle.macs_program.specs.declared.status.Status.TheVariants as ends
+use Rattle.macs_offline.specs.Trying.{trial_line, trial_lines}
+use Rattle.macs_offline.specs.declared.failure.DiskFault.TheVariants as disk
+use Rattle.macs_offline.specs.declared.failure.Failure.TheVariants as failures
+use Rattle.macs_offline.specs.declared.status.Status.TheVariants as ends
 
 -- ---- lines
 

@@ -8,17 +8,17 @@ use Rattle.std.proofs.lemmas.List.{length_push}
 use Rattle.macs_config.specs.declared.refusal.Refusal.{Refusal}
 use Rattle.macs_control.specs.Asking.{BeginsWithAnswer, unread}
 use Rattle.macs_control.specs.Links.{GivesOctets, Link}
-use Rattle.macs_program.specs.Applying.{outcome_line, outcome_lines, outcomes_status}
+use Rattle.macs_offline.specs.Applying.{outcome_line, outcome_lines, outcomes_status}
 use Rattle.macs_program.specs.Asking.{AsksForText, BeginsWithOwn, HandsCommands, IsBeforeCommands, IsOfAsking}
 use Rattle.macs_program.specs.Asking.{failure_in, failure_of_other, is_of_endpoint, sci_line}
 use Rattle.macs_journal.specs.declared.fault.JournalFault.TheVariants as journal
-use Rattle.macs_program.specs.declared.failure.DiskFault.TheVariants as disk
-use Rattle.macs_program.specs.declared.failure.Failure.TheVariants as failures
-use Rattle.macs_program.specs.declared.failure.Failure.{Failure}
-use Rattle.macs_program.specs.declared.failure.Failure.TheVariants.{Commands, Control, Memory, Output}
-use Rattle.macs_program.specs.declared.status.Status.{Status}
-use Rattle.macs_program.specs.declared.status.Status.TheVariants.{Refused}
-use Rattle.macs_program.proofs.Applied.{lines-more, status-more}
+use Rattle.macs_offline.specs.declared.failure.DiskFault.TheVariants as disk
+use Rattle.macs_offline.specs.declared.failure.Failure.TheVariants as failures
+use Rattle.macs_offline.specs.declared.failure.Failure.{Failure}
+use Rattle.macs_offline.specs.declared.failure.Failure.TheVariants.{Commands, Control, Memory, Output}
+use Rattle.macs_offline.specs.declared.status.Status.{Status}
+use Rattle.macs_offline.specs.declared.status.Status.TheVariants.{Refused}
+use Rattle.macs_offline.proofs.Applied.{lines-more, status-more}
 use Rattle.macs_record.specs.Sectors.{Begins}
 
 -- so many lines were printed, and this is the status of them all

@@ -4,10 +4,10 @@ use Rattle.macs_config.specs.Identity.{Identity}
 use Rattle.macs_disk.specs.FileDisks.{file_given}
 use Rattle.macs_disk.specs.Files.{Behaves, FileState, Settles}
 use Rattle.macs_disk.specs.declared.layout.Layout.{Layout}
-use Rattle.macs_program.specs.Contents.{ContentsAre, HasOpenGate, IsBlankFile}
+use Rattle.macs_offline.specs.Contents.{ContentsAre, HasOpenGate, IsBlankFile}
 use Rattle.macs_program.specs.NewDisks.{Formats, Permits}
-use Rattle.macs_program.specs.declared.contents.Contents.{Contents}
-use Rattle.macs_program.specs.declared.contents.Contents.TheVariants as contents
+use Rattle.macs_offline.specs.declared.contents.Contents.{Contents}
+use Rattle.macs_offline.specs.declared.contents.Contents.TheVariants as contents
 
 pub one-stands : (file : FileState) (sectors : ℕ) (a b : Contents) → ContentsAre file sectors a
     → ContentsAre file sectors b → a ≡ b

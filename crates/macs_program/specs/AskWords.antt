@@ -3,10 +3,10 @@ use Rattle.std.specs.Prelude.{◌≡◌, ◌≢◌, ◌++◌, ◌∷◌, [], ℕ
 use Rattle.hex.specs.Hex.{encode_lower}
 use Rattle.macs_config.specs.declared.command.Command.{Command}
 use Rattle.macs_requests.specs.Requests.{end_line}
-use Rattle.macs_program.specs.Applying.{SaidByFile}
+use Rattle.macs_offline.specs.Applying.{SaidByFile}
 use Rattle.macs_program.specs.Asking.{IsForRelay}
-use Rattle.macs_program.specs.declared.failure.Failure.{Failure}
-use Rattle.macs_program.specs.declared.status.Status.{Status}
+use Rattle.macs_offline.specs.declared.failure.Failure.{Failure}
+use Rattle.macs_offline.specs.declared.status.Status.{Status}
 
 -- some file says commands, and if it names an end, then the octets begin with the line of its SCI in hex; and the first
 -- answer is of status 0

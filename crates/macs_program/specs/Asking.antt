@@ -14,12 +14,12 @@ use Rattle.macs_control.specs.declared.asking.Asker.{Asker}
 use Rattle.macs_record.specs.Sectors.{Begins}
 use Rattle.macs_words.specs.declared.action.Question.{Question}
 use Rattle.macs_words.specs.declared.action.Question.TheVariants.{Apply}
-use Rattle.macs_program.specs.Applying.{SaidByFile, outcome_lines, outcomes_status}
-use Rattle.macs_program.specs.declared.failure.DiskFault.TheVariants as disk
-use Rattle.macs_program.specs.declared.failure.Failure.{Failure}
-use Rattle.macs_program.specs.declared.failure.Failure.TheVariants as failures
-use Rattle.macs_program.specs.declared.status.Status.{Status}
-use Rattle.macs_program.specs.declared.status.Status.TheVariants as ends
+use Rattle.macs_offline.specs.Applying.{SaidByFile, outcome_lines, outcomes_status}
+use Rattle.macs_offline.specs.declared.failure.DiskFault.TheVariants as disk
+use Rattle.macs_offline.specs.declared.failure.Failure.{Failure}
+use Rattle.macs_offline.specs.declared.failure.Failure.TheVariants as failures
+use Rattle.macs_offline.specs.declared.status.Status.{Status}
+use Rattle.macs_offline.specs.declared.status.Status.TheVariants as ends
 use Rattle.macs_journal.specs.declared.fault.JournalFault.TheVariants as journal
 use Rattle.macs_texts.specs.Lines.{line}
 

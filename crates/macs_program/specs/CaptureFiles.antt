@@ -1,8 +1,8 @@
 -- Which captures a run asks for, and in which order.
 use Rattle.std.specs.Prelude.{◌≡◌, ◌⊎◌, ◌++◌, ⊤, ℕ, Bool, true, false, List, [], ◌∷◌, Option, Some, None, Result, OnErr}
 use Rattle.std.specs.Prelude.{OnOk}
-use Rattle.macs_program.specs.declared.failure.Failure.{Failure}
-use Rattle.macs_program.specs.declared.status.Status.{Status}
+use Rattle.macs_offline.specs.declared.failure.Failure.{Failure}
+use Rattle.macs_offline.specs.declared.status.Status.{Status}
 
 -- the capture of a name is opened to be read, or made to be written: and whether it is
 pub data Asked : Type 0 where

@@ -12,7 +12,7 @@ use Rattle.macs_record.specs.Heads.{Head, IsHeadOf, head_mark}
 use Rattle.macs_record.specs.Layout.{sector_of}
 use Rattle.macs_record.specs.Sectors.{Begins}
 use Rattle.macs_record.specs.Settings.{default_settings}
-use Rattle.macs_program.specs.Contents.{HasHeadMark, HasOpenGate, HoldsEndpoint, leftover}
+use Rattle.macs_offline.specs.Contents.{HasHeadMark, HasOpenGate, HoldsEndpoint, leftover}
 use Rattle.macs_program.specs.NewDisks.{Permits}
 
 -- A file of so many sectors of 512 octets, which has room for a disk of this layout. An endpoint is in use in it where

@@ -47,37 +47,40 @@ use Rattle.macs_journal.specs.declared.fault.JournalFault.{JournalFault}
 use Rattle.macs_journal.specs.declared.fault.JournalFault.TheVariants as journal
 use Rattle.macs_pcap.specs.States.{SinkState, SourceState}
 use Rattle.macs_rxsc.specs.declared.verdict.Verdict.{Verdict}
-use Rattle.macs_program.specs.Addresses.{SpellsBoth, SpellsNone}
-use Rattle.macs_program.specs.Opened.{Answers, answer_status, answer_text}
-use Rattle.macs_program.specs.Applying.{Applies, AppliesAll, AppliesSome, EndsRun, SaidByFile, SaysCommands}
-use Rattle.macs_program.specs.Applying.{commit_fault}
-use Rattle.macs_program.specs.Applying.{outcome_lines, outcomes_status}
+use Rattle.macs_offline.specs.Addresses.{SpellsBoth, SpellsNone}
+use Rattle.macs_offline.specs.Opened.{Answers, answer_status, answer_text}
+use Rattle.macs_offline.specs.Applying.{Applies, AppliesAll, AppliesSome, EndsRun, SaidByFile, SaysCommands}
+use Rattle.macs_offline.specs.Applying.{commit_fault}
+use Rattle.macs_offline.specs.Applying.{outcome_lines, outcomes_status}
 use Rattle.macs_program.specs.CaptureFiles.{Asked, Asks, AsksInOrder, Makes, Opens as OpensCapture}
 use Rattle.macs_program.specs.Capturing.{EndsPass, IsFlushed, PassesCapture}
-use Rattle.macs_program.specs.Contents.{HasOpenGate, IsBlankFile}
-use Rattle.macs_program.specs.Endpoints.{AppliesFile, AppliesIn, BreaksOff, BreaksOffIn, IsDiskIn, IsEndpointIn}
-use Rattle.macs_program.specs.Endpoints.{OpeningFails, PassesIn, ShowsIn, shown_text}
-use Rattle.macs_program.specs.Failing.{failure_of_file, failure_of_journal, failure_of_run, failure_status}
-use Rattle.macs_program.specs.Failing.{failure_text}
+use Rattle.macs_offline.specs.Contents.{HasOpenGate, IsBlankFile}
+use Rattle.macs_program.specs.Endpoints.{AppliesFile, AppliesIn, BreaksOff, BreaksOffIn}
+use Rattle.macs_offline.specs.Openings.{IsDiskIn, IsEndpointIn}
+use Rattle.macs_program.specs.Endpoints.{PassesIn, ShowsIn, shown_text}
+use Rattle.macs_offline.specs.Openings.{OpeningFails}
+use Rattle.macs_offline.specs.Failing.{failure_of_file, failure_of_journal, failure_of_run, failure_status}
+use Rattle.macs_offline.specs.Failing.{failure_text}
 use Rattle.macs_program.specs.Inputs.{InputRead}
 use Rattle.macs_program.specs.Judging.{EndsEach, JudgesCapture}
-use Rattle.macs_program.specs.Lines.{line_at, lines, trimmed_line}
+use Rattle.macs_offline.specs.Lines.{line_at, lines, trimmed_line}
 use Rattle.macs_program.specs.NewDisks.{BlankFails, FormatFails, Formats, IsTaken}
-use Rattle.macs_program.specs.OpenInput.{IsFourLines, Spells, SpellsKey, SpellsSci, offset_text}
-use Rattle.macs_program.specs.Run.{HasPrinted, OpenFails, Prints, PrintsUnlessFailed, code_of, complaint}
-use Rattle.macs_program.specs.Values.{SpellsIdentity, SpellsLayout}
-use Rattle.macs_program.specs.declared.addresses.WireAddresses.{WireAddresses}
-use Rattle.macs_program.specs.declared.opened.Opened.{Opened}
-use Rattle.macs_program.specs.declared.opened.Opened.TheVariants.{Refused, Valid}
-use Rattle.macs_program.specs.declared.failure.DiskFault.{DiskFault}
-use Rattle.macs_program.specs.declared.failure.DiskFault.TheVariants as disk
-use Rattle.macs_program.specs.declared.failure.Failure.{Failure}
-use Rattle.macs_program.specs.declared.failure.Failure.TheVariants as failures
-use Rattle.macs_program.specs.declared.open_input.InputFault.{InputFault}
-use Rattle.macs_program.specs.declared.open_input.InputFault.TheVariants as fault
-use Rattle.macs_program.specs.declared.open_input.OpenInput.{OpenInput}
-use Rattle.macs_program.specs.declared.status.Status.{Status}
-use Rattle.macs_program.specs.declared.status.Status.TheVariants as ends
+use Rattle.macs_offline.specs.OpenInput.{IsFourLines, Spells, SpellsKey, SpellsSci, offset_text}
+use Rattle.macs_program.specs.Run.{HasPrinted, OpenFails, Prints, PrintsUnlessFailed, complaint}
+use Rattle.macs_offline.specs.Statuses.{code_of}
+use Rattle.macs_offline.specs.Values.{SpellsIdentity, SpellsLayout}
+use Rattle.macs_offline.specs.declared.addresses.WireAddresses.{WireAddresses}
+use Rattle.macs_offline.specs.declared.opened.Opened.{Opened}
+use Rattle.macs_offline.specs.declared.opened.Opened.TheVariants.{Refused, Valid}
+use Rattle.macs_offline.specs.declared.failure.DiskFault.{DiskFault}
+use Rattle.macs_offline.specs.declared.failure.DiskFault.TheVariants as disk
+use Rattle.macs_offline.specs.declared.failure.Failure.{Failure}
+use Rattle.macs_offline.specs.declared.failure.Failure.TheVariants as failures
+use Rattle.macs_offline.specs.declared.open_input.InputFault.{InputFault}
+use Rattle.macs_offline.specs.declared.open_input.InputFault.TheVariants as fault
+use Rattle.macs_offline.specs.declared.open_input.OpenInput.{OpenInput}
+use Rattle.macs_offline.specs.declared.status.Status.{Status}
+use Rattle.macs_offline.specs.declared.status.Status.TheVariants as ends
 use Rattle.macs_words.specs.declared.action.WireEnds.{WireEnds}
 use Rattle.macs_words.specs.declared.action.Action.{Action}
 use Rattle.macs_words.specs.declared.action.Action.TheVariants.{About, Apply, Check, Examine, Format, Key, Open}

@@ -1,62 +1,24 @@
--- The endpoint that a subcommand opens on a disk in a file, and what it does with it.
-use Rattle.std.specs.Prelude.{◌≡◌, ◌⊎◌, ℕ, true, List, Option, Result, Ok}
+-- What a subcommand does with the endpoint that it opens on a disk in a file.
+use Rattle.std.specs.Prelude.{◌≡◌, ◌⊎◌, ℕ, true, List, Option, Ok}
 use Rattle.std.specs.Io.KnownBytes.{Appends}
 use Rattle.macs_config.specs.declared.command.Command.{Command}
 use Rattle.macs_disk.specs.Disk.{Disk}
-use Rattle.macs_disk.specs.FileDisks.{IsFresh, IsOpened, disk_in_file, file_given, layout_of}
-use Rattle.macs_disk.specs.Files.{Behaves, FileState}
+use Rattle.macs_disk.specs.FileDisks.{disk_in_file}
+use Rattle.macs_disk.specs.Files.{FileState}
 use Rattle.macs_disk.specs.declared.file.FileDisk.{FileDisk}
-use Rattle.macs_disk.specs.declared.file_fault.FileFault.{FileFault}
 use Rattle.macs_edge.specs.CaptureRuns.{run_of}
 use Rattle.macs_edge.specs.declared.capture_runs.Summary.{Summary}
 use Rattle.macs_edge.specs.declared.settling.Side.{Side}
-use Rattle.macs_endpoint.specs.Opening.{IsOpening, Opens, RefusesOpening}
 use Rattle.macs_endpoint.specs.State.{no_logs}
 use Rattle.macs_endpoint.specs.Value.{EndpointValue, state_of}
-use Rattle.macs_journal.specs.declared.fault.JournalFault.{JournalFault}
-use Rattle.macs_journal.specs.declared.recovery.RecoverRefused.{RecoverRefused}
 use Rattle.macs_pcap.specs.States.{SinkState, SourceState}
-use Rattle.macs_program.specs.Applying.{AppliesAll, AppliesSome, SaidByFile, SaysCommands, is_for, own_sci}
+use Rattle.macs_offline.specs.Applying.{AppliesAll, AppliesSome, SaidByFile, SaysCommands, is_for, own_sci}
 use Rattle.macs_program.specs.Capturing.{EndsPass, PassesCapture}
-use Rattle.macs_program.specs.Failing.{failure_of_file, failure_of_journal}
+use Rattle.macs_offline.specs.Openings.{IsEndpointIn}
 use Rattle.macs_texts.specs.Showing.{show_text}
-use Rattle.macs_program.specs.declared.failure.Failure.{Failure}
-use Rattle.macs_program.specs.declared.failure.Failure.TheVariants as failures
-use Rattle.macs_program.specs.declared.status.Status.{Status}
-
--- ---- opening
-
--- a disk was opened in a file as long as it is, where this is what a file is, and no call of it was made yet
-pub record IsDiskIn {F : Type 0} (file : F → FileState) (disk : FileDisk F) : Type 0 where
-  pub known : Behaves (file (file_given disk))
-      → IsOpened (file (file_given disk)) 0 (layout_of disk) (disk_in_file file disk)
-  pub fresh : IsFresh (disk_in_file file disk)
-
--- this is what an opening of such a disk answered
-pub record IsOpeningIn {F : Type 0} (file : F → FileState)
-    (opened : Result (EndpointValue (FileDisk F)) (RecoverRefused (FileDisk F))) : Type 0 where
-  pub disk : FileDisk F
-  pub is_disk : IsDiskIn file disk
-  pub opening : IsOpening (disk_in_file file) disk opened
-
--- an endpoint was opened on such a disk
-pub record IsEndpointIn {F : Type 0} (file : F → FileState) (endpoint : EndpointValue (FileDisk F)) : Type 0 where
-  pub disk : FileDisk F
-  pub is_disk : IsDiskIn file disk
-  pub opens : Opens (disk_in_file file) disk endpoint
-
--- such a disk was refused for what is on it, or for a device call that failed, and this is the failure
-pub record IsRefusedIn {F : Type 0} (file : F → FileState) (failure : Failure) : Type 0 where
-  pub disk : FileDisk F
-  pub left : FileDisk F
-  pub fault : JournalFault
-  pub is_disk : IsDiskIn file disk
-  pub refuses : RefusesOpening (disk_in_file file) disk left fault
-  pub is : failure ≡ failure_of_journal fault
-
--- no endpoint is opened: there is no disk in the file, or the disk is refused
-abbrev pub OpeningFails : {F : Type 0} → (F → FileState) → Failure → Type 0
-OpeningFails file failure = ((fault : FileFault) × (failure ≡ failure_of_file fault)) ⊎ IsRefusedIn file failure
+use Rattle.macs_offline.specs.declared.failure.Failure.{Failure}
+use Rattle.macs_offline.specs.declared.failure.Failure.TheVariants as failures
+use Rattle.macs_offline.specs.declared.status.Status.{Status}
 
 -- ---- the commands of a file, where `left_in` says what is left to read of one, where that is known
 

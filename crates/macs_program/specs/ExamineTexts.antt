@@ -21,13 +21,13 @@ use Rattle.macs_store.specs.Standing.{Standing}
 use Rattle.macs_words.specs.Help.{topic_text}
 use Rattle.macs_words.specs.declared.help.Topic.TheVariants.{Version}
 use Rattle.macs_program.specs.About.{about_text, word_line}
-use Rattle.macs_program.specs.Examining.{block_of, channel_ceilings_text, end_text, examined_text, fault_line}
-use Rattle.macs_program.specs.Examining.{figures_of, figures_text, number_line, part_line}
-use Rattle.macs_program.specs.Examining.{rx_ceiling_text, tx_ceiling_text}
-use Rattle.macs_program.specs.FirstFault.{IsFirstFault}
-use Rattle.macs_program.specs.RecordLines.{record_line, record_word, record_words, records_text, records_with}
+use Rattle.macs_offline.specs.Examining.{block_of, channel_ceilings_text, end_text, examined_text, fault_line}
+use Rattle.macs_offline.specs.Examining.{figures_of, figures_text, number_line, part_line}
+use Rattle.macs_offline.specs.Examining.{rx_ceiling_text, tx_ceiling_text}
+use Rattle.macs_offline.specs.FirstFault.{IsFirstFault}
+use Rattle.macs_offline.specs.RecordLines.{record_line, record_word, record_words, records_text, records_with}
 use Rattle.macs_program.specs.declared.build.TheConstants.{COMMIT, LEVEL, TOOLCHAIN}
-use Rattle.macs_program.specs.declared.examined_text.Figures.{Figures}
+use Rattle.macs_offline.specs.declared.examined_text.Figures.{Figures}
 
 -- First five lines of the journal: its format, the block of its layout, which area is current, in which generation, and
 -- how many of its slots have records; then how many records there are of each word, where there are any; then the

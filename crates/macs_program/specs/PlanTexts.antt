@@ -23,12 +23,12 @@ use Rattle.macs_plan.specs.declared.planning.Stage.{Stage}
 use Rattle.macs_plan.specs.declared.planning.Stage.TheVariants as stage
 use Rattle.macs_words.specs.declared.plan_words.PlanEnd.TheVariants as plan_end
 use Rattle.macs_words.specs.declared.plan_words.PlanStage.TheVariants as plan_stage
-use Rattle.macs_program.specs.Plans.{IsSaidOfLink, PlansFile, RefusesLink, SaysWhy, end_of, link_refusal, name_reason}
-use Rattle.macs_program.specs.Plans.{name_word, plan_fault_text, stage_of}
-use Rattle.macs_program.specs.declared.failure.Failure.{Failure}
-use Rattle.macs_program.specs.declared.failure.Failure.TheVariants as failures
-use Rattle.macs_program.specs.declared.failure.LinkRefusal.{LinkRefusal}
-use Rattle.macs_program.specs.declared.failure.LinkRefusal.TheVariants as wrong
+use Rattle.macs_offline.specs.Plans.{IsSaidOfLink, PlansFile, RefusesLink, SaysWhy, end_of, link_refusal, name_reason}
+use Rattle.macs_offline.specs.Plans.{name_word, plan_fault_text, stage_of}
+use Rattle.macs_offline.specs.declared.failure.Failure.{Failure}
+use Rattle.macs_offline.specs.declared.failure.Failure.TheVariants as failures
+use Rattle.macs_offline.specs.declared.failure.LinkRefusal.{LinkRefusal}
+use Rattle.macs_offline.specs.declared.failure.LinkRefusal.TheVariants as wrong
 
 -- Each word names its own end or stage. What is planned is read as just the commands that are planned of the link that
 -- some octets say, of 1,048,576 at most, and as for the end that has the SCI of that end. `plan` says that a file is

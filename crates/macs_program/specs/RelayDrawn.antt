@@ -16,13 +16,13 @@ use Rattle.macs_journal.specs.declared.fault.JournalFault.TheVariants as journal
 use Rattle.macs_words.specs.declared.pace.Milliseconds.{Milliseconds}
 use Rattle.macs_words.specs.declared.pace.Running.{Running}
 use Rattle.macs_words.specs.declared.pace.Pace.TheVariants.{Sleepless, Waiting}
-use Rattle.macs_program.specs.Endpoints.{IsEndpointIn}
-use Rattle.macs_program.specs.Failing.{failure_of_refill}
+use Rattle.macs_offline.specs.Openings.{IsEndpointIn}
+use Rattle.macs_offline.specs.Failing.{failure_of_refill}
 use Rattle.macs_program.specs.Relaying.{ComesTo, Course, RelayEndsIn, course_of, turns_of}
 use Rattle.macs_program.specs.Watching.{asks}
-use Rattle.macs_program.specs.declared.failure.DiskFault.TheVariants as disk
-use Rattle.macs_program.specs.declared.failure.Failure.{Failure}
-use Rattle.macs_program.specs.declared.failure.Failure.TheVariants as failures
+use Rattle.macs_offline.specs.declared.failure.DiskFault.TheVariants as disk
+use Rattle.macs_offline.specs.declared.failure.Failure.{Failure}
+use Rattle.macs_offline.specs.declared.failure.Failure.TheVariants as failures
 
 -- a wire of which nothing is known, and none of whose calls failed
 abbrev pub fresh_wire : WireState

@@ -15,10 +15,10 @@ use Rattle.macs_endpoint.specs.declared.fault.RefillFault.{RefillFault}
 use Rattle.macs_words.specs.declared.pace.Pace.{Pace}
 use Rattle.macs_words.specs.declared.pace.Running.{Running}
 use Rattle.macs_words.specs.declared.pace.Pace.TheVariants.{Sleepless, Waiting}
-use Rattle.macs_program.specs.Endpoints.{IsEndpointIn}
-use Rattle.macs_program.specs.Failing.{failure_of_refill}
-use Rattle.macs_program.specs.declared.failure.Failure.{Failure}
-use Rattle.macs_program.specs.declared.failure.Failure.TheVariants as failures
+use Rattle.macs_offline.specs.Openings.{IsEndpointIn}
+use Rattle.macs_offline.specs.Failing.{failure_of_refill}
+use Rattle.macs_offline.specs.declared.failure.Failure.{Failure}
+use Rattle.macs_offline.specs.declared.failure.Failure.TheVariants as failures
 
 -- what a wire over UDP reports at first: no call of it failed, and its frames are not known
 abbrev pub new_wire : WireState

@@ -70,43 +70,44 @@ use Rattle.macs_words.specs.declared.action.WireEnds.{WireEnds}
 use Rattle.macs_words.specs.declared.help.Topic.{Topic}
 use Rattle.macs_words.specs.declared.pace.Running.{Running}
 use Rattle.macs_program.specs.About.{about_text}
-use Rattle.macs_program.specs.Addresses.{AddressFaultHolds, SpellsBoth, address_faults}
-use Rattle.macs_program.specs.Opened.{Answers, answer_status, answer_text}
-use Rattle.macs_program.specs.Applying.{Applies, SaidByFile, SaysCommands, commit_fault, outcome_lines}
-use Rattle.macs_program.specs.Applying.{outcomes_status}
+use Rattle.macs_offline.specs.Addresses.{AddressFaultHolds, SpellsBoth, address_faults}
+use Rattle.macs_offline.specs.Opened.{Answers, answer_status, answer_text}
+use Rattle.macs_offline.specs.Applying.{Applies, SaidByFile, SaysCommands, commit_fault, outcome_lines}
+use Rattle.macs_offline.specs.Applying.{outcomes_status}
 use Rattle.macs_program.specs.Capturing.{EndsPass, PassesCapture}
-use Rattle.macs_program.specs.Checking.{Complains, IsSaidOfFile, count_line}
-use Rattle.macs_program.specs.Copying.{CopyFails, IsCopy}
-use Rattle.macs_program.specs.Endpoints.{BreaksOffIn, IsEndpointIn, OpeningFails, PassEndsIn}
-use Rattle.macs_program.specs.Examining.{examined_text, fault_line, figures_of}
-use Rattle.macs_program.specs.Failing.{failure_of_capture, failure_of_file, failure_of_words}
-use Rattle.macs_program.specs.FileModes.{mode_warning}
-use Rattle.macs_program.specs.FirstFault.{IsFirstFault}
+use Rattle.macs_offline.specs.Checking.{Complains, IsSaidOfFile, count_line}
+use Rattle.macs_offline.specs.Copying.{CopyFails, IsCopy}
+use Rattle.macs_program.specs.Endpoints.{BreaksOffIn, PassEndsIn}
+use Rattle.macs_offline.specs.Openings.{IsEndpointIn, OpeningFails}
+use Rattle.macs_offline.specs.Examining.{examined_text, fault_line, figures_of}
+use Rattle.macs_offline.specs.Failing.{failure_of_capture, failure_of_file, failure_of_words}
+use Rattle.macs_offline.specs.FileModes.{mode_warning}
+use Rattle.macs_offline.specs.FirstFault.{IsFirstFault}
 use Rattle.macs_program.specs.Inputs.{InputRead}
-use Rattle.macs_program.specs.Inspecting.{AreLinesOf, InspectsCapture, RunsCapture, StopsCapture}
+use Rattle.macs_offline.specs.Inspecting.{AreLinesOf, InspectsCapture, RunsCapture, StopsCapture}
 use Rattle.macs_program.specs.Judging.{EndsEach, JudgesCapture, JudgingEndsIn, verdict_lines}
-use Rattle.macs_program.specs.Keys.{PrintsKey, key_octets}
+use Rattle.macs_offline.specs.Keys.{PrintsKey, key_octets}
 use Rattle.macs_program.specs.NewDisks.{FormatFails, Permits}
-use Rattle.macs_program.specs.Plans.{IsSaidOfLink, PlansFile, RefusesLink, SaysWhy, end_of, stage_of}
+use Rattle.macs_offline.specs.Plans.{IsSaidOfLink, PlansFile, RefusesLink, SaysWhy, end_of, stage_of}
 use Rattle.macs_program.specs.Relaying.{ComesTo, RelayEndsIn, course_of}
-use Rattle.macs_program.specs.OpenInput.{InputFaultHolds, input_faults}
+use Rattle.macs_offline.specs.OpenInput.{InputFaultHolds, input_faults}
 use Rattle.macs_program.specs.Run.{Does, FailsAs, FailsFor, HasPrinted, HasWrongValues, PrintedBefore, Replies}
 use Rattle.macs_program.specs.Run.{WrongValues}
 use Rattle.macs_program.specs.Summing.{pass_status, relay_line, summary_line}
-use Rattle.macs_program.specs.Trying.{EndsOn, failure_in_memory, trial_report}
-use Rattle.macs_program.specs.Values.{SpellsIdentity, SpellsLayout, ValueFaultHolds, value_faults}
-use Rattle.macs_program.specs.declared.addresses.AddressFault.{AddressFault}
-use Rattle.macs_program.specs.declared.opened.Opened.{Opened}
-use Rattle.macs_program.specs.declared.failure.DiskFault.{DiskFault}
-use Rattle.macs_program.specs.declared.failure.DiskFault.TheVariants as disk
-use Rattle.macs_program.specs.declared.failure.Failure.{Failure}
-use Rattle.macs_program.specs.declared.failure.Failure.TheVariants as failures
-use Rattle.macs_program.specs.declared.failure.LinkRefusal.{LinkRefusal}
-use Rattle.macs_program.specs.declared.open_input.InputFault.{InputFault}
-use Rattle.macs_program.specs.declared.open_input.InputFault.TheVariants as request_faults
-use Rattle.macs_program.specs.declared.status.Status.{Status}
-use Rattle.macs_program.specs.declared.status.Status.TheVariants as ends
-use Rattle.macs_program.specs.declared.values.ValueFault.{ValueFault}
+use Rattle.macs_offline.specs.Trying.{EndsOn, failure_in_memory, trial_report}
+use Rattle.macs_offline.specs.Values.{SpellsIdentity, SpellsLayout, ValueFaultHolds, value_faults}
+use Rattle.macs_offline.specs.declared.addresses.AddressFault.{AddressFault}
+use Rattle.macs_offline.specs.declared.opened.Opened.{Opened}
+use Rattle.macs_offline.specs.declared.failure.DiskFault.{DiskFault}
+use Rattle.macs_offline.specs.declared.failure.DiskFault.TheVariants as disk
+use Rattle.macs_offline.specs.declared.failure.Failure.{Failure}
+use Rattle.macs_offline.specs.declared.failure.Failure.TheVariants as failures
+use Rattle.macs_offline.specs.declared.failure.LinkRefusal.{LinkRefusal}
+use Rattle.macs_offline.specs.declared.open_input.InputFault.{InputFault}
+use Rattle.macs_offline.specs.declared.open_input.InputFault.TheVariants as request_faults
+use Rattle.macs_offline.specs.declared.status.Status.{Status}
+use Rattle.macs_offline.specs.declared.status.Status.TheVariants as ends
+use Rattle.macs_offline.specs.declared.values.ValueFault.{ValueFault}
 
 -- A run that replies was asked for help and prints it, or its words are taken and name the action that it does. Each
 -- action does this: `open` prints the answer to its input; `format` makes a file a disk that, when it was settled, was

@@ -49,38 +49,38 @@ use Rattle.macs_texts.specs.Counting.{verdict_words}
 use Rattle.macs_texts.specs.Refusals.{refusal_name}
 use Rattle.macs_words.specs.declared.action.UsageFault.TheVariants as usage
 use Rattle.macs_words.specs.declared.action.WireEnds.{WireEnds}
-use Rattle.macs_program.specs.Addresses.{AddressFaultHolds, SpellsNone, address_faults}
-use Rattle.macs_program.specs.Opened.{answer_status, answer_text, refusal_text, valid_text}
-use Rattle.macs_program.specs.Applying.{longest_file, outcome_lines}
+use Rattle.macs_offline.specs.Addresses.{AddressFaultHolds, SpellsNone, address_faults}
+use Rattle.macs_offline.specs.Opened.{answer_status, answer_text, refusal_text, valid_text}
+use Rattle.macs_offline.specs.Applying.{longest_file, outcome_lines}
 use Rattle.macs_program.specs.Asking.{failure_in}
-use Rattle.macs_program.specs.Checking.{IsSaidOfFile, count_line, fault_text, key_reason, key_word}
-use Rattle.macs_program.specs.Failing.{address_fault_text, disk_fault_text, failure_of_asking, failure_of_bind}
-use Rattle.macs_program.specs.Failing.{failure_of_capture, failure_of_commands, failure_of_control, failure_of_file}
-use Rattle.macs_program.specs.Failing.{failure_of_journal, failure_of_run, failure_of_words, failure_status}
-use Rattle.macs_program.specs.Failing.{failure_text, input_fault_text, link_refusal_text, value_fault_text}
-use Rattle.macs_program.specs.FileModes.{mode_warning}
-use Rattle.macs_program.specs.Inspecting.{AreLinesOf, IsLineOf, IsSaidOf, bit_text, bits_text, name_text}
-use Rattle.macs_program.specs.Inspecting.{numbers_text, tag_text}
+use Rattle.macs_offline.specs.Checking.{IsSaidOfFile, count_line, fault_text, key_reason, key_word}
+use Rattle.macs_offline.specs.Failing.{address_fault_text, disk_fault_text, failure_of_asking, failure_of_bind}
+use Rattle.macs_offline.specs.Failing.{failure_of_capture, failure_of_commands, failure_of_control, failure_of_file}
+use Rattle.macs_offline.specs.Failing.{failure_of_journal, failure_of_run, failure_of_words, failure_status}
+use Rattle.macs_offline.specs.Failing.{failure_text, input_fault_text, link_refusal_text, value_fault_text}
+use Rattle.macs_offline.specs.FileModes.{mode_warning}
+use Rattle.macs_offline.specs.Inspecting.{AreLinesOf, IsLineOf, IsSaidOf, bit_text, bits_text, name_text}
+use Rattle.macs_offline.specs.Inspecting.{numbers_text, tag_text}
 use Rattle.macs_program.specs.Judging.{verdict_lines}
-use Rattle.macs_program.specs.OpenInput.{InputFaultHolds, IsFourLines, SpellsKey, SpellsOctets, SpellsOffset, SpellsSci}
-use Rattle.macs_program.specs.OpenInput.{input_faults}
-use Rattle.macs_program.specs.Lines.{line_at}
+use Rattle.macs_offline.specs.OpenInput.{InputFaultHolds, IsFourLines, SpellsKey, SpellsOctets, SpellsOffset, SpellsSci}
+use Rattle.macs_offline.specs.OpenInput.{input_faults}
+use Rattle.macs_offline.specs.Lines.{line_at}
 use Rattle.macs_program.specs.Summing.{pass_status, relay_line, summary_line}
-use Rattle.macs_program.specs.Trying.{failure_in_memory, trial_lines, trial_report}
-use Rattle.macs_program.specs.Values.{SpellsLayout, ValueFaultHolds, value_faults}
-use Rattle.macs_program.specs.declared.addresses.AddressFault.{AddressFault}
-use Rattle.macs_program.specs.declared.addresses.AddressFault.TheVariants.{Own1, Peer1, Own2, Peer2}
-use Rattle.macs_program.specs.declared.opened.Opened.TheVariants.{Refused, Valid}
-use Rattle.macs_program.specs.declared.failure.DiskFault.{DiskFault}
-use Rattle.macs_program.specs.declared.failure.DiskFault.TheVariants as disk
-use Rattle.macs_program.specs.declared.failure.Failure.TheVariants as failures
-use Rattle.macs_program.specs.declared.failure.LinkRefusal.{LinkRefusal}
-use Rattle.macs_program.specs.declared.failure.LinkRefusal.TheVariants as wrong
-use Rattle.macs_program.specs.declared.open_input.InputFault.{InputFault}
-use Rattle.macs_program.specs.declared.open_input.InputFault.TheVariants as input
-use Rattle.macs_program.specs.declared.status.Status.TheVariants as ends
-use Rattle.macs_program.specs.declared.values.ValueFault.{ValueFault}
-use Rattle.macs_program.specs.declared.values.ValueFault.TheVariants as value
+use Rattle.macs_offline.specs.Trying.{failure_in_memory, trial_lines, trial_report}
+use Rattle.macs_offline.specs.Values.{SpellsLayout, ValueFaultHolds, value_faults}
+use Rattle.macs_offline.specs.declared.addresses.AddressFault.{AddressFault}
+use Rattle.macs_offline.specs.declared.addresses.AddressFault.TheVariants.{Own1, Peer1, Own2, Peer2}
+use Rattle.macs_offline.specs.declared.opened.Opened.TheVariants.{Refused, Valid}
+use Rattle.macs_offline.specs.declared.failure.DiskFault.{DiskFault}
+use Rattle.macs_offline.specs.declared.failure.DiskFault.TheVariants as disk
+use Rattle.macs_offline.specs.declared.failure.Failure.TheVariants as failures
+use Rattle.macs_offline.specs.declared.failure.LinkRefusal.{LinkRefusal}
+use Rattle.macs_offline.specs.declared.failure.LinkRefusal.TheVariants as wrong
+use Rattle.macs_offline.specs.declared.open_input.InputFault.{InputFault}
+use Rattle.macs_offline.specs.declared.open_input.InputFault.TheVariants as input
+use Rattle.macs_offline.specs.declared.status.Status.TheVariants as ends
+use Rattle.macs_offline.specs.declared.values.ValueFault.{ValueFault}
+use Rattle.macs_offline.specs.declared.values.ValueFault.TheVariants as value
 
 -- ---- answers and outcomes
 

@@ -5,10 +5,7 @@ ghost use Rattle.std.specs.Io.KnownBytes.{Appends};
 ghost use Rattle.macs_program.specs.About.{about_text, formats_text, word_line};
 
 use crate::build::{COMMIT, LEVEL, TOOLCHAIN};
-use crate::failure::Failure;
-use crate::output::print_last;
-use crate::status::Status;
-use crate::stream::Stream;
+use macs_offline::{Failure, Status, Stream, print_last};
 use macs_texts::{ended, joined};
 use macs_words::Topic;
 use std::alloc::{AllocError, Global};

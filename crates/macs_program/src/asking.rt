@@ -5,7 +5,7 @@ ghost use Rattle.std.specs.Prelude.{IfErr, IfOk, IfSome, IsTrue, Ok, OnOk, strin
 ghost use Rattle.std.specs.Io.KnownBytes.{Appends};
 ghost use Rattle.macs_config.specs.declared.refusal.Refusal.{Refusal};
 ghost use Rattle.macs_control.specs.Asking.{BeginsWithAnswer};
-ghost use Rattle.macs_program.specs.Applying.{outcome_line};
+ghost use Rattle.macs_offline.specs.Applying.{outcome_line};
 ghost use Rattle.macs_program.specs.Asking.{AsksForText, BeginsWithEnd, BeginsWithOwn};
 ghost use Rattle.macs_program.specs.Asking.{HandsCommands, IsBeforeCommands, IsForRelay};
 ghost use Rattle.macs_program.specs.Asking.{IsOfAsking, PrintsAnswer, PrintsFront, failure_in};
@@ -13,16 +13,13 @@ ghost use Rattle.macs_program.specs.Asking.{failure_of_other, is_of_endpoint, sc
 ghost use Rattle.macs_record.specs.Sectors.{Begins};
 ghost use Rattle.macs_texts.specs.Refusals.{refusal_name};
 
-use crate::applying::{outcome_line, status_after};
-use crate::failure::{DiskFault, Failure};
-use crate::files::commands_of_file;
-use crate::output::print_octets;
-use crate::status::Status;
-use crate::stream::Stream;
 use macs_config::{Command, Refusal};
 use macs_control::{Answer, Asker, Connection, PatientStream};
 use macs_fields::Sci;
 use macs_journal::JournalFault;
+use macs_offline::{
+    DiskFault, Failure, Status, Stream, commands_of_file, outcome_line, print_octets, status_after,
+};
 use macs_requests::{Request, line_of_request};
 use macs_texts::{ended, refusal_name};
 use macs_words::Question;

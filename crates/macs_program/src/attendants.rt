@@ -3,9 +3,9 @@
 ghost use Rattle.std.specs.Prelude.{◌≡◌, ◌⊎◌, IfErr};
 
 use crate::counters_name::refuse_other_file;
-use crate::failure::Failure;
 use macs_control::{ControlSocket, MetricsPlace, Wires, remove_name};
 use macs_desk::ControlDesk;
+use macs_offline::Failure;
 use macs_words::{Pace, Running};
 use std::alloc::Global;
 use std::net::Net;

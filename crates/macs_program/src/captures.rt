@@ -4,9 +4,7 @@ ghost use Rattle.std.specs.Prelude.{◌≡◌, ◌⊎◌, List, Option, [], ◌�
 ghost use Rattle.std.specs.Prelude.{OnErr, OnOk};
 ghost use Rattle.macs_program.specs.CaptureFiles.{Asked, Asks, Makes, Opens};
 
-use crate::capture_file::CaptureFile;
-use crate::failure::Failure;
-use crate::files::{CaptureSink, CaptureSource, make_capture, open_capture};
+use macs_offline::{CaptureFile, CaptureSink, CaptureSource, Failure, make_capture, open_capture};
 use macs_pcap::{Sink, Source};
 use std::alloc::Global;
 use std::rt::Files;

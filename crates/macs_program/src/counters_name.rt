@@ -2,7 +2,7 @@
 
 ghost use Rattle.std.specs.Prelude.{◌≡◌, ◌⊎◌, IfErr};
 
-use crate::failure::Failure;
+use macs_offline::Failure;
 use std::alloc::Global;
 use std::fs;
 use std::io::{ErrorKind, Read};

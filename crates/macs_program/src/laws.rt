@@ -8,7 +8,7 @@ ghost use Rattle.macs_disk.specs.FileDisks.{file_given};
 ghost use Rattle.macs_program.specs.AskWords.{AskWords};
 ghost use Rattle.macs_program.specs.CaptureOctets.{CaptureOctets};
 ghost use Rattle.macs_program.specs.ContentWords.{BlankWords, InUseWords};
-ghost use Rattle.macs_program.specs.Contents.{ContentsAre, HasOpenGate, IsBlankFile};
+ghost use Rattle.macs_offline.specs.Contents.{ContentsAre, HasOpenGate, IsBlankFile};
 ghost use Rattle.macs_program.specs.Drawn.{AnswerWords, ApplyWords, CaptureWords, FileWords};
 ghost use Rattle.macs_program.specs.Drawn.{LineWords, TextLineWords};
 ghost use Rattle.macs_program.specs.Drawn.{ValueWords};
@@ -21,7 +21,7 @@ ghost use Rattle.macs_program.specs.RunWords.{BeforeWords, FailWords, ReplyWords
 ghost use Rattle.macs_program.specs.ShowTexts.{ShowTexts};
 ghost use Rattle.macs_program.specs.TextWords.{CheckTexts, FailureTexts, FaultOrders, FrameTexts};
 ghost use Rattle.macs_program.specs.TextWords.{LineTexts};
-ghost use Rattle.macs_program.specs.declared.contents.Contents.{Contents};
+ghost use Rattle.macs_offline.specs.declared.contents.Contents.{Contents};
 
 use crate::input::Input;
 use macs_disk::{DiskFile, SectorDisk};

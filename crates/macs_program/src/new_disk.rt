@@ -9,15 +9,13 @@ ghost use Rattle.macs_disk.specs.Files.{Behaves, IsSure};
 ghost use Rattle.macs_journal.specs.declared.fault.JournalFault.TheVariants as journal;
 ghost use Rattle.macs_program.specs.NewDisks.{BlankFails, FormatFails, Formats, IsFree, Permits};
 ghost use Rattle.macs_program.specs.NewDisks.{refusal_of};
-ghost use Rattle.macs_program.specs.declared.failure.DiskFault.{DiskFault};
-ghost use Rattle.macs_program.specs.declared.failure.DiskFault.TheVariants as disk;
+ghost use Rattle.macs_offline.specs.declared.failure.DiskFault.{DiskFault};
+ghost use Rattle.macs_offline.specs.declared.failure.DiskFault.TheVariants as disk;
 
-use crate::contents::{Contents, contents_of};
-use crate::failure::{DiskFault, Failure};
-use crate::files::{failure_of, is_printed_to};
 use macs_config::Identity;
 use macs_disk::{DiskFile, FileDisk, FileFault, Layout, SettledFile, make_file, sync_folder};
 use macs_journal::JournalFault;
+use macs_offline::{Contents, DiskFault, Failure, contents_of, failure_of, is_printed_to};
 use std::alloc::Global;
 use std::fs::OpenFile;
 use std::io;

@@ -4,36 +4,29 @@ ghost use Rattle.std.specs.Prelude.{◌≡◌, ◌≢◌, ◌⊎◌, ◌++◌, �
 ghost use Rattle.std.specs.Prelude.{IfErr, IfOk, IfSome, OnErr, OnOk, string_bytes};
 ghost use Rattle.std.specs.Io.KnownBytes.{Appends};
 ghost use Rattle.clap.specs.Words.{subcommand_of, takes};
-ghost use Rattle.macs_program.specs.Opened.{answer_text};
-ghost use Rattle.macs_program.specs.Failing.{failure_status};
+ghost use Rattle.macs_offline.specs.Opened.{answer_text};
+ghost use Rattle.macs_offline.specs.Failing.{failure_status};
 ghost use Rattle.macs_program.specs.Inputs.{InputRead, read_of};
 ghost use Rattle.macs_program.specs.Run.{Acts, FailsFor, HasPrinted, HasWrongValues, OpenFails};
 ghost use Rattle.macs_program.specs.Run.{Performs, PrintedBefore, Prints};
-ghost use Rattle.macs_program.specs.Run.{PrintsUnlessFailed, Replies, code_of, complaint};
+ghost use Rattle.macs_program.specs.Run.{PrintsUnlessFailed, Replies, complaint};
+ghost use Rattle.macs_offline.specs.Statuses.{code_of};
 ghost use Rattle.macs_program.specs.Run.{is_apart, is_on_disk, is_on_frames};
 ghost use Rattle.macs_words.specs.Words.{AreRefused, AsksForNothing, Names, macsecd, texts};
 ghost use Rattle.macs_words.specs.declared.action.Action.{Action};
-ghost use Rattle.macs_program.specs.declared.failure.Failure.{Failure};
-ghost use Rattle.macs_program.specs.declared.failure.LinkRefusal.{LinkRefusal};
-ghost use Rattle.macs_program.specs.declared.status.Status.{Status};
+ghost use Rattle.macs_offline.specs.declared.failure.Failure.{Failure};
+ghost use Rattle.macs_offline.specs.declared.failure.LinkRefusal.{LinkRefusal};
+ghost use Rattle.macs_offline.specs.declared.status.Status.{Status};
 
 use crate::about::about;
 use crate::asking::ask;
-use crate::capture_file::CaptureFile;
-use crate::check::check;
-use crate::examine::examine;
-use crate::failure::Failure;
 use crate::input::{Input, InputText};
-use crate::inspect::inspect;
-use crate::key::key;
 use crate::on_disk::{apply, format, judge, pass, relay, show};
-use crate::open_input::InputFault;
-use crate::opened::{Opened, answer_of};
-use crate::output::print;
-use crate::plan::plan;
-use crate::status::Status;
-use crate::stream::{PrintFailed, Stream};
 use macs_edge::Side;
+use macs_offline::{
+    CaptureFile, Failure, InputFault, Opened, PrintFailed, Status, Stream, answer_of, check,
+    examine, inspect, key, plan, print,
+};
 use macs_words::{Action, action_of, topic_of};
 use std::alloc::{AllocError, Allocator, Global};
 use std::net::Net;

@@ -1,6 +1,6 @@
 use Rattle.macs_edge.specs.CaptureRuns.{run_of}
 use Rattle.macs_program.proofs.Captured.{captured}
-use Rattle.macs_program.proofs.NoneWaits.{run-not-busy}
+use Rattle.macs_offline.proofs.NoneWaits.{run-not-busy}
 use Rattle.macs_program.proofs.capturing.run_capture.Goals as goal
 
 pub handed_on-requires : goal.handed_on-requires

@@ -1,7 +1,7 @@
 use Rattle.macs_edge.specs.CaptureRuns.{run_of}
 use Rattle.macs_edge.specs.declared.settling.Side.TheVariants.{Common}
 use Rattle.macs_program.proofs.Captured.{judged}
-use Rattle.macs_program.proofs.NoneWaits.{run-not-busy}
+use Rattle.macs_offline.proofs.NoneWaits.{run-not-busy}
 use Rattle.macs_program.proofs.judging.run_judging.Goals as goal
 
 pub handed_on-requires : goal.handed_on-requires

@@ -1,5 +1,5 @@
 use Rattle.macs_edge.specs.Relaying.{empty_lane, relay_of}
-use Rattle.macs_program.proofs.NoneWaits.{relay-not-busy}
+use Rattle.macs_offline.proofs.NoneWaits.{relay-not-busy}
 use Rattle.macs_program.proofs.relaying.relay_frames.Goals as goal
 
 pub failure_of_refill-requires : goal.failure_of_refill-requires

@@ -1,6 +1,6 @@
 use Rattle.std.proofs.Common.{inl}
 use Rattle.macs_edge.specs.Relaying.{empty_lane, relay_of}
-use Rattle.macs_program.proofs.NoneWaits.{attended-not-busy}
+use Rattle.macs_offline.proofs.NoneWaits.{attended-not-busy}
 use Rattle.macs_program.proofs.relaying.relay_frames_attended.Goals as goal
 
 pub failure_of_refill-requires : goal.failure_of_refill-requires

@@ -1,6 +1,6 @@
 use Rattle.std.proofs.Common.{◌∙◌, inl, inr}
 use Rattle.std.proofs.lemmas.Result.{err_from_is_err_and}
-use Rattle.macs_program.specs.Opened.{Answers}
+use Rattle.macs_offline.specs.Opened.{Answers}
 use Rattle.macs_program.proofs.Printing.{answered, prints, refused-first}
 use Rattle.macs_program.proofs.run.open_input.Goals as goal
 

@@ -1,6 +1,6 @@
 use Rattle.std.proofs.Common.{inl, inr, refl, sym, ◌∙◌}
 use Rattle.macs_program.proofs.Codes.{code-disk, code-usage, no-success, not-failed, refused-link}
-use Rattle.macs_program.specs.Failing.{failure_status}
+use Rattle.macs_offline.specs.Failing.{failure_status}
 use Rattle.macs_program.specs.Inputs.{read_of}
 use Rattle.macs_program.specs.Run.{FailsFor, PrintsUnlessFailed, complaint}
 use Rattle.macs_words.specs.Words.{texts}

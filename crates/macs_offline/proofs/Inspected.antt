@@ -1,0 +1,204 @@
+-- The frames of a capture that are inspected, one after another.
+use Rattle.std.proofs.Common.{◌≡◌, ◌≢◌, ◌+◌, ◌<◌, ◌≤◌, ◌++◌, if◌then◌else◌, ℕ, Bool, true, false, List, [], ◌∷◌}
+use Rattle.std.proofs.Common.{length, Option, Some, None, Result, Ok, inl, inr, refl, sym, ap, ◌∙◌, subst}
+use Rattle.std.proofs.Common.{arith, append_assoc, append-nil}
+use Rattle.std.specs.Io.KnownBytes.{Appends}
+use Rattle.std.proofs.KnownBytes.{Appends-nil, Appends-trans}
+use Rattle.macs_frame.specs.Tag.{IsForKay, Tag, control, has_sci, short_length, tag_of}
+use Rattle.macs_frame.specs.declared.tag.Parts.{Parts}
+use Rattle.macs_frame.specs.declared.tag.SecTag.{SecTag}
+use Rattle.std.proofs.lemmas.Result.{IfErr-weaker, IfOk-weaker}
+use Rattle.macs_pcap.specs.Faults.{max_records}
+use Rattle.macs_pcap.specs.Captures.{BeginsWithRecords}
+use Rattle.macs_pcap.specs.Reading.{HoldsOfLeft, ReadsHeader, ReadsRecord}
+use Rattle.macs_pcap.specs.Records.{CaptureRecord}
+use Rattle.macs_pcap.specs.States.{SourceState}
+use Rattle.macs_pcap.specs.declared.fault.PcapFault.{PcapFault}
+use Rattle.macs_pcap.specs.declared.fault.PcapFault.TheVariants as pcap
+use Rattle.macs_pcap.specs.declared.header.Header.{Header}
+use Rattle.macs_edge.proofs.Behind.{left-more, longer}
+use Rattle.macs_offline.specs.Failing.{failure_of_capture}
+use Rattle.macs_offline.specs.Inspecting.{AreLinesOf, HasInspected, InspectsNext}
+use Rattle.macs_offline.specs.Inspecting.{InspectsRecords, IsLineOf, IsOfInspecting, IsSaidOf, PrintsFrames}
+use Rattle.macs_offline.specs.Inspecting.{PrintsLines, RunsCapture, RunsRecords, StopsCapture, StopsNext, StopsRecords}
+use Rattle.macs_offline.specs.Inspecting.{tag_text}
+use Rattle.macs_offline.specs.declared.failure.Failure.{Failure}
+use Rattle.macs_offline.specs.declared.failure.Failure.TheVariants as failures
+use Rattle.macs_offline.specs.declared.status.Status.{Status}
+
+-- ---- lines
+
+-- one line more
+lines-more : (at : ℕ) (records : List CaptureRecord) (taken : CaptureRecord) (text more : List ℕ)
+    → AreLinesOf at records text
+    → IsLineOf (at + length records) taken.frame more → AreLinesOf at (records ++ taken ∷ []) (text ++ more)
+lines-more at [] taken text more lines one =
+    let place : at + 0 ≡ at = omega arith in (
+      more,
+      [],
+      subst (λ (k : ℕ). IsLineOf k taken.frame more) place one,
+      ap (λ (t : List ℕ). t ++ more) lines
+          ∙ sym (append-nil more),
+      refl,
+    )
+lines-more at (first ∷ others) taken text more (own, rest, own_line, is, lines) one =
+    let place : at + length (first ∷ others) ≡ (at + 1) + length others = omega arith in (
+      own,
+      rest ++ more,
+      own_line,
+      ap (λ (t : List ℕ). t ++ more) is ∙ append_assoc own rest more,
+      lines-more (at + 1) others taken rest more lines (subst (λ (k : ℕ). IsLineOf k taken.frame more) place one),
+    )
+
+-- ---- what was inspected so far
+
+-- so many frames were
+abbrev pub HasRead : Bool → SourceState → Option (List ℕ) → ℕ → SourceState → Option (List ℕ) → Type 0
+HasRead big old before count new after = (records : List CaptureRecord) × HasInspected big old before records new after
+    × (length records ≡ count)
+
+pub none-read : (big : Bool) (source : SourceState) (before : Option (List ℕ))
+    → HasRead big source before 0 source before
+none-read big source before = ([], record { taken = none source.left; printed = ([], refl, Appends-nil before) }, refl)
+  where
+    none : (left : Option (List ℕ)) → HoldsOfLeft left left (λ left rest. BeginsWithRecords big left [] rest)
+    none None = tt
+    none (Some left) = refl
+
+pub one-read : (big : Bool) (old between new : SourceState) (before known after : Option (List ℕ)) (count : ℕ)
+    (more : Bool) → more ≡ true
+    → HasRead big old before count between known → InspectsNext big count between known (Ok more) new after
+    → HasRead big old before (count + 1) new after
+one-read big old between new before known after count more is (records, has, size) next =
+    let (taken, room, reads, text, line, printed) =
+    subst (λ (b : Bool). InspectsNext big count between known (Ok b) new after) is next in
+    let (front, lines, shown) = has.printed in
+    let place : count + 1 ≡ 1 + length records = omega (arith, size) in (
+      records ++ taken ∷ [],
+      record {
+        taken = left-more old.left between.left new.left big records taken has.taken reads.taken;
+        printed = (
+          front ++ text,
+          lines-more 1 records taken front text lines (subst (λ (k : ℕ). IsLineOf k taken.frame text) place line),
+          Appends-trans before known after front text shown printed,
+        );
+      },
+      longer records taken ∙ ap (λ (n : ℕ). n + 1) size,
+    )
+
+-- a frame with a good SecTAG has an SL
+pub has_short_length : (frame : List ℕ) (parts : Parts) → Tag frame parts → 15 < length frame
+has_short_length frame parts tag = go (has_sci (control frame)) tag.reading.good.whole
+  where
+    go : (explicit : Bool) → (if explicit then 28 else 20) ≤ length frame → 15 < length frame
+    go true whole = omega (arith, whole)
+    go false whole = omega (arith, whole)
+
+-- what is said of it
+pub says_tag : (frame : List ℕ) (parts : Parts) (short octets : ℕ) (text : List ℕ)
+    → Tag frame parts × (¬ IsForKay frame) → short ≡ short_length frame
+    → octets ≡ length frame → text ≡ tag_text parts.tag short octets → IsSaidOf frame text
+says_tag frame parts short octets text (tag, other) is_short is_octets said =
+    inr (
+      parts,
+      tag,
+      other,
+      said ∙ ap (λ (t : SecTag). tag_text t short octets) tag.reading.tag
+          ∙ ap (λ (n : ℕ). tag_text (tag_of frame) n octets) is_short
+          ∙ ap (λ (n : ℕ). tag_text (tag_of frame) (short_length frame) n) is_octets,
+    )
+
+-- the next one ends the run
+pub read-stops : (big : Bool) (old until new : SourceState) (before between after : Option (List ℕ)) (count : ℕ)
+    (failure : Failure)
+    → HasRead big old before count until between → StopsNext big count until between failure new after
+    → StopsRecords big old before failure new after
+read-stops big old until new before between after count failure (records, has, size) stops = record {
+  records = records;
+  until = until;
+  between = between;
+  inspected = has;
+  stops = subst (λ (n : ℕ). StopsNext big n until between failure new after) (sym size) stops;
+}
+
+-- there is none
+pub read-all : (big : Bool) (old until new : SourceState) (before between after : Option (List ℕ)) (count : ℕ)
+    (more : Bool) → more ≡ false
+    → HasRead big old before count until between → InspectsNext big count until between (Ok more) new after
+    → InspectsRecords big old before new after
+read-all big old until new before between after count more is (records, has, size) next =
+    let (room, frame, reads, same) =
+    subst (λ (b : Bool). InspectsNext big count until between (Ok b) new after) is next in record {
+      records = records;
+      until = until;
+      inspected = subst (λ (a : Option (List ℕ)). HasInspected big old before records until a) (sym same) has;
+      room = room;
+      frame = frame;
+      ended = subst (λ (n : ℕ). ReadsRecord big n room until new frame (Ok None)) (sym size) reads;
+    }
+
+-- there was room for one more
+pub room-for : (big : Bool) (between new : SourceState) (known after : Option (List ℕ)) (count : ℕ) (more : Bool)
+    → more ≡ true
+    → InspectsNext big count between known (Ok more) new after → count < max_records
+room-for big between new known after count more is next =
+    (subst (λ (b : Bool). InspectsNext big count between known (Ok b) new after) is next).2.few
+
+-- ---- a whole capture
+
+pub capture-run : (old behind new : SourceState) (header : Header) (before after : Option (List ℕ))
+    (result : Result Status Failure)
+    → ReadsHeader old behind (Ok header) → RunsRecords header.big behind before result new after
+    → RunsCapture old before result new after
+capture-run old behind new header before after result begins runs = record {
+  done = IfOk-weaker result _ _
+      (λ status all. (record { header = header; behind = behind; begins = begins; records = all.0 }, all.1)) runs.done;
+  stopped = IfErr-weaker result _ _ (λ failure stops. inr (header, behind, begins, stops)) runs.stopped;
+}
+
+-- its failures
+of-capture : (fault : PcapFault) → IsOfInspecting (failure_of_capture fault)
+of-capture pcap.BadMagic = tt
+of-capture pcap.BadVersion = tt
+of-capture pcap.NotEthernet = tt
+of-capture pcap.CutFile = tt
+of-capture pcap.CutRecord = tt
+of-capture pcap.RecordTooLong = tt
+of-capture pcap.TooManyRecords = tt
+of-capture pcap.Read = tt
+of-capture pcap.Write = tt
+of-capture pcap.Memory = tt
+
+of-next : (big : Bool) (count : ℕ) (old new : SourceState) (before after : Option (List ℕ)) (failure : Failure)
+    → StopsNext big count old before failure new after → IsOfInspecting failure
+of-next big count old new before after failure (inl (fault, room, frame, reads, is, same)) =
+    subst IsOfInspecting (sym is) (of-capture fault)
+of-next big count old new before after failure (inr (inl (is, same))) = subst IsOfInspecting (sym is) tt
+of-next big count old new before after failure (inr (inr is)) = subst IsOfInspecting (sym is) tt
+
+pub of-inspecting : (old new : SourceState) (before after : Option (List ℕ)) (failure : Failure)
+    → StopsCapture old before failure new after
+    → IsOfInspecting failure
+of-inspecting old new before after failure (inl (fault, reads, is, same)) =
+    subst IsOfInspecting (sym is) (of-capture fault)
+of-inspecting old new before after failure (inr (header, behind, begins, stops)) =
+    of-next header.big (length stops.records) stops.until new stops.between after failure stops.stops
+
+-- what was printed before them
+next-front : (big : Bool) (count : ℕ) (old new : SourceState) (between after : Option (List ℕ)) (failure : Failure)
+    → StopsNext big count old between failure new after → failure ≢ failures.Output → after ≡ between
+next-front big count old new between after failure (inl (fault, room, frame, reads, is, same)) other = same
+next-front big count old new between after failure (inr (inl (is, same))) other = same
+next-front big count old new between after failure (inr (inr is)) other = absurd (other is)
+
+pub front-printed : (old new : SourceState) (before after : Option (List ℕ)) (failure : Failure)
+    → StopsCapture old before failure new after
+    → failure ≢ failures.Output → PrintsFrames before after
+front-printed old new before after failure (inl (fault, reads, is, same)) other =
+    ([], ([], refl, subst (λ (a : Option (List ℕ)). Appends before a []) (sym same) (Appends-nil before)))
+front-printed old new before after failure (inr (header, behind, begins, stops)) other =
+    let same =
+    next-front header.big (length stops.records) stops.until new stops.between after failure stops.stops other in (
+      stops.records,
+      subst (λ (a : Option (List ℕ)). PrintsLines stops.records before a) (sym same) stops.inspected.printed,
+    )

@@ -1,0 +1,39 @@
+-- What a line spells in hex.
+use Rattle.std.proofs.Common.{◌≡◌, ℕ, List, Option, Result, Ok, Err, MatchOption, inl, inr, refl, sym, ◌∙◌, arith}
+use Rattle.std.specs.Result.{result_ok}
+use Rattle.hex.specs.Hex.{decode_of, decode_sized}
+use Rattle.hex.specs.declared.error.FromHexError.{FromHexError}
+use Rattle.hex.proofs.HexLemmas.{decode_of-ok, decode_sized-ok, decode_sized-twice}
+use Rattle.macs_offline.specs.OpenInput.{SpellsKey, SpellsSized}
+
+-- a line that decodes at a size spells so many octets
+spells-decoded : (line : List ℕ) (n : ℕ) (octets : List ℕ) → decode_sized line n ≡ Ok octets → SpellsSized line n octets
+spells-decoded line n octets decoded =
+    let digits = decode_sized-ok line n octets decoded in
+    let whole : decode_of line ≡ Ok octets = sym (decode_sized-twice line n digits) ∙ decoded in
+    let parts = decode_of-ok line octets whole in
+    (omega (arith, digits, parts.2), whole)
+
+-- a line that spells so many octets decodes to them at that size
+decode_sized-spelled : (line : List ℕ) (n : ℕ) (octets : List ℕ) → SpellsSized line n octets
+    → decode_sized line n ≡ Ok octets
+decode_sized-spelled line n octets spelled =
+    let parts = decode_of-ok line octets spelled.1 in
+    decode_sized-twice line n (omega (arith, spelled.0, parts.2)) ∙ spelled.1
+
+-- decoding at a size answers the octets that are spelled, and nothing where none are
+pub spelled-sized : (line : List ℕ) (n : ℕ) (read : Option (List ℕ)) → read ≡ result_ok (decode_sized line n)
+    → MatchOption read ((octets : List ℕ) → ¬ SpellsSized line n octets) (SpellsSized line n)
+spelled-sized line n read is = rw is (go (decode_sized line n) refl)
+  where
+    go : (decoded : Result (List ℕ) FromHexError) → decode_sized line n ≡ decoded
+        → MatchOption (result_ok decoded) ((octets : List ℕ) → ¬ SpellsSized line n octets) (SpellsSized line n)
+    go (Ok octets) e = spells-decoded line n octets e
+    go (Err fault) e = λ octets spelled. let d = decode_sized-spelled line n octets spelled in cc
+
+-- a line of neither length is no key
+pub no-key : (line : List ℕ) → ((octets : List ℕ) → ¬ SpellsSized line 16 octets)
+    → ((octets : List ℕ) → ¬ SpellsSized line 32 octets)
+    → (key : List ℕ) → ¬ SpellsKey line key
+no-key line short long key (inl size, spelled) = short key (size, spelled)
+no-key line short long key (inr size, spelled) = long key (size, spelled)

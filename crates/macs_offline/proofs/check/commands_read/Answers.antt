@@ -1,0 +1,21 @@
+use Rattle.std.proofs.Common.{inr}
+use Rattle.std.proofs.lemmas.Result.{IfErr-weaker, IfOk-weaker}
+use Rattle.macs_offline.proofs.Checked.{complains-read}
+use Rattle.macs_offline.proofs.Commanded.{says-read}
+use Rattle.macs_offline.proofs.check.commands_read.Goals as goal
+
+pub returns-in-Ok-clause-said : goal.returns-in-Ok-clause-said
+returns-in-Ok-clause-said g c =
+    IfOk-weaker c.commands_said.result _ _
+    (λ told says. says-read (g.R.Read.remaining c.args.file.now) _ told.end told.commands.items
+    (rw (c.take.ensures.limit, c.take.ensures.inner, c.new-octets.ensures.items) at c.in-Ok.ensures.bytes)
+    (rw c.as_slice.ensures.value at says))
+    c.commands_said.ensures.said
+
+pub returns-in-Ok-clause-fault : goal.returns-in-Ok-clause-fault
+returns-in-Ok-clause-fault g c =
+    IfErr-weaker c.commands_said.result _ _
+    (λ failure complains. inr (complains-read (g.R.Read.remaining c.args.file.now) _ failure
+    (rw (c.take.ensures.limit, c.take.ensures.inner, c.new-octets.ensures.items) at c.in-Ok.ensures.bytes)
+    (rw c.as_slice.ensures.value at complains)))
+    c.commands_said.ensures.fault

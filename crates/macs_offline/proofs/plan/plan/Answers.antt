@@ -1,0 +1,10 @@
+use Rattle.std.proofs.lemmas.Result.{err_from_is_err_and}
+use Rattle.macs_offline.specs.Plans.{end_of, stage_of}
+use Rattle.macs_offline.proofs.Planned.{not-planned}
+use Rattle.macs_offline.proofs.plan.plan.Goals as goal
+
+pub returns-in_err-text-clause-ended : goal.returns-in_err-text-clause-ended
+returns-in_err-text-clause-ended g c =
+    let p = err_from_is_err_and c.from_residual.result c.from_residual.ensures.1 in
+    rw (p.1, p.2) (not-planned (end_of c.args.end) (stage_of c.args.stage) _ _
+    (rw (c.end_of.ensures, c.stage_of.ensures) at c.in_err-text.ensures.ended))

@@ -1,0 +1,128 @@
+-- What `check` says of a command file, and of the commands on a disk.
+use Rattle.std.specs.Prelude.{◌≡◌, ◌⊎◌, ◌<◌, ◌≤◌, ◌==◌, ◌++◌, if◌then◌else◌, ℕ, List, length, codes, Option, Some}
+use Rattle.std.specs.Prelude.{None, IfSome, string_bytes}
+use Rattle.std.specs.Fmt.{decimal}
+use Rattle.std.specs.Io.KnownBytes.{Appends}
+use Rattle.std.specs.Borrow.{Bor}
+use Rattle.std.specs.Str.{IsUtf8}
+use Rattle.clap.specs.Words.{Text}
+use Rattle.toml.specs.Data.{Members}
+use Rattle.toml.specs.Parse.{parse_document}
+use Rattle.macs_config.specs.declared.command.Command.{Command}
+use Rattle.macs_commands.specs.Ends.{HasFileFault}
+use Rattle.macs_commands.specs.declared.config_fault.ConfigFault.{ConfigFault}
+use Rattle.macs_commands.specs.declared.config_fault.ConfigFault.TheVariants as config
+use Rattle.macs_commands.specs.declared.config_fault.KeyName.{KeyName}
+use Rattle.macs_commands.specs.declared.config_fault.KeyName.TheVariants as name
+use Rattle.macs_commands.specs.declared.ends.CommandFileFault.{CommandFileFault}
+use Rattle.macs_commands.specs.declared.ends.CommandFileFault.TheVariants as told
+use Rattle.macs_disk.specs.Files.{FileState}
+use Rattle.macs_texts.specs.Lines.{line}
+use Rattle.macs_offline.specs.Applying.{SaidByFile, SaysCommands, longest_file}
+use Rattle.macs_offline.specs.FileModes.{mode_warning}
+use Rattle.macs_offline.specs.declared.failure.Failure.{Failure}
+use Rattle.macs_offline.specs.declared.failure.Failure.TheVariants as failures
+use Rattle.macs_offline.specs.declared.status.Status.{Status}
+use Rattle.macs_offline.specs.declared.status.Status.TheVariants as ends
+use Rattle.macs_offline.specs.Trying.{PrintsTrial, TrialStops}
+
+-- ---- what is said
+
+-- how many commands there are
+abbrev pub count_line : ℕ → List ℕ
+count_line count = line (decimal count ++ (if count == 1 then codes " command" else codes " commands"))
+
+-- a key of a command, as it is written
+abbrev pub key_word : KeyName → List ℕ
+key_word name.Mode = codes "mode"
+key_word name.On = codes "on"
+key_word name.Window = codes "window"
+key_word name.An = codes "an"
+key_word name.Key = codes "key"
+key_word name.Start = codes "start"
+key_word name.Confidential = codes "confidential"
+key_word name.Offset = codes "offset"
+key_word name.Sci = codes "sci"
+
+-- what it is not
+abbrev pub key_reason : KeyName → List ℕ
+key_reason name.Mode = codes "not a mode of this command"
+key_reason name.On = codes "not true or false"
+key_reason name.Window = codes "not 0 to 4294967295"
+key_reason name.An = codes "not 0 to 3"
+key_reason name.Key = codes "not 32 or 64 hex digits"
+key_reason name.Start = codes "not 0 to 4294967295"
+key_reason name.Confidential = codes "not true or false"
+key_reason name.Offset = codes "not 0 to 255"
+key_reason name.Sci = codes "not 16 hex digits"
+
+-- the first fault of the commands of a file, by its place, key and reason
+abbrev pub fault_text : ConfigFault → List ℕ
+fault_text config.Shape = codes "command file: not sci and tables [[command]] alone"
+fault_text (config.Word at) = codes "command " ++ (decimal at ++ codes " do: not a command")
+fault_text (config.Key at name) =
+    codes "command " ++ (decimal at ++ (codes " " ++ (key_word name ++ (codes ": " ++ key_reason name))))
+fault_text (config.Extra at) = codes "command " ++ (decimal at ++ codes ": a key that it does not have")
+fault_text config.Memory = codes "memory"
+
+-- the first fault of a file: that of its end, or of its commands
+abbrev pub file_fault_text : CommandFileFault → List ℕ
+file_fault_text told.Sci = codes "command file sci: not 16 hex digits"
+file_fault_text (told.Commands cause) = fault_text cause
+
+-- ---- of the octets of a file
+
+-- a text says a command file whose first fault this is
+abbrev pub HasFault : List ℕ → List ℕ → Type 0
+HasFault text said =
+    (members : Members) × (parse_document text ≡ Some members)
+    × (fault : CommandFileFault) × HasFileFault members fault × (said ≡ file_fault_text fault)
+
+-- this is said of a text: that it is no TOML, or the fault of its end or of its commands
+abbrev pub IsSaidOfText : List ℕ → List ℕ → Type 0
+IsSaidOfText text said = ((parse_document text ≡ None) × (said ≡ codes "command file: not TOML")) ⊎ HasFault text said
+
+-- this is said of octets: that they are too many, or no text, or what is said of the text
+abbrev pub IsSaidOfFile : List ℕ → List ℕ → Type 0
+IsSaidOfFile octets said =
+    ((longest_file < length octets) × (said ≡ codes "command file: more than 1048576 octets"))
+    ⊎ ((length octets ≤ longest_file) × (¬ IsUtf8 octets) × (said ≡ codes "command file: not UTF-8"))
+    ⊎ ((length octets ≤ longest_file) × IsUtf8 octets × IsSaidOfText octets said)
+
+-- a failure says something of a command file for which this holds, unless there is no memory
+abbrev pub Complains : (List ℕ → Type 0) → Failure → Type 0
+Complains Holds failure =
+    (failure ≡ failures.Memory) ⊎ ((text : _) × (failure ≡ failures.CommandFile text) × Holds (string_bytes text))
+
+-- ---- of a file, where `left_in` says what is left to read of one, where that is known
+
+-- the number of commands is printed that a file says, and what is said of its mode
+abbrev pub PrintsCount : {F : Type 0} → (F → Option (List ℕ)) → Option (List ℕ) → Option (List ℕ) → Type 0
+PrintsCount left_in before after =
+    (octets : List ℕ) × (end : Option (List ℕ)) × (commands : List Command) × SaysCommands octets end commands
+    × SaidByFile left_in end commands
+    × (mode : Option ℕ) × Appends before after (count_line (length commands) ++ mode_warning mode)
+
+-- a failure says something of a file, which is said of its octets
+abbrev pub ComplainsOfFile : {F : Type 0} → (List ℕ → List ℕ → Type 0) → (F → Option (List ℕ)) → Failure → Type 0
+ComplainsOfFile {F} IsSaid left_in failure =
+    (file : F) × IfSome (left_in file) (λ octets. Complains (IsSaid octets) failure)
+
+-- the file is not read; or something is said of its octets, or there is no memory; or what is to be printed cannot be
+abbrev pub CheckFails : {F : Type 0} → (F → Option (List ℕ)) → Failure → Type 0
+CheckFails left_in failure = (failure ≡ failures.Commands) ⊎ (failure ≡ failures.Output)
+    ⊎ ((octets : List ℕ) × Complains (IsSaidOfFile octets) failure
+    × ((failure ≡ failures.Memory) ⊎ ComplainsOfFile IsSaidOfFile left_in failure))
+
+-- ---- with a disk, where `state_of` says what files are, and without one
+
+-- the number of commands is printed, or what each would be answered on the disk
+abbrev pub Checks : {F : Type 0} → (F → FileState) → (F → Option (List ℕ)) → Option (Bor Text) → Option (List ℕ)
+    → Option (List ℕ) → Status → Type 0
+Checks state_of left_in None before after status = PrintsCount left_in before after × (status ≡ ends.Done)
+Checks state_of left_in (Some disk) before after status = PrintsTrial state_of left_in before after status
+
+-- the command file is not read, or has a fault; or they cannot be tried on the disk
+abbrev pub CheckEnds : {F : Type 0} → (F → FileState) → (F → Option (List ℕ)) → Option (Bor Text) → Failure → Type 0
+CheckEnds state_of left_in None failure = CheckFails left_in failure
+CheckEnds state_of left_in (Some disk) failure = CheckFails left_in failure ⊎ TrialStops state_of left_in failure

@@ -1,0 +1,173 @@
+-- What `examine` says of the disk in a file: what the recovery of its journal finds on a copy of it in memory, or its
+-- first fault.
+use Rattle.std.specs.Prelude.{◌≡◌, ◌≤◌, ◌⊎◌, ◌/◌, ◌%◌, ◌++◌, ℕ, List, [], length, map, codes, Option, Some, None}
+use Rattle.std.specs.Fmt.{decimal}
+use Rattle.std.specs.Io.KnownBytes.{Appends}
+use Rattle.std.specs.List.{concat}
+use Rattle.std.specs.declared.alloc.Global.{Global}
+use Rattle.hex.specs.Hex.{encode_lower}
+use Rattle.macs_config.specs.Config.{Config, this_edition}
+use Rattle.macs_disk.specs.Disk.{Disk, now}
+use Rattle.macs_disk.specs.Files.{Behaves, FileState, IsSure}
+use Rattle.macs_disk.specs.Layouts.{layout_in}
+use Rattle.macs_disk.specs.MemDisks.{disk_of}
+use Rattle.macs_disk.specs.States.{Image}
+use Rattle.macs_disk.specs.declared.layout.Layout.{Layout}
+use Rattle.macs_disk.specs.declared.layout.Layout.TheVariants.{Packed, Spaced}
+use Rattle.macs_disk.specs.declared.memory.MemDisk.{MemDisk}
+use Rattle.macs_journal.specs.Areas.{least_sectors, slots}
+use Rattle.macs_journal.specs.Found.{Content, HasJournal, IsBadJournal}
+use Rattle.macs_journal.specs.declared.fault.JournalFault.{JournalFault}
+use Rattle.macs_journal.specs.declared.fault.JournalFault.TheVariants.{BadJournal}
+use Rattle.macs_record.specs.Heads.{version_of}
+use Rattle.macs_record.specs.declared.record.Record.{Record}
+use Rattle.macs_store.specs.Found.{IsUnfitTo}
+use Rattle.macs_store.specs.Replay.{meaning_of}
+use Rattle.macs_store.specs.Standing.{Standing}
+use Rattle.macs_texts.specs.Lines.{line}
+use Rattle.macs_texts.specs.Showing.{association_numbers}
+use Rattle.macs_offline.specs.Copying.{CopyFails, IsCopy, IsNotRead}
+use Rattle.macs_offline.specs.Failing.{failure_of_journal}
+use Rattle.macs_offline.specs.FirstFault.{IsFirstFault}
+use Rattle.macs_offline.specs.RecordLines.{records_text}
+use Rattle.macs_offline.specs.declared.examined_text.Figures.{Figures}
+use Rattle.macs_offline.specs.declared.failure.Failure.{Failure}
+use Rattle.macs_offline.specs.declared.failure.Failure.TheVariants as failures
+use Rattle.macs_offline.specs.declared.status.Status.{Status}
+use Rattle.macs_offline.specs.declared.status.Status.TheVariants as ends
+
+-- ---- lines
+
+-- of a number: what it is, and which
+abbrev pub number_line : List ℕ → ℕ → List ℕ
+number_line name number = line (name ++ (codes " " ++ decimal number))
+
+-- of a number that has a greatest one
+abbrev pub part_line : List ℕ → ℕ → ℕ → List ℕ
+part_line name number most = line (name ++ (codes " " ++ (decimal number ++ (codes " of " ++ decimal most))))
+
+-- of the ceiling of a transmit association, where it has one
+abbrev pub tx_ceiling_line : ℕ → Option ℕ → List ℕ
+tx_ceiling_line an None = []
+tx_ceiling_line an (Some ceiling) = line (codes "ceiling tx " ++ (decimal an ++ (codes " " ++ decimal ceiling)))
+
+-- and of a receive association
+abbrev pub rx_ceiling_line : List ℕ → ℕ → Option ℕ → List ℕ
+rx_ceiling_line sci an None = []
+rx_ceiling_line sci an (Some ceiling) =
+    line (codes "ceiling rx " ++ (encode_lower sci ++ (codes " " ++ (decimal an ++ (codes " " ++ decimal ceiling)))))
+
+-- ---- what is said
+
+-- how many octets of the device a sector has for itself
+abbrev pub block_of : Layout → ℕ
+block_of Packed = 512
+block_of Spaced = 4096
+
+-- the figures of a journal with this content
+abbrev pub figures_of : Content → Figures
+figures_of c = record { format = c.head.format; area = c.area; generation = c.head.generation; used = length c.records }
+
+-- the journal, in five lines
+abbrev pub figures_text : Layout → Figures → List ℕ
+figures_text layout figures =
+    number_line (codes "format") (version_of figures.format) ++ (number_line (codes "block") (block_of layout)
+    ++ (number_line (codes "area") figures.area ++ (number_line (codes "generation") figures.generation
+    ++ part_line (codes "slots used") figures.used slots)))
+
+-- the ceiling of the transmit association with this number
+abbrev pub tx_ceiling_text : Standing → ℕ → List ℕ
+tx_ceiling_text s an = tx_ceiling_line an (s.ceilings.tx an)
+
+-- of the receive association with this number
+abbrev pub rx_ceiling_text : Standing → List ℕ → ℕ → List ℕ
+rx_ceiling_text s sci an = rx_ceiling_line sci an (s.ceilings.rx sci an)
+
+-- and of all those of a channel
+abbrev pub channel_ceilings_text : Standing → List ℕ → List ℕ
+channel_ceilings_text s sci = concat (map (rx_ceiling_text s sci) association_numbers)
+
+-- how many keys are spent on either side, and that the journal is whole
+abbrev pub end_text : Config → List ℕ
+end_text config =
+    part_line (codes "spent tx") (length config.spent_tx) 512
+    ++ (part_line (codes "spent rx") (length config.spent_rx) 512 ++ line (codes "whole"))
+
+-- all of it, of a journal with these figures and records that stands for this
+abbrev pub examined_text : Layout → Figures → List Record → Standing → List ℕ
+examined_text layout figures records s =
+    figures_text layout figures ++ (records_text records ++ (concat (map (tx_ceiling_text s) association_numbers)
+    ++ (concat (map (channel_ceilings_text s) s.config.channels) ++ end_text s.config)))
+
+-- of a bad journal: the sector of its first fault
+abbrev pub fault_line : ℕ → List ℕ
+fault_line at = number_line (codes "fault in sector") at
+
+-- ---- on a disk in memory
+
+-- a journal with this content is found in the image, and it stands for this to the program
+pub record IsJournalOf (image : Image) (content : Content) (standing : Standing) : Type 0 where
+  pub found : HasJournal image content
+  pub stands : meaning_of this_edition content ≡ Some standing
+
+-- the first fault of the journal in the image is said, and the run ends as refused
+abbrev pub SaysFault : Image → List ℕ → Status → Type 0
+SaysFault image text status = (at : ℕ) × IsFirstFault image at × (text ≡ fault_line at) × (status ≡ ends.Refused)
+
+-- this is said of a disk with this image, which lies in a file in this layout, and the run ends so: what is found, or
+-- its first fault
+abbrev pub Says : Image → Layout → List ℕ → Status → Type 0
+Says image layout text status =
+    ((content : Content) × (standing : Standing) × IsJournalOf image content standing
+    × (text ≡ examined_text layout (figures_of content) content.records standing) × (status ≡ ends.Done))
+    ⊎ SaysFault image text status
+
+-- there is no memory, or no endpoint of this program is opened on a disk, for this fault
+abbrev pub IsNotOpened : Disk → Failure → Type 0
+IsNotOpened copy failure =
+    (failure ≡ failures.Memory)
+    ⊎ ((fault : JournalFault) × (failure ≡ failure_of_journal fault)
+    × IsUnfitTo this_edition copy.sectors (now copy).seen fault)
+
+-- nothing is said of a disk: so it is, and the fault is none of a sector
+abbrev pub IsNotExamined : Disk → Failure → Type 0
+IsNotExamined copy failure =
+    (failure ≡ failures.Memory)
+    ⊎ ((fault : JournalFault) × (failure ≡ failure_of_journal fault)
+    × IsUnfitTo this_edition copy.sectors (now copy).seen fault × (fault ≡ BadJournal → ¬ IsBadJournal (now copy).seen))
+
+-- ---- on a disk in a file
+
+-- a copy of the disk in a file of whole sectors, no fewer than a journal has, and the layout in which it lies there,
+-- where this is what the file is
+abbrev pub IsLaidCopy : FileState → MemDisk Global → Layout → Type 0
+IsLaidCopy file copy layout =
+    Behaves file → (file.size % 512 ≡ 0) × (least_sectors ≤ file.size / 512)
+    × (IsSure file → IsCopy file (disk_of copy) × (layout ≡ layout_in file))
+
+-- this is said of the disk in a file, and the run ends so
+pub record ExaminesIn {F : Type 0} (state_of : F → FileState) (text : List ℕ) (status : Status) : Type 0 where
+  pub file : F
+  pub copy : MemDisk Global
+  pub layout : Layout
+  pub is_copy : IsLaidCopy (state_of file) copy layout
+  pub says : Says (now (disk_of copy)).seen layout text status
+
+-- nothing is: the file is not opened; or there is no copy; or nothing is said of that
+abbrev pub ExaminationFails : {F : Type 0} → (F → FileState) → Failure → Type 0
+ExaminationFails {F} state_of failure =
+    IsNotRead failure
+    ⊎ ((file : F) × CopyFails (state_of file) failure)
+    ⊎ ((file : F) × (copy : MemDisk Global) × (layout : Layout) × IsLaidCopy (state_of file) copy layout
+    × IsNotExamined (disk_of copy) failure)
+
+-- ---- whole
+
+-- that is printed
+abbrev pub PrintsExamined : {F : Type 0} → (F → FileState) → Option (List ℕ) → Option (List ℕ) → Status → Type 0
+PrintsExamined state_of before after status = (text : List ℕ) × ExaminesIn state_of text status
+    × Appends before after text
+
+-- it is not: it cannot be printed, or nothing is said
+abbrev pub ExamineFails : {F : Type 0} → (F → FileState) → Failure → Type 0
+ExamineFails state_of failure = (failure ≡ failures.Output) ⊎ ExaminationFails state_of failure

@@ -1,0 +1,177 @@
+-- What `inspect` prints of the frames of a capture, and how it ends.
+use Rattle.std.specs.Prelude.{◌≡◌, ◌⊎◌, ◌+◌, ◌++◌, if◌then◌else◌, ⊤, ℕ, Bool, true, false, List, [], ◌∷◌, length, codes}
+use Rattle.std.specs.Prelude.{Option, Some, None, Result, Ok, Err, IfErr, IfOk}
+use Rattle.std.specs.Fmt.{decimal}
+use Rattle.std.specs.Io.KnownBytes.{Appends}
+use Rattle.hex.specs.Hex.{encode_lower}
+use Rattle.macs_fields.specs.First.{IsFirst}
+use Rattle.macs_frame.specs.Tag.{IsForKay, Tag, TagFaultHolds, short_length, tag_faults, tag_of}
+use Rattle.macs_frame.specs.declared.opening.OpenFault.TheVariants as opening
+use Rattle.macs_frame.specs.declared.tag.Parts.{Parts}
+use Rattle.macs_frame.specs.declared.tag.ScName.{ScName}
+use Rattle.macs_frame.specs.declared.tag.ScName.TheVariants.{Explicit, EndStation, Implicit}
+use Rattle.macs_frame.specs.declared.tag.SecTag.{SecTag}
+use Rattle.macs_frame.specs.declared.tag.TagFault.{TagFault}
+use Rattle.macs_pcap.specs.Captures.{BeginsWithRecords}
+use Rattle.macs_pcap.specs.Reading.{HoldsOfLeft, ReadsHeader, ReadsRecord}
+use Rattle.macs_pcap.specs.Records.{CaptureRecord}
+use Rattle.macs_pcap.specs.States.{SourceState}
+use Rattle.macs_pcap.specs.declared.fault.PcapFault.{PcapFault}
+use Rattle.macs_pcap.specs.declared.header.Header.{Header}
+use Rattle.macs_texts.specs.Lines.{line}
+use Rattle.macs_offline.specs.Opened.{refusal_text}
+use Rattle.macs_offline.specs.Failing.{failure_of_capture}
+use Rattle.macs_offline.specs.declared.failure.Failure.{Failure}
+use Rattle.macs_offline.specs.declared.failure.Failure.TheVariants as failures
+use Rattle.macs_offline.specs.declared.status.Status.{Status}
+use Rattle.macs_offline.specs.declared.status.Status.TheVariants as ends
+
+-- ---- the line of a frame
+
+-- a bit as a digit
+abbrev pub bit_text : Bool → List ℕ
+bit_text bit = if bit then codes "1" else codes "0"
+
+-- how a SecTAG names its channel: by its SCI, as that of an end station, or not at all
+abbrev pub name_text : ScName → List ℕ
+name_text (Explicit sci) = codes " sci=" ++ encode_lower sci
+name_text EndStation = codes " es"
+name_text Implicit = []
+
+-- the numbers that a SecTAG says, and its SL
+abbrev pub numbers_text : SecTag → ℕ → List ℕ
+numbers_text tag short =
+    codes "an=" ++ (decimal tag.an ++ (codes " pn=" ++ (decimal tag.pn ++ (codes " sl=" ++ decimal short))))
+
+-- its bits E and C, and its channel
+abbrev pub bits_text : SecTag → List ℕ
+bits_text tag = codes "e=" ++ (bit_text tag.encrypted ++ (codes " c=" ++ (bit_text tag.changed ++ name_text tag.name)))
+
+-- all that a SecTAG says, its SL, and how many octets its frame has
+abbrev pub tag_text : SecTag → ℕ → ℕ → List ℕ
+tag_text tag short octets =
+    numbers_text tag short ++ (codes " " ++ (bits_text tag ++ (codes " octets=" ++ decimal octets)))
+
+-- what is said of a frame: its first fault in the words of `open`, or what its SecTAG says
+abbrev pub IsSaidOf : List ℕ → List ℕ → Type 0
+IsSaidOf frame text =
+    ((fault : TagFault) × IsFirst (TagFaultHolds frame) tag_faults fault × (text ≡ refusal_text (opening.Tag fault)))
+    ⊎ ((parts : Parts) × Tag frame parts × (¬ IsForKay frame)
+    × (text ≡ tag_text (tag_of frame) (short_length frame) (length frame)))
+
+-- the line of a frame by its number
+abbrev pub IsLineOf : ℕ → List ℕ → List ℕ → Type 0
+IsLineOf at frame text = (said : List ℕ) × IsSaidOf frame said × (text ≡ line (decimal at ++ (codes " " ++ said)))
+
+-- the lines of the frames of these records, the first of which has this number
+abbrev pub AreLinesOf : ℕ → List CaptureRecord → List ℕ → Type 0
+AreLinesOf at [] text = text ≡ []
+AreLinesOf at (taken ∷ more) text =
+    (first : List ℕ) × (rest : List ℕ) × IsLineOf at taken.frame first × (text ≡ first ++ rest)
+    × AreLinesOf (at + 1) more rest
+
+-- they are printed, the first of them as number 1
+abbrev pub PrintsLines : List CaptureRecord → Option (List ℕ) → Option (List ℕ) → Type 0
+PrintsLines records before after = (text : List ℕ) × AreLinesOf 1 records text × Appends before after text
+
+-- ---- one frame after another
+
+-- these records were read, and the lines of their frames printed
+pub record HasInspected (big : Bool) (old : SourceState) (before : Option (List ℕ)) (records : List CaptureRecord)
+    (new : SourceState)
+    (after : Option (List ℕ)) : Type 0 where
+  pub taken : HoldsOfLeft old.left new.left (λ left rest. BeginsWithRecords big left records rest)
+  pub printed : PrintsLines records before after
+
+-- The run ends after so many records: the next one is not read, with a fault; or there is no memory for its line; or
+-- that cannot be printed
+abbrev pub StopsNext : Bool → ℕ → SourceState → Option (List ℕ) → Failure → SourceState → Option (List ℕ) → Type 0
+StopsNext big count old before failure new after =
+    ((fault : PcapFault) × (room : ℕ) × (frame : List ℕ) × ReadsRecord big count room old new frame (Err fault)
+    × (failure ≡ failure_of_capture fault) × (after ≡ before))
+    ⊎ ((failure ≡ failures.Memory) × (after ≡ before)) ⊎ (failure ≡ failures.Output)
+
+-- what becomes of the next record, after so many others: its line is printed; there is none, at the end; or the run
+-- ends
+abbrev pub InspectsNext : Bool → ℕ → SourceState → Option (List ℕ) → Result Bool Failure → SourceState
+    → Option (List ℕ) → Type 0
+InspectsNext big count old before (Ok true) new after =
+    (taken : CaptureRecord) × (room : ℕ) × ReadsRecord big count room old new taken.frame (Ok (Some taken.stamp))
+    × (text : List ℕ) × IsLineOf (count + 1) taken.frame text × Appends before after text
+InspectsNext big count old before (Ok false) new after =
+    (room : ℕ) × (frame : List ℕ) × ReadsRecord big count room old new frame (Ok None) × (after ≡ before)
+InspectsNext big count old before (Err failure) new after = StopsNext big count old before failure new after
+
+-- all records up to the end
+pub record InspectsRecords (big : Bool) (old : SourceState) (before : Option (List ℕ)) (new : SourceState)
+    (after : Option (List ℕ)) : Type 0 where
+  pub records : List CaptureRecord
+  pub until : SourceState
+  pub inspected : HasInspected big old before records until after
+  pub room : ℕ
+  pub frame : List ℕ
+  pub ended : ReadsRecord big (length records) room until new frame (Ok None)
+
+-- those before a failure
+pub record StopsRecords (big : Bool) (old : SourceState) (before : Option (List ℕ)) (failure : Failure)
+    (new : SourceState)
+    (after : Option (List ℕ)) : Type 0 where
+  pub records : List CaptureRecord
+  pub until : SourceState
+  pub between : Option (List ℕ)
+  pub inspected : HasInspected big old before records until between
+  pub stops : StopsNext big (length records) until between failure new after
+
+-- the one or the other
+pub record RunsRecords (big : Bool) (old : SourceState) (before : Option (List ℕ)) (result : Result Status Failure)
+    (new : SourceState)
+    (after : Option (List ℕ)) : Type 0 where
+  pub done : IfOk result (λ status. InspectsRecords big old before new after × (status ≡ ends.Done))
+  pub stopped : IfErr result (λ failure. StopsRecords big old before failure new after)
+
+-- ---- a whole capture
+
+-- a capture is read from its header to its end, and the line of each frame is printed
+pub record InspectsCapture (old : SourceState) (before : Option (List ℕ)) (new : SourceState)
+    (after : Option (List ℕ)) : Type 0 where
+  pub header : Header
+  pub behind : SourceState
+  pub begins : ReadsHeader old behind (Ok header)
+  pub records : InspectsRecords header.big behind before new after
+
+-- it is not: its header has a fault, or the run ends after some of its records
+abbrev pub StopsCapture : SourceState → Option (List ℕ) → Failure → SourceState → Option (List ℕ) → Type 0
+StopsCapture old before failure new after =
+    ((fault : PcapFault) × ReadsHeader old new (Err fault) × (failure ≡ failure_of_capture fault) × (after ≡ before))
+    ⊎ ((header : Header) × (behind : SourceState) × ReadsHeader old behind (Ok header)
+    × StopsRecords header.big behind before failure new after)
+
+-- what is done with a capture
+pub record RunsCapture (old : SourceState) (before : Option (List ℕ)) (result : Result Status Failure)
+    (new : SourceState)
+    (after : Option (List ℕ)) : Type 0 where
+  pub done : IfOk result (λ status. InspectsCapture old before new after × (status ≡ ends.Done))
+  pub stopped : IfErr result (λ failure. StopsCapture old before failure new after)
+
+-- ---- a capture in a file, of which is not known here what it has
+
+-- some capture is inspected whole
+abbrev pub Inspects : Option (List ℕ) → Option (List ℕ) → Type 0
+Inspects before after = (old : SourceState) × (new : SourceState) × InspectsCapture old before new after
+
+-- some capture is not opened, or not inspected whole
+abbrev pub InspectFails : Option (List ℕ) → Option (List ℕ) → Failure → Type 0
+InspectFails before after failure =
+    (((failure ≡ failures.Memory) ⊎ (failure ≡ failures.Capture)) × (after ≡ before))
+    ⊎ ((old : SourceState) × (new : SourceState) × StopsCapture old before failure new after)
+
+-- the lines of some frames were printed
+abbrev pub PrintsFrames : Option (List ℕ) → Option (List ℕ) → Type 0
+PrintsFrames before after = (records : List CaptureRecord) × PrintsLines records before after
+
+-- the failures of `inspect`: the capture, memory and standard output
+abbrev pub IsOfInspecting : Failure → Type 0
+IsOfInspecting failures.Capture = ⊤
+IsOfInspecting failures.Memory = ⊤
+IsOfInspecting failures.Output = ⊤
+IsOfInspecting other = ⊥

@@ -1,0 +1,170 @@
+-- What `plan` prints of a link's file, and what it says of one of which nothing is planned.
+use Rattle.std.specs.Prelude.{◌≡◌, ◌⊎◌, ◌<◌, ◌≤◌, ◌++◌, ℕ, List, length, codes, Option, Some, None, Err}
+use Rattle.std.specs.Prelude.{IfSome}
+use Rattle.std.specs.Fmt.{decimal}
+use Rattle.std.specs.Io.KnownBytes.{Appends}
+use Rattle.std.specs.Str.{IsUtf8}
+use Rattle.toml.specs.Data.{Members}
+use Rattle.toml.specs.Parse.{parse_document}
+use Rattle.macs_plan.specs.Planning.{file_planned}
+use Rattle.macs_plan.specs.Writing.{PlansText}
+use Rattle.macs_plan.specs.declared.link.End.{End}
+use Rattle.macs_plan.specs.declared.link.End.TheVariants as side
+use Rattle.macs_plan.specs.declared.plan_fault.Place.{Place}
+use Rattle.macs_plan.specs.declared.plan_fault.Place.TheVariants as place
+use Rattle.macs_plan.specs.declared.plan_fault.PlanFault.{PlanFault}
+use Rattle.macs_plan.specs.declared.plan_fault.PlanFault.TheVariants as plan
+use Rattle.macs_plan.specs.declared.plan_fault.ValueName.{ValueName}
+use Rattle.macs_plan.specs.declared.plan_fault.ValueName.TheVariants as name
+use Rattle.macs_plan.specs.declared.planning.Stage.{Stage}
+use Rattle.macs_plan.specs.declared.planning.Stage.TheVariants as stage
+use Rattle.macs_words.specs.declared.plan_words.PlanEnd.{PlanEnd}
+use Rattle.macs_words.specs.declared.plan_words.PlanEnd.TheVariants as plan_end
+use Rattle.macs_words.specs.declared.plan_words.PlanStage.{PlanStage}
+use Rattle.macs_words.specs.declared.plan_words.PlanStage.TheVariants as plan_stage
+use Rattle.macs_offline.specs.Applying.{longest_file}
+use Rattle.macs_offline.specs.Checking.{Complains}
+use Rattle.macs_offline.specs.declared.failure.Failure.{Failure}
+use Rattle.macs_offline.specs.declared.failure.Failure.TheVariants as failures
+use Rattle.macs_offline.specs.declared.failure.LinkRefusal.{LinkRefusal}
+use Rattle.macs_offline.specs.declared.failure.LinkRefusal.TheVariants as wrong
+
+-- ---- what is asked for
+
+-- the end that a word names
+abbrev pub end_of : PlanEnd → End
+end_of plan_end.Left = side.Left
+end_of plan_end.Right = side.Right
+
+-- the stage that a word names
+abbrev pub stage_of : PlanStage → Stage
+stage_of plan_stage.First = stage.First
+stage_of plan_stage.Receive = stage.Receive
+stage_of plan_stage.Send = stage.Send
+stage_of plan_stage.Remove = stage.Remove
+
+-- ---- what is said
+
+-- a key of a table, as it is written
+abbrev pub name_word : ValueName → List ℕ
+name_word name.Sci = codes "sci"
+name_word name.An = codes "an"
+name_word name.Left = codes "left"
+name_word name.Right = codes "right"
+
+-- what its value is not
+abbrev pub name_reason : ValueName → List ℕ
+name_reason name.Sci = codes "not 16 hex digits"
+name_reason name.An = codes "not 0 to 3"
+name_reason name.Left = codes "not 32 or 64 hex digits"
+name_reason name.Right = codes "not 32 or 64 hex digits"
+
+-- a value, by its place, key and reason
+abbrev pub value_text : Place → ValueName → List ℕ
+value_text place.Left name = codes "left " ++ (name_word name ++ (codes ": " ++ name_reason name))
+value_text place.Right name = codes "right " ++ (name_word name ++ (codes ": " ++ name_reason name))
+value_text (place.Key at) name =
+    codes "key " ++ (decimal at ++ (codes " " ++ (name_word name ++ (codes ": " ++ name_reason name))))
+
+-- a key too many, by its place
+abbrev pub extra_text : Place → List ℕ
+extra_text place.Left = codes "left: a key that it does not have"
+extra_text place.Right = codes "right: a key that it does not have"
+extra_text (place.Key at) = codes "key " ++ (decimal at ++ codes ": a key that it does not have")
+
+-- the first fault of a link's file
+abbrev pub plan_fault_text : PlanFault → List ℕ
+plan_fault_text plan.Shape = codes "link file: not [left], [right] and tables [[key]] alone"
+plan_fault_text (plan.Value place name) = value_text place name
+plan_fault_text (plan.Extra place) = extra_text place
+plan_fault_text plan.SameSci = codes "same sci"
+plan_fault_text plan.SameKey = codes "same key"
+plan_fault_text plan.AnInUse = codes "an in use"
+plan_fault_text plan.OneKey = codes "one key"
+plan_fault_text plan.Memory = codes "memory"
+
+-- the refusal of a link that a fault is, if it is one
+abbrev pub link_refusal : PlanFault → Option LinkRefusal
+link_refusal plan.SameSci = Some wrong.SameSci
+link_refusal plan.SameKey = Some wrong.SameKey
+link_refusal plan.AnInUse = Some wrong.AnInUse
+link_refusal fault = None
+
+-- ---- of the octets of a file
+
+-- octets say a link, and this text is the command file of what is planned of it
+pub record PlansFile (end : End) (stage : Stage) (octets text : List ℕ) : Type 0 where
+  pub short : length octets ≤ longest_file
+  pub utf8 : IsUtf8 octets
+  pub members : Members
+  pub parsed : parse_document octets ≡ Some members
+  pub planned : PlansText members end stage text
+
+-- nothing is planned of what a text says, for this fault
+abbrev pub HasPlanFault : End → Stage → List ℕ → PlanFault → Type 0
+HasPlanFault end stage text fault =
+    (members : Members) × (parse_document text ≡ Some members) × (file_planned members end stage ≡ Err fault)
+
+-- this is said of a text: that it is no TOML, or why nothing is planned of it, where no link is refused
+abbrev pub IsSaidOfLinkText : End → Stage → List ℕ → List ℕ → Type 0
+IsSaidOfLinkText end stage text said = ((parse_document text ≡ None) × (said ≡ codes "link file: not TOML"))
+    ⊎ ((fault : PlanFault) × HasPlanFault end stage text fault × (link_refusal fault ≡ None)
+    × (said ≡ plan_fault_text fault))
+
+-- a text says a link that is refused so
+abbrev pub RefusesLinkText : End → Stage → List ℕ → LinkRefusal → Type 0
+RefusesLinkText end stage text refusal =
+    (fault : PlanFault) × HasPlanFault end stage text fault × (link_refusal fault ≡ Some refusal)
+
+-- this is said of octets: that they are too many, or no text, or what is said of the text
+abbrev pub IsSaidOfLink : End → Stage → List ℕ → List ℕ → Type 0
+IsSaidOfLink end stage octets said =
+    ((longest_file < length octets) × (said ≡ codes "link file: more than 1048576 octets"))
+    ⊎ ((length octets ≤ longest_file) × (¬ IsUtf8 octets) × (said ≡ codes "link file: not UTF-8"))
+    ⊎ ((length octets ≤ longest_file) × IsUtf8 octets × IsSaidOfLinkText end stage octets said)
+
+-- octets say a link that is refused so
+abbrev pub RefusesLink : End → Stage → List ℕ → LinkRefusal → Type 0
+RefusesLink end stage octets refusal =
+    (length octets ≤ longest_file) × IsUtf8 octets × RefusesLinkText end stage octets refusal
+
+-- a failure is the refusal of a link for which this holds
+abbrev pub RefusesSo : (LinkRefusal → Type 0) → Failure → Type 0
+RefusesSo Refuses failure = (refusal : LinkRefusal) × (failure ≡ failures.Link refusal) × Refuses refusal
+
+-- a failure says why nothing is planned of a text: something is said of it or its link is refused, unless there is no
+-- memory
+abbrev pub SaysWhyOfText : End → Stage → List ℕ → Failure → Type 0
+SaysWhyOfText end stage text failure = Complains (IsSaidOfLinkText end stage text) failure
+    ⊎ RefusesSo (RefusesLinkText end stage text) failure
+
+-- and of octets
+abbrev pub SaysWhy : End → Stage → List ℕ → Failure → Type 0
+SaysWhy end stage octets failure =
+    Complains (IsSaidOfLink end stage octets) failure ⊎ RefusesSo (RefusesLink end stage octets) failure
+
+-- ---- of a file, where `left_in` says what is left to read of one, where that is known
+
+-- this text is the command file of what is planned of a file
+abbrev pub IsPlanOfFile : {F : Type 0} → (F → Option (List ℕ)) → End → Stage → List ℕ → Type 0
+IsPlanOfFile {F} left_in end stage text =
+    (file : F) × IfSome (left_in file) (λ octets. PlansFile end stage octets text)
+
+-- the command file of what is planned of a file is printed
+abbrev pub PrintsPlan : {F : Type 0} → (F → Option (List ℕ)) → End → Stage → Option (List ℕ) → Option (List ℕ)
+    → Type 0
+PrintsPlan left_in end stage before after =
+    (octets : List ℕ) × (text : List ℕ) × PlansFile end stage octets text × IsPlanOfFile left_in end stage text
+    × Appends before after text
+
+-- a failure says why nothing is planned of a file
+abbrev pub SaysWhyOfFile : {F : Type 0} → (F → Option (List ℕ)) → End → Stage → Failure → Type 0
+SaysWhyOfFile {F} left_in end stage failure =
+    (file : F) × IfSome (left_in file) (λ octets. SaysWhy end stage octets failure)
+
+-- the file is not read; or what is to be printed cannot be; or something is said of its octets or its link is refused,
+-- or there is no memory
+abbrev pub PlanFails : {F : Type 0} → (F → Option (List ℕ)) → End → Stage → Failure → Type 0
+PlanFails left_in end stage failure = (failure ≡ failures.Commands) ⊎ (failure ≡ failures.Output)
+    ⊎ ((octets : List ℕ) × SaysWhy end stage octets failure
+    × ((failure ≡ failures.Memory) ⊎ SaysWhyOfFile left_in end stage failure))

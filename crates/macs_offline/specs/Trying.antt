@@ -1,0 +1,153 @@
+-- What `check FILE DISK` does: the commands are given to the endpoint on a copy in memory of the disk, as `apply` gives
+-- them.
+use Rattle.std.specs.Prelude.{◌≡◌, ◌⊎◌, ◌≤◌, ◌+◌, ◌/◌, ◌%◌, ◌++◌, ℕ, List, [], ◌∷◌, codes, Option, Some, None, Err}
+use Rattle.std.specs.Prelude.{false, true}
+use Rattle.std.specs.Fmt.{decimal}
+use Rattle.std.specs.Io.KnownBytes.{Appends}
+use Rattle.std.specs.declared.alloc.Global.{Global}
+use Rattle.macs_config.specs.declared.command.Command.{Command}
+use Rattle.macs_config.specs.declared.refusal.Refusal.{Refusal}
+use Rattle.macs_disk.specs.Disk.{Disk}
+use Rattle.macs_disk.specs.Files.{Behaves, FileState, IsSure}
+use Rattle.macs_disk.specs.MemDisks.{disk_of}
+use Rattle.macs_disk.specs.declared.memory.MemDisk.{MemDisk}
+use Rattle.macs_endpoint.specs.Calls.{IsCall}
+use Rattle.macs_endpoint.specs.Opening.{Opens, RefusesOpening}
+use Rattle.macs_endpoint.specs.State.{Commands, Ran}
+use Rattle.macs_endpoint.specs.Value.{EndpointValue}
+use Rattle.macs_endpoint.specs.declared.fault.CommandFault.{CommandFault}
+use Rattle.macs_journal.specs.Areas.{least_sectors}
+use Rattle.macs_journal.specs.declared.fault.JournalFault.{JournalFault}
+use Rattle.macs_journal.specs.declared.fault.JournalFault.TheVariants as journal
+use Rattle.macs_texts.specs.Lines.{line}
+use Rattle.macs_texts.specs.Refusals.{refusal_name}
+use Rattle.macs_offline.specs.Applying.{Applies, SaidByFile, SaysCommands, commit_fault, is_for, outcomes_status}
+use Rattle.macs_offline.specs.Applying.{own_sci}
+use Rattle.macs_offline.specs.Copying.{CopyFails, IsCopy, IsNotRead}
+use Rattle.macs_offline.specs.FileModes.{mode_warning}
+use Rattle.macs_offline.specs.declared.failure.DiskFault.{DiskFault}
+use Rattle.macs_offline.specs.declared.failure.DiskFault.TheVariants as disk
+use Rattle.macs_offline.specs.declared.failure.Failure.{Failure}
+use Rattle.macs_offline.specs.declared.failure.Failure.TheVariants as failures
+use Rattle.macs_offline.specs.declared.status.Status.{Status}
+
+-- ---- lines
+
+-- what is said of a command by its number, which would be kept or refused
+abbrev pub trial_text : ℕ → Option Refusal → List ℕ
+trial_text at None = decimal at ++ codes " would be ok"
+trial_text at (Some refusal) = decimal at ++ (codes " would be refused " ++ refusal_name refusal)
+
+-- its line
+abbrev pub trial_line : ℕ → Option Refusal → List ℕ
+trial_line at outcome = line (trial_text at outcome)
+
+-- the lines of commands, the first of which has this number
+abbrev pub trial_lines : ℕ → List (Option Refusal) → List ℕ
+trial_lines at [] = []
+trial_lines at (outcome ∷ outcomes) = trial_line at outcome ++ trial_lines (at + 1) outcomes
+
+-- all lines: those of the commands, or one where there are none
+abbrev pub trial_report : List (Option Refusal) → List ℕ
+trial_report [] = line (codes "0 commands")
+trial_report (outcome ∷ outcomes) = trial_lines 1 (outcome ∷ outcomes)
+
+-- ---- on a disk in memory
+
+-- what a fault is there: a call of the disk fails for want of memory alone
+abbrev pub failure_in_memory : DiskFault → Failure
+failure_in_memory (disk.Journal journal.Disk) = failures.Memory
+failure_in_memory fault = failures.Disk fault
+
+-- a command is neither kept nor refused, for a fault
+abbrev pub EndsTrial : {D : Type 0} → (D → Disk) → EndpointValue D → Command → Failure → Type 0
+EndsTrial {D} disk_of old command failure =
+    (fault : DiskFault) × (answer : CommandFault) × commit_fault fault answer
+    × (new : EndpointValue D) × IsCall disk_of old (Commands command) (Ran (Err answer)) new
+    × (failure ≡ failure_in_memory fault)
+
+-- so it is with one of these commands, after some that were kept or refused
+pub record StopsAt {D : Type 0} (disk_of : D → Disk) (old : EndpointValue D) (commands : List Command)
+    (failure : Failure) : Type 0 where
+  pub done : List Command
+  pub next : Command
+  pub left : List Command
+  pub all : commands ≡ done ++ next ∷ left
+  pub outcomes : List (Option Refusal)
+  pub between : EndpointValue D
+  pub applied : Applies disk_of old done outcomes between
+  pub ends : EndsTrial disk_of between next failure
+
+-- not all commands are kept or refused: one of them ends the run, or there is no memory
+abbrev pub TrialEnds : {D : Type 0} → (D → Disk) → EndpointValue D → List Command → Failure → Type 0
+TrialEnds disk_of old commands failure = (failure ≡ failures.Memory) ⊎ StopsAt disk_of old commands failure
+
+-- the file that says them is for another end; or it is for this one, and not all commands are kept or refused
+abbrev pub OwnEnds : {D : Type 0} → (D → Disk) → EndpointValue D → Option (List ℕ) → List Command → Failure → Type 0
+OwnEnds disk_of old end commands failure =
+    ((failure ≡ failures.OtherEnd) × (is_for end (own_sci old) ≡ false))
+    ⊎ ((is_for end (own_sci old) ≡ true) × TrialEnds disk_of old commands failure)
+
+-- an endpoint is opened on a disk, and these commands are given to it, one after another: it is the end that the file
+-- is for which says them
+pub record TriesOn {D : Type 0} (disk_of : D → Disk) (copy : D) (end : Option (List ℕ)) (commands : List Command)
+    (outcomes : List (Option Refusal)) : Type 0 where
+  pub old : EndpointValue D
+  pub new : EndpointValue D
+  pub opens : Opens disk_of copy old
+  pub own : is_for end (own_sci old) ≡ true
+  pub applied : Applies disk_of old commands outcomes new
+
+-- no endpoint is opened there, or the commands are for another one, or not all of them are given to it
+abbrev pub EndsOn : {D : Type 0} → (D → Disk) → D → Option (List ℕ) → List Command → Failure → Type 0
+EndsOn {D} disk_of copy end commands failure =
+    ((left : D) × (fault : JournalFault) × RefusesOpening disk_of copy left fault
+    × (failure ≡ failure_in_memory (disk.Journal fault)))
+    ⊎ ((old : EndpointValue D) × Opens disk_of copy old × OwnEnds disk_of old end commands failure)
+
+-- ---- on a disk in a file
+
+-- a copy of the disk in a file of whole sectors, no fewer than a journal has, where this is what a file is
+abbrev pub IsCopyIn : {F : Type 0} → (F → FileState) → F → MemDisk Global → Type 0
+IsCopyIn state_of file copy =
+    Behaves (state_of file) → ((state_of file).size % 512 ≡ 0) × (least_sectors ≤ (state_of file).size / 512)
+    × (IsSure (state_of file) → IsCopy (state_of file) (disk_of copy))
+
+-- the commands are given to the endpoint on a copy of the disk in a file
+pub record TriesIn {F : Type 0} (state_of : F → FileState) (end : Option (List ℕ)) (commands : List Command)
+    (outcomes : List (Option Refusal)) : Type 0 where
+  pub file : F
+  pub copy : MemDisk Global
+  pub is_copy : IsCopyIn state_of file copy
+  pub tries : TriesOn disk_of copy end commands outcomes
+
+-- they are not, or not all of them: the file is not opened; or there is no copy; or it has no endpoint, or another one,
+-- or one of the commands ends the run
+abbrev pub TrialFails : {F : Type 0} → (F → FileState) → Option (List ℕ) → List Command → Failure → Type 0
+TrialFails {F} state_of end commands failure =
+    IsNotRead failure
+    ⊎ ((file : F) × CopyFails (state_of file) failure)
+    ⊎ ((file : F) × (copy : MemDisk Global) × IsCopyIn state_of file copy × EndsOn disk_of copy end commands failure)
+
+-- ---- whole
+
+-- The lines of the commands that a file says are printed, with what each would be answered, and what is said of its
+-- mode. What is left to read of a file is said by `left_in`, where it is known
+pub record PrintsTrial {F : Type 0} (state_of : F → FileState) (left_in : F → Option (List ℕ))
+    (before after : Option (List ℕ)) (status : Status) : Type 0 where
+  pub octets : List ℕ
+  pub end : Option (List ℕ)
+  pub commands : List Command
+  pub says : SaysCommands octets end commands
+  pub by_file : SaidByFile left_in end commands
+  pub outcomes : List (Option Refusal)
+  pub tries : TriesIn state_of end commands outcomes
+  pub mode : Option ℕ
+  pub printed : Appends before after (trial_report outcomes ++ mode_warning mode)
+  pub status_is : status ≡ outcomes_status outcomes
+
+-- they cannot be tried
+abbrev pub TrialStops : {F : Type 0} → (F → FileState) → (F → Option (List ℕ)) → Failure → Type 0
+TrialStops state_of left_in failure =
+    (octets : List ℕ) × (end : Option (List ℕ)) × (commands : List Command) × SaysCommands octets end commands
+    × SaidByFile left_in end commands × TrialFails state_of end commands failure

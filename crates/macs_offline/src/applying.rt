@@ -1,0 +1,206 @@
+//! `apply`: the commands of a file, one after another.
+
+ghost use Rattle.std.specs.Prelude.{◌≡◌, ◌≢◌, ◌+◌, ◌⊎◌, ℕ, List, [], Option, is_some, true};
+ghost use Rattle.std.specs.Prelude.{if◌then◌else◌};
+ghost use Rattle.std.specs.Prelude.{IfErr, IfOk, OnOk, Ok, Err};
+ghost use Rattle.std.specs.Io.KnownBytes.{Appends};
+ghost use Rattle.toml.specs.Data.{Members};
+ghost use Rattle.toml.specs.Parse.{parse_document};
+ghost use Rattle.toml.specs.View.{table_view};
+ghost use Rattle.macs_config.specs.declared.command.Command.{Command};
+ghost use Rattle.macs_config.specs.declared.refusal.Refusal.{Refusal};
+ghost use Rattle.macs_commands.specs.Ends.{end_commands, end_in};
+ghost use Rattle.macs_endpoint.specs.Calls.{IsCall};
+ghost use Rattle.macs_endpoint.specs.State.{Commands, Ran};
+ghost use Rattle.macs_endpoint.specs.declared.fault.CommandFault.{CommandFault};
+ghost use Rattle.macs_offline.specs.Applying.{AppliesAll, AppliesSome, EndsRun, SaysCommands};
+ghost use Rattle.macs_offline.specs.Applying.{IsNotBusyCommand, answer_of, commit_fault, is_for};
+ghost use Rattle.macs_offline.specs.Applying.{outcome_line, own_sci};
+
+use crate::failure::{DiskFault, Failure};
+use crate::output::{Line, print_octets};
+use crate::status::Status;
+use crate::stream::Stream;
+use itoa::Buffer;
+use macs_commands::{CommandFile, command_file};
+use macs_config::{Command, Refusal};
+use macs_disk::SectorDisk;
+use macs_endpoint::{CommandFault, Endpoint};
+use macs_fields::Sci;
+use macs_journal::JournalFault;
+use macs_texts::refusal_name;
+use std::alloc::Global;
+use toml::Table;
+
+/// The longest command file, in octets.
+pub const MAX_FILE: usize = 1_048_576;
+
+/// The table of a TOML text.
+fn table_of(alloc: Global, text: &str) -> Result<Table, Failure>
+    ensures parsed { IfOk result (λ table. parse_document text.now ≡ Some (table_view table)) }
+    ensures fault { IfErr result (λ failure. (failure ≡ Failure.Memory)
+        ⊎ ((failure ≡ Failure.Commands) × (parse_document text.now ≡ None))) }
+{
+    match toml::table_from_str(alloc, text) {
+        Ok(table) => Ok(table),
+        Err(error) if error.is_memory() => Err(Failure::Memory),
+        Err(_) => Err(Failure::Commands),
+    }
+}
+
+/// What a table says: its commands, and the end that they are for, where it names one.
+fn commands_told(alloc: Global, table: &Table) -> Result<CommandFile<Global>, Failure>
+    ensures named { IfOk result (λ told. end_in (table_view table.now) ≡ Ok told.end) }
+    ensures said { IfOk result
+        (λ told. end_commands (table_view table.now) ≡ Ok told.commands.items) }
+    ensures fault { IfErr result (λ failure. (failure ≡ Failure.Memory)
+        ⊎ ((failure ≡ Failure.Commands) × ((end : Option (List ℕ)) (commands : List Command)
+        → end_in (table_view table.now) ≡ Ok end
+        → ¬ (end_commands (table_view table.now) ≡ Ok commands)))) }
+{
+    let told = command_file(alloc, table)?;
+    Ok(told)
+}
+
+/// What a command file says. It fails as `Memory`, or as `Commands` where it says no commands: it
+/// is too long, no text, no TOML, or has a fault of its own.
+pub fn commands_in(alloc: Global, octets: &[u8]) -> Result<CommandFile<Global>, Failure>
+    ensures said { IfOk result (λ told. SaysCommands octets.now told.end told.commands.items) }
+    ensures fault { IfErr result (λ failure. (failure ≡ Failure.Memory)
+        ⊎ ((failure ≡ Failure.Commands) × ((end : Option (List ℕ)) (commands : List Command)
+        → ¬ SaysCommands octets.now end commands))) }
+{
+    if octets.len() > MAX_FILE {
+        return Err(Failure::Commands);
+    }
+    let Ok(text) = str::from_utf8(octets) else {
+        return Err(Failure::Commands);
+    };
+    let table = table_of(alloc, text)?;
+    commands_told(alloc, &table)
+}
+
+/// Whether a command file is for the end with this SCI: it names that, or none.
+fn is_for(end: Option<Sci>, sci: Sci) -> bool
+    ensures { result ≡ is_for end sci }
+{
+    match end {
+        Some(end) => end == sci,
+        None => true,
+    }
+}
+
+/// Whether a command file that names this end, or none, is for this endpoint.
+pub fn is_own<D: SectorDisk>(endpoint: &Endpoint<D>, end: Option<Sci>) -> bool
+    ensures { result ≡ is_for end (own_sci endpoint.now) }
+{
+    is_for(end, endpoint.identity().sci())
+}
+
+/// The line of a command by its number, which was kept or refused.
+pub fn outcome_line(at: usize, outcome: Option<Refusal>) -> Line
+    ensures { result.items ≡ outcome_line at outcome }
+{
+    let mut line = Line::new();
+    let mut number = Buffer::new();
+    line.try_extend_from_slice(number.format(at).as_bytes())
+        .unwrap();
+    match outcome {
+        None => line.try_extend_from_slice(b" ok").unwrap(),
+        Some(refusal) => {
+            line.try_extend_from_slice(b" refused ").unwrap();
+            line.try_extend_from_slice(refusal_name(refusal).as_bytes())
+                .unwrap();
+        }
+    }
+    line.push(b'\n');
+    line
+}
+
+/// What a command comes to that is not kept: it is refused, or the run ends. The fault is not
+/// `Busy`.
+fn outcome_of(fault: CommandFault) -> Result<Option<Refusal>, DiskFault>
+    requires { IsNotBusyCommand fault }
+    ensures refused { IfOk result (λ outcome. answer_of outcome ≡ Err fault) }
+    ensures failed { IfErr result (λ ends. commit_fault ends fault) }
+{
+    match fault {
+        CommandFault::Refused(refusal) => Ok(Some(refusal)),
+        CommandFault::Stopped => Err(DiskFault::Journal(JournalFault::Stopped)),
+        CommandFault::GenerationsSpent => Err(DiskFault::Journal(JournalFault::GenerationsSpent)),
+        CommandFault::Disk => Err(DiskFault::Journal(JournalFault::Disk)),
+        CommandFault::Busy => unreachable!(),
+    }
+}
+
+/// Gives a command to the endpoint, which keeps or refuses it. No other one waits.
+pub fn give<D: SectorDisk>(
+    endpoint: &mut Endpoint<D>,
+    command: Command,
+) -> Result<Option<Refusal>, DiskFault>
+    requires { endpoint.old.waiting ≡ [] }
+    ensures settled { IfOk result (λ outcome.
+        IsCall D.disk endpoint.old (Commands command) (Ran (answer_of outcome)) endpoint.new) }
+    ensures failed { IfErr result (λ fault. (answer : CommandFault) × commit_fault fault answer
+        × IsCall D.disk endpoint.old (Commands command) (Ran (Err answer)) endpoint.new) }
+{
+    match endpoint.command(command) {
+        Ok(()) => Ok(None),
+        Err(fault) => outcome_of(fault),
+    }
+}
+
+/// Gives a command to the endpoint, prints its line, and answers whether it was refused.
+fn apply_command<D: SectorDisk, W: Stream>(
+    endpoint: &mut Endpoint<D>,
+    at: usize,
+    command: Command,
+    out: &mut W,
+) -> Result<bool, Failure>
+    requires { endpoint.old.waiting ≡ [] }
+    ensures applied { IfOk result
+        (λ refused. (outcome : Option Refusal) × (refused ≡ is_some outcome)
+        × IsCall D.disk endpoint.old (Commands command) (Ran (answer_of outcome)) endpoint.new
+        × Appends (W.contents out.old) (W.contents out.new) (outcome_line at outcome)) }
+    ensures ended { IfErr result
+        (λ failure. EndsRun D.disk endpoint.old command failure endpoint.new) }
+    ensures silent { IfErr result (λ failure. failure ≢ Failure.Output → out.new ≡ out.old) }
+    ensures broken { IfErr result (λ failure. failure ≡ Failure.Output → W.failed out.new ≡ true) }
+{
+    let outcome = give(endpoint, command)?;
+    let line = outcome_line(at, outcome);
+    print_octets(out, line.as_slice())?;
+    Ok(outcome.is_some())
+}
+
+/// How a run ends after one more command.
+pub fn status_after(status: Status, is_refused: bool) -> Status
+    ensures { result ≡ (if is_refused then Status.Refused else status) }
+{
+    if is_refused { Status::Refused } else { status }
+}
+
+/// Gives these commands to the endpoint, one after another, and prints a line for each once it is
+/// answered: the line of a command that is kept is its acknowledgement. A refused one changes
+/// nothing, and the next one follows. It fails as `Disk` at the first command that is neither kept
+/// nor refused, with no line for it; and as `Output` at the first line that cannot be written and
+/// flushed, whose command was answered.
+pub fn apply_commands<D: SectorDisk, W: Stream>(
+    endpoint: &mut Endpoint<D>,
+    commands: &[Command],
+    out: &mut W,
+) -> Result<Status, Failure>
+    requires { endpoint.old.waiting ≡ [] }
+    ensures applied { IfOk result (λ status. AppliesAll D.disk endpoint.old commands.now
+        (W.contents out.old) (W.contents out.new) status endpoint.new) }
+    ensures ended { IfErr result (λ failure. AppliesSome D.disk endpoint.old commands.now
+        (W.contents out.old) (W.contents out.new) failure endpoint.new) }
+    ensures broken { IfErr result (λ failure. failure ≡ Failure.Output → W.failed out.new ≡ true) }
+{
+    let mut status = Status::Done;
+    for i in 0..commands.len() {
+        let is_refused = apply_command(endpoint, i + 1, commands[i], out)?;
+        status = status_after(status, is_refused);
+    }
+    Ok(status)
+}

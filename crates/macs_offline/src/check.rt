@@ -1,0 +1,307 @@
+//! `check`: whether the commands of a file can be read, and else the first fault; and what they
+//! would be answered.
+
+ghost use Rattle.std.specs.Prelude.{◌≡◌, ◌≢◌, ◌⊎◌, ◌++◌, ◌<◌, ◌^◌, ◌==◌, if◌then◌else◌, codes, ℕ};
+ghost use Rattle.std.specs.Prelude.{List, Option, true, IfErr, IfOk, IfSome, string_bytes};
+ghost use Rattle.std.specs.Io.KnownBytes.{Appends};
+ghost use Rattle.toml.specs.Data.{Members};
+ghost use Rattle.toml.specs.View.{table_view};
+ghost use Rattle.toml.specs.Parse.{parse_document};
+ghost use Rattle.macs_config.specs.declared.refusal.Refusal.{Refusal};
+ghost use Rattle.macs_commands.specs.Ends.{end_commands, end_in};
+ghost use Rattle.macs_commands.specs.declared.config_fault.ConfigFault.TheVariants as config;
+ghost use Rattle.macs_commands.specs.declared.ends.CommandFileFault.TheVariants as told;
+ghost use Rattle.std.specs.Prelude.{Ok, Some};
+ghost use Rattle.macs_offline.specs.Applying.{SaidByFile, SaysCommands, outcomes_status};
+ghost use Rattle.macs_offline.specs.Checking.{CheckEnds, Checks, Complains, ComplainsOfFile};
+ghost use Rattle.macs_offline.specs.Checking.{HasFault, IsSaidOfFile, IsSaidOfText};
+ghost use Rattle.macs_offline.specs.Checking.{count_line, fault_text, file_fault_text, key_reason};
+ghost use Rattle.macs_offline.specs.Checking.{key_word};
+ghost use Rattle.macs_offline.specs.FileModes.{mode_warning};
+ghost use Rattle.macs_offline.specs.Trying.{TrialFails, TriesIn, trial_report};
+
+use crate::applying::MAX_FILE;
+use crate::capture_file::CaptureFile;
+use crate::failure::Failure;
+use crate::file_mode::{mode_of, print_mode};
+use crate::files::failure_of;
+use crate::output::{Line, append_count, print, print_octets};
+use crate::status::Status;
+use crate::stream::Stream;
+use crate::trial::{outcomes_status, trial_report, try_in};
+use macs_commands::{CommandFile, CommandFileFault, ConfigFault, KeyName, command_file};
+use macs_config::Command;
+use macs_fields::Sci;
+use std::alloc::{AllocError, Global};
+use std::fs;
+use std::io::Read;
+use std::rt::Files;
+use toml::Table;
+
+/// One octet more than the longest command file.
+const MAX_READ: usize = MAX_FILE + 1;
+
+/// A key of a command, as it is written.
+fn key_word(name: KeyName) -> &'static str
+    ensures { result.now ≡ key_word name }
+{
+    match name {
+        KeyName::Mode => "mode",
+        KeyName::On => "on",
+        KeyName::Window => "window",
+        KeyName::An => "an",
+        KeyName::Key => "key",
+        KeyName::Start => "start",
+        KeyName::Confidential => "confidential",
+        KeyName::Offset => "offset",
+        KeyName::Sci => "sci",
+    }
+}
+
+/// What a key of a command is not.
+fn key_reason(name: KeyName) -> &'static str
+    ensures { result.now ≡ key_reason name }
+{
+    match name {
+        KeyName::Mode => "not a mode of this command",
+        KeyName::On => "not true or false",
+        KeyName::Window => "not 0 to 4294967295",
+        KeyName::An => "not 0 to 3",
+        KeyName::Key => "not 32 or 64 hex digits",
+        KeyName::Start => "not 0 to 4294967295",
+        KeyName::Confidential => "not true or false",
+        KeyName::Offset => "not 0 to 255",
+        KeyName::Sci => "not 16 hex digits",
+    }
+}
+
+/// What is said of the first fault of the commands of a file: its place, key and reason.
+fn fault_text(alloc: Global, fault: ConfigFault) -> Result<String, AllocError>
+    ensures { IfOk result (λ text. string_bytes text ≡ fault_text fault) }
+{
+    match fault {
+        ConfigFault::Shape => {
+            String::from_str(alloc, "command file: not sci and tables [[command]] alone")
+        }
+        ConfigFault::Word { at } => format!(in alloc; "command {at} do: not a command"),
+        ConfigFault::Key { at, name } => {
+            let key = key_word(name);
+            let reason = key_reason(name);
+            format!(in alloc; "command {at} {key}: {reason}")
+        }
+        ConfigFault::Extra { at } => format!(in alloc; "command {at}: a key that it does not have"),
+        ConfigFault::Memory => String::from_str(alloc, "memory"),
+    }
+}
+
+/// The failure that says this of a command file or of a link's, unless there is no memory for it.
+pub fn failure_saying(text: Result<String, AllocError>) -> Failure
+    ensures { (said : List ℕ) → IfOk text (λ t. string_bytes t ≡ said)
+        → Complains (λ t. t ≡ said) result }
+{
+    match text {
+        Ok(text) => Failure::CommandFile(text),
+        Err(_) => Failure::Memory,
+    }
+}
+
+/// The failure that says the first fault of the commands of a file, unless that is `Memory`.
+fn failure_of_cause(alloc: Global, cause: ConfigFault) -> Failure
+    ensures { Complains (λ t. (cause ≢ config.Memory) × (t ≡ fault_text cause)) result }
+{
+    match cause {
+        ConfigFault::Memory => Failure::Memory,
+        _ => failure_saying(fault_text(alloc, cause)),
+    }
+}
+
+/// The failure that says the first fault of a command file, unless that is want of memory.
+fn failure_of_fault(alloc: Global, fault: CommandFileFault) -> Failure
+    ensures { Complains
+        (λ t. (fault ≢ told.Commands config.Memory) × (t ≡ file_fault_text fault)) result }
+{
+    match fault {
+        CommandFileFault::Commands(cause) => failure_of_cause(alloc, cause),
+        CommandFileFault::Sci => {
+            let text = String::from_str(alloc, "command file sci: not 16 hex digits");
+            failure_saying(text)
+        }
+    }
+}
+
+/// What a table of TOML says.
+fn commands_in_table(alloc: Global, table: &Table) -> Result<CommandFile<Global>, Failure>
+    ensures named { IfOk result (λ told. end_in (table_view table.now) ≡ Ok told.end) }
+    ensures said { IfOk result
+        (λ told. end_commands (table_view table.now) ≡ Ok told.commands.items) }
+    ensures fault { (text : List ℕ) → parse_document text ≡ Some (table_view table.now)
+        → IfErr result (Complains (HasFault text)) }
+{
+    match command_file(alloc, table) {
+        Ok(told) => Ok(told),
+        Err(fault) => Err(failure_of_fault(alloc, fault)),
+    }
+}
+
+/// What a text says.
+fn commands_in_text(alloc: Global, text: &str) -> Result<CommandFile<Global>, Failure>
+    ensures said { IfOk result (λ told. (members : Members)
+        × (parse_document text.now ≡ Some members) × (end_in members ≡ Ok told.end)
+        × (end_commands members ≡ Ok told.commands.items)) }
+    ensures fault { IfErr result (Complains (IsSaidOfText text.now)) }
+{
+    match toml::table_from_str(alloc, text) {
+        Ok(table) => commands_in_table(alloc, &table),
+        Err(error) if error.is_memory() => Err(Failure::Memory),
+        Err(_) => Err(failure_saying(String::from_str(alloc, "command file: not TOML"))),
+    }
+}
+
+/// What the octets of a command file say.
+fn commands_said(alloc: Global, octets: &[u8]) -> Result<CommandFile<Global>, Failure>
+    ensures said { IfOk result (λ told. SaysCommands octets.now told.end told.commands.items) }
+    ensures fault { IfErr result (Complains (IsSaidOfFile octets.now)) }
+{
+    if octets.len() > MAX_FILE {
+        let text = String::from_str(alloc, "command file: more than 1048576 octets");
+        return Err(failure_saying(text));
+    }
+    let Ok(text) = str::from_utf8(octets) else {
+        let text = String::from_str(alloc, "command file: not UTF-8");
+        return Err(failure_saying(text));
+    };
+    commands_in_text(alloc, text)
+}
+
+/// What an open command file says, of which no more is read than can be of use. It fails as
+/// `Commands` where a read fails, else as `CommandFile` with the first fault, or as `Memory`.
+pub fn commands_read<R: Read>(alloc: Global, file: &mut R) -> Result<CommandFile<Global>, Failure>
+    ensures said { IfOk result (λ told. IfSome (R.remaining file.old)
+        (λ octets. SaysCommands octets told.end told.commands.items)) }
+    ensures spelled { IfOk result
+        (λ told. (octets : List ℕ) × SaysCommands octets told.end told.commands.items) }
+    ensures fault { IfErr result (λ failure. (failure ≡ Failure.Commands)
+        ⊎ IfSome (R.remaining file.old) (λ octets. Complains (IsSaidOfFile octets) failure)) }
+    ensures ended { IfErr result (λ failure. (failure ≡ Failure.Commands)
+        ⊎ ((octets : List ℕ) × Complains (IsSaidOfFile octets) failure)) }
+{
+    let mut octets = Vec::new(alloc);
+    match file.take(MAX_READ as u64).read_to_end(&mut octets) {
+        Ok(_) => commands_said(alloc, octets.as_slice()),
+        Err(error) => Err(failure_of(error, Failure::Commands)),
+    }
+}
+
+/// The line that says how many commands there are.
+fn count_line(count: usize) -> Line
+    ensures { result.items ≡ count_line count }
+{
+    let mut line = Line::new();
+    append_count(&mut line, "", count as u64);
+    let word = if count == 1 {
+        " command\n"
+    } else {
+        " commands\n"
+    };
+    line.try_extend_from_slice(word.as_bytes()).unwrap();
+    line
+}
+
+/// What a command file says, whose mode is left in `mode`. It fails as `Commands` where it cannot
+/// be opened or read, else as `CommandFile` with the first fault, or as `Memory`.
+fn checked_commands<T: Files>(
+    rt: &T,
+    alloc: Global,
+    path: &str,
+    mode: &mut Option<u32>,
+) -> Result<CommandFile<Global>, Failure>
+    // A file was opened, and it says this.
+    ensures said { IfOk result
+        (λ told. SaidByFile T.File.remaining told.end told.commands.items) }
+    ensures spelled { IfOk result
+        (λ told. (octets : List ℕ) × SaysCommands octets told.end told.commands.items) }
+    ensures ended { IfErr result (λ failure. (failure ≡ Failure.Commands)
+        ⊎ ((octets : List ℕ) × Complains (IsSaidOfFile octets) failure
+        × ((failure ≡ Failure.Memory) ⊎ ComplainsOfFile IsSaidOfFile T.File.remaining failure))) }
+{
+    match fs::open(rt, path) {
+        Ok(mut file) => {
+            *mode = mode_of(&file);
+            commands_read(alloc, &mut file)
+        }
+        Err(error) => Err(failure_of(error, Failure::Commands)),
+    }
+}
+
+/// Prints how many commands there are, and what is said of the mode of their file.
+fn print_count<W: Stream>(count: usize, mode: Option<u32>, out: &mut W) -> Result<Status, Failure>
+    ensures printed { IfOk result (λ status. Appends (W.contents out.old) (W.contents out.new)
+        (count_line count ++ mode_warning mode) × (status ≡ Status.Done)) }
+    ensures failed { IfErr result (λ failure. failure ≡ Failure.Output) }
+    ensures broken { IfErr result (λ failure. W.failed out.new ≡ true) }
+{
+    print_octets(out, count_line(count).as_slice())?;
+    print_mode(mode, out)?;
+    Ok(Status::Done)
+}
+
+/// Prints what these commands of a file would be answered by the endpoint on the disk in another,
+/// which is the end that they are for, and what is said of the mode of their file. It fails as
+/// `try_in` does, and as `Memory`, with nothing printed before.
+fn print_trial<T: Files, W: Stream>(
+    rt: &T,
+    alloc: Global,
+    disk: &str,
+    end: Option<Sci>,
+    commands: &[Command],
+    mode: Option<u32>,
+    out: &mut W,
+) -> Result<Status, Failure>
+where
+    T::File: CaptureFile,
+    ensures printed { IfOk result
+        (λ status. (outcomes : List (Option Refusal))
+        × TriesIn T.File.file end commands.now outcomes
+        × Appends (W.contents out.old) (W.contents out.new)
+        (trial_report outcomes ++ mode_warning mode)
+        × (status ≡ outcomes_status outcomes)) }
+    ensures ended { IfErr result (λ failure. (failure ≡ Failure.Output) ⊎ (failure ≡ Failure.Memory)
+        ⊎ TrialFails T.File.file end commands.now failure) }
+    ensures silent { IfErr result (λ failure. failure ≢ Failure.Output → out.new ≡ out.old) }
+    ensures broken { IfErr result (λ failure. failure ≡ Failure.Output → W.failed out.new ≡ true) }
+{
+    let outcomes = try_in(rt, alloc, disk, end, commands)?;
+    let text = trial_report(alloc, outcomes.as_slice())?;
+    print(out, text.as_str())?;
+    print_mode(mode, out)?;
+    Ok(outcomes_status(outcomes.as_slice()))
+}
+
+/// `check`: prints how many commands a file says, or what each of them would be answered by the
+/// endpoint on the disk in a file, and the mode of the command file where others can read it.
+/// Neither file is changed. It fails as `Commands` where the command file cannot be opened or read,
+/// and as `CommandFile` with its first fault; then, with a disk, as `try_in` does; and as `Memory`,
+/// and as `Output` where a line cannot be printed.
+pub fn check<T: Files, W: Stream>(
+    rt: &T,
+    alloc: Global,
+    path: &str,
+    disk: Option<&str>,
+    out: &mut W,
+) -> Result<Status, Failure>
+where
+    T::File: CaptureFile,
+    ensures printed { IfOk result (Checks T.File.file T.File.remaining disk.entry
+        (W.contents out.old) (W.contents out.new)) }
+    ensures ended { IfErr result (CheckEnds T.File.file T.File.remaining disk.entry) }
+    ensures silent { IfErr result (λ failure. failure ≢ Failure.Output → out.new ≡ out.old) }
+    ensures broken { IfErr result (λ failure. failure ≡ Failure.Output → W.failed out.new ≡ true) }
+{
+    let mut mode = None;
+    let told = checked_commands(rt, alloc, path, &mut mode)?;
+    let commands = told.commands.as_slice();
+    match disk {
+        None => print_count(commands.len(), mode, out),
+        Some(disk) => print_trial(rt, alloc, disk, told.end, commands, mode, out),
+    }
+}

@@ -1,0 +1,257 @@
+//! `examine`: what the journal of the disk in a file has, which is only read.
+
+ghost use Rattle.std.specs.Prelude.{◌≡◌, ◌≢◌, ◌⊎◌, ◌≤◌, ◌%◌, true, Ok, IfErr, IfOk, IsErrOf};
+ghost use Rattle.std.specs.Prelude.{List, string_bytes};
+ghost use Rattle.std.specs.declared.alloc.Global.{Global};
+ghost use Rattle.macs_config.specs.Config.{this_edition};
+ghost use Rattle.macs_disk.specs.Disk.{now};
+ghost use Rattle.macs_disk.specs.Files.{Behaves, IsSure};
+ghost use Rattle.macs_disk.specs.Layouts.{layout_in};
+ghost use Rattle.macs_disk.specs.MemDisks.{disk_of};
+ghost use Rattle.macs_disk.specs.declared.file_fault.FileFault.{FileFault};
+ghost use Rattle.macs_disk.specs.declared.memory.MemDisk.{MemDisk};
+ghost use Rattle.macs_journal.specs.Areas.{least_sectors};
+ghost use Rattle.macs_journal.specs.Found.{Content, HasJournal, IsBadJournal};
+ghost use Rattle.macs_journal.specs.Opening.{IsNoJournal};
+ghost use Rattle.macs_journal.specs.declared.fault.JournalFault.{JournalFault};
+ghost use Rattle.macs_record.specs.declared.record.Record.{Record};
+ghost use Rattle.macs_store.specs.Found.{StandingIs};
+ghost use Rattle.macs_store.specs.Opening.{IsStoreOpening};
+ghost use Rattle.macs_store.specs.Standing.{Standing};
+ghost use Rattle.macs_offline.specs.Examining.{ExaminationFails, ExamineFails, ExaminesIn};
+ghost use Rattle.macs_offline.specs.Examining.{IsNotExamined, IsNotOpened};
+ghost use Rattle.macs_offline.specs.RecordLines.{records_text};
+ghost use Rattle.macs_offline.specs.Examining.{PrintsExamined, Says, SaysFault, examined_text};
+ghost use Rattle.macs_offline.specs.Examining.{fault_line, figures_of};
+ghost use Rattle.macs_offline.specs.Trying.{failure_in_memory};
+ghost use Rattle.macs_offline.specs.declared.failure.DiskFault.TheVariants.{Journal};
+
+use crate::capture_file::CaptureFile;
+use crate::disk_copy::{copy_of, find_layout, measure};
+use crate::examined_text::{Figures, examined_text, fault_line};
+use crate::failure::{DiskFault, Failure};
+use crate::files::open_regular;
+use crate::first_fault::fault_of;
+use crate::output::print_last;
+use crate::record_lines::records_text;
+use crate::status::Status;
+use crate::stream::Stream;
+use crate::trial::failure_in_memory;
+use macs_disk::{FileFault, Layout, MemDisk};
+use macs_journal::{JournalFault, RecoverRefused, Room, new_room, recover_into};
+use macs_store::{OpenRefused, Store};
+use std::alloc::{AllocError, Global};
+use std::rt::Files;
+
+/// The figures of a journal, the lines of its records, unless memory is refused, and the disk that
+/// it was found on.
+#[derive(Drop)]
+struct Examined {
+    figures: Figures,
+    lines: Result<String, AllocError>,
+    disk: MemDisk,
+}
+
+/// What is said of a disk, and the status of the run that says it.
+#[derive(Drop)]
+struct Said {
+    text: String,
+    status: Status,
+}
+
+/// Finds the journal of a disk in memory, in a room that the caller lends for its records.
+fn find_with(
+    alloc: Global,
+    copy: MemDisk,
+    room: &mut Room,
+) -> Result<Examined, RecoverRefused<MemDisk>>
+    ensures found { IfOk result
+        (λ found. (content : Content) × HasJournal (now (disk_of copy)).seen content
+        × (found.figures ≡ figures_of content)
+        × IfOk found.lines (λ text. string_bytes text ≡ records_text content.records)) }
+    ensures seen { IfOk result
+        (λ found. (now (disk_of found.disk)).seen ≡ (now (disk_of copy)).seen) }
+    ensures sectors { IfOk result (λ found. (disk_of found.disk).sectors ≡ (disk_of copy).sectors) }
+    ensures refused { IfErr result (λ refused. refused.fault ≢ JournalFault.Disk
+        → IsNoJournal disk_of copy refused.fault) }
+    ensures left { IfErr result (λ refused. refused.fault ≡ JournalFault.BadJournal
+        → (least_sectors ≤ (disk_of refused.disk).sectors)
+        × ((now (disk_of refused.disk)).durable ≡ (now (disk_of copy)).seen)) }
+{
+    let found = recover_into(copy, room)?;
+    let lines = records_text(alloc, &room[..found.used]);
+    let figures = Figures {
+        format: found.format,
+        area: found.journal.area(),
+        generation: found.journal.generation(),
+        used: found.journal.used(),
+    };
+    Ok(Examined {
+        figures,
+        lines,
+        disk: found.journal.into_disk(),
+    })
+}
+
+/// Finds the journal of a disk in memory.
+#[inline(never)]
+fn find(alloc: Global, copy: MemDisk) -> Result<Examined, RecoverRefused<MemDisk>>
+    ensures found { IfOk result
+        (λ found. (content : Content) × HasJournal (now (disk_of copy)).seen content
+        × (found.figures ≡ figures_of content)
+        × IfOk found.lines (λ text. string_bytes text ≡ records_text content.records)) }
+    ensures seen { IfOk result
+        (λ found. (now (disk_of found.disk)).seen ≡ (now (disk_of copy)).seen) }
+    ensures sectors { IfOk result (λ found. (disk_of found.disk).sectors ≡ (disk_of copy).sectors) }
+    ensures refused { IfErr result (λ refused. refused.fault ≢ JournalFault.Disk
+        → IsNoJournal disk_of copy refused.fault) }
+    ensures left { IfErr result (λ refused. refused.fault ≡ JournalFault.BadJournal
+        → (least_sectors ≤ (disk_of refused.disk).sectors)
+        × ((now (disk_of refused.disk)).durable ≡ (now (disk_of copy)).seen)) }
+{
+    find_with(alloc, copy, &mut new_room())
+}
+
+/// What is said of a journal with these figures and the lines of its records, whose disk was opened
+/// to a store or refused.
+#[inline(never)]
+fn report_journal(
+    alloc: Global,
+    layout: Layout,
+    figures: Figures,
+    lines: Result<String, AllocError>,
+    opened: Result<Store<MemDisk>, OpenRefused<MemDisk>>,
+) -> Result<Said, Failure>
+    ensures reported { (disk : MemDisk Global) → IsStoreOpening disk_of disk opened
+        → (records : List Record) → IfOk lines (λ text. string_bytes text ≡ records_text records)
+        → IfOk result (λ said. (standing : Standing)
+        × StandingIs this_edition (disk_of disk).sectors (now (disk_of disk)).seen (Ok standing)
+        × (string_bytes said.text ≡ examined_text layout figures records standing)
+        × (said.status ≡ Status.Done)) }
+    ensures ended { (disk : MemDisk Global) → IsStoreOpening disk_of disk opened
+        → IfErr result (IsNotOpened (disk_of disk)) }
+{
+    match &opened {
+        Ok(store) => {
+            let text = examined_text(alloc, layout, figures, lines, store)?;
+            Ok(Said {
+                text,
+                status: Status::Done,
+            })
+        }
+        Err(refused) => Err(failure_in_memory(DiskFault::Journal(refused.fault))),
+    }
+}
+
+/// What is said of a disk whose journal is bad: its first fault.
+fn report_fault(alloc: Global, disk: &MemDisk) -> Result<Said, Failure>
+    requires room { least_sectors ≤ (disk_of disk.now).sectors }
+    requires bad { IsBadJournal (now (disk_of disk.now)).durable }
+    ensures reported { IfOk result
+        (λ said. SaysFault (now (disk_of disk.now)).durable (string_bytes said.text) said.status) }
+    ensures ended { IfErr result (λ failure. failure ≡ Failure.Memory) }
+{
+    match fault_of(disk) {
+        Some(at) => {
+            let text = fault_line(alloc, at)?;
+            Ok(Said {
+                text,
+                status: Status::Refused,
+            })
+        }
+        None => Err(Failure::from(JournalFault::BadJournal)), // Never: a bad journal has a fault.
+    }
+}
+
+/// What is said of a disk on which no journal was found: the first fault of a bad one.
+#[inline(never)]
+fn report_refused(alloc: Global, refused: &RecoverRefused<MemDisk>) -> Result<Said, Failure>
+    requires room { refused.now.fault ≡ JournalFault.BadJournal
+        → least_sectors ≤ (disk_of refused.now.disk).sectors }
+    requires bad { refused.now.fault ≡ JournalFault.BadJournal
+        → IsBadJournal (now (disk_of refused.now.disk)).durable }
+    ensures reported { IfOk result (λ said. (refused.now.fault ≡ JournalFault.BadJournal)
+        × SaysFault (now (disk_of refused.now.disk)).durable (string_bytes said.text) said.status) }
+    ensures ended { IfErr result (λ failure. (failure ≡ Failure.Memory)
+        ⊎ ((refused.now.fault ≢ JournalFault.BadJournal)
+        × (failure ≡ failure_in_memory (Journal refused.now.fault)))) }
+{
+    match refused.fault {
+        JournalFault::BadJournal => report_fault(alloc, &refused.disk),
+        _ => Err(failure_in_memory(DiskFault::Journal(refused.fault))),
+    }
+}
+
+/// What is said of the disk in memory that is a copy of one in this layout: what is found, or the
+/// first fault of a bad journal. It fails as `Memory`, and as `Disk` with another fault for which
+/// no endpoint is opened on it.
+fn examine_copy(alloc: Global, layout: Layout, copy: MemDisk) -> Result<Said, Failure>
+    ensures reported { IfOk result
+        (λ said. Says (now (disk_of copy)).seen layout (string_bytes said.text) said.status) }
+    ensures ended { IfErr result (IsNotExamined (disk_of copy)) }
+{
+    match find(alloc, copy) {
+        Ok(found) => report_journal(
+            alloc,
+            layout,
+            found.figures,
+            found.lines,
+            Store::open(found.disk),
+        ),
+        Err(refused) => report_refused(alloc, &refused),
+    }
+}
+
+/// How the disk in a file of whole sectors lies there.
+fn layout_of<F: CaptureFile>(file: &mut F) -> Result<Layout, FileFault>
+    ensures found { Behaves (F.file file.old) → IsSure (F.file file.old)
+        → IfOk result (λ layout. layout ≡ layout_in (F.file file.old)) }
+    ensures length { IsErrOf result FileFault.Length → Behaves (F.file file.old)
+        → (F.file file.old).size % 512 ≢ 0 }
+{
+    let sectors = measure(file)?;
+    let Ok(layout) = find_layout(file, sectors) else {
+        return Err(FileFault::Device);
+    };
+    Ok(layout)
+}
+
+/// What is said of the disk in a file, which is opened to be read alone. It fails as `Disk` with
+/// `File` where there is no regular file that can be opened; then as `copy_of` and `examine_copy`
+/// do.
+fn examine_in<T: Files>(rt: &T, alloc: Global, path: &str) -> Result<Said, Failure>
+where
+    T::File: CaptureFile,
+    ensures reported { IfOk result
+        (λ said. ExaminesIn T.File.file (string_bytes said.text) said.status) }
+    ensures ended { IfErr result (ExaminationFails T.File.file) }
+{
+    match open_regular(rt, path) {
+        Ok(mut file) => {
+            let copy = copy_of(alloc, &mut file)?;
+            let layout = layout_of(&mut file)?;
+            examine_copy(alloc, layout, copy)
+        }
+        Err(error) => Err(Failure::from(FileFault::from(error))),
+    }
+}
+
+/// `examine`: prints what the journal of the disk in a file has, or its first fault, which is a
+/// refusal. The file is not changed.
+pub fn examine<T: Files, W: Stream>(
+    rt: &T,
+    alloc: Global,
+    path: &str,
+    out: &mut W,
+) -> Result<Status, Failure>
+where
+    T::File: CaptureFile,
+    ensures printed { IfOk result
+        (PrintsExamined T.File.file (W.contents out.old) (W.contents out.new)) }
+    ensures ended { IfErr result (ExamineFails T.File.file) }
+    ensures silent { IfErr result (λ failure. failure ≢ Failure.Output → out.new ≡ out.old) }
+    ensures broken { IfErr result (λ failure. failure ≡ Failure.Output → W.failed out.new ≡ true) }
+{
+    let said = examine_in(rt, alloc, path)?;
+    print_last(out, said.text.as_str(), said.status)
+}

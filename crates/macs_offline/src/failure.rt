@@ -1,0 +1,357 @@
+//! What ends a run before its answer.
+
+ghost use Rattle.std.specs.Prelude.{◌≡◌};
+ghost use Rattle.macs_offline.specs.Failing.{IsNotBusy, IsNotBusyRun, failure_of_refill};
+ghost use Rattle.macs_offline.specs.Failing.{failure_of_run};
+
+use crate::addresses::AddressFault;
+use crate::open_input::InputFault;
+use crate::status::Status;
+use crate::values::ValueFault;
+use macs_commands::{CommandFileFault, ConfigFault};
+use macs_control::{AskFault, ControlFault};
+use macs_disk::FileFault;
+use macs_edge::{BindFault, RunFault};
+use macs_endpoint::RefillFault;
+use macs_journal::JournalFault;
+use macs_pcap::PcapFault;
+use macs_words::UsageFault;
+use std::alloc::AllocError;
+
+/// What is wrong with a disk file.
+#[derive(Clone, Copy)]
+pub enum DiskFault {
+    /// It cannot be opened or made, another program has claimed it, or it has no room; or its name
+    /// cannot be made durable; or a new endpoint would be written over something else.
+    File,
+    /// It is not a whole number of sectors of 512 octets.
+    Length,
+    /// Something on it failed, or what is on it is no journal.
+    Journal(JournalFault),
+}
+
+/// Why a link is refused though its file says all that a link has.
+#[derive(Clone, Copy)]
+pub enum LinkRefusal {
+    /// Both ends have one SCI.
+    SameSci,
+    /// A key is there twice.
+    SameKey,
+    /// A pair of keys has the association number of the one before it.
+    AnInUse,
+}
+
+/// What ends a run before its answer.
+#[derive(Drop)]
+pub enum Failure {
+    /// The words name no action, for this cause.
+    Usage(String),
+    /// A value among the words is none that the program takes.
+    Value(ValueFault),
+    /// A word that is an address is none.
+    Address(AddressFault),
+    /// The disk file does not serve.
+    Disk(DiskFault),
+    /// A capture cannot be opened, read or written.
+    Capture,
+    /// A command file cannot be read, spells no commands, or is given to an endpoint and is for
+    /// another one; or a link's file cannot be read.
+    Commands,
+    /// A wire cannot be bound.
+    Wire,
+    /// A control socket cannot be bound; or no relay is at it, or what is said there is no answer.
+    Control,
+    /// The system's random source gives nothing.
+    Random,
+    /// A command file or a link's file has a fault, of which this is said.
+    CommandFile(String),
+    /// A command file that is tried on a disk is for another end.
+    OtherEnd,
+    /// A link that a file says is refused.
+    Link(LinkRefusal),
+    /// Out of memory.
+    Memory,
+    /// The input cannot be read, or spells no request.
+    Input(InputFault),
+    /// The answer cannot be written.
+    Output,
+}
+
+impl DiskFault {
+    ghost use Rattle.std.specs.Prelude.{◌≡◌};
+    ghost use Rattle.macs_offline.specs.Failing.{disk_fault_text};
+
+    /// What the program says of it.
+    pub fn text(self) -> &'static str
+        ensures { result.now ≡ disk_fault_text self }
+    {
+        match self {
+            DiskFault::File => "disk file",
+            DiskFault::Length => "disk length",
+            DiskFault::Journal(JournalFault::Stopped) => "stopped",
+            DiskFault::Journal(JournalFault::TooSmall) => "too small",
+            DiskFault::Journal(JournalFault::Disk) => "disk",
+            DiskFault::Journal(JournalFault::AlreadyFormatted) => "already formatted",
+            DiskFault::Journal(JournalFault::NotFormatted) => "not formatted",
+            DiskFault::Journal(JournalFault::BadJournal) => "bad journal",
+            DiskFault::Journal(JournalFault::GenerationsSpent) => "generations spent",
+        }
+    }
+}
+
+impl LinkRefusal {
+    ghost use Rattle.std.specs.Prelude.{◌≡◌};
+    ghost use Rattle.macs_offline.specs.Failing.{link_refusal_text};
+
+    /// What the program says of it.
+    pub fn text(self) -> &'static str
+        ensures { result.now ≡ link_refusal_text self }
+    {
+        match self {
+            LinkRefusal::SameSci => "same sci",
+            LinkRefusal::SameKey => "same key",
+            LinkRefusal::AnInUse => "an in use",
+        }
+    }
+}
+
+impl Failure {
+    ghost use Rattle.std.specs.Prelude.{◌≡◌};
+    ghost use Rattle.macs_offline.specs.Failing.{failure_status, failure_text};
+
+    /// What the program says of it, in one line.
+    pub fn text(&self) -> &str
+        ensures { result.now ≡ failure_text self.now }
+    {
+        match self {
+            Failure::Usage(cause) => cause.as_str(),
+            Failure::Value(fault) => fault.text(),
+            Failure::Address(fault) => fault.text(),
+            Failure::Disk(fault) => fault.text(),
+            Failure::Capture => "capture",
+            Failure::Commands => "commands",
+            Failure::Wire => "wire",
+            Failure::Control => "control",
+            Failure::Random => "random source",
+            Failure::CommandFile(cause) => cause.as_str(),
+            Failure::OtherEnd => "command file sci: not that of DISK",
+            Failure::Link(refusal) => refusal.text(),
+            Failure::Memory => "memory",
+            Failure::Input(fault) => fault.text(),
+            Failure::Output => "output",
+        }
+    }
+
+    /// What the run ends with.
+    pub fn status(&self) -> Status
+        ensures { result ≡ failure_status self.now }
+    {
+        match self {
+            Failure::Usage(_) | Failure::Value(_) | Failure::Address(_) => Status::Usage,
+            Failure::Disk(_) => Status::Disk,
+            Failure::Link(_) => Status::Refused,
+            Failure::Capture
+            | Failure::Commands
+            | Failure::Wire
+            | Failure::Control
+            | Failure::Random
+            | Failure::CommandFile(_)
+            | Failure::OtherEnd
+            | Failure::Memory
+            | Failure::Input(_)
+            | Failure::Output => Status::Fault,
+        }
+    }
+}
+
+impl From<AllocError> for Failure {
+    ghost use Rattle.std.specs.Prelude.{◌≡◌};
+    ghost use Rattle.macs_offline.specs.declared.failure.Failure.TheVariants.{Memory};
+
+    ghost from_gives = { λ _ failure. failure ≡ Memory };
+
+    fn from(_error: AllocError) -> Failure {
+        Failure::Memory
+    }
+}
+
+impl From<UsageFault> for Failure {
+    ghost use Rattle.std.specs.Prelude.{◌≡◌};
+    ghost use Rattle.macs_offline.specs.Failing.{failure_of_words};
+
+    ghost from_gives = { λ fault failure. failure ≡ failure_of_words fault };
+
+    fn from(fault: UsageFault) -> Failure {
+        match fault {
+            UsageFault::Usage(cause) => Failure::Usage(cause),
+            UsageFault::Memory => Failure::Memory,
+        }
+    }
+}
+
+impl From<ValueFault> for Failure {
+    ghost use Rattle.std.specs.Prelude.{◌≡◌};
+    ghost use Rattle.macs_offline.specs.declared.failure.Failure.TheVariants.{Value};
+
+    ghost from_gives = { λ fault failure. failure ≡ Value fault };
+
+    fn from(fault: ValueFault) -> Failure {
+        Failure::Value(fault)
+    }
+}
+
+impl From<AddressFault> for Failure {
+    ghost use Rattle.std.specs.Prelude.{◌≡◌};
+    ghost use Rattle.macs_offline.specs.declared.failure.Failure.TheVariants.{Address};
+
+    ghost from_gives = { λ fault failure. failure ≡ Address fault };
+
+    fn from(fault: AddressFault) -> Failure {
+        Failure::Address(fault)
+    }
+}
+
+impl From<InputFault> for Failure {
+    ghost use Rattle.std.specs.Prelude.{◌≡◌};
+    ghost use Rattle.macs_offline.specs.declared.failure.Failure.TheVariants.{Input};
+
+    ghost from_gives = { λ fault failure. failure ≡ Input fault };
+
+    fn from(fault: InputFault) -> Failure {
+        Failure::Input(fault)
+    }
+}
+
+impl From<DiskFault> for Failure {
+    ghost use Rattle.std.specs.Prelude.{◌≡◌};
+    ghost use Rattle.macs_offline.specs.declared.failure.Failure.TheVariants.{Disk};
+
+    ghost from_gives = { λ fault failure. failure ≡ Disk fault };
+
+    fn from(fault: DiskFault) -> Failure {
+        Failure::Disk(fault)
+    }
+}
+
+impl From<FileFault> for Failure {
+    ghost use Rattle.std.specs.Prelude.{◌≡◌};
+    ghost use Rattle.macs_offline.specs.Failing.{failure_of_file};
+
+    ghost from_gives = { λ fault failure. failure ≡ failure_of_file fault };
+
+    fn from(fault: FileFault) -> Failure {
+        match fault {
+            FileFault::Open => Failure::Disk(DiskFault::File),
+            FileFault::Length => Failure::Disk(DiskFault::Length),
+            FileFault::Device => JournalFault::Disk.into(),
+            FileFault::Memory => Failure::Memory,
+        }
+    }
+}
+
+impl From<JournalFault> for Failure {
+    ghost use Rattle.std.specs.Prelude.{◌≡◌};
+    ghost use Rattle.macs_offline.specs.Failing.{failure_of_journal};
+
+    ghost from_gives = { λ fault failure. failure ≡ failure_of_journal fault };
+
+    fn from(fault: JournalFault) -> Failure {
+        Failure::Disk(DiskFault::Journal(fault))
+    }
+}
+
+impl From<CommandFileFault> for Failure {
+    ghost use Rattle.std.specs.Prelude.{◌≡◌};
+    ghost use Rattle.macs_offline.specs.Failing.{failure_of_commands};
+
+    ghost from_gives = { λ fault failure. failure ≡ failure_of_commands fault };
+
+    fn from(fault: CommandFileFault) -> Failure {
+        match fault {
+            CommandFileFault::Commands(ConfigFault::Memory) => Failure::Memory,
+            _ => Failure::Commands,
+        }
+    }
+}
+
+impl From<BindFault> for Failure {
+    ghost use Rattle.std.specs.Prelude.{◌≡◌};
+    ghost use Rattle.macs_offline.specs.Failing.{failure_of_bind};
+
+    ghost from_gives = { λ fault failure. failure ≡ failure_of_bind fault };
+
+    fn from(fault: BindFault) -> Failure {
+        match fault {
+            BindFault::Memory => Failure::Memory,
+            BindFault::Bind => Failure::Wire,
+        }
+    }
+}
+
+impl From<ControlFault> for Failure {
+    ghost use Rattle.std.specs.Prelude.{◌≡◌};
+    ghost use Rattle.macs_offline.specs.Failing.{failure_of_control};
+
+    ghost from_gives = { λ fault failure. failure ≡ failure_of_control fault };
+
+    fn from(fault: ControlFault) -> Failure {
+        match fault {
+            ControlFault::Memory => Failure::Memory,
+            ControlFault::Bind => Failure::Control,
+        }
+    }
+}
+
+impl From<AskFault> for Failure {
+    ghost use Rattle.std.specs.Prelude.{◌≡◌};
+    ghost use Rattle.macs_offline.specs.Failing.{failure_of_asking};
+
+    ghost from_gives = { λ fault failure. failure ≡ failure_of_asking fault };
+
+    fn from(fault: AskFault) -> Failure {
+        match fault {
+            AskFault::Memory => Failure::Memory,
+            AskFault::Gone => Failure::Control,
+        }
+    }
+}
+
+impl From<PcapFault> for Failure {
+    ghost use Rattle.std.specs.Prelude.{◌≡◌};
+    ghost use Rattle.macs_offline.specs.Failing.{failure_of_capture};
+
+    ghost from_gives = { λ fault failure. failure ≡ failure_of_capture fault };
+
+    fn from(fault: PcapFault) -> Failure {
+        match fault {
+            PcapFault::Memory => Failure::Memory,
+            _ => Failure::Capture,
+        }
+    }
+}
+
+/// The failure where packet numbers are not reserved. The fault is not `Busy`: no command waits, or
+/// a step is made and no refill.
+pub fn failure_of_refill(fault: RefillFault) -> Failure
+    requires { IsNotBusy fault }
+    ensures { result ≡ failure_of_refill fault }
+{
+    match fault {
+        RefillFault::Stopped => JournalFault::Stopped.into(),
+        RefillFault::GenerationsSpent => JournalFault::GenerationsSpent.into(),
+        RefillFault::Disk => JournalFault::Disk.into(),
+        RefillFault::Busy => unreachable!(),
+    }
+}
+
+/// The failure of a run over a capture. The fault is not `Busy`: no command waits.
+pub fn failure_of_run(fault: RunFault) -> Failure
+    requires { IsNotBusyRun fault }
+    ensures { result ≡ failure_of_run fault }
+{
+    match fault {
+        RunFault::Pcap(PcapFault::Memory) => Failure::Memory,
+        RunFault::Pcap(_) => Failure::Capture,
+        RunFault::Device(device) => failure_of_refill(device),
+    }
+}

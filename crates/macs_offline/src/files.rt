@@ -1,0 +1,308 @@
+//! The files that the words name.
+
+ghost use Rattle.std.specs.Prelude.{◌≡◌, ◌≢◌, ◌⊎◌, ◌/◌, false, true, ℕ, List, [], Some, IfErr};
+ghost use Rattle.std.specs.Prelude.{IfOk, IfSome, OnErr, OnOk};
+ghost use Rattle.std.specs.Io.Buffered.{reader_buffer, reader_capacity, reader_inner};
+ghost use Rattle.std.specs.Io.Buffered.{writer_buffer, writer_inner};
+ghost use Rattle.macs_disk.specs.Files.{Behaves, IsSure, file_claimed, file_cut};
+ghost use Rattle.std.specs.IoError.{error_kind};
+ghost use Rattle.std.specs.declared.io.ErrorKind.TheVariants.{OutOfMemory};
+ghost use Rattle.macs_offline.specs.Applying.{SaidByFile, SaysCommands};
+ghost use Rattle.macs_disk.specs.declared.file_fault.FileFault.{FileFault};
+ghost use Rattle.macs_offline.specs.Contents.{HoldsEndpoint};
+ghost use Rattle.macs_offline.specs.Openings.{IsDiskIn};
+ghost use Rattle.macs_offline.specs.Failing.{failure_of_file};
+ghost use Rattle.macs_offline.specs.declared.failure.DiskFault.{DiskFault};
+
+use crate::applying::{MAX_FILE, commands_in};
+use crate::capture_file::CaptureFile;
+use crate::contents::holds_endpoint;
+use crate::failure::{DiskFault, Failure};
+use crate::whole_writes::WholeWrites;
+use macs_commands::CommandFile;
+use macs_disk::{DiskFile, FileDisk};
+use macs_pcap::{ReaderSource, Sink, Source, WriterSink};
+use std::alloc::Global;
+use std::fs::{OpenFile, OpenOptions};
+use std::io::{BufReader, BufWriter, Read, Write};
+use std::os::unix::fs::MetadataExt;
+use std::rt::Files;
+use std::{fs, io};
+
+/// One octet more than the longest command file.
+const MAX_READ: usize = MAX_FILE + 1;
+
+/// How many octets of a capture are kept back: so each read and write of the system but the last is
+/// one of so many, whatever frames there are.
+const CAPTURE_ROOM: usize = 131_072;
+
+/// A capture that is read.
+pub type CaptureSource<F> = ReaderSource<BufReader<F>>;
+
+/// A capture that is written.
+pub type CaptureSink<F> = WriterSink<WholeWrites<F>>;
+
+/// The failure that an error of the system is: want of memory, or else this one.
+pub fn failure_of(error: io::Error, failure: Failure) -> Failure
+    ensures memory { error_kind error ≡ OutOfMemory → result ≡ Failure.Memory }
+    ensures other { error_kind error ≢ OutOfMemory → result ≡ failure }
+    ensures either { (result ≡ Failure.Memory) ⊎ (result ≡ failure) }
+{
+    if error.kind() == io::ErrorKind::OutOfMemory {
+        return Failure::Memory;
+    }
+    failure
+}
+
+/// Where the name of standard output is.
+const STANDARD_OUTPUT: &str = "/dev/stdout";
+
+/// Whether standard output goes to the file at a path, where what is printed would be written over
+/// its sectors.
+pub fn is_printed_to<T: Files>(rt: &T, path: &str) -> bool {
+    match (rt.metadata(path), rt.metadata(STANDARD_OUTPUT)) {
+        (Ok(file), Ok(output)) => file.dev() == output.dev() && file.ino() == output.ino(),
+        _ => false,
+    }
+}
+
+/// Opens the regular file of a disk to read it. An error where there is something else, since
+/// opening a pipe would wait for a writer, or where standard output goes to it: lines would be
+/// written over its sectors.
+pub fn open_regular<T: Files>(rt: &T, path: &str) -> io::Result<T::File> {
+    if !rt.metadata(path)?.is_file() || is_printed_to(rt, path) {
+        return Err(io::Error::from(io::ErrorKind::InvalidInput));
+    }
+    fs::open(rt, path)
+}
+
+/// The disk in a file. It fails as `Memory`, or as `Disk` with `File` or `Length`, where the file
+/// is no disk, or standard output goes there.
+pub fn open_disk<T: Files>(rt: &T, path: &str) -> Result<FileDisk<T::File>, Failure>
+where
+    T::File: DiskFile,
+    ensures disk { IfOk result (IsDiskIn T.File.file) }
+    ensures file { IfErr result
+        (λ failure. (fault : FileFault) × (failure ≡ failure_of_file fault)) }
+    ensures failed { IfErr result (λ failure. (failure ≡ Failure.Memory)
+        ⊎ ((fault : DiskFault) × (failure ≡ Failure.Disk fault))) }
+{
+    if is_printed_to(rt, path) {
+        return Err(Failure::Disk(DiskFault::File));
+    }
+    let disk = FileDisk::open(rt, path)?;
+    Ok(disk)
+}
+
+/// What a command file that is open says, of which no more is read than can be of use.
+fn read_commands<R: Read>(alloc: Global, file: &mut R) -> Result<CommandFile<Global>, Failure>
+    ensures said { IfOk result (λ told. IfSome (R.remaining file.old)
+        (λ octets. SaysCommands octets told.end told.commands.items)) }
+    ensures spelled { IfOk result
+        (λ told. (octets : List ℕ) × SaysCommands octets told.end told.commands.items) }
+    ensures failed { IfErr result
+        (λ failure. (failure ≡ Failure.Memory) ⊎ (failure ≡ Failure.Commands)) }
+{
+    let mut octets = Vec::new(alloc);
+    match file.take(MAX_READ as u64).read_to_end(&mut octets) {
+        Ok(_) => commands_in(alloc, octets.as_slice()),
+        Err(error) => Err(failure_of(error, Failure::Commands)),
+    }
+}
+
+/// What a command file says. It fails as `Memory` where there is no memory, the system's or
+/// the program's, and else as `Commands`, where the file cannot be opened or read, or says no
+/// commands.
+pub fn commands_of_file<T: Files>(
+    rt: &T,
+    alloc: Global,
+    path: &str,
+) -> Result<CommandFile<Global>, Failure>
+    // A file was opened, and it says this.
+    ensures said { IfOk result
+        (λ told. SaidByFile T.File.remaining told.end told.commands.items) }
+    ensures spelled { IfOk result
+        (λ told. (octets : List ℕ) × SaysCommands octets told.end told.commands.items) }
+    ensures failed { IfErr result
+        (λ failure. (failure ≡ Failure.Memory) ⊎ (failure ≡ Failure.Commands)) }
+{
+    match fs::open(rt, path) {
+        Ok(mut file) => read_commands(alloc, &mut file),
+        Err(error) => Err(failure_of(error, Failure::Commands)),
+    }
+}
+
+/// A reader that keeps octets of a capture back. It fails as `Memory`.
+fn reader_of<F: Read + Drop>(alloc: Global, file: F) -> Result<BufReader<F>, Failure>
+    ensures inner { IfOk result (λ reader. reader_inner reader ≡ file) }
+    ensures empty { IfOk result (λ reader. reader_buffer reader ≡ []) }
+    ensures room { IfOk result (λ reader. reader_capacity reader ≡ 131072) }
+    ensures failed { IfErr result (λ failure. failure ≡ Failure.Memory) }
+{
+    match BufReader::with_capacity(alloc, CAPTURE_ROOM, file) {
+        Ok(reader) => Ok(reader),
+        Err(error) => Err(failure_of(error, Failure::Capture)),
+    }
+}
+
+/// A buffer that keeps octets of a capture back. It fails as `Memory`.
+fn buffer_of<F: Write + Drop>(alloc: Global, file: F) -> Result<BufWriter<F>, Failure>
+    ensures inner { IfOk result (λ buffer. writer_inner buffer ≡ file) }
+    ensures empty { IfOk result (λ buffer. writer_buffer buffer ≡ []) }
+    ensures failed { IfErr result (λ failure. failure ≡ Failure.Memory) }
+{
+    match BufWriter::with_capacity(alloc, CAPTURE_ROOM, file) {
+        Ok(buffer) => Ok(buffer),
+        Err(error) => Err(failure_of(error, Failure::Capture)),
+    }
+}
+
+/// A capture that is read from an open file: all that the file has left. It fails as `Memory`.
+fn source_over<F: Read + Drop>(alloc: Global, file: F) -> Result<CaptureSource<F>, Failure>
+    ensures left { IfOk result (λ source. IfSome (F.remaining file)
+        (λ octets. (⟦<ReaderSource<BufReader<F>> as Source>⟧.state source).left ≡ Some octets)) }
+    ensures fresh { IfOk result
+        (λ source. (⟦<ReaderSource<BufReader<F>> as Source>⟧.state source).failed ≡ false) }
+    ensures failed { IfErr result (λ failure. failure ≡ Failure.Memory) }
+{
+    let reader = reader_of(alloc, file)?;
+    Ok(ReaderSource::new(reader))
+}
+
+/// A capture that is written to an open file, after what it holds. It fails as `Memory`.
+fn sink_over<F: Write + Drop>(alloc: Global, file: F) -> Result<CaptureSink<F>, Failure>
+    ensures held { IfOk result (λ sink. IfSome (F.contents file)
+        (λ octets. (⟦<WriterSink<WholeWrites<F>> as Sink>⟧.state sink).held ≡ Some octets)) }
+    ensures fresh { IfOk result
+        (λ sink. (⟦<WriterSink<WholeWrites<F>> as Sink>⟧.state sink).failed ≡ false) }
+    ensures unflushed { IfOk result
+        (λ sink. (⟦<WriterSink<WholeWrites<F>> as Sink>⟧.state sink).flushed ≡ false) }
+    ensures failed { IfErr result (λ failure. failure ≡ Failure.Memory) }
+{
+    let buffer = buffer_of(alloc, file)?;
+    let whole = WholeWrites::new(buffer);
+    Ok(WriterSink::new(whole))
+}
+
+/// Opens a file to read it as a capture. A regular file is claimed along with other readers, so
+/// that it is no output.
+fn open_source<T: Files>(rt: &T, path: &str) -> io::Result<T::File>
+where
+    T::File: CaptureFile,
+{
+    let mut file = fs::open(rt, path)?;
+    if file.metadata()?.is_file() {
+        file.share()?;
+    }
+    Ok(file)
+}
+
+/// How a capture is opened to be written, and maybe read. What the file holds stays.
+fn how_to_write(is_read: bool) -> OpenOptions
+    ensures keeps { result.truncate ≡ false }
+    ensures made { result.create ≡ true }
+    ensures written { (result.read ≡ is_read) × (result.write ≡ true) × (result.append ≡ false) }
+{
+    let mut options = OpenOptions::new();
+    options
+        .read(is_read)
+        .write(true)
+        .create(true)
+        .append(false)
+        .truncate(false);
+    options
+}
+
+/// Whether a device, a pipe or a socket is at a path.
+fn is_special<T: Files>(rt: &T, path: &str) -> bool {
+    match rt.metadata(path) {
+        Ok(about) => !about.is_file() && !about.is_dir(),
+        Err(_) => false,
+    }
+}
+
+/// Opens a file to write it, or makes it: and to read it too, so that it can be looked at, where
+/// that is allowed. A pipe is not opened to read, since it would then wait for no reader.
+fn open_output<T: Files>(rt: &T, path: &str) -> io::Result<T::File> {
+    if is_special(rt, path) {
+        return how_to_write(false).open(rt, path);
+    }
+    match how_to_write(true).open(rt, path) {
+        Err(error) if error.kind() == io::ErrorKind::PermissionDenied => {
+            how_to_write(false).open(rt, path)
+        }
+        opened => opened,
+    }
+}
+
+/// Claims a file and cuts it to nothing. An error where another open has claimed it, or where it
+/// holds an endpoint or cannot be looked at: then it is as it was, but for the claim.
+fn cut_output<F: CaptureFile>(file: &mut F) -> io::Result<()>
+    ensures steady { (F.file file.new).behaves ≡ (F.file file.old).behaves }
+    ensures same { Behaves (F.file file.old)
+        → OnErr result (file_claimed (F.file file.new) ≡ file_claimed (F.file file.old)) }
+    ensures cut { Behaves (F.file file.old)
+        → OnOk result (F.file file.new ≡ file_cut (file_claimed (F.file file.old))) }
+    ensures free { Behaves (F.file file.old) → IsSure (F.file file.old)
+        → OnOk result (¬ HoldsEndpoint (F.file file.old) ((F.file file.old).size / 512)) }
+{
+    file.claim()?;
+    if holds_endpoint(file)? {
+        return Err(io::Error::from(io::ErrorKind::AlreadyExists));
+    }
+    file.cut()
+}
+
+/// Opens a file to write it as a capture, or makes it. A regular file is claimed and looked at
+/// before it is cut to nothing. An error where standard output goes to it: the line of the run
+/// would be written over the capture.
+fn open_sink<T: Files>(rt: &T, path: &str) -> io::Result<T::File>
+where
+    T::File: CaptureFile,
+{
+    let mut file = open_output(rt, path)?;
+    if file.metadata()?.is_file() {
+        if is_printed_to(rt, path) {
+            return Err(io::Error::from(io::ErrorKind::AlreadyExists));
+        }
+        cut_output(&mut file)?;
+    }
+    Ok(file)
+}
+
+/// A capture that is read from a file. It fails as `Memory` where there is no memory, the system's
+/// or the program's, and else as `Capture`, where the file cannot be opened, or is claimed by who
+/// writes it: so where it is the disk file. Nothing is read yet.
+pub fn open_capture<T: Files>(
+    rt: &T,
+    alloc: Global,
+    path: &str,
+) -> Result<CaptureSource<T::File>, Failure>
+where
+    T::File: CaptureFile,
+    ensures { IfErr result (λ failure. (failure ≡ Failure.Memory) ⊎ (failure ≡ Failure.Capture)) }
+{
+    match open_source(rt, path) {
+        Ok(file) => source_over(alloc, file),
+        Err(error) => Err(failure_of(error, Failure::Capture)),
+    }
+}
+
+/// A capture that is written to a file, which is made, or cut to nothing. It fails as `Memory`
+/// where there is no memory, the system's or the program's, and else as `Capture`, where the file
+/// cannot be made, is another file of the run, holds an endpoint, or has a sector and cannot be
+/// read: then it is left as it is.
+pub fn make_capture<T: Files>(
+    rt: &T,
+    alloc: Global,
+    path: &str,
+) -> Result<CaptureSink<T::File>, Failure>
+where
+    T::File: CaptureFile,
+    ensures { IfErr result (λ failure. (failure ≡ Failure.Memory) ⊎ (failure ≡ Failure.Capture)) }
+{
+    match open_sink(rt, path) {
+        Ok(file) => sink_over(alloc, file),
+        Err(error) => Err(failure_of(error, Failure::Capture)),
+    }
+}

@@ -1,0 +1,196 @@
+//! `inspect`: what the SecTAG of each frame of a capture says.
+
+ghost use Rattle.std.specs.Prelude.{◌≡◌, ◌≢◌, ◌<◌, ◌++◌, codes, length, true, IfErr, IfOk};
+ghost use Rattle.std.specs.Prelude.{string_bytes};
+ghost use Rattle.std.specs.Fmt.{decimal};
+ghost use Rattle.macs_frame.specs.Tag.{short_length};
+ghost use Rattle.macs_texts.specs.Lines.{line};
+ghost use Rattle.macs_offline.specs.Inspecting.{InspectFails, Inspects, InspectsNext, IsLineOf};
+ghost use Rattle.macs_offline.specs.Inspecting.{IsOfInspecting, IsSaidOf};
+ghost use Rattle.macs_offline.specs.Inspecting.{PrintsFrames, RunsCapture, RunsRecords, bit_text};
+ghost use Rattle.macs_offline.specs.Inspecting.{bits_text, numbers_text, tag_text};
+
+use crate::capture_file::CaptureFile;
+use crate::failure::Failure;
+use crate::files::open_capture;
+use crate::hex_text::HexText;
+use crate::opened::refusal_text;
+use crate::output::print;
+use crate::status::Status;
+use crate::stream::Stream;
+use macs_frame::{OpenFault, ScName, SecTag, read_tag};
+use macs_pcap::{Source, read_header, read_record};
+use std::alloc::{AllocError, Global};
+use std::fmt;
+use std::rt::Files;
+
+/// How a SecTAG names its channel, as it is displayed.
+#[derive(Clone, Copy)]
+struct NameText(ScName);
+
+impl fmt::Display for NameText {
+    ghost use Rattle.std.specs.Prelude.{Some};
+    ghost use Rattle.macs_offline.specs.Inspecting.{name_text};
+
+    ghost output = { λ text. Some (name_text text.0) };
+
+    fn fmt<W: fmt::Write>(&self, f: &mut fmt::Formatter<W>) -> fmt::Result {
+        match self.0 {
+            ScName::Explicit(sci) => {
+                let octets = sci.get();
+                let sci = HexText(&octets);
+                write!(f, " sci={sci}")
+            }
+            ScName::EndStation => f.write_str(" es"),
+            ScName::Implicit => f.write_str(""),
+        }
+    }
+}
+
+/// A bit as a digit.
+fn bit_text(bit: bool) -> &'static str
+    ensures { result.now ≡ bit_text bit }
+{
+    if bit { "1" } else { "0" }
+}
+
+/// The numbers that a SecTAG says, and its SL.
+fn numbers_text(alloc: Global, tag: &SecTag, short: u8) -> Result<String, AllocError>
+    ensures { IfOk result (λ text. string_bytes text ≡ numbers_text tag.now short) }
+{
+    let an = tag.an.get();
+    let pn = tag.pn.get();
+    format!(in alloc; "an={an} pn={pn} sl={short}")
+}
+
+/// The bits E and C of a SecTAG, and its channel.
+fn bits_text(alloc: Global, tag: &SecTag) -> Result<String, AllocError>
+    ensures { IfOk result (λ text. string_bytes text ≡ bits_text tag.now) }
+{
+    let e = bit_text(tag.encrypted);
+    let c = bit_text(tag.changed);
+    let name = NameText(tag.name);
+    format!(in alloc; "e={e} c={c}{name}")
+}
+
+/// What a SecTAG says, with its SL, and how many octets its frame has.
+fn tag_text(alloc: Global, tag: &SecTag, short: u8, octets: usize) -> Result<String, AllocError>
+    ensures { IfOk result (λ text. string_bytes text ≡ tag_text tag.now short octets) }
+{
+    let numbers = numbers_text(alloc, tag, short)?;
+    let bits = bits_text(alloc, tag)?;
+    format!(in alloc; "{numbers} {bits} octets={octets}")
+}
+
+/// The SL of a frame.
+fn short_length(frame: &[u8]) -> u8
+    requires { 15 < length frame.now }
+    ensures { result ≡ short_length frame.now }
+{
+    frame[15]
+}
+
+/// What is said of a frame: its first fault in the words of `open`, or what its SecTAG says.
+fn said_of(alloc: Global, frame: &[u8]) -> Result<String, AllocError>
+    ensures { IfOk result (λ text. IsSaidOf frame.now (string_bytes text)) }
+{
+    match read_tag(frame) {
+        Ok(parts) => tag_text(alloc, &parts.tag, short_length(frame), frame.len()),
+        Err(fault) => String::from_str(alloc, refusal_text(OpenFault::Tag(fault))),
+    }
+}
+
+/// A line of a number and what is said.
+fn numbered(alloc: Global, at: u64, said: &str) -> Result<String, AllocError>
+    ensures { IfOk result
+        (λ text. string_bytes text ≡ line (decimal at ++ (codes " " ++ said.now))) }
+{
+    let mut line = format!(in alloc; "{at} {said}")?;
+    line.push('\n')?;
+    Ok(line)
+}
+
+/// The line of a frame by its number.
+fn inspect_line(alloc: Global, at: u64, frame: &[u8]) -> Result<String, AllocError>
+    ensures { IfOk result (λ text. IsLineOf at frame.now (string_bytes text)) }
+{
+    let said = said_of(alloc, frame)?;
+    numbered(alloc, at, said.as_str())
+}
+
+/// Prints the line of the next frame of a capture, after so many others. Whether there is one.
+fn inspect_next<R: Source, W: Stream>(
+    alloc: Global,
+    source: &mut R,
+    big: bool,
+    count: u32,
+    frame: &mut Vec<u8>,
+    out: &mut W,
+) -> Result<bool, Failure>
+    ensures next { InspectsNext big count (R.state source.old) (W.contents out.old) result
+        (R.state source.new) (W.contents out.new) }
+    ensures broken { IfErr result (λ failure. failure ≡ Failure.Output → W.failed out.new ≡ true) }
+{
+    let Some(_stamp) = read_record(source, big, count, frame)? else {
+        return Ok(false);
+    };
+    let line = inspect_line(alloc, u64::from(count) + 1, frame.as_slice())?;
+    print(out, line.as_str())?;
+    Ok(true)
+}
+
+/// Prints the lines of all frames after the header of a capture.
+fn inspect_frames<R: Source, W: Stream>(
+    alloc: Global,
+    source: &mut R,
+    big: bool,
+    out: &mut W,
+) -> Result<Status, Failure>
+    ensures runs { RunsRecords big (R.state source.old) (W.contents out.old) result
+        (R.state source.new) (W.contents out.new) }
+    ensures broken { IfErr result (λ failure. failure ≡ Failure.Output → W.failed out.new ≡ true) }
+{
+    let mut frame = Vec::new(alloc);
+    let mut count: u32 = 0;
+    while inspect_next(alloc, source, big, count, &mut frame, out)? {
+        count += 1;
+    }
+    Ok(Status::Done)
+}
+
+/// Prints a line for each frame of a capture. It fails as `Capture` or `Memory` with the first
+/// fault of the capture, after the lines of the frames before it; and as `Output` at the first line
+/// that cannot be printed.
+pub fn inspect_capture<R: Source, W: Stream>(
+    alloc: Global,
+    source: &mut R,
+    out: &mut W,
+) -> Result<Status, Failure>
+    ensures runs { RunsCapture (R.state source.old) (W.contents out.old) result
+        (R.state source.new) (W.contents out.new) }
+    ensures broken { IfErr result (λ failure. failure ≡ Failure.Output → W.failed out.new ≡ true) }
+{
+    let header = read_header(source)?;
+    inspect_frames(alloc, source, header.big, out)
+}
+
+/// `inspect`: prints a line for each frame of a capture.
+pub fn inspect<T: Files, W: Stream>(
+    rt: &T,
+    alloc: Global,
+    input: &str,
+    out: &mut W,
+) -> Result<Status, Failure>
+where
+    T::File: CaptureFile,
+    ensures printed { IfOk result (λ status.
+        Inspects (W.contents out.old) (W.contents out.new) × (status ≡ Status.Done)) }
+    ensures ended { IfErr result (InspectFails (W.contents out.old) (W.contents out.new)) }
+    ensures failed { IfErr result IsOfInspecting }
+    ensures front { IfErr result (λ failure. failure ≢ Failure.Output
+        → PrintsFrames (W.contents out.old) (W.contents out.new)) }
+    ensures broken { IfErr result (λ failure. failure ≡ Failure.Output → W.failed out.new ≡ true) }
+{
+    let mut source = open_capture(rt, alloc, input)?;
+    inspect_capture(alloc, &mut source, out)
+}

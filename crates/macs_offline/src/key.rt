@@ -1,0 +1,112 @@
+//! `key`: a fresh key from the system's random source.
+
+ghost use Rattle.std.specs.Prelude.{◌≡◌, ◌≢◌, ◌⊎◌, ◌≤◌, ◌*◌, ℕ, List, Option, length, true, IfErr};
+ghost use Rattle.std.specs.Prelude.{IfOk, OnOk};
+ghost use Rattle.std.specs.Io.KnownBytes.{Appends};
+ghost use Rattle.hex.specs.Hex.{encode_lower};
+ghost use Rattle.macs_offline.specs.Keys.{GivesKey, IsOfKey, PrintsKey, key_octets};
+ghost use Rattle.macs_texts.specs.Lines.{line};
+
+use crate::failure::Failure;
+use crate::output::{Line, print_octets};
+use crate::status::Status;
+use crate::stream::Stream;
+use std::random::RandomSource;
+
+/// The longest key, in octets.
+const LONGEST: usize = 32;
+
+/// A source gave no octets.
+#[derive(Clone, Copy)]
+pub struct SourceFailed;
+
+/// Where the octets of a key come from. It may be known which it gave; that they are random is not
+/// claimed.
+pub trait OctetSource {
+    /// All octets that it gave so far, where they are known.
+    ghost given: { Self → Option (List ℕ) };
+
+    /// Gives as many octets as there is room for.
+    fn fill(&mut self, octets: &mut [u8]) -> Result<(), SourceFailed>
+        ensures { OnOk result (Appends (given self.old) (given self.new) octets.new) };
+}
+
+/// The system's random source. It is not known which octets it gives.
+#[derive(Clone, Copy)]
+pub struct SystemOctets<'a, T> {
+    pub rt: &'a T,
+}
+
+impl<T: RandomSource> OctetSource for SystemOctets<'_, T> {
+    ghost use Rattle.std.specs.Prelude.{None};
+
+    ghost given = { λ _. None };
+
+    fn fill(&mut self, octets: &mut [u8]) -> Result<(), SourceFailed> {
+        match self.rt.fill_bytes(octets) {
+            Ok(()) => Ok(()),
+            Err(_) => Err(SourceFailed),
+        }
+    }
+}
+
+/// How many octets a key has: of 256 bits, or of 128.
+fn key_octets(is_long: bool) -> usize
+    ensures { result ≡ key_octets is_long }
+{
+    if is_long { LONGEST } else { 16 }
+}
+
+/// The line of a key. It takes no memory, so no copy of the key is left in any.
+fn key_line(octets: &[u8]) -> Line
+    requires { length octets.now ≤ LONGEST }
+    ensures { result.items ≡ line (encode_lower octets.now) }
+{
+    let mut room = [0; 2 * LONGEST];
+    let digits = &mut room[..2 * octets.len()];
+    hex::encode_to_slice(octets, digits).unwrap();
+    let mut line = Line::new();
+    line.try_extend_from_slice(digits).unwrap();
+    line.push(b'\n');
+    line
+}
+
+/// Prints a key of the octets that a source gives. It fails as `Random` where it gives none, and as
+/// `Output` where the line cannot be printed.
+pub fn print_key<S: OctetSource, W: Stream>(
+    source: &mut S,
+    is_long: bool,
+    out: &mut W,
+) -> Result<Status, Failure>
+    ensures printed { IfOk result
+        (λ status. (octets : List ℕ) × Appends (S.given source.old) (S.given source.new) octets
+        × PrintsKey is_long octets (W.contents out.old) (W.contents out.new)
+        × (status ≡ Status.Done)) }
+    ensures failed { IfErr result IsOfKey }
+    ensures silent { IfErr result (λ failure. failure ≢ Failure.Output → out.new ≡ out.old) }
+    ensures broken { IfErr result (λ failure. failure ≡ Failure.Output → W.failed out.new ≡ true) }
+{
+    let mut room = [0; LONGEST];
+    let octets = &mut room[..key_octets(is_long)];
+    if source.fill(octets).is_err() {
+        return Err(Failure::Random);
+    }
+    print_octets(out, key_line(octets).as_slice())?;
+    Ok(Status::Done)
+}
+
+/// `key`: prints a key from the system's random source.
+pub fn key<T: RandomSource, W: Stream>(
+    rt: &T,
+    is_long: bool,
+    out: &mut W,
+) -> Result<Status, Failure>
+    ensures printed { IfOk result (λ status.
+        GivesKey is_long (W.contents out.old) (W.contents out.new) × (status ≡ Status.Done)) }
+    ensures failed { IfErr result IsOfKey }
+    ensures silent { IfErr result (λ failure. failure ≢ Failure.Output → out.new ≡ out.old) }
+    ensures broken { IfErr result (λ failure. failure ≡ Failure.Output → W.failed out.new ≡ true) }
+{
+    let mut source = SystemOctets { rt };
+    print_key(&mut source, is_long, out)
+}

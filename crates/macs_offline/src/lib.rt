@@ -1,0 +1,51 @@
+//! What each subcommand is made of, its files, lines, statuses and failures; and the subcommands that
+//! change no disk: `open`, `key`, `plan`, `inspect`, `check` and `examine`.
+#![tactic(auto)]
+
+mod addresses;
+mod applying;
+mod capture_file;
+mod check;
+mod contents;
+mod disk_copy;
+mod examine;
+mod examined_text;
+mod failure;
+mod file_mode;
+mod files;
+mod first_fault;
+mod four_lines;
+mod hex_text;
+mod inspect;
+mod key;
+mod open_input;
+mod opened;
+mod output;
+mod plan;
+mod record_lines;
+mod status;
+mod stream;
+mod trial;
+mod values;
+mod whole_writes;
+
+pub use addresses::{AddressFault, Addresses, WireAddresses, addresses_of};
+pub use applying::{apply_commands, is_own, outcome_line, status_after};
+pub use capture_file::CaptureFile;
+pub use check::{check, commands_read};
+pub use contents::{Contents, contents_of};
+pub use examine::examine;
+pub use failure::{DiskFault, Failure, failure_of_refill, failure_of_run};
+pub use files::{
+    CaptureSink, CaptureSource, commands_of_file, failure_of, is_printed_to, make_capture,
+    open_capture, open_disk,
+};
+pub use inspect::{inspect, inspect_capture};
+pub use key::{OctetSource, SourceFailed, SystemOctets, key, print_key};
+pub use open_input::{InputFault, OpenInput};
+pub use opened::{Opened, answer_of};
+pub use output::{Line, append_count, append_text, print, print_last, print_octets};
+pub use plan::plan;
+pub use status::Status;
+pub use stream::{PrintFailed, Stream, WriterStream};
+pub use values::{Given, ValueFault, given_by};

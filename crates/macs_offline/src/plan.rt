@@ -1,0 +1,268 @@
+//! `plan`: the commands of an end of a link for a stage of its keys, as a command file.
+
+ghost use Rattle.std.specs.Prelude.{◌≡◌, ◌≢◌, ◌⊎◌, ℕ, List, None, Some, true, IfErr, IfOk};
+ghost use Rattle.std.specs.Prelude.{IfSome};
+ghost use Rattle.std.specs.Prelude.{string_bytes};
+ghost use Rattle.toml.specs.Data.{Members};
+ghost use Rattle.toml.specs.View.{table_view};
+ghost use Rattle.toml.specs.Parse.{parse_document};
+ghost use Rattle.macs_plan.specs.Writing.{PlansText};
+ghost use Rattle.macs_offline.specs.Checking.{Complains};
+ghost use Rattle.macs_offline.specs.Plans.{IsPlanOfFile, PlanFails, PlansFile, PrintsPlan};
+ghost use Rattle.macs_offline.specs.Plans.{RefusesSo, SaysWhy, SaysWhyOfFile, SaysWhyOfText};
+ghost use Rattle.macs_offline.specs.Plans.{end_of, extra_text, link_refusal, name_reason};
+ghost use Rattle.macs_offline.specs.Plans.{name_word, plan_fault_text, stage_of, value_text};
+
+use crate::applying::MAX_FILE;
+use crate::check::failure_saying;
+use crate::failure::{Failure, LinkRefusal};
+use crate::files::failure_of;
+use crate::output::print;
+use crate::status::Status;
+use crate::stream::Stream;
+use macs_plan::{End, Place, PlanFault, Stage, ValueName};
+use macs_words::{PlanEnd, PlanStage};
+use std::alloc::{AllocError, Global};
+use std::fs;
+use std::io::Read;
+use std::rt::Files;
+use toml::Table;
+
+/// One octet more than the longest file of a link.
+const MAX_READ: usize = MAX_FILE + 1;
+
+/// The end that a word names.
+fn end_of(end: PlanEnd) -> End
+    ensures { result ≡ end_of end }
+{
+    match end {
+        PlanEnd::Left => End::Left,
+        PlanEnd::Right => End::Right,
+    }
+}
+
+/// The stage that a word names.
+fn stage_of(stage: PlanStage) -> Stage
+    ensures { result ≡ stage_of stage }
+{
+    match stage {
+        PlanStage::First => Stage::First,
+        PlanStage::Receive => Stage::Receive,
+        PlanStage::Send => Stage::Send,
+        PlanStage::Remove => Stage::Remove,
+    }
+}
+
+/// A key of a table, as it is written.
+fn name_word(name: ValueName) -> &'static str
+    ensures { result.now ≡ name_word name }
+{
+    match name {
+        ValueName::Sci => "sci",
+        ValueName::An => "an",
+        ValueName::Left => "left",
+        ValueName::Right => "right",
+    }
+}
+
+/// What its value is not.
+fn name_reason(name: ValueName) -> &'static str
+    ensures { result.now ≡ name_reason name }
+{
+    match name {
+        ValueName::Sci => "not 16 hex digits",
+        ValueName::An => "not 0 to 3",
+        ValueName::Left => "not 32 or 64 hex digits",
+        ValueName::Right => "not 32 or 64 hex digits",
+    }
+}
+
+/// What is said of a value: its place, key and reason.
+fn value_text(alloc: Global, place: Place, name: ValueName) -> Result<String, AllocError>
+    ensures { IfOk result (λ text. string_bytes text ≡ value_text place name) }
+{
+    let key = name_word(name);
+    let reason = name_reason(name);
+    match place {
+        Place::Left => format!(in alloc; "left {key}: {reason}"),
+        Place::Right => format!(in alloc; "right {key}: {reason}"),
+        Place::Key { at } => format!(in alloc; "key {at} {key}: {reason}"),
+    }
+}
+
+/// What is said of a key too many: its place.
+fn extra_text(alloc: Global, place: Place) -> Result<String, AllocError>
+    ensures { IfOk result (λ text. string_bytes text ≡ extra_text place) }
+{
+    match place {
+        Place::Left => String::from_str(alloc, "left: a key that it does not have"),
+        Place::Right => String::from_str(alloc, "right: a key that it does not have"),
+        Place::Key { at } => format!(in alloc; "key {at}: a key that it does not have"),
+    }
+}
+
+/// What is said of the first fault of a link's file.
+fn fault_text(alloc: Global, fault: PlanFault) -> Result<String, AllocError>
+    ensures { IfOk result (λ text. string_bytes text ≡ plan_fault_text fault) }
+{
+    match fault {
+        PlanFault::Shape => {
+            String::from_str(
+                alloc,
+                "link file: not [left], [right] and tables [[key]] alone",
+            )
+        }
+        PlanFault::Value { place, name } => value_text(alloc, place, name),
+        PlanFault::Extra { place } => extra_text(alloc, place),
+        PlanFault::SameSci => String::from_str(alloc, "same sci"),
+        PlanFault::SameKey => String::from_str(alloc, "same key"),
+        PlanFault::AnInUse => String::from_str(alloc, "an in use"),
+        PlanFault::OneKey => String::from_str(alloc, "one key"),
+        PlanFault::Memory => String::from_str(alloc, "memory"),
+    }
+}
+
+/// The refusal of a link that a fault is, if it is one.
+fn link_refusal(fault: PlanFault) -> Option<LinkRefusal>
+    ensures { result ≡ link_refusal fault }
+{
+    match fault {
+        PlanFault::SameSci => Some(LinkRefusal::SameSci),
+        PlanFault::SameKey => Some(LinkRefusal::SameKey),
+        PlanFault::AnInUse => Some(LinkRefusal::AnInUse),
+        _ => None,
+    }
+}
+
+/// The failure of a fault: a link is refused, or the fault is said, unless there is no memory for
+/// that.
+fn failure_of_fault(alloc: Global, fault: PlanFault) -> Failure
+    ensures { (Complains (λ said. (link_refusal fault ≡ None) × (said ≡ plan_fault_text fault))
+        result) ⊎ RefusesSo (λ refusal. link_refusal fault ≡ Some refusal) result }
+{
+    match link_refusal(fault) {
+        Some(refusal) => Failure::Link(refusal),
+        None => failure_saying(fault_text(alloc, fault)),
+    }
+}
+
+/// The command file of what is planned of a table of TOML.
+fn planned_in_table(alloc: Global, table: &Table, end: End, stage: Stage) -> Result<String, Failure>
+    ensures planned { IfOk result
+        (λ text. PlansText (table_view table.now) end stage (string_bytes text)) }
+    ensures fault { (text : List ℕ) → parse_document text ≡ Some (table_view table.now)
+        → IfErr result (SaysWhyOfText end stage text) }
+{
+    match macs_plan::plan(alloc, table, end, stage) {
+        Ok(text) => Ok(text),
+        Err(fault) => match fault {
+            PlanFault::Memory => Err(Failure::Memory),
+            _ => Err(failure_of_fault(alloc, fault)),
+        },
+    }
+}
+
+/// The command file of what is planned of a text.
+fn planned_in_text(alloc: Global, text: &str, end: End, stage: Stage) -> Result<String, Failure>
+    ensures planned { IfOk result (λ file. (members : Members)
+        × (parse_document text.now ≡ Some members)
+        × PlansText members end stage (string_bytes file)) }
+    ensures fault { IfErr result (SaysWhyOfText end stage text.now) }
+{
+    match toml::table_from_str(alloc, text) {
+        Ok(table) => planned_in_table(alloc, &table, end, stage),
+        Err(error) if error.is_memory() => Err(Failure::Memory),
+        Err(_) => Err(failure_saying(String::from_str(alloc, "link file: not TOML"))),
+    }
+}
+
+/// The command file of what is planned of the octets of a file.
+fn planned_said(alloc: Global, octets: &[u8], end: End, stage: Stage) -> Result<String, Failure>
+    ensures planned { IfOk result
+        (λ file. PlansFile end stage octets.now (string_bytes file)) }
+    ensures fault { IfErr result (SaysWhy end stage octets.now) }
+{
+    if octets.len() > MAX_FILE {
+        let text = String::from_str(alloc, "link file: more than 1048576 octets");
+        return Err(failure_saying(text));
+    }
+    let Ok(text) = str::from_utf8(octets) else {
+        let text = String::from_str(alloc, "link file: not UTF-8");
+        return Err(failure_saying(text));
+    };
+    planned_in_text(alloc, text, end, stage)
+}
+
+/// The command file of what is planned of an open file, of which no more is read than can be of
+/// use. It fails as `Commands` where a read fails, and else says the first fault, or refuses the
+/// link.
+fn planned_read<R: Read>(
+    alloc: Global,
+    file: &mut R,
+    end: End,
+    stage: Stage,
+) -> Result<String, Failure>
+    ensures planned { IfOk result (λ text. IfSome (R.remaining file.old)
+        (λ octets. PlansFile end stage octets (string_bytes text))) }
+    ensures spelled { IfOk result
+        (λ text. (octets : List ℕ) × PlansFile end stage octets (string_bytes text)) }
+    ensures fault { IfErr result (λ failure. (failure ≡ Failure.Commands)
+        ⊎ IfSome (R.remaining file.old) (λ octets. SaysWhy end stage octets failure)) }
+    ensures ended { IfErr result (λ failure. (failure ≡ Failure.Commands)
+        ⊎ ((octets : List ℕ) × SaysWhy end stage octets failure)) }
+{
+    let mut octets = Vec::new(alloc);
+    match file.take(MAX_READ as u64).read_to_end(&mut octets) {
+        Ok(_) => planned_said(alloc, octets.as_slice(), end, stage),
+        Err(error) => Err(failure_of(error, Failure::Commands)),
+    }
+}
+
+/// The command file of what is planned of a file. It fails as `Commands` where it cannot be opened
+/// or read, and else says the first fault, or refuses the link.
+fn planned_file<T: Files>(
+    rt: &T,
+    alloc: Global,
+    path: &str,
+    end: End,
+    stage: Stage,
+) -> Result<String, Failure>
+    // A file was opened, and it is planned of what it says.
+    ensures planned { IfOk result
+        (λ text. IsPlanOfFile T.File.remaining end stage (string_bytes text)) }
+    ensures spelled { IfOk result
+        (λ text. (octets : List ℕ) × PlansFile end stage octets (string_bytes text)) }
+    ensures ended { IfErr result (λ failure. (failure ≡ Failure.Commands)
+        ⊎ ((octets : List ℕ) × SaysWhy end stage octets failure
+        × ((failure ≡ Failure.Memory) ⊎ SaysWhyOfFile T.File.remaining end stage failure))) }
+{
+    match fs::open(rt, path) {
+        Ok(mut file) => planned_read(alloc, &mut file, end, stage),
+        Err(error) => Err(failure_of(error, Failure::Commands)),
+    }
+}
+
+/// `plan`: prints the command file of an end of the link that a file says, for a stage of its keys.
+/// The file is not changed. It fails as `Commands` where it cannot be opened or read, as
+/// `CommandFile` with its first fault, as `Link` where the link is refused, as `Memory`, and as
+/// `Output` where the text cannot be printed.
+pub fn plan<T: Files, W: Stream>(
+    rt: &T,
+    alloc: Global,
+    path: &str,
+    end: PlanEnd,
+    stage: PlanStage,
+    out: &mut W,
+) -> Result<Status, Failure>
+    ensures printed { IfOk result (λ status.
+        PrintsPlan T.File.remaining (end_of end) (stage_of stage) (W.contents out.old)
+        (W.contents out.new)
+        × (status ≡ Status.Done)) }
+    ensures ended { IfErr result (PlanFails T.File.remaining (end_of end) (stage_of stage)) }
+    ensures silent { IfErr result (λ failure. failure ≢ Failure.Output → out.new ≡ out.old) }
+    ensures broken { IfErr result (λ failure. failure ≡ Failure.Output → W.failed out.new ≡ true) }
+{
+    let text = planned_file(rt, alloc, path, end_of(end), stage_of(stage))?;
+    print(out, text.as_str())?;
+    Ok(Status::Done)
+}

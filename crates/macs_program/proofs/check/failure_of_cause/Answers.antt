@@ -1,7 +1,0 @@
-use Rattle.macs_program.proofs.Checked.{cause-said}
-use Rattle.macs_program.proofs.check.failure_of_cause.Goals as goal
-
-pub returns-in_default : goal.returns-in_default
-returns-in_default c =
-    cause-said c.args.cause c.failure_saying.result c.in_default.not-Memory
-    (c.failure_saying.ensures _ c.fault_text.ensures)

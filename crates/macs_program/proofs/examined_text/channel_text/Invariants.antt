@@ -1,9 +1,0 @@
-use Rattle.std.proofs.Common.{◌≡◌, [], ◌++◌, take, map, string_bytes}
-use Rattle.std.specs.List.{concat}
-use Rattle.macs_store.specs.Value.{standing_in}
-use Rattle.macs_program.specs.Examining.{rx_ceiling_text}
-use Rattle.macs_program.proofs.examined_text.channel_text.Given as goal
-
-abbrev pub invariant-loop-an : goal.invariant-loop-an
-invariant-loop-an g l =
-    string_bytes l.text ≡ [] ++ concat (map (rx_ceiling_text (standing_in l.store) l.sci) (take l.an-index l.an-items))

@@ -1,6 +1,0 @@
-use Rattle.macs_program.proofs.examined_text.end_text.Goals as goal
-
-pub returns : goal.returns
-returns c =
-    let with-1 = c.joined-text.ensures _ _ (rw c.spent_rx.ensures at c.part_line.ensures) c.whole_line.ensures in
-    c.joined.ensures _ _ (rw c.spent_tx.ensures at c.part_line-2.ensures) with-1

@@ -1,6 +1,0 @@
-use Rattle.macs_disk.specs.MemDisks.{disk_of}
-use Rattle.macs_program.proofs.NoneWaits.{opening-none}
-use Rattle.macs_program.proofs.trial.try_on.Goals as goal
-
-pub try_opened-requires : goal.try_opened-requires
-try_opened-requires c = opening-none disk_of c.args.copy c.open.result c.open.ensures
