@@ -1,8 +1,8 @@
 //! Fresh keys.
 
 use super::printed;
+use macs_offline::{SystemOctets, WriterStream, print_key};
 use macs_program::run::report;
-use macs_program::{SystemOctets, WriterStream, print_key};
 use std::alloc::Global;
 use std::io;
 use std::process::Abort;

@@ -1,6 +1,6 @@
 use Rattle.std.proofs.Common.{refl}
-use Rattle.macs_program.proofs.Tried.{status-next}
-use Rattle.macs_program.proofs.trial.outcomes_status.Goals as goal
+use Rattle.macs_offline.proofs.Tried.{status-next}
+use Rattle.macs_offline.proofs.trial.outcomes_status.Goals as goal
 
 pub loop-i-preserved : goal.loop-i-preserved
 loop-i-preserved c =
