@@ -35,6 +35,9 @@ use toml::Table;
 /// The longest command file, in octets.
 pub const MAX_FILE: usize = 1_048_576;
 
+/// How many octets of a file are read: one more, so that a longer file is seen to be.
+pub const MAX_READ: usize = MAX_FILE + 1;
+
 /// The table of a TOML text.
 fn table_of(alloc: Global, text: &str) -> Result<Table, Failure>
     ensures parsed { IfOk result (λ table. parse_document text.now ≡ Some (table_view table)) }

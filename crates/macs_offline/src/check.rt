@@ -20,7 +20,7 @@ ghost use Rattle.macs_offline.specs.Checking.{key_word};
 ghost use Rattle.macs_offline.specs.FileModes.{mode_warning};
 ghost use Rattle.macs_offline.specs.Trying.{TrialFails, TriesIn, trial_report};
 
-use crate::applying::MAX_FILE;
+use crate::applying::{MAX_FILE, MAX_READ};
 use crate::capture_file::CaptureFile;
 use crate::failure::Failure;
 use crate::file_mode::{mode_of, print_mode};
@@ -37,9 +37,6 @@ use std::fs;
 use std::io::Read;
 use std::rt::Files;
 use toml::Table;
-
-/// One octet more than the longest command file.
-const MAX_READ: usize = MAX_FILE + 1;
 
 /// A key of a command, as it is written.
 fn key_word(name: KeyName) -> &'static str

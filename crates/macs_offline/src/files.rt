@@ -14,7 +14,7 @@ ghost use Rattle.macs_offline.specs.Openings.{IsDiskIn};
 ghost use Rattle.macs_offline.specs.Failing.{failure_of_file};
 ghost use Rattle.macs_offline.specs.declared.failure.DiskFault.{DiskFault};
 
-use crate::applying::{MAX_FILE, commands_in};
+use crate::applying::{MAX_READ, commands_in};
 use crate::capture_file::CaptureFile;
 use crate::contents::holds_endpoint;
 use crate::failure::{DiskFault, Failure};
@@ -28,9 +28,6 @@ use std::io::{BufReader, BufWriter, Read, Write};
 use std::os::unix::fs::MetadataExt;
 use std::rt::Files;
 use std::{fs, io};
-
-/// One octet more than the longest command file.
-const MAX_READ: usize = MAX_FILE + 1;
 
 /// How many octets of a capture are kept back: so each read and write of the system but the last is
 /// one of so many, whatever frames there are.

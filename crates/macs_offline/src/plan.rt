@@ -13,7 +13,7 @@ ghost use Rattle.macs_offline.specs.Plans.{RefusesSo, SaysWhy, SaysWhyOfFile, Sa
 ghost use Rattle.macs_offline.specs.Plans.{end_of, extra_text, link_refusal, name_reason};
 ghost use Rattle.macs_offline.specs.Plans.{name_word, plan_fault_text, stage_of, value_text};
 
-use crate::applying::MAX_FILE;
+use crate::applying::{MAX_FILE, MAX_READ};
 use crate::check::failure_saying;
 use crate::failure::{Failure, LinkRefusal};
 use crate::files::failure_of;
@@ -27,9 +27,6 @@ use std::fs;
 use std::io::Read;
 use std::rt::Files;
 use toml::Table;
-
-/// One octet more than the longest file of a link.
-const MAX_READ: usize = MAX_FILE + 1;
 
 /// The end that a word names.
 fn end_of(end: PlanEnd) -> End
