@@ -23,9 +23,13 @@ use crate::asking::ask;
 use crate::input::{Input, InputText};
 use crate::on_disk::{apply, format, judge, pass, relay, show};
 use macs_edge::Side;
+use macs_offline::check::check;
+use macs_offline::examine::examine;
+use macs_offline::inspect::inspect;
+use macs_offline::key::key;
+use macs_offline::plan::plan;
 use macs_offline::{
-    CaptureFile, Failure, InputFault, Opened, PrintFailed, Status, Stream, answer_of, check,
-    examine, inspect, key, plan, print,
+    CaptureFile, Failure, InputFault, Opened, PrintFailed, Status, Stream, answer_of, print,
 };
 use macs_words::{Action, action_of, topic_of};
 use std::alloc::{AllocError, Allocator, Global};
