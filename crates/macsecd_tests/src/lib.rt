@@ -1,4 +1,4 @@
-//! Runs of the program, through its public calls.
+//! Runs of the program over files, captures and sockets, through its public calls.
 #![tactic(auto)]
 
 #[cfg(test)]

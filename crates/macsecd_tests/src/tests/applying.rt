@@ -1,9 +1,9 @@
 //! A disk that is formatted, commands, and what is shown then.
 
-use super::Outcome;
 use super::captures::SENDER;
 use super::stories::Step::{Closing, Filled, Folder, Run, Text};
 use super::stories::{Step, play};
+use macsecd_fixtures::Outcome;
 use std::test::Fail;
 
 const FORMATTED: Outcome = Outcome::Done("formatted\n");

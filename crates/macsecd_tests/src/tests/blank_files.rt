@@ -1,11 +1,11 @@
 //! Which files `format` takes, and what it does to the folder.
 
-use super::Outcome;
 use super::stand_in::Broken::{Folder as FolderSync, Opening, Write};
 use super::stories::Step::{
     Failing, Filled, Folder, HasOctets, Hex, Keeping, Patch, Run, Symbolic, Zeros,
 };
 use super::stories::{Step, play};
+use macsecd_fixtures::Outcome;
 use std::io::ErrorKind;
 use std::test::Fail;
 

@@ -1,12 +1,12 @@
 //! A command file and captures of which a read, a write or a flush fails, an output that cannot be
 //! read, and files that standard output goes to.
 
-use super::Outcome;
 use super::captures::{CAPTURE_FAULT, PLAIN, SENDER};
 use super::stand_in::Broken;
 use super::stand_in::Broken::{Flush, Printed, Read, Special, Unreadable, Write};
 use super::stories::Step::{Failing, Filled, HasOctets, Hex, Holds, Run, Text};
 use super::stories::{Step, play};
+use macsecd_fixtures::Outcome;
 use std::io::ErrorKind;
 use std::test::Fail;
 

@@ -1,9 +1,9 @@
 //! Captures through an endpoint. The protected frames come from outside: they were made by Python's
 //! `cryptography` (AESGCM), under packet numbers 5, 6 and 7.
 
-use super::Outcome;
 use super::stories::Step::{Hex, Holds, IsMissing, Run, Text};
 use super::stories::{Step, play};
+use macsecd_fixtures::Outcome;
 use std::test::Fail;
 
 /// Three plain frames, of 22, 60 and 74 octets.

@@ -1,8 +1,8 @@
 //! Disk files and values that do not serve, and an output that fails.
 
-use super::Outcome;
 use super::stories::Step::{Closing, Filled, Folder, HasOctets, IsMissing, Patch, Run};
 use super::stories::{Step, play};
+use macsecd_fixtures::Outcome;
 use std::test::Fail;
 
 const FORMATTED: Outcome = Outcome::Done("formatted\n");

@@ -1,6 +1,5 @@
 //! What the journal on a disk has, which stays as it is.
 
-use super::Outcome;
 use super::link_files::{LEFT, PLAIN};
 use super::older_files::{GATE, HEAD, LAST_HEAD, SETTINGS, TX_INSTALL, TX_USE};
 use super::stand_in::Broken::{Opening, Printed, Read};
@@ -9,6 +8,7 @@ use super::stories::Step::{
     Shared, Text, Zeros,
 };
 use super::stories::{Step, play};
+use macsecd_fixtures::Outcome;
 use std::io::ErrorKind::{NotFound, Other, OutOfMemory};
 use std::test::Fail;
 

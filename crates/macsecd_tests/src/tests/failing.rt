@@ -1,11 +1,11 @@
 //! A disk file of which a read, a write or a sync fails.
 
-use super::Outcome;
 use super::captures::{PLAIN, SENDER};
 use super::stand_in::Broken;
 use super::stand_in::Broken::{Read, Reread, Sync, Write};
 use super::stories::Step::{Failing, Hex, Run, Text};
 use super::stories::{Step, play};
+use macsecd_fixtures::Outcome;
 use std::io::ErrorKind;
 use std::test::Fail;
 

@@ -2,9 +2,9 @@
 //! 802.1AE-2018, Annex C, under integrity; the others were written down from 9.3 to 9.9 of the
 //! standard, octet by octet.
 
-use super::Outcome;
 use super::stories::Step::{Closing, Hex, Keeping, Run};
 use super::stories::{Step, play};
+use macsecd_fixtures::Outcome;
 use std::test::Fail;
 
 /// Frames of a channel that is named by its SCI, as that of an end station, and not at all; one

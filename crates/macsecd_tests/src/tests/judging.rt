@@ -1,10 +1,10 @@
 //! The verdict on each frame of a capture, as a line. The protected frames are those of the
 //! captures' story.
 
-use super::Outcome;
 use super::captures::{CAPTURE_FAULT, RECEIVER};
 use super::stories::Step::{Closing, Hex, Holds, Run, Text};
 use super::stories::{Step, play};
+use macsecd_fixtures::Outcome;
 use std::test::Fail;
 
 /// A good frame, one without a SecTAG, the first once more, one of which the last octet was

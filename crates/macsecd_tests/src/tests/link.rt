@@ -1,9 +1,9 @@
 //! The two ends of the example link, in the lines that a newcomer types.
 
-use super::Outcome;
 use super::link_files::{LEFT, PLAIN, PROTECTED, RIGHT};
 use super::stories::Step::{Hex, Holds, Run, Text};
 use super::stories::{Step, play};
+use macsecd_fixtures::Outcome;
 use std::test::Fail;
 
 const LINK: &[Step] = &[

@@ -1,9 +1,9 @@
 //! Files as a program wrote them that knew format one alone, by the octets of their sectors.
 
-use super::Outcome;
 use super::stand_in::Broken::{Reread, Sync, Write};
 use super::stories::Step::{Failing, Keeping, Patch, Run, Text, Zeros};
 use super::stories::{Step, play};
+use macsecd_fixtures::Outcome;
 use std::test::Fail;
 
 pub const HEAD: &str =

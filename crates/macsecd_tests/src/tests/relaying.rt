@@ -1,8 +1,8 @@
 //! Relays: their words, what they find first, and what they print. No frame comes to these.
 
-use super::Outcome::{Disk, Done, Fault, Usage};
 use super::stories::Step::{IsMissing, Keeping, Run, Text};
 use super::stories::{Step, play};
+use macsecd_fixtures::Outcome::{Disk, Done, Fault, Usage};
 use std::test::Fail;
 
 const FORMAT: &[&str] = &["format", "story-relay/disk", "12153524c0895e81", "4", "4"];
@@ -300,129 +300,4 @@ const RELAYS: &[Step] = &[
 #[test]
 fn each_line_of_a_relay_is_told(rt: HostRuntime) -> Result<(), Fail> {
     play(&rt, rt.alloc(), "story-relay", RELAYS)
-}
-
-const WORDS: &[Step] = &[
-    Run(
-        &["relay", NO, ANY, ANY, ANY, ANY],
-        Usage(
-            "macsecd: the following required arguments were not provided: --turns n or --wait MS\n",
-        ),
-    ),
-    Run(
-        &["relay", NO, ANY, ANY, ANY, "--turns", "5"],
-        Usage("macsecd: the following required arguments were not provided: <PEER2>\n"),
-    ),
-    Run(
-        &["relay", NO, ANY, ANY, ANY, ANY, ANY, "--turns", "5"],
-        Usage("macsecd: unexpected argument '127.0.0.1:0' found\n"),
-    ),
-    Run(
-        &["relay", NO, ANY, ANY, ANY, ANY, "--turns", "x"],
-        Usage("macsecd: invalid value 'x' for '--turns <turns>': invalid digit found in string\n"),
-    ),
-    Run(
-        &[
-            "relay",
-            NO,
-            ANY,
-            ANY,
-            ANY,
-            ANY,
-            "--turns",
-            "18446744073709551616",
-        ],
-        Usage(
-            "macsecd: invalid value '18446744073709551616' for '--turns <turns>': number too large to fit in target type\n",
-        ),
-    ),
-    Run(
-        &[
-            "relay", NO, ANY, ANY, ANY, ANY, "--turns", "1", "--turns", "2",
-        ],
-        Usage("macsecd: the argument '--turns <turns>' cannot be used multiple times\n"),
-    ),
-    Run(
-        &["relay", NO, ANY, ANY, ANY, ANY, "--turn", "1"],
-        Usage(
-            "macsecd: unexpected argument '--turn' found tip: a similar argument exists: '--turns'\n",
-        ),
-    ),
-    Run(
-        &["relay", NO, ANY, ANY, ANY, "--wait", "5"],
-        Usage("macsecd: the following required arguments were not provided: <PEER2>\n"),
-    ),
-    Run(
-        &["relay", "--", NO, ANY, ANY, ANY, "--wait"],
-        Usage(
-            "macsecd: the following required arguments were not provided: --turns n or --wait MS\n",
-        ),
-    ),
-    Run(
-        &["relay", NO, ANY, ANY, ANY, ANY, "--wait", "0"],
-        Usage("macsecd: invalid value '0' for '--wait <wait>': 0 is not in 1..=60000\n"),
-    ),
-    Run(
-        &["relay", NO, ANY, ANY, ANY, ANY, "--wait=60001"],
-        Usage("macsecd: invalid value '60001' for '--wait <wait>': 60001 is not in 1..=60000\n"),
-    ),
-    Run(
-        &["relay", NO, ANY, ANY, ANY, ANY, "--wait", "1s"],
-        Usage("macsecd: invalid value '1s' for '--wait <wait>': invalid digit found in string\n"),
-    ),
-    Run(
-        &["relay", NO, ANY, ANY, ANY, ANY, "--turns", "5", "--wait"],
-        Usage("macsecd: a value is required for '--wait <wait>' but none was supplied\n"),
-    ),
-    Run(
-        &[
-            "relay", NO, ANY, ANY, ANY, ANY, "--wait", "1", "--wait", "1",
-        ],
-        Usage("macsecd: the argument '--wait <wait>' cannot be used multiple times\n"),
-    ),
-    Run(
-        &["relay", NO, BAD, BAD, BAD, BAD, "--wait", "5"],
-        Usage(OWN1),
-    ),
-    Run(
-        &["relay", NO, ANY, ANY, ANY, ANY, "--control", NO],
-        Usage(
-            "macsecd: the following required arguments were not provided: --turns n or --wait MS\n",
-        ),
-    ),
-    Run(
-        &["relay", NO, ANY, ANY, ANY, ANY, "--turns", "1", "--control"],
-        Usage("macsecd: a value is required for '--control <control>' but none was supplied\n"),
-    ),
-    Run(
-        &[
-            "relay",
-            NO,
-            ANY,
-            ANY,
-            ANY,
-            ANY,
-            "--metrics",
-            "a",
-            "--metrics",
-            "b",
-        ],
-        Usage("macsecd: the argument '--metrics <metrics>' cannot be used multiple times\n"),
-    ),
-    Run(
-        &["relay", NO, ANY, ANY, ANY, ANY, "--buffer", "0"],
-        Usage("macsecd: invalid value '0' for '--buffer <buffer>': 0 is not in 1..=1073741823\n"),
-    ),
-    Run(
-        &["relay", NO, ANY, ANY, ANY, ANY, "--buffer=1073741824"],
-        Usage(
-            "macsecd: invalid value '1073741824' for '--buffer <buffer>': 1073741824 is not in 1..=1073741823\n",
-        ),
-    ),
-    IsMissing(NO),
-];
-
-#[test]
-fn other_words_are_no_relay(rt: HostRuntime) -> Result<(), Fail> {
-    play(&rt, rt.alloc(), "story-relay-words", WORDS)
 }

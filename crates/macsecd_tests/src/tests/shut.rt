@@ -1,11 +1,11 @@
 //! Files that the system does not open.
 
-use super::Outcome;
 use super::captures::{CAPTURE_FAULT, PLAIN};
 use super::stand_in::Broken;
 use super::stand_in::Broken::Opening;
 use super::stories::Step::{Failing, Hex, Holds, IsMissing, Run};
 use super::stories::{Step, play};
+use macsecd_fixtures::Outcome;
 use std::io::ErrorKind;
 use std::test::Fail;
 

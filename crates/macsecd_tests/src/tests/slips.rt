@@ -1,12 +1,12 @@
 //! Words that name another file than they should: nothing is written over.
 
-use super::Outcome;
 use super::captures::{CAPTURE_FAULT, PLAIN, SENDER};
 use super::stories::Step::{
     Claimed, Filled, Folder, Hex, Holds, IsMissing, Keeping, Link, Patch, Run, Shared, Symbolic,
     Text, Zeros,
 };
 use super::stories::{Step, play};
+use macsecd_fixtures::Outcome;
 use std::test::Fail;
 
 const FORMATTED: Outcome = Outcome::Done("formatted\n");

@@ -1,10 +1,10 @@
 //! The two ends of the example link, each in a spaced file: what they do is what they do in a
 //! packed one.
 
-use super::Outcome;
 use super::link_files::{LEFT, PLAIN, PROTECTED, RIGHT};
 use super::stories::Step::{HasOctets, Hex, Holds, Patch, Run, Text};
 use super::stories::{Step, play};
+use macsecd_fixtures::Outcome;
 use std::test::Fail;
 
 const LEFT_DISK: &str = "story-spaced/left.disk";

@@ -4,10 +4,10 @@ mod files;
 mod relays;
 mod runs;
 
+use super::expect;
 use super::stand_in::Broken;
-use super::{Outcome, expect};
+use macsecd_fixtures::Outcome;
 pub use relays::{Frames, Relayed};
-pub use runs::Closing;
 use std::alloc::Global;
 use std::fs;
 use std::fs::File;
@@ -68,7 +68,7 @@ fn take(
 ) -> Result<(), Fail> {
     match step {
         Step::Run(words, outcome) => {
-            expect(rt, alloc, words, "", outcome);
+            expect(rt, alloc, words, outcome);
             Ok(())
         }
         Step::Failing(path, broken, words, outcome) => {

@@ -1,6 +1,5 @@
 //! What commands would be answered on a disk, which stays as it is.
 
-use super::Outcome;
 use super::applying::SIX_COMMANDS;
 use super::captures::SENDER;
 use super::older_files::{GATE, HEAD, KEYS, LAST_HEAD, SETTINGS, TX_INSTALL, TX_USE};
@@ -10,6 +9,7 @@ use super::stories::Step::{
     Text, Zeros,
 };
 use super::stories::{Step, play};
+use macsecd_fixtures::Outcome;
 use std::io::ErrorKind::{NotFound, Other, OutOfMemory};
 use std::test::Fail;
 

@@ -1,10 +1,10 @@
 //! Relays that wait: how long they sleep, and what wakes them.
 
-use super::Outcome::Done;
 use super::link_files::RIGHT;
 use super::stories::Step::{Relay, Run, Text};
 use super::stories::{Frames, Relayed, Step, play};
 use super::wires::FRAMES;
+use macsecd_fixtures::Outcome::Done;
 use std::test::Fail;
 use std::time::{Duration, Instant};
 

@@ -1,10 +1,10 @@
 //! A frame on each wire of a relay. The protected frames were made by Python's `cryptography`
 //! (AESGCM).
 
-use super::Outcome;
 use super::link_files::RIGHT;
 use super::stories::Step::{Relay, Run, Text};
 use super::stories::{Frames, Relayed, Step, play};
+use macsecd_fixtures::Outcome;
 use std::test::Fail;
 
 /// The plain frame goes out under packet number 1,025; the other one is the first of the left end.

@@ -1,9 +1,10 @@
 //! Relays of a frame each way between two peers.
 
+use super::super::expect_over;
 use super::super::peers::{OWN1, OWN2, Peers};
 use super::super::stand_in::{Broken, StandIn};
-use super::super::{Outcome, expect_over};
 use super::files::octets_of;
+use macsecd_fixtures::Outcome;
 use std::alloc::Global;
 use std::fs::File;
 use std::net::Net;
@@ -97,7 +98,7 @@ fn expect_relay<'a>(
         broken: Broken::Nothing,
         peers: Some(peers),
     };
-    expect_over(rt, &system, alloc, words, &mut b"".as_slice(), outcome);
+    expect_over(rt, &system, alloc, words, outcome);
 }
 
 /// The frames that are to come to the peers have come.

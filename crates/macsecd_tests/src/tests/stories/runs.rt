@@ -2,12 +2,11 @@
 //! as they are.
 
 use super::super::stand_in::{Broken, StandIn};
-use super::super::{Outcome, expect, expect_over, status_of};
+use super::super::{expect, expect_over};
 use super::files::{expect_octets, octets_in};
+use macsecd_fixtures::{Closing, Outcome, status_of};
 use std::alloc::Global;
 use std::fs::{File, OpenOptions};
-use std::io;
-use std::io::{ErrorKind, Write};
 use std::net::Net;
 use std::process::Abort;
 use std::random::RandomSource;
@@ -50,7 +49,7 @@ pub fn expect_keeping(
     outcome: Outcome,
 ) -> Result<(), Fail> {
     let each = octets_in_each(rt, alloc, paths)?;
-    expect(rt, alloc, words, "", outcome);
+    expect(rt, alloc, words, outcome);
     expect_octets_in_each(rt, alloc, paths, each.as_slice())
 }
 
@@ -101,34 +100,7 @@ pub fn expect_failing(
         broken,
         peers: None,
     };
-    expect_over(rt, &system, alloc, words, &mut b"".as_slice(), outcome);
-}
-
-/// A writer that takes so many writes and so many flushes, and then fails.
-#[derive(Drop)]
-pub struct Closing {
-    pub writes: u32,
-    pub flushes: u32,
-}
-
-/// One call less, where there is one left.
-fn counted_down(left: &mut u32) -> io::Result<()> {
-    if *left == 0 {
-        return Err(io::Error::from(ErrorKind::BrokenPipe));
-    }
-    *left -= 1;
-    Ok(())
-}
-
-impl Write for Closing {
-    fn write(&mut self, from: &[u8]) -> io::Result<usize> {
-        counted_down(&mut self.writes)?;
-        Ok(from.len())
-    }
-
-    fn flush(&mut self) -> io::Result<()> {
-        counted_down(&mut self.flushes)
-    }
+    expect_over(rt, &system, alloc, words, outcome);
 }
 
 /// Words over a writer that fails end with status 5 and the line that says so.

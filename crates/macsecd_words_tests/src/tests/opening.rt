@@ -1,9 +1,10 @@
 //! Frames that are opened, and each refusal.
 
 use super::{
-    FourLines, INTEGRITY, INTEGRITY_LINE, KEY, OPENED, Outcome, SCI, expect_lines_and,
-    expect_openings, joined,
+    FourLines, INTEGRITY, INTEGRITY_LINE, KEY, OPENED, SCI, expect_lines_and, expect_openings,
+    joined,
 };
+use macsecd_fixtures::Outcome;
 use std::alloc::Global;
 use std::fs::File;
 use std::net::Net;

@@ -1,12 +1,12 @@
 //! Readers and writers that fail, and memory that is refused.
 
 use super::help_text::{HELP_TEXT, OPEN_TEXT};
-use super::stories::Closing;
-use super::{INPUT, INTEGRITY_LINE, KEY, OPENED, Outcome, expect_of, status_of};
+use super::{INPUT, INTEGRITY_LINE, KEY, OPENED, expect_of};
 use linked_list_allocator::LocalHeap;
 use macs_fixtures::{Failure, NarrowWriter};
 use macs_offline::{Opened, answer_of};
 use macs_program::run::line_of;
+use macsecd_fixtures::{Closing, Outcome, status_of};
 use std::alloc::Global;
 use std::fs::File;
 use std::io::{self, Read, Write};

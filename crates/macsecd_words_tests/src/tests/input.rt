@@ -1,9 +1,10 @@
 //! Inputs: their lines, and each fault.
 
 use super::{
-    FourLines, INTEGRITY, KEY, OPENED, Outcome, SCI, expect, expect_lines_and, expect_openings,
+    FourLines, INTEGRITY, KEY, OPENED, SCI, expect, expect_lines_and, expect_openings,
     expect_texts, joined,
 };
+use macsecd_fixtures::Outcome;
 use std::test::Fail;
 
 const INPUT_FAULT: Outcome = Outcome::Fault("macsecd: input\n");

@@ -5,7 +5,8 @@ use super::help_text::{
     INSPECT_TEXT, KEY_TEXT, OPEN_TEXT, PLAN_TEXT, PROTECT_TEXT, RELAY_TEXT, SHOW_TEXT,
     VALIDATE_TEXT,
 };
-use super::{INPUT, OPENED, Outcome, expect, printed};
+use super::{INPUT, OPENED, expect, printed};
+use macsecd_fixtures::Outcome;
 use std::alloc::Global;
 use std::fs::File;
 use std::net::Net;

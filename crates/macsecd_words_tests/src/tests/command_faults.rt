@@ -1,0 +1,139 @@
+//! Command files that cannot be read: the line that says where and why.
+
+use super::expect;
+use macsecd_fixtures::Outcome;
+use std::alloc::Global;
+use std::fs;
+use std::fs::File;
+use std::net::Net;
+use std::process::Abort;
+use std::random::RandomSource;
+use std::rt::{Clock, Env, Files};
+use std::test::Fail;
+
+/// Command files with a fault, and the line that says where it is and why.
+const FAULTS: &[(&str, &str)] = &[
+    (
+        "[[command]]\ndo = 'tx-use'\nan = 0\n[[command]]\ndo = 'rx-add'\nsci = '12153524c0895e81'\n[[command]]\ndo = 'tx-install'\nan = 0\nkey = 'ad7a2bd03eac835a6f620fdcb506b34'\n",
+        "macsecd: command 3 key: not 32 or 64 hex digits\n",
+    ),
+    (
+        "[[command]]\ndo = 'tx-use'\nan = 4\n",
+        "macsecd: command 1 an: not 0 to 3\n",
+    ),
+    (
+        "[[command]]\ndo = 'rx-add'\n",
+        "macsecd: command 1 sci: not 16 hex digits\n",
+    ),
+    (
+        "[[command]]\ndo = 'set-validate'\nmode = 'explicit'\n",
+        "macsecd: command 1 mode: not a mode of this command\n",
+    ),
+    (
+        "[[command]]\ndo = 'set-replay'\non = 1\nwindow = 0\n",
+        "macsecd: command 1 on: not true or false\n",
+    ),
+    (
+        "[[command]]\ndo = 'set-replay'\non = true\nwindow = -1\n",
+        "macsecd: command 1 window: not 0 to 4294967295\n",
+    ),
+];
+
+/// The same of further keys, and of files that are not of commands.
+const FURTHER_FAULTS: &[(&str, &str)] = &[
+    (
+        "[[command]]\ndo = 'tx-install'\nan = 0\nkey = 'ad7a2bd03eac835a6f620fdcb506b345'\nstart = 4294967296\n",
+        "macsecd: command 1 start: not 0 to 4294967295\n",
+    ),
+    (
+        "[[command]]\ndo = 'tx-install'\nan = 0\nkey = 'ad7a2bd03eac835a6f620fdcb506b345'\nstart = 1\n",
+        "macsecd: command 1 confidential: not true or false\n",
+    ),
+    (
+        "[[command]]\ndo = 'tx-install'\nan = 0\nkey = 'ad7a2bd03eac835a6f620fdcb506b345'\nstart = 1\nconfidential = true\noffset = 256\n",
+        "macsecd: command 1 offset: not 0 to 255\n",
+    ),
+    (
+        "[[command]]\ndo = 'tx-use'\nan = 0\n[[command]]\ndo = 'use-tx'\nan = 0\n",
+        "macsecd: command 2 do: not a command\n",
+    ),
+    (
+        "[[command]]\nan = 0\n",
+        "macsecd: command 1 do: not a command\n",
+    ),
+    (
+        "[[command]]\ndo = 'tx-use'\nan = 0\nkey = ''\n",
+        "macsecd: command 1: a key that it does not have\n",
+    ),
+    (
+        "key = '12153524c0895e81'\n",
+        "macsecd: command file: not sci and tables [[command]] alone\n",
+    ),
+    ("[[command]\n", "macsecd: command file: not TOML\n"),
+];
+
+/// The same of files that name their end.
+const END_FAULTS: &[(&str, &str)] = &[
+    (
+        "sci = '12153524c0895e8'\n[[command]]\ndo = 'use-tx'\n",
+        "macsecd: command file sci: not 16 hex digits\n",
+    ),
+    (
+        "sci = 1\nkey = 1\n",
+        "macsecd: command file sci: not 16 hex digits\n",
+    ),
+    (
+        "sci = '12153524c0895e81'\nkey = 1\n",
+        "macsecd: command file: not sci and tables [[command]] alone\n",
+    ),
+    (
+        "sci = '12153524c0895e81'\n[[command]]\ndo = 'tx-use'\nan = 4\n",
+        "macsecd: command 1 an: not 0 to 3\n",
+    ),
+    // After a table `sci` is a key of that command.
+    (
+        "[[command]]\ndo = 'tx-use'\nan = 0\nsci = '12153524c0895e81'\n",
+        "macsecd: command 1: a key that it does not have\n",
+    ),
+    (
+        "[[command]]\ndo = 'rx-add'\nsci = '12153524c0895e83'\nsci = '12153524c0895e81'\n",
+        "macsecd: command file: not TOML\n",
+    ),
+];
+
+/// Checks a file of this text, in which the first fault is that of a line.
+fn expect_fault(
+    rt: &(impl Abort + Files<File = File> + Net + Clock + Env + RandomSource),
+    alloc: Global,
+    text: &str,
+    line: &'static str,
+) -> Result<(), Fail> {
+    fs::write(rt, "fault.toml", text.as_bytes())?;
+    expect(
+        rt,
+        alloc,
+        &["check", "fault.toml"],
+        "",
+        Outcome::Fault(line),
+    );
+    Ok(())
+}
+
+/// Checks a file of each text.
+fn expect_each(
+    rt: &(impl Abort + Files<File = File> + Net + Clock + Env + RandomSource),
+    alloc: Global,
+    faults: &[(&str, &'static str)],
+) -> Result<(), Fail> {
+    for (text, line) in faults {
+        expect_fault(rt, alloc, text, *line)?;
+    }
+    Ok(())
+}
+
+#[test]
+fn the_first_fault_is_named(rt: HostRuntime) -> Result<(), Fail> {
+    expect_each(&rt, rt.alloc(), FAULTS)?;
+    expect_each(&rt, rt.alloc(), FURTHER_FAULTS)?;
+    expect_each(&rt, rt.alloc(), END_FAULTS)
+}
