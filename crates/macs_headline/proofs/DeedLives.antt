@@ -62,6 +62,13 @@ deeds-make-lives {D} disk_of = record {
   given = λ old new first last turns does. does;
   given_by_format = λ old new identity result does. does;
   given_by_refusal = λ old new fault does. does;
+  cut_format = λ old new identity does. does;
+  cut_opening = λ old new does. does;
+  cut_call = λ old new first last turns call does. does;
+  on_its_way = λ old new does. does;
+  opened = λ disk first last turns from. from;
+  none_called = λ old new lives. lives;
+  one_called = λ old new turn turns lives. lives;
   none_done = λ old new chain. chain;
   one_done = λ old new link links chain. chain;
 }

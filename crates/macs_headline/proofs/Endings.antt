@@ -6,9 +6,9 @@ use Rattle.macs_disk.specs.States.{DiskState, Image, IsImage, IsSector, IsSound}
 use Rattle.macs_disk.specs.declared.disk.DeviceFault.{DeviceFault}
 use Rattle.macs_headline.specs.Deeds.{IsPassedOn}
 use Rattle.macs_headline.specs.Endings.{DroppedPassOn, EndsAreEarlier, ImagesAreWhole, KillingsPassOn, LossesSettle}
-use Rattle.macs_headline.specs.Endings.{PassedOnAgain, PowerLossesPassOn, ReadsPassOn, SyncsPassOn, TheseAreAlike}
-use Rattle.macs_headline.specs.Endings.{TheseAreImages, TheseArePassedOn, TheseLosePower, WritesBackAsSyncs}
-use Rattle.macs_headline.specs.Endings.{WrittenBackPassOn, state_written_back}
+use Rattle.macs_headline.specs.Endings.{PassedOnAgain, PassedOnAlone, PowerLossesPassOn, ReadsPassOn, SyncsPassOn}
+use Rattle.macs_headline.specs.Endings.{TheseAreAlike, TheseAreImages, TheseArePassedOn, TheseLosePower}
+use Rattle.macs_headline.specs.Endings.{WritesBackAsSyncs, WrittenBackPassOn, state_written_back}
 use Rattle.macs_headline.proofs.Losses.{settled-passed}
 
 pub these-are-alike : TheseAreAlike
@@ -23,6 +23,10 @@ these-are-passed-on ran new since moment from to alike images = record {
   honest = alike.honest;
   images = images;
 }
+
+pub passed-on-alone : PassedOnAlone
+passed-on-alone ran new since on =
+    (on.moment, on.later, on.within, record { sectors = on.sectors; honest = on.honest }, on.images)
 
 pub these-lose-power : TheseLosePower
 these-lose-power ran new since image left alike settled =

@@ -110,6 +110,7 @@ file-call-words = record {
   failed_reread = λ old new error. (λ r. r.err, λ is. record { ok = λ clean claimed. tt; err = is });
   again = λ old. refl;
   showing = λ old octets. refl;
+  front = λ end old new is. (is.block, is.longer, is.images);
   claim = λ old new value. (λ c. c.ok, λ is. record { ok = is; err = tt });
   failed_claim = λ old new error. (λ c. c.err, λ is. record { ok = tt; err = is });
   image = λ file image. (λ is. (is.kept, is.octets), λ is. record { kept = is.0; octets = is.1 });

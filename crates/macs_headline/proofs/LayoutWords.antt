@@ -81,4 +81,5 @@ layout-words = record {
     λ has. is_spaced file has.1 has.0 has.2,
   );
   suited = λ block. (is_same block 512, either-block block (block == 512) refl);
+  made = λ file. (λ is. (omega (arith, is.0), is.1), λ is. is);
 }

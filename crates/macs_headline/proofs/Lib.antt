@@ -106,7 +106,9 @@ mod WorkedWords
 mod OnceWords
 mod RefusedWords
 mod FileCallWords
+mod LayerFaults
 mod LayerWords
+mod PartsFollow
 mod LayoutWords
 mod DiskWords
 mod OctetWords

@@ -11,6 +11,7 @@ use Rattle.macs_config.specs.declared.command.Command.TheVariants.{RxAdd}
 use Rattle.macs_config.specs.declared.refusal.Refusal.TheVariants.{ChannelTaken, ChannelsFull, OwnSci}
 use Rattle.macs_config.proofs.Editions.{never-long}
 use Rattle.macs_store.specs.Replay.{accepted_standing, replay_of}
+use Rattle.macs_headline.proofs.PartsFollow.{parts-follow}
 use Rattle.macs_headline.specs.Editions.{EditionsTake}
 use Rattle.macs_headline.proofs.Ledger.{some_one}
 use Rattle.macs_headline.proofs.ReadByEditions.{all-short, kept-records, one-long, short-keys, short-taken}
@@ -117,4 +118,5 @@ editions-take = record {
   rx_kept = λ s after sci an sa start made. ap accepted_standing made;
   replayed = taken;
   whole = whole;
+  parts = parts-follow;
 }

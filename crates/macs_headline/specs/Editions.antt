@@ -36,6 +36,7 @@ use Rattle.macs_endpoint.specs.Step.{Step}
 use Rattle.macs_endpoint.specs.declared.fault.CommandFault.TheVariants as ran
 use Rattle.macs_endpoint.specs.declared.progress.Step.TheVariants.{Done}
 use Rattle.macs_headline.specs.History.{state_at_end}
+use Rattle.macs_headline.specs.PartsFollow.{PartsFollow}
 
 -- the same state of a program of another edition
 abbrev pub with_edition : State → Edition → State
@@ -93,7 +94,7 @@ HasLongKey r = ⊥
 -- makes, whatever is installed; so does one of an association that a command asks for. A part of a snapshot is refused
 -- after it, and each other record in it. What it reads, in a snapshot or after it, has no more channels than it takes,
 -- and no key that it does not take; the association for frames that go out exists, an end station's port is 00-01, and
--- installed keys are spent.
+-- installed keys are spent. Each edition reads the same parts after one another, but for that.
 pub record EditionsTake : Type 0 where
   pub channels : (edition : Edition) (identity : Identity) (c : Config) (sci : List ℕ)
       → length c.channels < edition.channels
@@ -149,6 +150,7 @@ pub record EditionsTake : Type 0 where
       → is_spent s.config.spent_tx (tx_fingerprint sa.key) ≡ true)
       × ((sci : List ℕ) (an : ℕ) (sa : RxSa) → an < 4 → s.config.rx sci an ≡ Some sa
       → is_spent s.config.spent_rx (rx_fingerprint sci sa.key) ≡ true)
+  pub parts : PartsFollow
 
 -- the same content, in an area of this format
 abbrev pub content_in : Format → Content → Content

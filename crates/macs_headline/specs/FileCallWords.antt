@@ -1,7 +1,8 @@
 -- The headline on calls of a file that behaves: what a sync, a write, a read and a rereading may leave, and no more.
 use Rattle.std.specs.Prelude.{◌≡◌, ◌↔◌, ◌≤◌, ◌+◌, ◌*◌, ◌<◌, ◌^◌, ℕ, true, false, List, length, take, get_or, Result, Ok}
 use Rattle.std.specs.Prelude.{Err}
-use Rattle.macs_disk.specs.Files.{ClaimsFile, FileState, IsClaimed, IsFileImage, IsSure, ReadsFile, RereadsFile}
+use Rattle.macs_disk.specs.Files.{ClaimsFile, FileState, IsClaimed, IsFileImage, IsSure, KeepsFront, ReadsFile}
+use Rattle.macs_disk.specs.Files.{RereadsFile}
 use Rattle.macs_disk.specs.Files.{SyncsFile}
 use Rattle.macs_disk.specs.Files.{WritesAll, WritesFile, file_after_sync, file_after_write, file_in_doubt, file_reread}
 use Rattle.macs_disk.specs.Files.{file_showing, file_synced, values_from}
@@ -14,7 +15,8 @@ use Rattle.macs_disk.specs.Files.{file_showing, file_synced, values_from}
 -- changes nothing, and gives what is shown. A claim that fails, too, changes nothing. A rereading that fails may leave
 -- anything shown, and nothing else changed. Only a clean file that is claimed shows what is durable once it is read
 -- again, and is sure; the rest of it is as it was. A power loss leaves what is durable in a block that is not pending,
--- and any octets in one that is.
+-- and any octets in one that is. Where the octets in front of a place are kept, it leaves there what it could have left
+-- before.
 pub record FileCallWords : Type 0 where
   pub failed_sync : (old new : FileState) (error : ℕ) → SyncsFile {T = ℕ} {E = ℕ} old new (Err error)
       ↔ (new ≡ file_in_doubt old)
@@ -58,6 +60,9 @@ pub record FileCallWords : Type 0 where
       ↔ ((octets : ℕ → ℕ) × (new ≡ file_showing old octets))
   pub again : (old : FileState) → file_reread old ≡ record old { seen = old.durable; is_sure = true }
   pub showing : (old : FileState) (octets : ℕ → ℕ) → file_showing old octets ≡ record old { seen = octets }
+  pub front : (end : ℕ) (old new : FileState) → KeepsFront end old new
+      → (new.block ≡ old.block) × (old.size ≤ new.size) × ((image : ℕ → ℕ) → IsFileImage new image
+      → (before : ℕ → ℕ) × IsFileImage old before × ((p : ℕ) → p < end → image p ≡ before p))
   pub claim : (old new : FileState) (value : ℕ) → ClaimsFile {T = ℕ} {E = ℕ} old new (Ok value)
       ↔ (new ≡ record old { is_claimed = true })
   pub failed_claim : (old new : FileState) (error : ℕ) → ClaimsFile {T = ℕ} {E = ℕ} old new (Err error) ↔ (new ≡ old)

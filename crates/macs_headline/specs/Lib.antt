@@ -62,6 +62,8 @@ pub mod DiskWords
 pub mod OnceWords
 pub mod RefusedWords
 pub mod FileCallWords
+pub mod LayerFaults
 pub mod LayerWords
+pub mod PartsFollow
 pub mod LayoutWords
 pub mod OctetWords

@@ -53,6 +53,7 @@ ghost use Rattle.macs_headline.specs.CountWords.{CountsAreNamed, CountsRiseAlone
 ghost use Rattle.macs_headline.specs.NeedWords.{NeedsAreInOrder, TurnsAreUsed};
 ghost use Rattle.macs_headline.specs.FailureWords.{FailureWords};
 ghost use Rattle.macs_headline.specs.FileCallWords.{FileCallWords};
+ghost use Rattle.macs_headline.specs.LayerFaults.{LayerFaults};
 ghost use Rattle.macs_headline.specs.LayerWords.{LayerWords};
 ghost use Rattle.macs_headline.specs.DiskWords.{DiskWords};
 ghost use Rattle.macs_headline.specs.LayoutWords.{LayoutWords};
@@ -60,9 +61,9 @@ ghost use Rattle.macs_headline.specs.OctetWords.{OctetWords};
 ghost use Rattle.macs_headline.specs.StandWords.{CallsLeave, ServedEnds};
 ghost use Rattle.macs_headline.specs.Endings.{DroppedPassOn, EndsAreEarlier, ImagesAreWhole};
 ghost use Rattle.macs_headline.specs.Endings.{KillingsPassOn, LosesPower, LossesSettle};
-ghost use Rattle.macs_headline.specs.Endings.{PassedOnAgain, PowerLossesPassOn, TheseAreImages};
+ghost use Rattle.macs_headline.specs.Endings.{PassedOnAgain, PassedOnAlone, PowerLossesPassOn};
 ghost use Rattle.macs_headline.specs.Endings.{ReadsPassOn, SyncsPassOn, TheseAreAlike};
-ghost use Rattle.macs_headline.specs.Endings.{TheseArePassedOn, TheseLosePower};
+ghost use Rattle.macs_headline.specs.Endings.{TheseAreImages, TheseArePassedOn, TheseLosePower};
 ghost use Rattle.macs_headline.specs.Endings.{WritesBackAsSyncs, WrittenBackPassOn};
 ghost use Rattle.macs_headline.specs.ExampleLives.{IsWorkedHistory};
 ghost use Rattle.macs_headline.specs.ExampleMigration.{IsWorkedMigration};
@@ -377,6 +378,7 @@ pub fn endpoint_words<D: SectorDisk>()
     ensures left { CallsLeave D.disk }
     // What the store, the journal and a fuse promise that no call of an endpoint asks for.
     ensures layers { LayerWords D.disk }
+    ensures layer_faults { LayerFaults D.disk }
     // What a loss of power leaves of events that are served, and when that halts.
     ensures served { ServedWords D.disk }
     // That they are calls, and that no answer before the last says that a device call failed.
@@ -457,6 +459,7 @@ pub fn endings<D: SectorDisk>()
     ensures as_alike { TheseAreAlike }
     // The medium is passed on to each of those that may leave nothing but images of a moment since.
     ensures as_passed_on { TheseArePassedOn }
+    ensures passed_on_alone { PassedOnAlone }
     // Power is lost, so for each such disk that holds an image of a moment since.
     ensures as_lost { TheseLosePower }
     ensures power_lost { PowerLossesPassOn }

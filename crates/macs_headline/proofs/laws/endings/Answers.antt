@@ -1,5 +1,6 @@
 use Rattle.macs_headline.proofs.Endings.{dropped-pass-on, ends-are-earlier, images-are-whole, killings-pass-on}
-use Rattle.macs_headline.proofs.Endings.{losses-settle, passed-on-again, power-losses-pass-on, reads-pass-on}
+use Rattle.macs_headline.proofs.Endings.{losses-settle, passed-on-again, passed-on-alone, power-losses-pass-on}
+use Rattle.macs_headline.proofs.Endings.{reads-pass-on}
 use Rattle.macs_headline.proofs.Endings.{syncs-pass-on, these-are-alike, these-are-images, these-are-passed-on}
 use Rattle.macs_headline.proofs.Endings.{these-lose-power, writes-back-as-syncs, written-back-pass-on}
 use Rattle.macs_headline.proofs.laws.endings.Goals as goal
@@ -9,6 +10,9 @@ returns-clause-as_alike g c = these-are-alike
 
 pub returns-clause-as_passed_on : goal.returns-clause-as_passed_on
 returns-clause-as_passed_on g c = these-are-passed-on
+
+pub returns-clause-passed_on_alone : goal.returns-clause-passed_on_alone
+returns-clause-passed_on_alone g c = passed-on-alone
 
 pub returns-clause-as_lost : goal.returns-clause-as_lost
 returns-clause-as_lost g c = these-lose-power

@@ -1,0 +1,36 @@
+-- Which parts of a snapshot are read after which, by an edition: alike by all, but for its keys and its channels.
+use Rattle.std.specs.Prelude.{◌≡◌, ◌&&◌, if◌then◌else◌, is_none, nat_le, nat_lt, not, ℕ, List, [], ◌∷◌, length, None}
+use Rattle.std.specs.Str.{bytes_eq}
+use Rattle.macs_config.specs.Config.{Config, Edition, default, has_channel, takes_key, this_edition}
+use Rattle.macs_config.specs.Identity.{Identity}
+use Rattle.macs_config.specs.Snapshot.{are_ordered, config_of_parts, config_with_part, config_with_parts, may_follow}
+use Rattle.macs_config.specs.Snapshot.{place_of, whole_config}
+use Rattle.macs_config.specs.declared.association.RxSa.{RxSa}
+use Rattle.macs_config.specs.declared.association.TxSa.{TxSa}
+use Rattle.macs_config.specs.declared.command.Role.{Role}
+use Rattle.macs_config.specs.declared.part.Part.{Part}
+use Rattle.macs_config.specs.declared.part.Part.TheVariants as part
+
+-- Spent keys are read as this edition reads them; an association where there is none at its number, with a key that the
+-- edition takes; a channel where there is none of its SCI, up to as many as the edition takes. The parts are read one
+-- after another, settings first, each at its place, and what they make is whole.
+pub record PartsFollow : Type 0 where
+  pub spent : (edition : Edition) (identity : Identity) (c : Config) (role : Role) (fingerprints : List (List ℕ))
+      → may_follow edition identity c (part.Spent role fingerprints)
+      ≡ may_follow this_edition identity c (part.Spent role fingerprints)
+  pub tx : (edition : Edition) (identity : Identity) (c : Config) (an : ℕ) (sa : TxSa)
+      → may_follow edition identity c (part.TxSa an sa) ≡ (is_none (c.tx an) && takes_key edition sa.key)
+  pub channel : (edition : Edition) (identity : Identity) (c : Config) (sci : List ℕ)
+      → may_follow edition identity c (part.Channel sci)
+      ≡ (not (bytes_eq sci identity.sci) && not (has_channel c sci) && nat_lt (length c.channels) edition.channels)
+  pub rx : (edition : Edition) (identity : Identity) (c : Config) (sci : List ℕ) (an : ℕ) (sa : RxSa)
+      → may_follow edition identity c (part.RxSa sci an sa)
+      ≡ (has_channel c sci && is_none (c.rx sci an) && takes_key edition sa.key)
+  pub next : (edition : Edition) (identity : Identity) (c : Config) (one : Part) (parts : List Part)
+      → config_with_parts edition identity c (one ∷ parts)
+      ≡ (if may_follow edition identity c one
+      then config_with_parts edition identity (config_with_part c one) parts else None)
+  pub whole : (edition : Edition) (identity : Identity) (one : Part) (parts : List Part)
+      → config_of_parts edition identity (one ∷ parts)
+      ≡ (if nat_le (place_of one) 1 && are_ordered 2 parts
+      then whole_config identity (config_with_parts edition identity (config_with_part default one) parts) else None)
