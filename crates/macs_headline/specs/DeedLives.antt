@@ -15,14 +15,16 @@ use Rattle.macs_endpoint.specs.State.{Call, Reply}
 use Rattle.macs_endpoint.specs.Value.{EndpointValue, IsSoundEndpoint, device_in, disk_in}
 use Rattle.macs_headline.specs.Binding.{IsLifeOf, IsTold}
 use Rattle.macs_headline.specs.Deeds.{Chain, Deed, Does, Formatting, FormattingCut, IsPassedOn, Link, Living, LivesFrom}
-use Rattle.macs_headline.specs.Deeds.{OpeningCut, PassingOn, Refusing, disk_after_opening, lives_of_deed, lives_of_links}
+use Rattle.macs_headline.specs.Deeds.{OpeningCut, PassingOn, Refusing, disk_after_opening, lives_of_deed}
+use Rattle.macs_headline.specs.Deeds.{lives_of_links}
 use Rattle.macs_headline.specs.History.{Formats, Life, Refuses, Serves}
 
 -- A deed makes one life, or none: an opening that is cut short makes none, nor does a medium that is passed on. The
--- lives of a chain are those of its deeds, in order, and each life has the image that reads of its disk gave. After a
--- `format` that was answered, an opening that was refused, and a life that ended between two calls the chain goes on
--- with the very disk that these gave back. After one that was cut short, or a medium that was passed on, it goes on with
--- what that very `format`, opening or call leaves at some moment. The calls of a life are all of its endpoint's calls.
+-- lives of a chain are those of its deeds, in order, and each life has the image that reads of its disk gave. After
+-- a `format` that was answered, an opening that was refused, and a life that ended between two calls the chain goes
+-- on with the very disk that these gave back. After one that was cut short, or a medium that was passed on, it goes
+-- on with what that very `format`, opening or call leaves at some moment. The calls of a life are all of its
+-- endpoint's calls.
 pub record DeedsMakeLives {D : Type 0} (disk_of : D → Disk) : Type 0 where
   pub none : (old : D) → lives_of_links disk_of old [] ≡ []
   pub on : (old : D) (link : Link D) (links : List (Link D)) → lives_of_links disk_of old (link ∷ links)

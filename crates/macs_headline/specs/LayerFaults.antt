@@ -1,4 +1,4 @@
--- Exactly which faults the store and the journal answer, and that what they answer else is said of a call that was made.
+-- Exactly when the store and the journal answer which fault.
 use Rattle.std.specs.Prelude.{◌≡◌, ◌^◌, ◌-◌, ◌↔◌, true, false, List, Result, Ok, Err, IsErrOf, IsOk}
 use Rattle.macs_config.specs.Apply.{Named}
 use Rattle.macs_config.specs.declared.command.Command.{Command}
@@ -33,8 +33,8 @@ pub record RefusesAsSaid {D : Type 0} (old : StoreValue D) (command : Command) (
 
 -- So a store refuses a command, kept in one call or in steps. A step of a store or a journal is refused as Stopped
 -- exactly where that is stopped, and is Idle exactly where it runs with nothing under way; else it makes one device
--- call, which failed exactly where it is answered so. Work that is finished is refused as Stopped exactly there too, and
--- a journal that is to start over; as GenerationsSpent exactly where it is at its end.
+-- call, which failed exactly where it is answered so. Work that is finished is refused as Stopped exactly there too,
+-- and a journal that is to start over; as GenerationsSpent exactly where it is at its end.
 pub record LayerFaults {D : Type 0} (disk_of : D → Disk) : Type 0 where
   pub committed : (old new : StoreValue D) (command : Command) (result : Result (Unit {0}) CommitFault)
       → Commits disk_of old command result new → RefusesAsSaid old command result

@@ -6,11 +6,12 @@ use Rattle.macs_disk.specs.Layouts.{layout_in, mark, suits}
 use Rattle.macs_disk.specs.States.{zero_sector}
 use Rattle.macs_disk.specs.declared.layout.Layout.TheVariants.{Packed, Spaced}
 
--- A sector of a packed disk is 512 octets of its file, each right after the one before; of a spaced one it is the first
--- 512 of 4,096. It is pending where the block of the device is that has the first of them. A file is spaced where
--- octets 4,210,688 to 4,211,199 exist and begin with MSEC4096, and packed otherwise. Blocks of no other sizes than 512
--- and 4,096 octets suit a layout, and those of 4,096 suit no packed one. A file that is made spaced has all 512 octets of
--- the mark there, and the rest of its block; one that is made packed ends before that, or has zeros there.
+-- A sector of a packed disk is 512 octets of its file, each right after the one before; of a spaced one it is the
+-- first 512 of 4,096. It is pending where the block of the device is that has the first of them. A file is spaced
+-- where octets 4,210,688 to 4,211,199 exist and begin with MSEC4096, and packed otherwise. Blocks of no other sizes
+-- than 512 and 4,096 octets suit a layout, and those of 4,096 suit no packed one. A file that is made spaced has all
+-- 512 octets of the mark there, and the rest of its block; one that is made packed ends before that, or has zeros
+-- there.
 pub record LayoutWords : Type 0 where
   pub packed : (file : FileState) (i : ℕ) → ((state_in_file Packed file).seen i ≡ values_from file.seen (512 * i) 512)
       × ((state_in_file Packed file).durable i ≡ values_from file.durable (512 * i) 512)
