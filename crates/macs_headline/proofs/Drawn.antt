@@ -120,7 +120,8 @@ module _ (sectors : ℕ) where
     each_delivered = λ lives logs d are among.
         let w = are.delivered d among in
         (w.is_verified, w.frame, w.out, w.answered, w.delivery, w.sci, w.key, w.number);
-    answered = λ lives e logs was. (was.there, was.step, was.held, was.among);
+    answered = λ lives e logs was.
+        (was.there, was.step, was.held, was.among, was.moment, refl, refl, refl, refl);
   }
 
 -- ---- numbers
@@ -282,6 +283,7 @@ unformatted lives are (Serves edition image exchanges cut) among =
 
 pub life-words : (sectors : ℕ) → LifeWords sectors
 life-words sectors = record {
+  accepted = λ exchanges in_hand. refl;
   restarted = restarted;
   handed_in = handed_in;
   begun = begun;

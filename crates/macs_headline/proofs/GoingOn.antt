@@ -61,7 +61,7 @@ lives-go-on sectors = record {
         exchanges = [];
         life = record { fits = f.fits; found = found; is_found = f.is_found; in_range = tt; steps = refl };
       } in
-      (m, refl, refl, refl, refl);
+      (m, refl, refl, refl, refl, refl);
   called = λ s new m call reply in_range step.
       let e : Exchange = record { call = call; reply = reply } in
       let n : Moment sectors new = record {
@@ -73,7 +73,7 @@ lives-go-on sectors = record {
         exchanges = m.exchanges ++ e ∷ [];
         life = life-on sectors m.past m.edition m.image m.exchanges s e new m.life in_range step;
       } in
-      (n, refl, refl, refl, refl);
+      (n, refl, refl, refl, refl, refl);
   answered = λ s m e is. exchanges-on m.lives (Serves m.edition m.image m.exchanges None ∷ []) e
       (inr (contains-front m.exchanges [] e is));
   among = among-answers;

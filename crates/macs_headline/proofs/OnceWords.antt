@@ -7,6 +7,8 @@ use Rattle.macs_headline.proofs.Drawn.{log-words}
 
 pub once-words : {D : Type 0} → OnceWords D
 once-words = record {
+  standard = λ sectors lives image turns first last after plain out pn w. (w.standard, refl);
+  verified = λ sectors lives image turns first last after frame out kind d. (d.delivery, refl, refl);
   used = λ sectors lives image turns first last after plain out pn w front between behind u is.
       let words = log-words sectors in
       words.twice front between behind u (subst (λ (entries : List Use). HasNoneTwice entries) is w.once);

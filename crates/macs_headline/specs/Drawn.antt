@@ -1,6 +1,6 @@
 -- The headline on words in what its clauses conclude: what is to be drawn from each of them.
 use Rattle.std.specs.Prelude.{◌≡◌, ◌≢◌, ◌⊎◌, ◌↔◌, ◌<◌, ◌≤◌, ◌+◌, ◌++◌, ◌-◌, ◌/◌, ◌^◌, ℕ, true, false, List, [], ◌∷◌}
-use Rattle.std.specs.Prelude.{length, map, max, min, Bool, Contains, Option, Some, None, Ok}
+use Rattle.std.specs.Prelude.{length, map, max, min, Bool, Contains, Option, Some, None, Ok, option_to_list}
 use Rattle.std.specs.List.{range_with_len}
 use Rattle.macs_config.specs.Apply.{apply}
 use Rattle.macs_config.specs.Config.{Config, Edition, default, is_spent, rx_fingerprint, this_edition, tx_fingerprint}
@@ -87,6 +87,8 @@ pub record LogWords (sectors : ℕ) : Type 0 where
       → (was.moment.lives ++ Serves was.moment.edition was.moment.image (was.moment.exchanges ++ e ∷ was.rest) was.cut
       ∷ was.later ≡ lives)
       × Step was.at e.call e.reply was.after × AreHeldIn was.after.logs logs × Contains (exchanges_of_lives lives) e
+      × (m : Moment sectors was.at) × (m.lives ≡ was.moment.lives) × (m.edition ≡ was.moment.edition)
+      × (m.image ≡ was.moment.image) × (m.exchanges ≡ was.moment.exchanges)
 
 -- Tickets in order are 1, 2, and so on. A restart skips a block and half a block of numbers to transmit at most. Of
 -- receive numbers it makes one number of next and lowest, which is no smaller than next was, and is that where none was
@@ -139,6 +141,8 @@ pub record NumberWords : Type 0 where
 -- logs. A journal that is to start over is not in generation 2^64 - 1. What the two sides of an endpoint have is its
 -- configuration, with its numbers.
 pub record LifeWords (sectors : ℕ) : Type 0 where
+  pub accepted : (exchanges : List Exchange) (in_hand : Option Command) → accepted_commands exchanges in_hand
+      ≡ acknowledged_commands exchanges ++ option_to_list in_hand
   pub restarted : (old new : State) → Restart old new
       → (new.logs ≡ old.logs) × (new.stopped ≡ false) × (new.in_hand ≡ None) × (new.waiting ≡ [])
       × (new.tickets ≡ 0)

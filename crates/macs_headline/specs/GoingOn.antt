@@ -31,11 +31,11 @@ pub record LivesGoOn (sectors : ℕ) : Type 0 where
   pub none : IsHistory sectors [] (Blank [])
   pub begun : (past : Past) (found : Standing) (f : IsFoundAfter sectors past found)
       → (m : Moment sectors (opened_state found (logs_of past)))
-      × (m.lives ≡ f.lives) × (m.edition ≡ f.edition) × (m.image ≡ f.image) × (m.exchanges ≡ [])
+      × (m.lives ≡ f.lives) × (m.edition ≡ f.edition) × (m.image ≡ f.image) × (m.exchanges ≡ []) × (m.past ≡ past)
   pub called : (s new : State) (m : Moment sectors s) (call : Call) (reply : Reply) → IsInRange call
       → Step s call reply new → (n : Moment sectors new)
       × (n.lives ≡ m.lives) × (n.edition ≡ m.edition) × (n.image ≡ m.image)
-      × (n.exchanges ≡ m.exchanges ++ record { call = call; reply = reply } ∷ [])
+      × (n.exchanges ≡ m.exchanges ++ record { call = call; reply = reply } ∷ []) × (n.past ≡ m.past)
   pub answered : (s : State) (m : Moment sectors s) (e : Exchange) → Contains m.exchanges e
       → Contains (exchanges_of_lives (lives_at m)) e
   pub among : (lives : List Life) (edition : Edition) (image : Image) (exchanges : List Exchange) (cut : Option Call)

@@ -18,8 +18,18 @@ use Rattle.macs_headline.specs.History.{Life, logs_of}
 -- that is there twice, and each frame that was written before is the standard's, under another key or with another
 -- number. Each that was delivered as verified before one that is delivered once verified, too, under another SCI,
 -- another key, or with another number: with replay protection and window 0 each of all lives, and where this one is Ok
--- each of the lives before, whatever the window.
+-- each of the lives before, whatever the window. That frame, or that delivery, is of the endpoint's own state then.
 pub record OnceWords (D : Type 0) : Type 0 where
+  pub standard : (sectors : ℕ) (lives : List Life) (image : Image) (turns : List (Transition D))
+      (first last after : EndpointValue D) (plain out : List ℕ) (pn : ℕ)
+      (w : IsWrittenOnce sectors lives image turns first last after plain pn out)
+      → (f : IsStandardFrame (state_of last w.at.logs) plain pn out (state_of after w.later))
+      × (f.sa.key ≡ w.standard.sa.key)
+  pub verified : (sectors : ℕ) (lives : List Life) (image : Image) (turns : List (Transition D))
+      (first last after : EndpointValue D) (frame out : List ℕ)
+      (kind : Kind) (d : IsDeliveredOnce sectors lives image turns first last after frame kind out)
+      → (v : IsVerifiedDelivery (state_of last d.at.logs) frame kind out (state_of after d.later))
+      × (v.sci ≡ d.delivery.sci) × (v.sa.key ≡ d.delivery.sa.key)
   pub used : (sectors : ℕ) (lives : List Life) (image : Image) (turns : List (Transition D))
       (first last after : EndpointValue D) (plain out : List ℕ) (pn : ℕ)
       (w : IsWrittenOnce sectors lives image turns first last after plain pn out)
