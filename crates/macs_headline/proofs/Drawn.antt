@@ -284,6 +284,7 @@ unformatted lives are (Serves edition image exchanges cut) among =
 pub life-words : (sectors : ℕ) → LifeWords sectors
 life-words sectors = record {
   accepted = λ exchanges in_hand. refl;
+  acknowledged = λ waiting e exchanges. refl;
   restarted = restarted;
   handed_in = handed_in;
   begun = begun;

@@ -110,7 +110,9 @@ module _ {D : Type 0} (disk_of : D → Disk) where
       ap (λ (s : State). s.in_hand) (is.state no_logs),
       ap (λ (s : State). s.waiting) (is.state no_logs),
       ap (λ (s : State). s.tickets) (is.state no_logs),
+      is.state,
     );
+    in_range = λ old new call reply is. is.behaves.in_range;
     opened_settled = λ disk first i is honest.
         let settled = is.device.settled honest in
         (settled.clean i, settled.fresh i);

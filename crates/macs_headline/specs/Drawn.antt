@@ -25,11 +25,12 @@ use Rattle.macs_endpoint.specs.State.{Call, Commands, Delivery, Logs, Receives, 
 use Rattle.macs_endpoint.specs.State.{tx_side}
 use Rattle.macs_endpoint.specs.Step.{Exchange, Step}
 use Rattle.macs_endpoint.specs.Value.{EndpointValue, state_of}
+use Rattle.macs_endpoint.specs.declared.queue.Waiting.{Waiting}
 use Rattle.macs_headline.specs.Answered.{WasAnswered, exchanges_of_lives, lives_at}
 use Rattle.macs_headline.specs.CommandInHand.{MayBegin, WasBegun}
 use Rattle.macs_headline.specs.Binding.{IsAtMoment}
 use Rattle.macs_headline.specs.Commands.{CommandsMake, IsPrefix, WasHandedIn, accepted_commands, acknowledged_commands}
-use Rattle.macs_headline.specs.Commands.{failing, waiting_at_end}
+use Rattle.macs_headline.specs.Commands.{acknowledged_by, acknowledged_from, failing, waiting_after, waiting_at_end}
 use Rattle.macs_headline.specs.Configurations.{AreKept, IsMadeByLives, LivesMake}
 use Rattle.macs_headline.specs.Deliveries.{IsOtherDelivery, IsVerifiedDelivery, IsVerifiedKind, delivering}
 use Rattle.macs_headline.specs.Formats.{AreUnformatted}
@@ -143,6 +144,9 @@ pub record NumberWords : Type 0 where
 pub record LifeWords (sectors : ℕ) : Type 0 where
   pub accepted : (exchanges : List Exchange) (in_hand : Option Command) → accepted_commands exchanges in_hand
       ≡ acknowledged_commands exchanges ++ option_to_list in_hand
+  pub acknowledged : (waiting : List Waiting) (e : Exchange) (exchanges : List Exchange)
+      → acknowledged_from waiting (e ∷ exchanges)
+      ≡ acknowledged_by waiting e.call e.reply ++ acknowledged_from (waiting_after waiting e.call e.reply) exchanges
   pub restarted : (old new : State) → Restart old new
       → (new.logs ≡ old.logs) × (new.stopped ≡ false) × (new.in_hand ≡ None) × (new.waiting ≡ [])
       × (new.tickets ≡ 0)

@@ -27,7 +27,7 @@ use Rattle.macs_store.specs.Standing.{Standing, new_standing}
 use Rattle.macs_store.specs.Value.{IsIdle, StoreValue, calls_left, generation, generation_then, slots_then, standing_in}
 use Rattle.macs_store.specs.Value.{used_slots}
 use Rattle.macs_store.specs.Value as store
-use Rattle.macs_endpoint.specs.Calls.{IsCall}
+use Rattle.macs_endpoint.specs.Calls.{IsCall, IsInRange}
 use Rattle.macs_endpoint.specs.Ceilings.{Raise, first_raise, standing_with_raise}
 use Rattle.macs_endpoint.specs.Formatting.{IsFormat}
 use Rattle.macs_endpoint.specs.KeptCommands.{KeepsCommand}
@@ -35,7 +35,9 @@ use Rattle.macs_endpoint.specs.Lives.{LeavesLife, Lives}
 use Rattle.macs_endpoint.specs.Opening.{IsOpening}
 use Rattle.macs_endpoint.specs.Serving.{EndsAs, IsServed, Told, is_halt}
 use Rattle.macs_endpoint.specs.RefillCosts.{HasRaised, RaisesBehind, Spends, most_behind, reserved_in}
-use Rattle.macs_endpoint.specs.State.{Advanced, Advances, Call, Commands, Ran, Reply, no_logs, rx_side, tx_side}
+use Rattle.macs_endpoint.specs.Restart.{opened_state}
+use Rattle.macs_endpoint.specs.State.{Advanced, Advances, Call, Commands, Logs, Ran, Reply, no_logs, rx_side}
+use Rattle.macs_endpoint.specs.State.{tx_side}
 use Rattle.macs_endpoint.specs.Value.{EndpointValue, IsBacked, disk_in, state_of}
 use Rattle.macs_endpoint.specs.declared.event.ServeEnd.{ServeEnd}
 use Rattle.macs_endpoint.specs.declared.event.ServeEnd.TheVariants.{Halted}
@@ -58,11 +60,15 @@ use Rattle.macs_endpoint.specs.declared.progress.Step.TheVariants.{Reserved}
 -- each sector alone but those that it writes to, and all of them where a head gate reads open. So does an opening that
 -- starts the journal over, in its other area, done or refused, and so does each compaction; and until that writes the
 -- new head gate a power loss leaves the journal as it was. No failed device call that was counted is ever taken back:
--- by a call, by a `format` or by an opening that is refused.
+-- by a call, by a `format` or by an opening that is refused. An endpoint that is opened begins with what is in its
+-- store, on whatever disk, and a call is given what is in range.
 pub record CallsLeave {D : Type 0} (disk_of : D → Disk) : Type 0 where
   pub opened : (disk : D) (first : EndpointValue D) → IsOpening disk_of disk (Ok first) → IsIdle first.store
       × (first.reserving ≡ None) × (first.in_hand ≡ None)
       × (first.waiting ≡ []) × (first.tickets ≡ 0)
+      × ((logs : Logs) → state_of first logs ≡ opened_state (standing_in first.store) logs)
+  pub in_range : (old new : EndpointValue D) (call : Call) (reply : Reply) → IsCall disk_of old call reply new
+      → IsInRange call
   pub opened_settled : (disk : D) (first : EndpointValue D) (i : ℕ) → IsOpening disk_of disk (Ok first)
       → IsHonest (disk_in disk_of first)
       → ((now (disk_in disk_of first)).pending i ≡ false)
