@@ -14,10 +14,10 @@ use Rattle.macs_config.specs.declared.command.Validate.{Validate}
 use Rattle.macs_config.specs.declared.part.Part.{Part}
 use Rattle.macs_config.specs.declared.part.Part.TheVariants.{Settings, TxSa, Channel, RxSa, Spent}
 
--- A snapshot is refused where after some of its parts there comes an association or a channel that is there already;
--- an association to receive whose channel is not there; a key that the edition does not take; the own SCI as a channel,
--- or one more channel than the edition may have; a fingerprint that is spent already, or twice in the part, or more of
--- them than fit.
+-- A snapshot is refused where after some of its parts there comes an association or a channel that is there already; an
+-- association to receive whose channel is not there; a key that the edition does not take; the own SCI as a channel, or
+-- one more channel than the edition may have; spent keys of which the first is spent already, or is the second too, or
+-- more of them than fit.
 pub record PartWords : Type 0 where
   pub tx_twice : (edition : Edition) (identity : Identity) (c : Config) (an : ℕ) (before sa : TxAssociation)
       (parts : List Part)

@@ -143,20 +143,26 @@ some-room : (layout : Layout) → 0 < place layout 1028
 some-room Packed = omega arith
 some-room Spaced = omega arith
 
--- the layout is found again after what was written over the sectors
-found-again : (layout : Layout) (before new : FileState) (xs : List ℕ) → HasMark layout before
+-- the mark is there after what was written over the sectors
+mark-kept : (layout : Layout) (before new : FileState) (xs : List ℕ) → HasMark layout before
     → new ≡ file_after_write before 0 xs → length xs ≡ place layout 1028
-    → new.size ≡ max before.size (0 + length xs) → layout_in new ≡ layout
-found-again Packed before new xs (inl short) is long size = sym (too-short new (omega (arith, short, size, long)))
-found-again Packed before new xs (inr zeros) is long size = elim (cases_lt new.size (place Spaced 1028 + 512)) [
-  | inl short ↦ sym (too-short new short)
-  | inr enough ↦
-      let same = read-elsewhere before new (place Spaced 1028) 0 xs is (inr (omega (arith, long))) in
-      sym (by-mark new zero_sector false Packed enough (sym (same ∙ zeros)) unmarked refl)
+    → new.size ≡ max before.size (0 + length xs) → HasMark layout new
+mark-kept Packed before new xs (inl short) is long size = inl (omega (arith, short, size, long))
+mark-kept Packed before new xs (inr zeros) is long size =
+    inr (read-elsewhere before new (place Spaced 1028) 0 xs is (inr (omega (arith, long))) ∙ zeros)
+mark-kept Spaced before new xs (enough, has) is long size = (
+  omega (arith, size, enough),
+  read-elsewhere before new (place Spaced 1028) 0 xs is (inr (omega (arith, long))) ∙ has,
+)
+
+-- and the layout is found by it
+pub found-mark : (layout : Layout) (file : FileState) → HasMark layout file → layout_in file ≡ layout
+found-mark Packed file (inl short) = sym (too-short file (omega (arith, short)))
+found-mark Packed file (inr zeros) = elim (cases_lt file.size (place Spaced 1028 + 512)) [
+  | inl short ↦ sym (too-short file short)
+  | inr enough ↦ sym (by-mark file zero_sector false Packed enough (sym zeros) unmarked refl)
 ]
-found-again Spaced before new xs (enough, has) is long size =
-    let same = read-elsewhere before new (place Spaced 1028) 0 xs is (inr (omega (arith, long))) in
-    sym (by-mark new mark true Spaced (omega (arith, size, enough)) (sym (same ∙ has)) refl refl)
+found-mark Spaced file (enough, has) = sym (by-mark file mark true Spaced (omega (arith, enough)) (sym has) refl refl)
 
 pub layout-synced : (file : FileState) → layout_in (file_after_sync file) ≡ layout_in file
 unfolding layout_in
@@ -200,8 +206,9 @@ cleared old before synced over new layout count was first second many third =
           ap (λ (f : FileState). f.seen (place layout i + k)) second
           ∙ write-seen synced 0 (replicate count 0) (place layout i + k)
           ∙ zero-at synced.seen 0 count (place layout i + k) (omega arith) (omega (arith, within, many, small)));
-      found = ap layout_in third ∙ layout-synced over
-          ∙ found-again layout synced over (replicate count 0) has second (long ∙ many) size;
+      has = subst (HasMark layout) (sym third)
+          (mark-synced layout over
+          (mark-kept layout synced over (replicate count 0) has second (long ∙ many) size));
     }
 
 -- ---- a disk over a file that was made ready
@@ -371,5 +378,6 @@ module _ {F : Type 0} (file : F → FileState) where
         zeros = λ i lt. rw (none, shows) (was.zeros i lt);
         durable = λ i. rw (none, shows) (ap (λ (f : ℕ → ℕ). values_from f (place layout i) 512) was.durable);
         clean = λ i. rw (none, shows) (was.clean (place layout i / (file ready).block));
-        found = was.found;
+        has = was.has;
+        found = found-mark layout (file ready) was.has;
       }

@@ -1,23 +1,22 @@
 -- A disk in a file is found again as it is: what calls leave of the file's size and of its mark, and what a power loss
 -- does.
 use Rattle.std.proofs.Common.{◌≡◌, ◌≢◌, ◌≤◌, ◌<◌, ◌+◌, ◌-◌, ◌*◌, ◌/◌, ◌%◌, ◌&&◌, ◌||◌, ◌⊎◌, inl, inr, ℕ, max, Bool}
-use Rattle.std.proofs.Common.{true, false, List, [], ◌∷◌, length, nat_le, nat_lt, replicate, refl, ap, ◌∙◌, arith}
-use Rattle.std.proofs.Common.{subst, sym, le_refl, Result, Ok, Err, OnOk, OnErr}
+use Rattle.std.proofs.Common.{true, false, List, [], ◌∷◌, length, nat_lt, replicate, refl, ap, ◌∙◌, arith}
+use Rattle.std.proofs.Common.{subst, sym, Result, Ok, Err}
 use Rattle.std.proofs.lemmas.Bool.{cases_eq, cases_lt, le-leb, le-ltb}
 use Rattle.std.proofs.lemmas.List.{length-replicate}
 use Rattle.macs_disk.specs.Disk.{Disk}
-use Rattle.macs_disk.specs.Files.{Behaves, FileState, HasNothingNew, IsFileImage, IsSure, Settles, SyncsFile, WritesAll}
-use Rattle.macs_disk.specs.Files.{WritesSome, file_after_sync, file_after_write, file_claimed, file_in_doubt}
+use Rattle.macs_disk.specs.Files.{Behaves, FileState, HasNothingNew, IsFileImage, IsSure, Settles, WritesAll}
+use Rattle.macs_disk.specs.Files.{file_after_sync, file_after_write, file_claimed, file_in_doubt}
 use Rattle.macs_disk.specs.Files.{file_settled, values_from}
-use Rattle.macs_disk.specs.FileDisks.{HasMark, IsCleared, IsExtent, IsFoundAs, IsOpened, KeepsLayout, file_lengthened}
+use Rattle.macs_disk.specs.FileDisks.{IsCleared, IsExtent, IsFoundAs, IsOpened, KeepsLayout, file_lengthened}
 use Rattle.macs_disk.specs.FileDisks.{mark_end}
 use Rattle.macs_disk.specs.FileEvidence.{StandsAt, is_same, stands-at, values-same}
-use Rattle.macs_disk.specs.Layouts.{layout_in, mark, mark_place, place, sectors_in, suits}
-use Rattle.macs_disk.specs.States.{zero_sector}
+use Rattle.macs_disk.specs.Layouts.{layout_in, mark_place, place, sectors_in, suits}
 use Rattle.macs_disk.specs.declared.layout.Layout.{Layout}
 use Rattle.macs_disk.specs.declared.layout.Layout.TheVariants.{Packed, Spaced}
-use Rattle.macs_disk.proofs.FileOpenings.{by-mark, found-longer, layout-synced, read-elsewhere, same-layout}
-use Rattle.macs_disk.proofs.FileOpenings.{size-lengthened, spaced-room, too-short, unmarked}
+use Rattle.macs_disk.proofs.FileOpenings.{found-longer, found-mark, layout-synced, read-elsewhere, same-layout}
+use Rattle.macs_disk.proofs.FileOpenings.{size-lengthened, spaced-room, too-short}
 use Rattle.macs_disk.proofs.FileWrites.{write-sure}
 
 -- ---- the block of the mark
@@ -146,15 +145,6 @@ kept-zeros layout old new count (Err e) kept sure fits writes =
 pub ends-in-front : (layout : Layout) → place layout 1028 ≤ mark_place
 ends-in-front Packed = omega arith
 ends-in-front Spaced = omega arith
-
--- the mark of a file that has it is found
-pub found-mark : (layout : Layout) (file : FileState) → HasMark layout file → layout_in file ≡ layout
-found-mark Packed file (inl short) = sym (too-short file (omega (arith, short)))
-found-mark Packed file (inr zeros) = elim (cases_lt file.size (place Spaced 1028 + 512)) [
-  | inl short ↦ sym (too-short file short)
-  | inr enough ↦ sym (by-mark file zero_sector false Packed enough (sym zeros) unmarked refl)
-]
-found-mark Spaced file (enough, has) = sym (by-mark file mark true Spaced (omega (arith, enough)) (sym has) refl refl)
 
 -- a failed one leaves it as it was
 layout-doubted : (file : FileState) → layout_in (file_in_doubt file) ≡ layout_in file
@@ -378,7 +368,7 @@ found-cleared old new layout sectors cleared whole count =
       count = sizes.1;
       is_size_durable = cleared.is_size_durable;
       keeps = record {
-        found = cleared.found;
+        found = found-mark layout new cleared.has;
         durable = ap (λ (f : ℕ → ℕ). values_from f mark_place 512) cleared.durable;
         still = λ _. cleared.clean (mark_place / new.block);
         sized = inl cleared.is_size_durable;

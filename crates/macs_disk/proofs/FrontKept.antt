@@ -1,13 +1,13 @@
 -- What a power loss may leave of a file after calls that opening it makes: nothing new, or the same in front of a
 -- place.
-use Rattle.std.proofs.Common.{◌≡◌, ◌≤◌, ◌<◌, ◌+◌, ◌-◌, ◌*◌, ◌/◌, ◌%◌, ◌^◌, ◌&&◌, ◌||◌, ◌⊎◌, inl, inr, ℕ, if◌then◌else◌}
-use Rattle.std.proofs.Common.{max, Bool, true, false, List, [], ◌∷◌, length, nat_lt, refl, ap, ◌∙◌, arith, subst, sym}
+use Rattle.std.proofs.Common.{◌≡◌, ◌≤◌, ◌<◌, ◌+◌, ◌-◌, ◌*◌, ◌/◌, ◌%◌, ◌^◌, ◌&&◌, ◌||◌, inl, inr, ℕ, if◌then◌else◌}
+use Rattle.std.proofs.Common.{Bool, true, false, List, [], ◌∷◌, length, nat_lt, refl, ap, ◌∙◌, arith, subst, sym}
 use Rattle.std.proofs.Common.{le_refl, Result, Ok, Err}
-use Rattle.std.proofs.lemmas.Bool.{cases_eq, cases_lt, le-ltb, lt-ltb}
+use Rattle.std.proofs.lemmas.Bool.{cases_lt, le-ltb, lt-ltb}
 use Rattle.std.proofs.Math.Nat.{mul-add}
-use Rattle.macs_disk.specs.Files.{Behaves, ClaimsFile, FileState, HasNothingNew, IsClaimed, IsFileImage, IsSoundFile}
+use Rattle.macs_disk.specs.Files.{ClaimsFile, FileState, HasNothingNew, IsClaimed, IsFileImage, IsSoundFile}
 use Rattle.macs_disk.specs.Files.{IsSure, KeepsFront, RereadsFile, Settles, SyncsFile, WritesAll, WritesSome}
-use Rattle.macs_disk.specs.Files.{file_after_sync, file_after_write, file_claimed, file_in_doubt, file_reread}
+use Rattle.macs_disk.specs.Files.{file_after_write, file_claimed, file_in_doubt, file_reread}
 use Rattle.macs_disk.specs.Files.{file_settled, file_showing, file_synced}
 use Rattle.macs_disk.specs.FileEvidence.{is_same}
 use Rattle.macs_disk.specs.Layouts.{suits}

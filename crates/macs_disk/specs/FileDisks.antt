@@ -182,11 +182,11 @@ pub record IsCleared (old new : FileState) (layout : Layout) : Type 0 where
   pub durable : new.durable ≡ new.seen
   pub clean : (n : ℕ) → new.pending n ≡ false
   pub zeros : (i : ℕ) → i < 1028 → values_from new.seen (place layout i) 512 ≡ zero_sector
-  pub found : layout_in new ≡ layout
+  pub has : HasMark layout new
 
 -- a new disk of this layout in a file that was `old` and is `new`: its first 1,028 sectors are zeros, all of them are
 -- durable, and nothing is pending. It has the sectors that the file had, where these were more. It is honest where the
--- device's blocks suit the layout, and the layout is found when the file is opened again.
+-- device's blocks suit the layout. The file has the mark of the layout, which is found when it is opened again.
 pub record IsBlank (old new : FileState) (layout : Layout) (disk : Disk) : Type 0 where
   pub block : new.block ≡ old.block
   pub honest : suits layout old.block ≡ true → IsHonest disk
@@ -195,6 +195,7 @@ pub record IsBlank (old new : FileState) (layout : Layout) (disk : Disk) : Type 
   pub zeros : (i : ℕ) → i < 1028 → (now disk).seen i ≡ zero_sector
   pub durable : (i : ℕ) → (now disk).durable i ≡ (now disk).seen i
   pub clean : (i : ℕ) → (now disk).pending i ≡ false
+  pub has : HasMark layout new
   pub found : layout_in new ≡ layout
 
 -- a disk on which no call was made yet

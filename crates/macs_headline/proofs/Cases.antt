@@ -1,6 +1,10 @@
 -- The cases of the words that are lists of them.
-use Rattle.std.proofs.Common.{◌≡◌, ◌≢◌, ◌⊎◌, inl, inr, ℕ, Result, Ok, Err, refl}
+use Rattle.std.proofs.Common.{◌≡◌, ◌≢◌, ◌⊎◌, inl, inr, ℕ, List, Result, Ok, Err, refl}
 use Rattle.macs_config.specs.declared.refusal.Refusal.TheVariants.{ChannelsFull}
+use Rattle.macs_frame.specs.Opening.{bare_frame}
+use Rattle.macs_rxsc.specs.declared.verdict.Kind.{Kind}
+use Rattle.macs_rxsc.specs.declared.verdict.Kind.TheVariants.{Untagged}
+use Rattle.macs_rxsc.specs.declared.verdict.Verdict.TheVariants.{Delivered}
 use Rattle.macs_endpoint.specs.State.{Advanced, AdvancedLong, Advances, Ran, RefusedLong, Reply}
 use Rattle.macs_endpoint.specs.declared.fault.CommandFault.TheVariants as ran
 use Rattle.macs_endpoint.specs.declared.fault.StepFault.{StepFault}
@@ -8,6 +12,7 @@ use Rattle.macs_endpoint.specs.declared.fault.StepFault.TheVariants as step
 use Rattle.macs_endpoint.specs.declared.progress.Step.{Step as Progress}
 use Rattle.macs_endpoint.specs.declared.progress.Step.TheVariants.{Done, Worked}
 use Rattle.macs_headline.specs.Cases.{CasesAre}
+use Rattle.macs_headline.specs.Deliveries.{out_after}
 use Rattle.macs_headline.specs.Editions.{TellsEdition}
 use Rattle.macs_headline.specs.Steps.{IsToldWhole, LeavesOpen}
 
@@ -30,6 +35,10 @@ told_step : (result : Result Progress StepFault) → result ≢ Err step.Stopped
     → IsToldWhole Advances (Advanced result)
 told_step (Ok (Done ticket (Ok done))) running other = other ticket refl
 told_step result running other = running
+
+bare : (frame : List ℕ) (kind : Kind) → kind ≢ Untagged → out_after frame (Ok (Delivered kind)) ≡ bare_frame frame
+bare frame Untagged tagged = absurd (tagged refl)
+bare frame kind tagged = refl
 
 pub cases-are : CasesAre
 cases-are = record {
@@ -54,4 +63,7 @@ cases-are = record {
   one_but_numbers =
       λ a b same next numbers logs. (λ i. record (same i) { next = next i; numbers = numbers i; logs = logs i });
   queued = λ waiting ticket command. refl;
+  command_faults = (refl, λ refusal. refl, refl, refl);
+  refill_faults = (refl, refl, refl);
+  bare = bare;
 }

@@ -6,7 +6,7 @@ use Rattle.macs_headline.specs.DiskWords.{DiskWords}
 pub disk-words : DiskWords
 disk-words = record {
   opened = λ file least layout disk o. (o.settled, o.settles, o.found, o.state, o.again);
-  blank = λ old new layout disk b. (b.state, b.block, b.found);
+  blank = λ old new layout disk b. (b.state, b.block, b.found, b.has);
   blown = λ disk old new at fill b. (
     b.0,
     b.1.call,

@@ -7,7 +7,7 @@ use Rattle.macs_disk.specs.declared.disk.DeviceFault.{DeviceFault}
 use Rattle.macs_headline.specs.Deeds.{IsPassedOn}
 use Rattle.macs_headline.specs.Endings.{DroppedPassOn, EndsAreEarlier, ImagesAreWhole, KillingsPassOn, LossesSettle}
 use Rattle.macs_headline.specs.Endings.{PassedOnAgain, PassedOnAlone, PowerLossesPassOn, ReadsPassOn, SyncsPassOn}
-use Rattle.macs_headline.specs.Endings.{TheseAreAlike, TheseAreImages, TheseArePassedOn, TheseLosePower}
+use Rattle.macs_headline.specs.Endings.{TheseAreAlike, TheseAreImages, TheseAreLeft, TheseArePassedOn, TheseLosePower}
 use Rattle.macs_headline.specs.Endings.{WritesBackAsSyncs, WrittenBackPassOn, state_written_back}
 use Rattle.macs_headline.proofs.Losses.{settled-passed}
 
@@ -169,3 +169,10 @@ these-are-images state image kept size octets = record {
 
 pub images-are-whole : ImagesAreWhole
 images-are-whole state image is i pending = ((is.whole i pending).size, (is.whole i pending).octets)
+
+pub these-are-left : TheseAreLeft
+these-are-left = record {
+  left = λ disk since k image later within is. (k, later, within, is);
+  at = λ disk since image left. left;
+  counts = λ disk image. (refl, refl, refl);
+}

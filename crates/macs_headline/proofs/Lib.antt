@@ -112,3 +112,7 @@ mod PartsFollow
 mod LayoutWords
 mod DiskWords
 mod OctetWords
+mod HistoryWords
+mod LayerLeaves
+mod SideWords
+mod SnapshotOrder

@@ -42,4 +42,5 @@ queue-words = record {
     ap (λ (b : Bool). cond b (w.command ∷ []) []) (ne_eqb w.ticket ticket differ),
     ap (λ (b : Bool). cond b rest (w ∷ rest)) (ne_eqb w.ticket ticket differ),
   );
+  none_waits = λ ticket. (refl, refl);
 }

@@ -214,6 +214,21 @@ fault_of old (e ∷ exchanges) new (mid, step, steps) stopped = elim (fault_of m
   | inr had ↦ inr (had.0, contains-later e exchanges had.0 had.1, had.2)
 ]
 
+-- and with a frame no call is answered so that leaves something in `out`
+sent_stopped : (old : State) (call : Call) (out : List ℕ) (new : State)
+    → Step old call (Protected (Err protect.Stopped) out) new → out ≡ []
+sent_stopped old (Protects plain) out new (inl (stopped, answer, is)) = answer
+sent_stopped old (Protects plain) out new (inr (running, h)) = absurd h
+sent_stopped old call out new (inl (stopped, answer, is)) = absurd answer
+sent_stopped old call out new (inr (running, h)) = absurd h
+
+received_stopped : (old : State) (call : Call) (answer : Stopped) (out : List ℕ) (new : State)
+    → Step old call (Received (Err answer) out) new → out ≡ []
+received_stopped old (Receives frame) answer out new (inl (stopped, empty, is)) = empty
+received_stopped old (Receives frame) answer out new (inr (running, h)) = absurd h
+received_stopped old call answer out new (inl (stopped, empty, is)) = absurd empty
+received_stopped old call answer out new (inr (running, h)) = absurd h
+
 pub stopped-stays : (sectors : ℕ) → StoppedStays sectors
 stopped-stays sectors s m call reply new step =
     let begun = opened_state m.life.found (logs_of m.past) in (
@@ -225,4 +240,8 @@ stopped-stays sectors s m call reply new step =
         ],
       ),
       λ told. (stays s call reply new step (was_stopped s call reply new step told)).1,
+      λ out is. subst TellsStopped (sym is)
+          (sent_stopped s call out new (subst (λ (r : Reply). Step s call r new) is step)),
+      λ out answer is. subst TellsStopped (sym is)
+          (received_stopped s call answer out new (subst (λ (r : Reply). Step s call r new) is step)),
     )

@@ -108,6 +108,13 @@ LargerFind = (small large : Edition) → IsUpTo small large
     → (image : Image) (found : Standing) → MayLeave disk image → StandingIs large disk.sectors image (Ok found)
     → (f : IsFoundAfter disk.sectors h.past found) × (f.lives ≡ lives) × (f.edition ≡ large) × (f.image ≡ image)
 
+-- And no other disk has it: one that does is honest; the lives led to its past; and a program of the edition may come
+-- upon each image that it may leave.
+abbrev pub HistoriesFit : Type 0
+HistoriesFit = (edition : Edition) (disk : Disk) (lives : List Life) (h : HasHistory edition disk lives)
+    → IsHonest disk × IsHistory disk.sectors lives h.past
+    × ((image : Image) → MayLeave disk image → FitsPast edition disk.sectors h.past image)
+
 -- the disk to which a medium is passed on has the history of the disk before it
 abbrev pub PassedOnHaveHistories : Type 0
 PassedOnHaveHistories = (edition : Edition) (old new : Disk) (lives : List Life) → HasHistory edition old lives

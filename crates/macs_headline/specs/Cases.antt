@@ -2,7 +2,15 @@
 -- for, and none is among those it leaves open.
 use Rattle.std.specs.Prelude.{◌≡◌, ◌≢◌, ◌⊎◌, ◌++◌, ℕ, List, [], ◌∷◌, Contains, Result, Ok, Err}
 use Rattle.macs_config.specs.declared.command.Command.{Command}
+use Rattle.macs_config.specs.declared.refusal.Refusal.{Refusal}
 use Rattle.macs_config.specs.declared.refusal.Refusal.TheVariants.{ChannelsFull}
+use Rattle.macs_frame.specs.Opening.{bare_frame}
+use Rattle.macs_journal.specs.declared.fault.JournalFault.TheVariants as journal
+use Rattle.macs_rxsc.specs.declared.verdict.Kind.{Kind}
+use Rattle.macs_rxsc.specs.declared.verdict.Kind.TheVariants.{Untagged}
+use Rattle.macs_rxsc.specs.declared.verdict.Verdict.TheVariants.{Delivered}
+use Rattle.macs_store.specs.declared.fault.CommitFault.TheVariants as commit
+use Rattle.macs_endpoint.specs.Faults.{command_fault_of, refill_fault_of}
 use Rattle.macs_endpoint.specs.Queue.{with_waiting}
 use Rattle.macs_endpoint.specs.State.{Advanced, AdvancedLong, Advances, Commands, Delivery, Logs, Protected, Protects}
 use Rattle.macs_endpoint.specs.State.{Ran, Receives, RefusedLong, Refilled, Refills, Reply, State, Submits, Submitted}
@@ -20,6 +28,7 @@ use Rattle.macs_endpoint.specs.declared.progress.Step.{Step as Progress}
 use Rattle.macs_endpoint.specs.declared.progress.Step.TheVariants.{Done, Worked}
 use Rattle.macs_endpoint.specs.declared.queue.Waiting.{Waiting}
 use Rattle.macs_headline.specs.Binding.{TellsSpent}
+use Rattle.macs_headline.specs.Deliveries.{out_after}
 use Rattle.macs_headline.specs.Editions.{TellsEdition}
 use Rattle.macs_headline.specs.Moments.{WasGiven, WasUsed}
 use Rattle.macs_headline.specs.NumbersMoved.{IsFrameCall, state_but_numbers}
@@ -30,7 +39,9 @@ use Rattle.macs_headline.specs.Steps.{IsToldWhole, LeavesOpen, state_but_hand}
 -- answered to a command, a refill, a step, and a command that waited. What `IsExact` says of each answer is all of it,
 -- but of Ok, of `Stopped`, and of received frames; so of a refusal as LongKey. Each entry of the two lists was used, or
 -- given. Two states that are one but for what is under way, or but for numbers and logs, differ in nothing else. What
--- waits after a command was submitted is what waited, and then that command, whatever it is, under its ticket.
+-- waits after a command was submitted is what waited, and then that command, whatever it is, under its ticket. A fault
+-- of the store has the same name as that of a command, and one of a reservation as that of a refill; what `out` holds
+-- of a frame that is delivered with a tag is its addresses and Secure Data, whatever its kind.
 pub record CasesAre : Type 0 where
   pub sent : (plain : List ℕ) → IsFrameCall (Protects plain)
   pub received : (frame : List ℕ) → IsFrameCall (Receives frame)
@@ -65,3 +76,10 @@ pub record CasesAre : Type 0 where
       → a.numbers ≡ b.numbers → a.logs ≡ b.logs → a ≡ b
   pub queued : (waiting : List Waiting) (ticket : ℕ) (command : Command)
       → with_waiting waiting ticket command ≡ waiting ++ record { ticket = ticket; command = command } ∷ []
+  pub command_faults : (command_fault_of commit.Stopped ≡ ran.Stopped)
+      × ((refusal : Refusal) → command_fault_of (commit.Refused refusal) ≡ ran.Refused refusal)
+      × (command_fault_of commit.GenerationsSpent ≡ ran.GenerationsSpent) × (command_fault_of commit.Disk ≡ ran.Disk)
+  pub refill_faults : (refill_fault_of journal.Stopped ≡ refill.Stopped)
+      × (refill_fault_of journal.GenerationsSpent ≡ refill.GenerationsSpent)
+      × (refill_fault_of journal.Disk ≡ refill.Disk)
+  pub bare : (frame : List ℕ) (kind : Kind) → kind ≢ Untagged → out_after frame (Ok (Delivered kind)) ≡ bare_frame frame

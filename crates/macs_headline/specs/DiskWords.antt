@@ -2,7 +2,7 @@
 use Rattle.std.specs.Prelude.{◌≡◌, ◌↔◌, ◌⊎◌, ◌≤◌, ◌+◌, ◌-◌, ◌%◌, ℕ, true, false, if◌then◌else◌, List, replicate, Result}
 use Rattle.std.specs.Prelude.{is_ok}
 use Rattle.macs_disk.specs.Disk.{Disk, IsDeviceCall, IsHonest, Writes, now}
-use Rattle.macs_disk.specs.FileDisks.{IsBlank, IsFoundAs, IsOpened, KeepsLayout, state_in_file}
+use Rattle.macs_disk.specs.FileDisks.{HasMark, IsBlank, IsFoundAs, IsOpened, KeepsLayout, state_in_file}
 use Rattle.macs_disk.specs.Files.{FileState, IsClaimed, IsSure, ReadsFile, Settles, file_after_sync, file_after_write}
 use Rattle.macs_disk.specs.Files.{file_cut}
 use Rattle.macs_disk.specs.Fuses.{BlowsWrite, FuseValue}
@@ -13,13 +13,13 @@ use Rattle.macs_disk.specs.declared.layout.Layout.{Layout}
 
 -- The sectors of a disk that is opened, however many were asked for, are the octets of its file: settled, and made
 -- longer with zeros where it had fewer; the layout is that of the file before, and then. Those of a new disk are the
--- octets of its file, too, which has the layout, and the device has the blocks that it had. Where a fuse fails one
--- write, the disk behind it takes another at the same sector, of the octets that the fuse was given; the fuse adds a
--- failure where that does not fail, counts no call as missed, and fails none from then on. A read changes nothing of a
--- file, even of one in doubt. A file that was cut shows nothing, and a power loss may leave any octets of it, and
--- another size. One that is found as a disk of some layout has that layout, whole sectors, as many as are said, and a
--- durable size; one that keeps a layout has it, and a size that is durable, or none beyond the place of the mark. A
--- file is sure, or claimed, exactly where it says so.
+-- octets of its file, too, which has the layout and its mark, and the device has the blocks that it had. Where a fuse
+-- fails one write, the disk behind it takes another at the same sector, of the octets that the fuse was given; the fuse
+-- adds a failure where that does not fail, counts no call as missed, and fails none from then on. A read changes
+-- nothing of a file, even of one in doubt. A file that was cut shows nothing, and a power loss may leave any octets of
+-- it, and another size. One that is found as a disk of some layout has that layout, whole sectors, as many as are said,
+-- and a durable size; one that keeps a layout has it, and a size that is durable, or none beyond the place of the mark.
+-- A file is sure, or claimed, exactly where it says so.
 pub record DiskWords : Type 0 where
   pub opened : (file : FileState) (least : ℕ) (layout : Layout) (disk : Disk) → IsOpened file least layout disk
       → (settled : FileState) × Settles file settled × (layout ≡ layout_in settled)
@@ -29,6 +29,7 @@ pub record DiskWords : Type 0 where
       (file_after_write settled settled.size (replicate (place layout least - settled.size) 0))))
   pub blank : (old new : FileState) (layout : Layout) (disk : Disk) → IsBlank old new layout disk
       → (now disk ≡ state_in_file layout new) × (new.block ≡ old.block) × (layout_in new ≡ layout)
+      × HasMark layout new
   pub blown : (disk : ℕ → Disk) (old new : FuseValue ℕ) (at : ℕ) (fill : List ℕ) → BlowsWrite disk old new at fill
       → (answer : Result (Unit {0}) DeviceFault) × IsDeviceCall (disk old.inner) (disk new.inner) answer
       × (IsHonest (disk new.inner) → Writes (now (disk old.inner)) (now (disk new.inner)) at fill answer)

@@ -1,12 +1,14 @@
 -- The headline on editions: what an endpoint of one edition does, one of an edition that takes as much or more does
 -- too.
 use Rattle.std.specs.Prelude.{◌≡◌, ◌≢◌, ◌<◌, ◌≤◌, ◌⊎◌, true, false, ℕ, List, [], ◌∷◌, Contains, length}
-use Rattle.std.specs.Prelude.{Option, Some, None, IfSome, IsSome, IsSomeAnd, Ok, Err, drop}
+use Rattle.std.specs.Prelude.{Option, Some, None, IfSome, IsSome, IsSomeAnd, Ok, Err, drop, take}
+use Rattle.std.specs.Option.{option_and_then, option_map}
 use Rattle.macs_aes.specs.Keys.{octets_of_key}
 use Rattle.macs_config.specs.Apply.{IsCommand, LongKey, Named, Reason, apply, refusal_of}
 use Rattle.macs_config.specs.Config.{Config, Edition, IsUpTo, is_spent, rx_fingerprint, takes_key, tx_fingerprint}
 use Rattle.macs_config.specs.Identity.{Identity}
 use Rattle.macs_config.specs.Judged.{rx_install, tx_install}
+use Rattle.macs_config.specs.Snapshot.{config_of_parts}
 use Rattle.macs_config.specs.declared.association.RxSa.{RxSa}
 use Rattle.macs_config.specs.declared.association.TxSa.{TxSa}
 use Rattle.macs_config.specs.declared.command.Command.{Command}
@@ -26,7 +28,8 @@ use Rattle.macs_journal.specs.Found.{Content, HasJournal, content_with_record}
 use Rattle.macs_journal.specs.Renewal.{compacted}
 use Rattle.macs_store.specs.Commands.{command_of, part_of}
 use Rattle.macs_store.specs.Found.{StandingIs}
-use Rattle.macs_store.specs.Replay.{meaning_of, reading_of, replay_of, snapshot_of, standing_after_record}
+use Rattle.macs_store.specs.Replay.{meaning_of, reading_of, replay_of, snapshot_of, snapshot_parts}
+use Rattle.macs_store.specs.Replay.{standing_after_record}
 use Rattle.macs_store.specs.Snapshot.{snapshot}
 use Rattle.macs_store.specs.Standing.{Standing, accept, new_standing, standing_with_rx_ceiling}
 use Rattle.macs_store.specs.Standing.{standing_with_tx_ceiling}
@@ -158,11 +161,13 @@ content_in format c = record c { head = record c.head { format = format } }
 
 -- How an edition reads a disk, whatever is installed. A journal that is found stands for what its content means; and
 -- with the head of either format in its place, the same content is found in that format. A new one of format one means
--- a new endpoint. With one record more, which its format has, a content means what the record makes of what it meant;
--- and a journal that starts over, with records that stand for what it meant, means that: in format two, where the
--- edition reads it, and in format one, where no record has a long key. A snapshot of what a content means, whose
--- associations are at the numbers 0 to 3, is such records. A record that raises the ceiling of an association does so,
--- and one that does not raise it is refused.
+-- a new endpoint. With one record more, which its format has, a content means what the record makes of what it meant,
+-- and nothing where the record is refused; and what means nothing still does with whatever record more. A journal that
+-- starts over, with records that stand for what it meant, means that: in format two, where the edition reads it, and in
+-- format one, where no record has a long key. A snapshot of what a content means, whose associations are at the numbers
+-- 0 to 3, is such records. A record that raises the ceiling of an association does so, and one that does not raise it
+-- is refused. A snapshot that is refused means nothing with whatever records after it; and it is of the configuration
+-- that its parts make, in their order, and refused where one of its records is no part or they make none.
 pub record EditionsRead : Type 0 where
   pub stands : (edition : Edition) (sectors : ℕ) (image : Image) (c : Content) (s : Standing) → least_sectors ≤ sectors
       → HasJournal image c
@@ -173,10 +178,12 @@ pub record EditionsRead : Type 0 where
   pub new_one : (edition : Edition) (identity : Identity)
       → meaning_of edition (record (first_content identity) { head = record (first_head identity) { format = One } })
       ≡ Some (new_standing edition identity)
-  pub one_more : (edition : Edition) (c : Content) (r : Record) (s after : Standing) → c.head.count ≤ length c.records
+  pub one_more : (edition : Edition) (c : Content) (r : Record) (s : Standing) → c.head.count ≤ length c.records
       → (c.head.format ≡ Two) ⊎ (¬ HasLongKey r) → meaning_of edition c ≡ Some s
-      → standing_after_record s r ≡ Some after
-      → meaning_of edition (content_with_record c r) ≡ Some after
+      → meaning_of edition (content_with_record c r) ≡ standing_after_record s r
+  pub none_more : (edition : Edition) (c : Content) (r : Record) → c.head.count ≤ length c.records
+      → meaning_of edition c ≡ None
+      → meaning_of edition (content_with_record c r) ≡ None
   pub anew : (edition : Edition) (c : Content) (s : Standing) (records : List Record) → edition.format_two ≡ true
       → meaning_of edition c ≡ Some s
       → snapshot_of edition s.identity records ≡ Some s → meaning_of edition (compacted c records) ≡ Some s
@@ -188,6 +195,13 @@ pub record EditionsRead : Type 0 where
       → ((an : ℕ) → 4 ≤ an → s.config.tx an ≡ None)
       → ((sci : List ℕ) (an : ℕ) → 4 ≤ an → s.config.rx sci an ≡ None)
       → snapshot_of edition s.identity (snapshot s) ≡ Some s
+  pub no_snapshot : (edition : Edition) (identity : Identity) (count : ℕ) (records : List Record)
+      → snapshot_of edition identity (take count records) ≡ None → replay_of edition identity count records ≡ None
+  pub of_parts : (edition : Edition) (identity : Identity) (records : List Record)
+      → option_map (λ (s : Standing). s.config) (snapshot_of edition identity records)
+      ≡ option_and_then (config_of_parts edition identity) (snapshot_parts records)
+  pub part_first : (r : Record) (records : List Record) (part : Part) (parts : List Part) → part_of r ≡ Some part
+      → snapshot_parts records ≡ Some parts → snapshot_parts (r ∷ records) ≡ Some (part ∷ parts)
   pub tx_raised : (s : Standing) (an old ceiling : ℕ) → s.ceilings.tx an ≡ Some old → old < ceiling
       → standing_after_record s (recorded.TxCeiling an ceiling) ≡ Some (standing_with_tx_ceiling s an ceiling)
   pub rx_raised : (s : Standing) (sci : List ℕ) (an old ceiling : ℕ) → s.ceilings.rx sci an ≡ Some old → old < ceiling

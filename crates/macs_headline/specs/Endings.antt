@@ -1,7 +1,8 @@
 -- The ways in which a program may end, each of which passes the medium of its disk on.
 use Rattle.std.specs.Prelude.{◌≡◌, ◌≤◌, ◌<◌, ◌^◌, ◌&&◌, not, if◌then◌else◌, ℕ, Bool, true, false, List, length, get_or}
 use Rattle.std.specs.Prelude.{Result}
-use Rattle.macs_disk.specs.Disk.{Disk, IsDeviceCall, IsHonest, LeftSince, MayLeave, Reads, Syncs, Works, now}
+use Rattle.macs_disk.specs.Disk.{Disk, IsDeviceCall, IsHonest, LeftSince, MayLeave, Reads, Syncs, Works}
+use Rattle.macs_disk.specs.Disk.{disk_after_loss, now}
 use Rattle.macs_disk.specs.States.{DiskState, Image, IsImage, settled_state}
 use Rattle.macs_disk.specs.declared.disk.DeviceFault.{DeviceFault}
 use Rattle.macs_headline.specs.Deeds.{IsPassedOn}
@@ -38,6 +39,16 @@ pub record LosesPower (ran : Disk) (since : ℕ) (new : Disk) : Type 0 where
 abbrev pub TheseLosePower : Type 0
 TheseLosePower = (ran new : Disk) (since : ℕ) (image : Image) → LeftSince ran since image → IsAlike ran new
     → now new ≡ settled_state image → LosesPower ran since new
+
+-- An image is left by a power loss at some moment since where it is one of that moment, whichever moment it is, the
+-- first and the last included; and else it is not. To the counts of a disk in memory a power loss does nothing.
+pub record TheseAreLeft : Type 0 where
+  pub left : (disk : Disk) (since k : ℕ) (image : Image) → since ≤ k → k ≤ disk.clock → IsImage (disk.past k) image
+      → LeftSince disk since image
+  pub at : (disk : Disk) (since : ℕ) (image : Image) → LeftSince disk since image
+      → (k : ℕ) × (since ≤ k) × (k ≤ disk.clock) × IsImage (disk.past k) image
+  pub counts : (disk : Disk) (image : Image) → ((disk_after_loss disk image).clock ≡ disk.clock)
+      × ((disk_after_loss disk image).failures ≡ disk.failures) × ((disk_after_loss disk image).worn ≡ disk.worn)
 
 -- Power is lost.
 abbrev pub PowerLossesPassOn : Type 0

@@ -67,3 +67,7 @@ pub mod LayerWords
 pub mod PartsFollow
 pub mod LayoutWords
 pub mod OctetWords
+pub mod HistoryWords
+pub mod LayerLeaves
+pub mod SideWords
+pub mod SnapshotOrder

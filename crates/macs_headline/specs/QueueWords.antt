@@ -36,3 +36,4 @@ pub record QueueWords : Type 0 where
       → (first_under ticket (w ∷ rest) ≡ w.command ∷ []) × (without_first ticket (w ∷ rest) ≡ rest)
   pub not_under : (w : Waiting) (rest : List Waiting) (ticket : ℕ) → w.ticket ≢ ticket
       → (first_under ticket (w ∷ rest) ≡ []) × (without_first ticket (w ∷ rest) ≡ w ∷ rest)
+  pub none_waits : (ticket : ℕ) → (first_under ticket [] ≡ []) × (without_first ticket [] ≡ [])

@@ -6,6 +6,7 @@ use Rattle.macs_endpoint.specs.declared.fault.CommandFault.TheVariants as ran
 use Rattle.macs_endpoint.specs.declared.fault.ProtectFault.TheVariants as protect
 use Rattle.macs_endpoint.specs.declared.fault.RefillFault.TheVariants as refill
 use Rattle.macs_endpoint.specs.declared.fault.StepFault.TheVariants as step
+use Rattle.macs_endpoint.specs.declared.fault.Stopped.{Stopped}
 use Rattle.macs_endpoint.specs.declared.fault.SubmitFault.TheVariants as submit
 use Rattle.macs_headline.specs.Moments.{Moment}
 
@@ -31,8 +32,10 @@ TellsStopped (Received (Err stopped) out) = out ≡ []
 TellsStopped reply = ⊥
 
 -- A call is so answered exactly where one of the life before it was answered that a device call failed; and then it
--- changes nothing.
+-- changes nothing. A call with a frame that is answered Stopped leaves nothing in `out`, and so is one of these.
 abbrev pub StoppedStays : ℕ → Type 0
 StoppedStays sectors = (s : State) (m : Moment sectors s) (call : Call) (reply : Reply) (new : State)
     → Step s call reply new
     → (HadFault m.exchanges ↔ TellsStopped reply) × (TellsStopped reply → new ≡ s)
+    × ((out : List ℕ) → reply ≡ Protected (Err protect.Stopped) out → TellsStopped reply)
+    × ((out : List ℕ) (stopped : Stopped) → reply ≡ Received (Err stopped) out → TellsStopped reply)

@@ -29,7 +29,7 @@ ghost use Rattle.macs_headline.specs.Binding.{LargerFind, LargerGoOn, RefusalsAr
 ghost use Rattle.macs_headline.specs.Binding.{LivesAreMoments, LivesFit, LivesFitUnbegun};
 ghost use Rattle.macs_headline.specs.Binding.{LivesKeepCommands};
 ghost use Rattle.macs_headline.specs.Binding.{LivesAreDeeds, LivesEndExactly, LivesKeepTickets};
-ghost use Rattle.macs_headline.specs.Binding.{TheseAreNew};
+ghost use Rattle.macs_headline.specs.Binding.{HistoriesFit, TheseAreNew};
 ghost use Rattle.macs_headline.specs.Binding.{NewDeedsAreHistories, OpeningsBeginAnew};
 ghost use Rattle.macs_headline.specs.Binding.{NewDisksHaveHistories, OpeningsFind};
 ghost use Rattle.macs_headline.specs.Binding.{PassedOnHaveHistories, RefusalsAreFailures};
@@ -54,16 +54,20 @@ ghost use Rattle.macs_headline.specs.NeedWords.{NeedsAreInOrder, TurnsAreUsed};
 ghost use Rattle.macs_headline.specs.FailureWords.{FailureWords};
 ghost use Rattle.macs_headline.specs.FileCallWords.{FileCallWords};
 ghost use Rattle.macs_headline.specs.LayerFaults.{LayerFaults};
+ghost use Rattle.macs_headline.specs.LayerLeaves.{LayerLeaves};
 ghost use Rattle.macs_headline.specs.LayerWords.{LayerWords};
 ghost use Rattle.macs_headline.specs.DiskWords.{DiskWords};
 ghost use Rattle.macs_headline.specs.LayoutWords.{LayoutWords};
 ghost use Rattle.macs_headline.specs.OctetWords.{OctetWords};
+ghost use Rattle.macs_headline.specs.SideWords.{SideWords};
+ghost use Rattle.macs_headline.specs.SnapshotOrder.{SnapshotOrder};
 ghost use Rattle.macs_headline.specs.StandWords.{CallsLeave, ServedEnds};
 ghost use Rattle.macs_headline.specs.Endings.{DroppedPassOn, EndsAreEarlier, ImagesAreWhole};
 ghost use Rattle.macs_headline.specs.Endings.{KillingsPassOn, LosesPower, LossesSettle};
 ghost use Rattle.macs_headline.specs.Endings.{PassedOnAgain, PassedOnAlone, PowerLossesPassOn};
 ghost use Rattle.macs_headline.specs.Endings.{ReadsPassOn, SyncsPassOn, TheseAreAlike};
-ghost use Rattle.macs_headline.specs.Endings.{TheseAreImages, TheseArePassedOn, TheseLosePower};
+ghost use Rattle.macs_headline.specs.Endings.{TheseAreImages, TheseAreLeft};
+ghost use Rattle.macs_headline.specs.Endings.{TheseArePassedOn, TheseLosePower};
 ghost use Rattle.macs_headline.specs.Endings.{WritesBackAsSyncs, WrittenBackPassOn};
 ghost use Rattle.macs_headline.specs.ExampleLives.{IsWorkedHistory};
 ghost use Rattle.macs_headline.specs.ExampleMigration.{IsWorkedMigration};
@@ -79,6 +83,7 @@ ghost use Rattle.macs_headline.specs.EndWords.{EndWords};
 ghost use Rattle.macs_headline.specs.Formats.{FormatsOnce, RefusedByHistory};
 ghost use Rattle.macs_headline.specs.Frames.{FramesAreStandard, WrittenBelow, WrittenOnce};
 ghost use Rattle.macs_headline.specs.GoingOn.{LivesGoOn};
+ghost use Rattle.macs_headline.specs.HistoryWords.{HistoryWords};
 ghost use Rattle.macs_headline.specs.AnsweredLogs.{LogsAreAnswers};
 ghost use Rattle.macs_headline.specs.Numbers.{BeginAsAsked, GivenApart, GivenBelow};
 ghost use Rattle.macs_headline.specs.Numbers.{NothingForgotten, OkApart, SkipsFew};
@@ -352,6 +357,12 @@ pub fn words()
     ensures logs { (sectors : ℕ) → LogWords sectors }
     ensures numbers { NumberWords }
     ensures lives { (sectors : ℕ) → LifeWords sectors }
+    // How a life goes on, and one life after another, and what a restart resumes.
+    ensures histories { (sectors : ℕ) → HistoryWords sectors }
+    // What the two sides begin with and keep, what a SecTAG is, and why a frame is not opened.
+    ensures sides { SideWords }
+    // In which order a snapshot is written.
+    ensures snapshots { SnapshotOrder }
     // In which words the contracts of the examples end.
     ensures examples { ExampleWords }
     // What the worked history and the worked migration are.
@@ -379,6 +390,7 @@ pub fn endpoint_words<D: SectorDisk>()
     // What the store, the journal and a fuse promise that no call of an endpoint asks for.
     ensures layers { LayerWords D.disk }
     ensures layer_faults { LayerFaults D.disk }
+    ensures layer_leaves { LayerLeaves D.disk }
     // What a loss of power leaves of events that are served, and when that halts.
     ensures served { ServedWords D.disk }
     // That they are calls, and that no answer before the last says that a device call failed.
@@ -447,6 +459,8 @@ pub fn beginnings()
     ensures larger { LargerGoOn }
     // And it finds, in each image, what is found after that history.
     ensures found { LargerFind }
+    // A disk has no other history.
+    ensures fits { HistoriesFit }
     // The next disk over the same medium has the history of the one before.
     ensures passed_on { PassedOnHaveHistories }
     // So has a disk with a fuse before it, and one without.
@@ -460,6 +474,8 @@ pub fn endings<D: SectorDisk>()
     // The medium is passed on to each of those that may leave nothing but images of a moment since.
     ensures as_passed_on { TheseArePassedOn }
     ensures passed_on_alone { PassedOnAlone }
+    // What a power loss may leave at some moment since, and what it does to counts.
+    ensures left { TheseAreLeft }
     // Power is lost, so for each such disk that holds an image of a moment since.
     ensures as_lost { TheseLosePower }
     ensures power_lost { PowerLossesPassOn }

@@ -1,9 +1,9 @@
 use Rattle.std.proofs.Common.{◌≡◌, ◌≤◌, ◌-◌, ap, ◌∙◌, arith, inr}
 use Rattle.macs_disk.specs.Files.{Behaves, FileState, IsSure}
 use Rattle.macs_disk.specs.Layouts.{mark_place, place}
-use Rattle.macs_disk.proofs.FileOpenings.{cleared, sure-written}
+use Rattle.macs_disk.proofs.FileOpenings.{cleared, found-mark, sure-written}
 use Rattle.macs_disk.proofs.FileWrites.{on-failed}
-use Rattle.macs_disk.proofs.FoundAgain.{ends-in-front, found-mark, kept-doubted, kept-synced, kept-zeros}
+use Rattle.macs_disk.proofs.FoundAgain.{ends-in-front, kept-doubted, kept-synced, kept-zeros}
 use Rattle.std.specs.IoError.{error_kind}
 use Rattle.std.proofs.lemmas.Result.{err_from_is_err_and}
 use Rattle.macs_disk.specs.FileFailures.{Syncs}

@@ -1,4 +1,4 @@
-use Rattle.std.proofs.Common.{◌≡◌, ◌%◌, ◌/◌, ap, ◌∙◌, arith, inl, refl, sym, ℕ}
+use Rattle.std.proofs.Common.{◌%◌, ◌/◌, ap, ◌∙◌, arith, inl, refl, sym, ℕ}
 use Rattle.std.specs.IoError.{error_kind}
 use Rattle.std.proofs.lemmas.Result.{err_from_is_err_and}
 use Rattle.macs_disk.specs.FileFailures.{Syncs}

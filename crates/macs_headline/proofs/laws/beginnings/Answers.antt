@@ -25,6 +25,9 @@ returns-clause-larger c = older
 pub returns-clause-found : goal.returns-clause-found
 returns-clause-found c = larger-find
 
+pub returns-clause-fits : goal.returns-clause-fits
+returns-clause-fits c = λ edition disk lives h. (h.honest, h.history, h.images)
+
 pub returns-clause-passed_on : goal.returns-clause-passed_on
 returns-clause-passed_on c = passed-on
 

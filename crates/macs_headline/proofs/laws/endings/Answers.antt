@@ -2,7 +2,7 @@ use Rattle.macs_headline.proofs.Endings.{dropped-pass-on, ends-are-earlier, imag
 use Rattle.macs_headline.proofs.Endings.{losses-settle, passed-on-again, passed-on-alone, power-losses-pass-on}
 use Rattle.macs_headline.proofs.Endings.{reads-pass-on}
 use Rattle.macs_headline.proofs.Endings.{syncs-pass-on, these-are-alike, these-are-images, these-are-passed-on}
-use Rattle.macs_headline.proofs.Endings.{these-lose-power, writes-back-as-syncs, written-back-pass-on}
+use Rattle.macs_headline.proofs.Endings.{these-are-left, these-lose-power, writes-back-as-syncs, written-back-pass-on}
 use Rattle.macs_headline.proofs.laws.endings.Goals as goal
 
 pub returns-clause-as_alike : goal.returns-clause-as_alike
@@ -13,6 +13,9 @@ returns-clause-as_passed_on g c = these-are-passed-on
 
 pub returns-clause-passed_on_alone : goal.returns-clause-passed_on_alone
 returns-clause-passed_on_alone g c = passed-on-alone
+
+pub returns-clause-left : goal.returns-clause-left
+returns-clause-left g c = these-are-left
 
 pub returns-clause-as_lost : goal.returns-clause-as_lost
 returns-clause-as_lost g c = these-lose-power

@@ -5,6 +5,7 @@ use Rattle.macs_headline.proofs.RefusedWords.{refused-words}
 use Rattle.macs_headline.proofs.EndpointWords.{calls-are-counted, ceilings-are-raised, openings-count, served-words}
 use Rattle.macs_headline.proofs.CountWords.{counts-are-named, counts-rise-alone}
 use Rattle.macs_headline.proofs.LayerFaults.{layer-faults}
+use Rattle.macs_headline.proofs.LayerLeaves.{layer-leaves}
 use Rattle.macs_headline.proofs.LayerWords.{layer-words}
 use Rattle.macs_headline.proofs.NeedWords.{needs-are-in-order, turns-are-used}
 use Rattle.macs_headline.proofs.StandWords.{calls-leave, served-ends}
@@ -49,6 +50,9 @@ returns-clause-layers g c = layer-words g.D.SectorDisk.disk
 
 pub returns-clause-layer_faults : goal.returns-clause-layer_faults
 returns-clause-layer_faults g c = layer-faults g.D.SectorDisk.disk
+
+pub returns-clause-layer_leaves : goal.returns-clause-layer_leaves
+returns-clause-layer_leaves g c = layer-leaves g.D.SectorDisk.disk
 
 pub returns-clause-ends : goal.returns-clause-ends
 returns-clause-ends g c = served-ends g.D.SectorDisk.disk

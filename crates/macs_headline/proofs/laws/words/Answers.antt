@@ -6,6 +6,9 @@ use Rattle.macs_headline.proofs.ExampleWords.{example-words}
 use Rattle.macs_headline.proofs.FrameWords.{frame-words}
 use Rattle.macs_headline.proofs.QueueWords.{queue-words}
 use Rattle.macs_headline.proofs.WorkedWords.{migration-words, worked-words}
+use Rattle.macs_headline.proofs.HistoryWords.{history-words}
+use Rattle.macs_headline.proofs.SideWords.{side-words}
+use Rattle.macs_headline.proofs.SnapshotOrder.{snapshot-order}
 use Rattle.macs_headline.proofs.laws.words.Goals as goal
 
 pub returns-clause-editions : goal.returns-clause-editions
@@ -55,6 +58,15 @@ returns-clause-numbers c = number-words
 
 pub returns-clause-lives : goal.returns-clause-lives
 returns-clause-lives c = life-words
+
+pub returns-clause-histories : goal.returns-clause-histories
+returns-clause-histories c = history-words
+
+pub returns-clause-sides : goal.returns-clause-sides
+returns-clause-sides c = side-words
+
+pub returns-clause-snapshots : goal.returns-clause-snapshots
+returns-clause-snapshots c = snapshot-order
 
 pub returns-clause-examples : goal.returns-clause-examples
 returns-clause-examples c = example-words

@@ -1,0 +1,33 @@
+-- What is left where store, journal and endpoint refuse.
+use Rattle.std.proofs.Common.{Result, Ok, Err, ◌∙◌}
+use Rattle.macs_disk.specs.Disk.{Disk, Works}
+use Rattle.macs_journal.specs.declared.recovery.RecoverRefused.{RecoverRefused}
+use Rattle.macs_endpoint.specs.Opening.{IsOpening}
+use Rattle.macs_endpoint.specs.Value.{EndpointValue}
+use Rattle.macs_headline.specs.Deeds.{disk_after_opening}
+use Rattle.macs_headline.specs.LayerLeaves.{LayerLeaves}
+
+opening_works : {D : Type 0} (disk_of : D → Disk) (disk : D) (result : Result (EndpointValue D) (RecoverRefused D))
+    → IsOpening disk_of disk result → Works (disk_of disk) (disk_after_opening disk_of result)
+opening_works disk_of disk (Ok first) is = is.device.works
+opening_works disk_of disk (Err refused) is = is.refused.works
+
+pub layer-leaves : {D : Type 0} (disk_of : D → Disk) → LayerLeaves disk_of
+layer-leaves disk_of = record {
+  committed = λ old new command result is. is.same;
+  commit_started = λ old new command result is. is.same;
+  work_stepped = λ old new records result is. is.same;
+  compacted = λ old new records result is. is.same;
+  recovered = λ disk j format identity count records is. (is.form, is.whose, is.counted, is.used);
+  not_recovered = λ disk refused is. is;
+  opened = λ disk first k is honest none later within.
+      let nothing = is.device.unwritten honest none in nothing.0.from_first k later within ∙ nothing.1;
+  formatted = λ old new identity is honest. (
+    is.blank honest,
+    λ image left. let each = is.kept honest image left in (each.stands, each.format),
+  );
+  opening_works = opening_works disk_of;
+  format_works = λ old new identity result is. is.device.work.works;
+  call_works = λ old new call reply is. is.device.works;
+  works = λ old new is. (is.later, is.past, is.failures, is.worn, is.sectors, is.honest);
+}

@@ -1,0 +1,19 @@
+-- In which order a snapshot has its records.
+use Rattle.std.proofs.Common.{◌≡◌, ◌∷◌, [], ℕ, Option, Some, refl}
+use Rattle.macs_record.specs.declared.record.Record.{Record}
+use Rattle.macs_store.specs.Snapshot.{record_if_both, rx_records, rx_records_of, snapshot, spent_records, tx_records}
+use Rattle.macs_headline.specs.SnapshotOrder.{SnapshotOrder}
+
+both : {A : Type 0} (r : A → ℕ → Record) (sa : Option A) (ceiling : Option ℕ) (a : A) (last : ℕ) → sa ≡ Some a
+    → ceiling ≡ Some last
+    → record_if_both r sa ceiling ≡ r a last ∷ []
+both r sa ceiling a last is at i = record_if_both r (is i) (at i)
+
+pub snapshot-order : SnapshotOrder
+unfolding snapshot tx_records rx_records rx_records_of spent_records
+snapshot-order = record {
+  whole = λ s. refl;
+  fingerprints = λ role spent. refl;
+  transmit = λ c ceilings an ceiling sa is at. both _ (c.tx an) (ceilings.tx an) sa ceiling is at;
+  receive = λ c ceilings sci an ceiling sa is at. both _ (c.rx sci an) (ceilings.rx sci an) sa ceiling is at;
+}

@@ -1,0 +1,47 @@
+-- What the words say of which histories are made: how a life goes on, and one life after another.
+use Rattle.std.specs.Prelude.{◌≡◌, ◌⊎◌, ℕ, Bool, List, [], ◌∷◌, Option, Some, Ok}
+use Rattle.macs_config.specs.Apply.{apply}
+use Rattle.macs_config.specs.Config.{Config, Edition, IsUpTo}
+use Rattle.macs_config.specs.Identity.{Identity}
+use Rattle.macs_config.specs.declared.command.Command.{Command}
+use Rattle.macs_disk.specs.States.{Image}
+use Rattle.macs_journal.specs.declared.fault.JournalFault.{JournalFault}
+use Rattle.macs_store.specs.Found.{StandingIs}
+use Rattle.macs_store.specs.Standing.{Standing}
+use Rattle.macs_endpoint.specs.Restart.{Fits, Restart, Resumes, RxRises, TxRises, opened_state}
+use Rattle.macs_endpoint.specs.State.{Call, State}
+use Rattle.macs_endpoint.specs.Step.{Exchange, Step, Steps, state_after_command}
+use Rattle.macs_headline.specs.Answered.{exchanges_in}
+use Rattle.macs_headline.specs.Commands.{waiting_at_end}
+use Rattle.macs_headline.specs.History.{Formats, LeadOn, Leads, Life, Past, Refuses, Serves}
+use Rattle.macs_headline.specs.Moments.{Moment}
+
+-- A life goes on call by call, each a step of the endpoint, and one life comes after another. What a life answered is
+-- the answers of its calls, in their order; a `format` and a refused opening answered none. The commands that wait
+-- after the calls of a life are those that wait in its endpoint. What fits a state stands for a restart of it. A
+-- restart resumes the state, or the state after the command under way, which is not refused; it is of no smaller
+-- edition and of the same identity and configuration, and each number rises as far as it may, or is still none,
+-- whatever is installed.
+pub record HistoryWords (sectors : ℕ) : Type 0 where
+  pub called_none : (old new : State) → Steps old [] new → new ≡ old
+  pub called_more : (old new : State) (e : Exchange) (rest : List Exchange) → Steps old (e ∷ rest) new
+      → (mid : State) × Step old e.call e.reply mid × Steps mid rest new
+  pub led_none : (old new : Past) → LeadOn sectors old [] new → new ≡ old
+  pub led_more : (old new : Past) (life : Life) (rest : List Life) → LeadOn sectors old (life ∷ rest) new
+      → (mid : Past) × Leads sectors old life mid × LeadOn sectors mid rest new
+  pub answers : (edition : Edition) (image : Image) (exchanges : List Exchange) (cut : Option Call)
+      → exchanges_in (Serves edition image exchanges cut) ≡ exchanges
+  pub no_answers : (edition : Edition) (identity : Identity) (is_ok : Bool) (image : Image) (fault : JournalFault)
+      → (exchanges_in (Formats edition identity is_ok) ≡ []) × (exchanges_in (Refuses edition image fault) ≡ [])
+  pub waiting : (s : State) (m : Moment sectors s) → waiting_at_end m.exchanges ≡ s.waiting
+  pub fitting : (edition : Edition) (image : Image) (s : State) → Fits edition sectors image s
+      → (found : Standing) × StandingIs edition sectors image (Ok found) × Restart s (opened_state found s.logs)
+  pub restarted : (old new : State) → Restart old new
+      → Resumes old new
+      ⊎ ((command : Command) × (mid : State) × (config : Config) × (old.in_hand ≡ Some command)
+      × (apply old.edition old.identity old.config command ≡ Ok config)
+      × (mid ≡ state_after_command old command config) × Resumes mid new)
+  pub resumed : (old new : State) → Resumes old new
+      → IsUpTo old.edition new.edition × (new.identity ≡ old.identity) × (new.config ≡ old.config)
+      × ((an : ℕ) → TxRises old.identity.tx_block (old.next an) (new.next an))
+      × ((sci : List ℕ) (an : ℕ) → RxRises old.identity.rx_block (old.numbers sci an) (new.numbers sci an))
