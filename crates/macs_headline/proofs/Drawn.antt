@@ -285,6 +285,8 @@ pub life-words : (sectors : ℕ) → LifeWords sectors
 life-words sectors = record {
   accepted = λ exchanges in_hand. refl;
   acknowledged = λ waiting e exchanges. refl;
+  finds = λ before after exchanges in_hand f. (f.identity, f.kept, f.acknowledged, f.accepted, f.made);
+  so_far = λ s m. refl;
   restarted = restarted;
   handed_in = handed_in;
   begun = begun;
@@ -299,7 +301,7 @@ life-words sectors = record {
     (are.moment, are.of_edition, are.opened, are.answered),
     are.acknowledged,
     subst (λ (in_hand : Option Command). IsPrefix kept (accepted_commands exchanges in_hand)) are.at_end are.accepted,
-    λ command is. (sym are.at_end ∙ is, are.begun command is, are.handed_in command is),
+    λ command is. (are.at_end ∙ is, are.begun command (are.at_end ∙ is), are.handed_in command (are.at_end ∙ is)),
   );
   identity = λ lives found is edition given among. is.identity edition given among;
   unformatted = unformatted;

@@ -26,7 +26,7 @@ these-are-passed-on ran new since moment from to alike images = record {
 
 pub passed-on-alone : PassedOnAlone
 passed-on-alone ran new since on =
-    (on.moment, on.later, on.within, record { sectors = on.sectors; honest = on.honest }, on.images)
+    (on.later, on.within, record { sectors = on.sectors; honest = on.honest }, on.images)
 
 pub these-lose-power : TheseLosePower
 these-lose-power ran new since image left alike settled =

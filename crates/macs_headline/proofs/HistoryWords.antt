@@ -27,6 +27,8 @@ history-words sectors = record {
   led_more = λ old new life rest leads. leads;
   answers = λ edition image exchanges cut. refl;
   no_answers = λ edition identity is_ok image fault. (refl, refl);
+  answers_on = λ life lives. (refl, refl);
+  logged = λ s identities. (refl, refl);
   waiting = λ s m.
       sym (waits-from [] (opened_state m.life.found (logs_of m.past)) m.exchanges s refl m.life.steps);
   fitting = λ edition image s fits. (fits.found, fits.is_found, fits.restart);

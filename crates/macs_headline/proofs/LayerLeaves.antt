@@ -1,16 +1,28 @@
 -- What is left where store, journal and endpoint refuse.
-use Rattle.std.proofs.Common.{Result, Ok, Err, ◌∙◌}
+use Rattle.std.proofs.Common.{◌≡◌, Some, None, Result, Ok, Err, ◌∙◌}
+use Rattle.macs_config.specs.declared.command.Command.{Command}
 use Rattle.macs_disk.specs.Disk.{Disk, Works}
+use Rattle.macs_record.specs.declared.record.Record.{Record}
+use Rattle.macs_record.specs.declared.record.Record.TheVariants as records
 use Rattle.macs_journal.specs.declared.recovery.RecoverRefused.{RecoverRefused}
+use Rattle.macs_store.specs.Commands.{command_of}
+use Rattle.macs_store.specs.Value.{IsOfRecord}
 use Rattle.macs_endpoint.specs.Opening.{IsOpening}
 use Rattle.macs_endpoint.specs.Value.{EndpointValue}
 use Rattle.macs_headline.specs.Deeds.{disk_after_opening}
 use Rattle.macs_headline.specs.LayerLeaves.{LayerLeaves}
+use Rattle.macs_headline.proofs.LookUps.{none-some}
 
 opening_works : {D : Type 0} (disk_of : D → Disk) (disk : D) (result : Result (EndpointValue D) (RecoverRefused D))
     → IsOpening disk_of disk result → Works (disk_of disk) (disk_after_opening disk_of result)
 opening_works disk_of disk (Ok first) is = is.device.works
 opening_works disk_of disk (Err refused) is = is.refused.works
+
+-- what no command keeps is a ceiling that is raised
+judged : (r : Record) (command : Command) → command_of r ≡ Some command → ¬ IsOfRecord r None
+judged (records.TxCeiling an ceiling) command keeps none = none-some command keeps
+judged (records.RxCeiling sci an ceiling) command keeps none = none-some command keeps
+judged r command keeps none = absurd (cc)
 
 pub layer-leaves : {D : Type 0} (disk_of : D → Disk) → LayerLeaves disk_of
 layer-leaves disk_of = record {
@@ -26,6 +38,11 @@ layer-leaves disk_of = record {
     is.blank honest,
     λ image left. let each = is.kept honest image left in (each.stands, each.format),
   );
+  appended = λ j r work is. is;
+  appending = λ work later is. is;
+  lent = λ work records is. is;
+  judged_none = λ checked is. is;
+  judged = judged;
   opening_works = opening_works disk_of;
   format_works = λ old new identity result is. is.device.work.works;
   call_works = λ old new call reply is. is.device.works;

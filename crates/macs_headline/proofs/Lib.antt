@@ -113,6 +113,9 @@ mod LayoutWords
 mod DiskWords
 mod OctetWords
 mod HistoryWords
+mod PlayedDisks
+mod RecordWords
 mod LayerLeaves
 mod SideWords
 mod SnapshotOrder
+mod StepWords

@@ -20,9 +20,11 @@ use Rattle.macs_rxsc.specs.Needs.{Need, first_need, need_by_seen, need_of, raise
 use Rattle.macs_rxsc.specs.Needs as needs
 use Rattle.macs_rxsc.specs.Receive.{Numbers}
 use Rattle.macs_rxsc.proofs.Needed.{is-need, needs_among, own-place}
-use Rattle.macs_endpoint.specs.Advancing.{turn_after, turn_after_refill}
+use Rattle.macs_endpoint.specs.Advancing.{ToKeep, ToRaise, piece_among, piece_by_turn, turn_after, turn_after_refill}
 use Rattle.macs_endpoint.specs.Ceilings.{Raise, either_raise}
 use Rattle.macs_endpoint.specs.State.{Advanced, Advances, Commands, Protects, Ran, Receives, Refilled, Refills, Reply}
+use Rattle.macs_endpoint.specs.Needed.{raise_in}
+use Rattle.macs_endpoint.specs.Queue.{first_waiting}
 use Rattle.macs_endpoint.specs.State.{Submits}
 use Rattle.macs_endpoint.specs.Value.{EndpointValue}
 use Rattle.macs_endpoint.specs.declared.fault.CommandFault.{CommandFault}
@@ -31,6 +33,8 @@ use Rattle.macs_endpoint.specs.declared.fault.RefillFault.{RefillFault}
 use Rattle.macs_endpoint.specs.declared.fault.RefillFault.TheVariants as refill
 use Rattle.macs_endpoint.specs.declared.fault.StepFault.{StepFault}
 use Rattle.macs_endpoint.specs.declared.fault.StepFault.TheVariants as step
+use Rattle.macs_endpoint.specs.declared.queue.Waiting.{Waiting}
+use Rattle.macs_endpoint.specs.declared.turn.Turn.{Turn}
 use Rattle.macs_endpoint.specs.declared.turn.Turn.TheVariants.{Command as CommandTurn, Reservation}
 use Rattle.macs_headline.specs.NeedWords.{NeedsAreInOrder, TurnsAreUsed}
 use Rattle.macs_headline.proofs.Ledger.{some_one}
@@ -338,8 +342,46 @@ module _ {D : Type 0} where
   failed old fault (inl is) = ap (λ (f : StepFault). turn_after old Advances (Advanced (Err f))) is
   failed old fault (inr is) = ap (λ (f : StepFault). turn_after old Advances (Advanced (Err f))) is
 
+-- ---- what is next
+
+raised_next : (whose : Turn) (o : Option Raise) (w : Option Waiting) (raise : Raise)
+    → piece_among whose o w ≡ Some (ToRaise raise) → o ≡ Some raise
+raised_next whose None None raise is = absurd (cc)
+raised_next whose None (Some first) raise is = absurd (cc)
+raised_next whose (Some r) None raise is = cc
+raised_next Reservation (Some r) (Some first) raise is = cc
+raised_next CommandTurn (Some r) (Some first) raise is = absurd (cc)
+
+kept_next : (whose : Turn) (o : Option Raise) (w : Option Waiting) (first : Waiting)
+    → piece_among whose o w ≡ Some (ToKeep first) → w ≡ Some first
+kept_next whose None None first is = absurd (cc)
+kept_next whose None (Some w) first is = cc
+kept_next whose (Some r) None first is = absurd (cc)
+kept_next Reservation (Some r) (Some w) first is = absurd (cc)
+kept_next CommandTurn (Some r) (Some w) first is = cc
+
+none_next : (whose : Turn) (o : Option Raise) (waiting : List Waiting)
+    → piece_among whose o (first_waiting waiting) ≡ None → (o ≡ None) × (waiting ≡ [])
+none_next whose None [] is = (refl, refl)
+none_next whose None (first ∷ rest) is = absurd (cc)
+none_next whose (Some r) [] is = absurd (cc)
+none_next whose (Some r) (first ∷ rest) is = absurd (cc)
+
+by_turn : (whose : Turn) (o : Option Raise) (w : Option Waiting) (raise : Raise) (first : Waiting) → o ≡ Some raise
+    → w ≡ Some first → piece_among whose o w ≡ Some (piece_by_turn whose raise first)
+by_turn whose o w raise first is waits i = piece_among whose (is i) (waits i)
+
 pub turns-are-used : {D : Type 0} (disk_of : D → Disk) → TurnsAreUsed disk_of
 turns-are-used disk_of = record {
+  needed = λ e. refl;
+  next_raised = λ e raise is. raised_next e.turn (raise_in e) (first_waiting e.waiting) raise is;
+  next_kept = λ e first is. kept_next e.turn (raise_in e) (first_waiting e.waiting) first is;
+  next_one = λ e is. none_next e.turn (raise_in e) e.waiting is;
+  next_by_turn = λ e raise first is waits.
+      let next = by_turn e.turn (raise_in e) (first_waiting e.waiting) raise first is waits in (
+        λ at. next ∙ ap (λ (t : Turn). Some (piece_by_turn t raise first)) at,
+        λ at. next ∙ ap (λ (t : Turn). Some (piece_by_turn t raise first)) at,
+      );
   command = λ old new command result call not_stopped not_busy. call.behaves.turn
       ∙ used old command result not_stopped not_busy;
   not_begun = λ old new command fault which call. call.behaves.turn ∙ not_begun old command fault which;

@@ -162,7 +162,7 @@ new_gates old new area slot is =
       λ few opens. ap new (sym at) ∙ is.slot slot few (subst (λ (i : ℕ). IsOpen (old i)) (sym at) opens),
     )
 
-failures : (old new : Disk) (fault : JournalFault) → fault ≢ DiskFault → FailsWith old new fault
+pub failures : (old new : Disk) (fault : JournalFault) → fault ≢ DiskFault → FailsWith old new fault
     → new.failures ≡ old.failures
 failures old new DiskFault worked is = absurd (worked refl)
 failures old new fault worked is = is
@@ -186,6 +186,12 @@ journal-words = record {
     λ octets kept whole.
         let before = is.leaves k from to octets (record { kept = kept; whole = whole }) in (before.kept, before.whole),
   );
+  passed_over = λ image c before stands has earlier same. record {
+    stands = stands;
+    past = λ opens. record { past = before; is = has.is; earlier = earlier; same = same };
+  };
+  at_odds = λ image odd. (odd.first, odd.second, odd.has_first, odd.has_second, odd.odd);
+  open_head = λ image. (λ is. is, λ is. is);
   most_calls = λ used s. omega arith;
 }
 

@@ -5,6 +5,7 @@ use Rattle.macs_headline.specs.PartsFollow.{PartsFollow}
 pub parts-follow : PartsFollow
 parts-follow = record {
   spent = λ edition identity c role fingerprints. refl;
+  in_order = λ place one parts. (refl, refl);
   tx = λ edition identity c an sa. refl;
   channel = λ edition identity c sci. refl;
   rx = λ edition identity c sci an sa. refl;

@@ -1,13 +1,14 @@
 -- What is to be drawn from words on commands that wait, and on their tickets.
-use Rattle.std.proofs.Common.{◌≡◌, ◌⊎◌, ◌++◌, inl, inr, Bool, cond, List, [], ◌∷◌, refl, ◌∙◌, ap}
+use Rattle.std.proofs.Common.{◌≡◌, ◌≢◌, ◌⊎◌, ◌++◌, inl, inr, ℕ, Bool, cond, List, [], ◌∷◌, Ok, refl, ◌∙◌, ap}
 use Rattle.std.specs.Prelude.{Contains, Option, Some}
 use Rattle.std.proofs.lemmas.Bool.{eq-eqb, ne_eqb}
 use Rattle.macs_config.specs.declared.command.Command.{Command}
 use Rattle.macs_endpoint.specs.Queue.{first_command}
-use Rattle.macs_endpoint.specs.State.{Call, Commands, Reply}
+use Rattle.macs_endpoint.specs.State.{Advanced, Advances, Call, Commands, Ran, Reply}
 use Rattle.macs_endpoint.specs.Step.{Exchange}
+use Rattle.macs_endpoint.specs.declared.progress.Step.TheVariants.{Done}
 use Rattle.macs_endpoint.specs.declared.queue.Waiting.{Waiting}
-use Rattle.macs_headline.specs.Commands.{WasHandedIn, failing, waiting_at_end}
+use Rattle.macs_headline.specs.Commands.{WasHandedIn, acknowledged_by, failing, waiting_at_end}
 use Rattle.macs_headline.specs.QueueWords.{QueueWords}
 use Rattle.macs_headline.specs.Tickets.{done_by, given_by, tickets_done, tickets_given}
 use Rattle.macs_headline.proofs.Drawn.{tickets-in-order}
@@ -24,6 +25,15 @@ handed_in : (exchanges : List Exchange) (cut : Option Call) (command : Command) 
     ⊎ ((waiting_at_end exchanges ≡ []) × (Contains exchanges (failing command) ⊎ (cut ≡ Some (Commands command))))
 handed_in exchanges cut command (inl first) = inl (first_waits (waiting_at_end exchanges) command first)
 handed_in exchanges cut command (inr behind) = inr behind
+
+none_acknowledged : (waiting : List Waiting) (call : Call) (reply : Reply)
+    → ((command : Command) → call ≡ Commands command → reply ≢ Ran (Ok tt))
+    → ((ticket : ℕ) → call ≡ Advances → reply ≢ Advanced (Ok (Done ticket (Ok tt))))
+    → acknowledged_by waiting call reply ≡ []
+none_acknowledged waiting (Commands command) (Ran (Ok done)) other later = absurd (other command refl refl)
+none_acknowledged waiting Advances (Advanced (Ok (Done ticket (Ok done)))) other later =
+    absurd (later ticket refl refl)
+none_acknowledged waiting call reply other later = refl
 
 pub queue-words : QueueWords
 queue-words = record {
@@ -43,4 +53,7 @@ queue-words = record {
     ap (λ (b : Bool). cond b rest (w ∷ rest)) (ne_eqb w.ticket ticket differ),
   );
   none_waits = λ ticket. (refl, refl);
+  acknowledged = λ command waiting ticket. (refl, refl);
+  acknowledged_whole = λ waiting exchanges. (refl, refl);
+  acknowledged_none = none_acknowledged;
 }

@@ -11,4 +11,6 @@ refused-words disk_of = record {
   watch = λ old identity sci an key frame out refused i. (i.for_disk, i.served, refl, i.loses, i.chain);
   either_night = λ old identity an key evening out refused is. is;
   either_watch = λ old identity sci an key frame out refused is. is;
+  linked = λ deed after. refl;
+  morning_calls = λ start frame out morning left m. (refl, m.given);
 }

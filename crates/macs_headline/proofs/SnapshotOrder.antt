@@ -12,6 +12,7 @@ both r sa ceiling a last is at i = record_if_both r (is i) (at i)
 pub snapshot-order : SnapshotOrder
 unfolding snapshot tx_records rx_records rx_records_of spent_records
 snapshot-order = record {
+  first = refl;
   whole = λ s. refl;
   fingerprints = λ role spent. refl;
   transmit = λ c ceilings an ceiling sa is at. both _ (c.tx an) (ceilings.tx an) sa ceiling is at;

@@ -23,6 +23,7 @@ use Rattle.macs_endpoint.specs.declared.event.ServeEnd.{ServeEnd}
 use Rattle.macs_endpoint.specs.declared.event.ServeEnd.TheVariants.{Ended, Halted, TurnsSpent}
 use Rattle.macs_headline.specs.StandWords.{CallsLeave, ServedEnds}
 use Rattle.macs_headline.proofs.Lists.{contains-cases, contains-none}
+use Rattle.macs_headline.proofs.OpeningWords.{failures}
 
 -- ---- one change where all slots are used
 
@@ -120,6 +121,8 @@ module _ {D : Type 0} (disk_of : D → Disk) where
     format_taken = λ old new identity is honest. let taken = is.device.taken refl honest in (taken.0, taken.2);
     format_fails = λ old new identity result is. is.device.work.fails;
     format_done = λ old new identity is. is.device.work.fails;
+    format_refused = λ old new identity fault other is.
+        failures (disk_of old) (disk_of new) fault other is.device.work.fails;
     format_leaves = λ old new identity result image is honest left. elim
         ((is.any_moment honest).each image left) [
           | inl before ↦ inl before

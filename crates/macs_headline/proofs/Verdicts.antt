@@ -210,6 +210,8 @@ verdicts-are-named = record {
   pn = λ frame. refl;
   e_bit = λ frame. refl;
   c_bit = λ frame. refl;
+  read_c = λ frame. refl;
+  read_name = λ frame. refl;
   bits = octet-bits;
   secure_data = λ frame parts tag. (tag.reading.start, tag.reading.end);
 }

@@ -183,6 +183,8 @@ call-words = record {
   seen = λ numbers sci an pn n there is. (n, there, is);
   may_begin = may_begin;
   faultless = λ s new plain out pn is. is;
+  refusal = λ s command. refl;
+  fault = λ s plain. refl;
   no_number = λ s plain is. is;
 }
 

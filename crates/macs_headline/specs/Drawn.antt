@@ -29,8 +29,9 @@ use Rattle.macs_endpoint.specs.declared.queue.Waiting.{Waiting}
 use Rattle.macs_headline.specs.Answered.{WasAnswered, exchanges_of_lives, lives_at}
 use Rattle.macs_headline.specs.CommandInHand.{MayBegin, WasBegun}
 use Rattle.macs_headline.specs.Binding.{IsAtMoment}
-use Rattle.macs_headline.specs.Commands.{CommandsMake, IsPrefix, WasHandedIn, accepted_commands, acknowledged_commands}
-use Rattle.macs_headline.specs.Commands.{acknowledged_by, acknowledged_from, failing, waiting_after, waiting_at_end}
+use Rattle.macs_headline.specs.Commands.{CommandsMake, FindsPrefix, IsPrefix, WasHandedIn, accepted_commands}
+use Rattle.macs_headline.specs.Commands.{acknowledged_by, acknowledged_commands, acknowledged_from, failing}
+use Rattle.macs_headline.specs.Commands.{waiting_after, waiting_at_end}
 use Rattle.macs_headline.specs.Configurations.{AreKept, IsMadeByLives, LivesMake}
 use Rattle.macs_headline.specs.Deliveries.{IsOtherDelivery, IsVerifiedDelivery, IsVerifiedKind, delivering}
 use Rattle.macs_headline.specs.Formats.{AreUnformatted}
@@ -147,6 +148,14 @@ pub record LifeWords (sectors : ℕ) : Type 0 where
   pub acknowledged : (waiting : List Waiting) (e : Exchange) (exchanges : List Exchange)
       → acknowledged_from waiting (e ∷ exchanges)
       ≡ acknowledged_by waiting e.call e.reply ++ acknowledged_from (waiting_after waiting e.call e.reply) exchanges
+  pub finds : (before after : Standing) (exchanges : List Exchange) (in_hand : Option Command)
+      → FindsPrefix before exchanges in_hand after
+      → (after.identity ≡ before.identity)
+      × (kept : List Command) × IsPrefix (acknowledged_commands exchanges) kept
+      × IsPrefix kept (accepted_commands exchanges in_hand)
+      × CommandsMake before.edition before.identity before.config kept after.config
+  pub so_far : (s : State) (m : Moment sectors s)
+      → lives_at m ≡ m.lives ++ Serves m.edition m.image m.exchanges None ∷ []
   pub restarted : (old new : State) → Restart old new
       → (new.logs ≡ old.logs) × (new.stopped ≡ false) × (new.in_hand ≡ None) × (new.waiting ≡ [])
       × (new.tickets ≡ 0)
@@ -184,8 +193,8 @@ pub record LifeWords (sectors : ℕ) : Type 0 where
       → ((m : Moment sectors are.last) × (m.edition ≡ edition) × (m.image ≡ image) × (m.exchanges ≡ exchanges))
       × IsPrefix (acknowledged_commands exchanges) kept
       × IsPrefix kept (accepted_commands exchanges (state_at_end are.last cut).in_hand)
-      × ((command : Command) → are.in_hand ≡ Some command
-      → ((state_at_end are.last cut).in_hand ≡ Some command) × WasBegun exchanges are.last cut command
+      × ((command : Command) → (state_at_end are.last cut).in_hand ≡ Some command
+      → (are.in_hand ≡ Some command) × WasBegun exchanges are.last cut command
       × WasHandedIn exchanges cut command)
   pub identity : (lives : List Life) (found : Standing) → IsMadeByLives sectors lives found
       → (edition : Edition) (given : Identity)

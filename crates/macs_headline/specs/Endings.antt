@@ -21,11 +21,12 @@ abbrev pub TheseArePassedOn : Type 0
 TheseArePassedOn = (ran new : Disk) (since moment : ℕ) → since ≤ moment → moment ≤ ran.clock → IsAlike ran new
     → ((image : Image) → MayLeave new image → IsImage (ran.past moment) image) → IsPassedOn ran since new
 
--- And it is passed on to no other disk: each image that this one may leave is itself one of that moment.
+-- And it is passed on to no other disk: each image that this one may leave is itself one of that moment, which is since
+-- then and no later than the last.
 abbrev pub PassedOnAlone : Type 0
-PassedOnAlone = (ran new : Disk) (since : ℕ) → IsPassedOn ran since new
-    → (moment : ℕ) × (since ≤ moment) × (moment ≤ ran.clock) × IsAlike ran new
-    × ((image : Image) → MayLeave new image → IsImage (ran.past moment) image)
+PassedOnAlone = (ran new : Disk) (since : ℕ) (p : IsPassedOn ran since new)
+    → (since ≤ p.moment) × (p.moment ≤ ran.clock) × IsAlike ran new
+    × ((image : Image) → MayLeave new image → IsImage (ran.past p.moment) image)
 
 -- The power goes at some moment of calls that began at `since` and would have led to `ran`: the disk holds one of the
 -- images of that moment, and nothing is pending.

@@ -1,5 +1,5 @@
 -- What the words say of which histories are made: how a life goes on, and one life after another.
-use Rattle.std.specs.Prelude.{◌≡◌, ◌⊎◌, ℕ, Bool, List, [], ◌∷◌, Option, Some, Ok}
+use Rattle.std.specs.Prelude.{◌≡◌, ◌⊎◌, ◌++◌, ℕ, Bool, List, [], ◌∷◌, Option, Some, Ok}
 use Rattle.macs_config.specs.Apply.{apply}
 use Rattle.macs_config.specs.Config.{Config, Edition, IsUpTo}
 use Rattle.macs_config.specs.Identity.{Identity}
@@ -9,19 +9,19 @@ use Rattle.macs_journal.specs.declared.fault.JournalFault.{JournalFault}
 use Rattle.macs_store.specs.Found.{StandingIs}
 use Rattle.macs_store.specs.Standing.{Standing}
 use Rattle.macs_endpoint.specs.Restart.{Fits, Restart, Resumes, RxRises, TxRises, opened_state}
-use Rattle.macs_endpoint.specs.State.{Call, State}
+use Rattle.macs_endpoint.specs.State.{Call, State, no_logs}
 use Rattle.macs_endpoint.specs.Step.{Exchange, Step, Steps, state_after_command}
-use Rattle.macs_headline.specs.Answered.{exchanges_in}
+use Rattle.macs_headline.specs.Answered.{exchanges_in, exchanges_of_lives}
 use Rattle.macs_headline.specs.Commands.{waiting_at_end}
-use Rattle.macs_headline.specs.History.{Formats, LeadOn, Leads, Life, Past, Refuses, Serves}
+use Rattle.macs_headline.specs.History.{Blank, Formats, Formatted, LeadOn, Leads, Life, Past, Refuses, Serves, logs_of}
 use Rattle.macs_headline.specs.Moments.{Moment}
 
 -- A life goes on call by call, each a step of the endpoint, and one life comes after another. What a life answered is
--- the answers of its calls, in their order; a `format` and a refused opening answered none. The commands that wait
--- after the calls of a life are those that wait in its endpoint. What fits a state stands for a restart of it. A
--- restart resumes the state, or the state after the command under way, which is not refused; it is of no smaller
--- edition and of the same identity and configuration, and each number rises as far as it may, or is still none,
--- whatever is installed.
+-- the answers of its calls, in their order; a `format` and a refused opening answered none; and those of lives come
+-- life by life. The next life begins with the very lists that the one before it left. The commands that wait after the
+-- calls of a life are those that wait in its endpoint. What fits a state stands for a restart of it. A restart resumes
+-- the state, or the state after the command under way, which is not refused; it is of no smaller edition and of the
+-- same identity and configuration, and each number rises as far as it may, or is still none, whatever is installed.
 pub record HistoryWords (sectors : ℕ) : Type 0 where
   pub called_none : (old new : State) → Steps old [] new → new ≡ old
   pub called_more : (old new : State) (e : Exchange) (rest : List Exchange) → Steps old (e ∷ rest) new
@@ -33,6 +33,10 @@ pub record HistoryWords (sectors : ℕ) : Type 0 where
       → exchanges_in (Serves edition image exchanges cut) ≡ exchanges
   pub no_answers : (edition : Edition) (identity : Identity) (is_ok : Bool) (image : Image) (fault : JournalFault)
       → (exchanges_in (Formats edition identity is_ok) ≡ []) × (exchanges_in (Refuses edition image fault) ≡ [])
+  pub answers_on : (life : Life) (lives : List Life) → (exchanges_of_lives [] ≡ [])
+      × (exchanges_of_lives (life ∷ lives) ≡ exchanges_in life ++ exchanges_of_lives lives)
+  pub logged : (s : State) (identities : List Identity) → (logs_of (Formatted s) ≡ s.logs)
+      × (logs_of (Blank identities) ≡ no_logs)
   pub waiting : (s : State) (m : Moment sectors s) → waiting_at_end m.exchanges ≡ s.waiting
   pub fitting : (edition : Edition) (image : Image) (s : State) → Fits edition sectors image s
       → (found : Standing) × StandingIs edition sectors image (Ok found) × Restart s (opened_state found s.logs)

@@ -1,15 +1,16 @@
 -- Exactly when the store and the journal answer which fault.
-use Rattle.std.specs.Prelude.{◌≡◌, ◌^◌, ◌-◌, ◌↔◌, true, false, List, Result, Ok, Err, IsErrOf, IsOk}
+use Rattle.std.specs.Prelude.{◌≡◌, ◌≢◌, ◌^◌, ◌-◌, ◌↔◌, true, false, List, Result, Ok, Err, IsErrOf, IsOk}
 use Rattle.macs_config.specs.Apply.{Named}
 use Rattle.macs_config.specs.declared.command.Command.{Command}
 use Rattle.macs_config.specs.declared.refusal.Refusal.{Refusal}
-use Rattle.macs_disk.specs.Disk.{Disk, IsDeviceCall}
+use Rattle.macs_disk.specs.Disk.{Disk, FailsOnce, IsDeviceCall}
 use Rattle.macs_record.specs.declared.record.Record.{Record}
 use Rattle.macs_journal.specs.Compacting.{Compacts}
 use Rattle.macs_journal.specs.Stepping.{Starts, Task}
 use Rattle.macs_journal.specs.Stepping as journal_work
 use Rattle.macs_journal.specs.Value.{JournalValue}
 use Rattle.macs_journal.specs.Value as journal
+use Rattle.macs_journal.specs.Work.{FailsAs}
 use Rattle.macs_journal.specs.declared.fault.JournalFault.{JournalFault}
 use Rattle.macs_journal.specs.declared.fault.JournalFault.TheVariants.{GenerationsSpent, Stopped}
 use Rattle.macs_journal.specs.declared.work.JournalStep.{JournalStep}
@@ -34,7 +35,8 @@ pub record RefusesAsSaid {D : Type 0} (old : StoreValue D) (command : Command) (
 -- So a store refuses a command, kept in one call or in steps. A step of a store or a journal is refused as Stopped
 -- exactly where that is stopped, and is Idle exactly where it runs with nothing under way; else it makes one device
 -- call, which failed exactly where it is answered so. Work that is finished is refused as Stopped exactly there too,
--- and a journal that is to start over; as GenerationsSpent exactly where it is at its end.
+-- and a journal that is to start over; as GenerationsSpent exactly where it is at its end. A command, work that is
+-- finished, and a journal that starts over are answered Disk exactly where a device call failed.
 pub record LayerFaults {D : Type 0} (disk_of : D → Disk) : Type 0 where
   pub committed : (old new : StoreValue D) (command : Command) (result : Result (Unit {0}) CommitFault)
       → Commits disk_of old command result new → RefusesAsSaid old command result
@@ -65,3 +67,14 @@ pub record LayerFaults {D : Type 0} (disk_of : D → Disk) : Type 0 where
       × ((result ≡ Ok Idle) ↔ ((journal.is_stopped old ≡ false) × journal.IsIdle old))
       × (journal.is_stopped old ≡ false → (¬ journal.IsIdle old)
       → IsDeviceCall (journal.disk_in disk_of old) (journal.disk_in disk_of new) result)
+  pub commit_fails : (old new : StoreValue D) (command : Command) (result : Result (Unit {0}) CommitFault)
+      → Commits disk_of old command result new
+      → (result ≡ Err commit.Disk → FailsOnce (store.disk_in disk_of old) (store.disk_in disk_of new))
+      × (result ≢ Err commit.Disk
+      → (store.disk_in disk_of new).failures ≡ (store.disk_in disk_of old).failures)
+  pub finish_fails : (old new : StoreValue D) (result : Result (Unit {0}) JournalFault)
+      → Finishes disk_of old result new
+      → FailsAs (store.disk_in disk_of old) (store.disk_in disk_of new) result
+  pub compaction_fails : (old new : JournalValue D) (records : List Record) (result : Result (Unit {0}) JournalFault)
+      → Compacts disk_of old records result new
+      → FailsAs (journal.disk_in disk_of old) (journal.disk_in disk_of new) result

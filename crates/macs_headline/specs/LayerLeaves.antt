@@ -1,10 +1,13 @@
 -- What store, journal and endpoint are left with where they refuse, and what of a disk that claims nothing.
-use Rattle.std.specs.Prelude.{◌≡◌, ◌<◌, ◌≤◌, ◌⊎◌, true, ℕ, List, Result, Ok, Err, IsErrOf, OnErr, length}
+use Rattle.std.specs.Prelude.{◌≡◌, ◌<◌, ◌≤◌, ◌⊎◌, true, ℕ, List, Option, Some, None, Result, Ok, Err, IsErrOf, OnErr}
+use Rattle.std.specs.Prelude.{length}
 use Rattle.macs_config.specs.Config.{this_edition}
 use Rattle.macs_config.specs.Identity.{Identity}
 use Rattle.macs_config.specs.declared.command.Command.{Command}
 use Rattle.macs_disk.specs.Disk.{Disk, IsHonest, MayLeave, Works, now}
 use Rattle.macs_disk.specs.States.{Image, state_after_sync}
+use Rattle.macs_record.specs.Decoding.{IsSectorOf}
+use Rattle.macs_record.specs.declared.format.Format.{Format}
 use Rattle.macs_record.specs.declared.format.Format.TheVariants.{Two}
 use Rattle.macs_record.specs.declared.record.Record.{Record}
 use Rattle.macs_journal.specs.Compacting.{Compacts}
@@ -15,16 +18,20 @@ use Rattle.macs_journal.specs.Value.{JournalValue, content_of}
 use Rattle.macs_journal.specs.Value as journal
 use Rattle.macs_journal.specs.declared.fault.JournalFault.{JournalFault}
 use Rattle.macs_journal.specs.declared.fault.JournalFault.TheVariants.{Disk as DiskFault, NotFormatted, Stopped}
+use Rattle.macs_journal.specs.declared.hand.Appending.{Appending}
+use Rattle.macs_journal.specs.declared.hand.Compacting.{Compacting}
+use Rattle.macs_journal.specs.declared.hand.Hand.TheVariants as hand
 use Rattle.macs_journal.specs.declared.recovery.RecoverRefused.{RecoverRefused}
 use Rattle.macs_journal.specs.declared.work.JournalStep.{JournalStep}
 use Rattle.macs_journal.specs.declared.work.JournalStep.TheVariants.{Idle}
-use Rattle.macs_record.specs.declared.format.Format.{Format}
+use Rattle.macs_store.specs.Commands.{command_of}
 use Rattle.macs_store.specs.Found.{StandingIs}
 use Rattle.macs_store.specs.Keeps.{Commits}
 use Rattle.macs_store.specs.Opening.{HasNoneToMigrate}
 use Rattle.macs_store.specs.Standing.{new_standing}
 use Rattle.macs_store.specs.Stepping.{StartsCommit}
-use Rattle.macs_store.specs.Value.{StoreValue}
+use Rattle.macs_store.specs.Value.{IsOfChange, IsOfRecord, StoreValue}
+use Rattle.macs_store.specs.declared.change.Change.TheVariants as change
 use Rattle.macs_store.specs.declared.fault.CommitFault.{CommitFault}
 use Rattle.macs_store.specs.declared.fault.CommitFault.TheVariants as commit
 use Rattle.macs_endpoint.specs.Calls.{IsCall}
@@ -40,9 +47,11 @@ use Rattle.macs_headline.specs.Deeds.{disk_after_opening}
 -- identity and count; a recovery is refused as TooSmall exactly for a disk that is too small, and then no call is made;
 -- as Disk exactly where a device call failed, which was the last one; and the disk after its first call stays as that
 -- left it. An opening with no journal to rewrite makes its sync first, and only reads after it. A `format` answers Ok
--- only where no head gate reads open, and then each image of an honest disk is that of the new endpoint. On each disk,
--- honest or not, an opening, a `format` and a call are work of the disk: its clock goes on, no failure is taken back,
--- and one that is worn stays so.
+-- only where no head gate reads open, and then each image of an honest disk is that of the new endpoint. A record that
+-- is appended is the one in hand, from call to call, and as many records are lent to a journal that starts over as its
+-- new head counts. What was judged of a command is kept beside its record alone, and no longer than that is under way.
+-- On each disk, honest or not, an opening, a `format` and a call are work of the disk: its clock goes on, no failure is
+-- taken back, and one that is worn stays so.
 pub record LayerLeaves {D : Type 0} (disk_of : D → Disk) : Type 0 where
   pub committed : (old new : StoreValue D) (command : Command) (result : Result (Unit {0}) CommitFault)
       → Commits disk_of old command result new → OnErr result (IsErrOf result commit.Disk ⊎ (new ≡ old))
@@ -70,6 +79,14 @@ pub record LayerLeaves {D : Type 0} (disk_of : D → Disk) : Type 0 where
       × ((image : Image) → MayLeave (disk_of new) image
       → StandingIs this_edition (disk_of new).sectors image (Ok (new_standing this_edition identity))
       × HasFormat image Two)
+  pub appended : (j : JournalValue D) (r : Record) (work : Appending)
+      → journal_work.IsTaskInHand j (journal_work.Appends r) (hand.Append work) → IsSectorOf r work.sector
+  pub appending : (work later : Appending) → journal_work.IsSameTask (hand.Append work) (hand.Append later)
+      → later.sector ≡ work.sector
+  pub lent : (work : Compacting) (records : List Record) → journal.AreLent (hand.Compact work) records
+      → length records ≡ work.head.count
+  pub judged_none : (checked : Option Command) → IsOfChange change.Empty checked → checked ≡ None
+  pub judged : (r : Record) (command : Command) → command_of r ≡ Some command → ¬ IsOfRecord r None
   pub opening_works : (disk : D) (result : Result (EndpointValue D) (RecoverRefused D)) → IsOpening disk_of disk result
       → Works (disk_of disk) (disk_after_opening disk_of result)
   pub format_works : (old new : D) (identity : Identity) (result : Result (Unit {0}) JournalFault)

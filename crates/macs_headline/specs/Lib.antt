@@ -68,6 +68,9 @@ pub mod PartsFollow
 pub mod LayoutWords
 pub mod OctetWords
 pub mod HistoryWords
+pub mod PlayedDisks
+pub mod RecordWords
 pub mod LayerLeaves
 pub mod SideWords
 pub mod SnapshotOrder
+pub mod StepWords

@@ -14,11 +14,15 @@ use Rattle.macs_rxsc.specs.Needs.{Need}
 use Rattle.macs_rxsc.specs.Needs as needs
 use Rattle.macs_rxsc.specs.Receive.{Numbers, RxSide}
 use Rattle.macs_store.specs.Standing.{Standing}
+use Rattle.macs_store.specs.Value.{standing_in}
+use Rattle.macs_endpoint.specs.Advancing.{ToKeep, ToRaise, next_piece}
 use Rattle.macs_endpoint.specs.Calls.{IsCall}
 use Rattle.macs_endpoint.specs.Ceilings.{Raise, RaiseRx, first_raise}
 use Rattle.macs_endpoint.specs.State.{Advanced, Advances, Commands, Protects, Ran, Receives, Refilled, Refills, Reply}
-use Rattle.macs_endpoint.specs.State.{Submits}
-use Rattle.macs_endpoint.specs.Value.{EndpointValue}
+use Rattle.macs_endpoint.specs.Needed.{raise_in}
+use Rattle.macs_endpoint.specs.Queue.{first_waiting}
+use Rattle.macs_endpoint.specs.State.{Submits, no_logs, rx_side, tx_side}
+use Rattle.macs_endpoint.specs.Value.{EndpointValue, state_of}
 use Rattle.macs_endpoint.specs.declared.fault.CommandFault.{CommandFault}
 use Rattle.macs_endpoint.specs.declared.fault.CommandFault.TheVariants as ran
 use Rattle.macs_endpoint.specs.declared.fault.RefillFault.{RefillFault}
@@ -26,6 +30,7 @@ use Rattle.macs_endpoint.specs.declared.fault.RefillFault.TheVariants as refill
 use Rattle.macs_endpoint.specs.declared.fault.StepFault.{StepFault}
 use Rattle.macs_endpoint.specs.declared.fault.StepFault.TheVariants as step
 use Rattle.macs_endpoint.specs.declared.progress.Step.TheVariants.{Done, Idle, Reserved, Worked}
+use Rattle.macs_endpoint.specs.declared.queue.Waiting.{Waiting}
 use Rattle.macs_endpoint.specs.declared.turn.Turn.TheVariants.{Command as CommandTurn, Reservation}
 
 -- A receive association needs a higher ceiling where a frame was seen on it, a higher one is to be had, which is a
@@ -78,8 +83,21 @@ pub record NeedsAreInOrder : Type 0 where
 -- A command leaves the turn to a reservation, whatever it is answered but Stopped and Busy; so does a step that is done
 -- with one. A step that made a reservation, or that the journal has no room for, leaves it to a command, and so does a
 -- refill that found one under way. Other steps and refills, those that fail or are not begun included, frames, and
--- commands that are to wait or are not begun leave the turn as it was.
+-- commands that are to wait or are not begun leave the turn as it was. What an endpoint is to raise is the first
+-- ceiling that is needed, whatever waits or is under way. The next piece of its work is to raise that or to keep the
+-- first command that waits; where there are both, by the turn, and where there is neither, nothing.
 pub record TurnsAreUsed {D : Type 0} (disk_of : D → Disk) : Type 0 where
+  pub needed : (e : EndpointValue D)
+      → raise_in e ≡ first_raise (standing_in e.store) (tx_side (state_of e no_logs)) (rx_side (state_of e no_logs))
+  pub next_raised : (e : EndpointValue D) (raise : Raise) → next_piece e ≡ Some (ToRaise raise)
+      → raise_in e ≡ Some raise
+  pub next_kept : (e : EndpointValue D) (first : Waiting) → next_piece e ≡ Some (ToKeep first)
+      → first_waiting e.waiting ≡ Some first
+  pub next_one : (e : EndpointValue D) → next_piece e ≡ None → (raise_in e ≡ None) × (e.waiting ≡ [])
+  pub next_by_turn : (e : EndpointValue D) (raise : Raise) (first : Waiting) → raise_in e ≡ Some raise
+      → first_waiting e.waiting ≡ Some first
+      → (e.turn ≡ Reservation → next_piece e ≡ Some (ToRaise raise))
+      × (e.turn ≡ CommandTurn → next_piece e ≡ Some (ToKeep first))
   pub command : (old new : EndpointValue D) (command : Command) (result : Result (Unit {0}) CommandFault)
       → IsCall disk_of old (Commands command) (Ran result) new
       → result ≢ Err ran.Stopped → result ≢ Err ran.Busy → new.turn ≡ Reservation

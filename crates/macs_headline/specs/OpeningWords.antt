@@ -7,10 +7,12 @@ use Rattle.macs_disk.specs.States.{DiskState, Image, IsImage, IsSector, settled_
 use Rattle.macs_record.specs.Gates.{IsOpen, closed_gate}
 use Rattle.macs_record.specs.declared.format.Format.{Format}
 use Rattle.macs_record.specs.declared.format.Format.TheVariants.{One}
-use Rattle.macs_journal.specs.Areas.{least_sectors}
+use Rattle.macs_record.specs.Heads.{Head}
+use Rattle.macs_journal.specs.Areas.{least_sectors, other_area}
 use Rattle.macs_journal.specs.Compacting.{CompactWrites, FindsUntil}
-use Rattle.macs_journal.specs.Formatting.{FormatWrites}
-use Rattle.macs_journal.specs.Found.{Content, HasFormat, HasJournal, IsBadJournal, IsNotFormatted}
+use Rattle.macs_journal.specs.Formatting.{FormatWrites, HasOpenHead}
+use Rattle.macs_journal.specs.Found.{AreAtOdds, Content, HasContent, HasFormat, HasHead, HasJournal, IsBadJournal}
+use Rattle.macs_journal.specs.Found.{IsNotFormatted}
 use Rattle.macs_journal.specs.Recovery.{IsLeftBy, IsRecoverName}
 use Rattle.macs_journal.specs.Rewriting.{HasNewGates}
 use Rattle.macs_journal.specs.Work.{FailsAs, FailsWith, IsSpared}
@@ -71,11 +73,13 @@ pub record RefusalWords : Type 0 where
 -- many slots, and each gate of it that reads open. An opening is refused for what `RefusalWords` names, or as Disk;
 -- where it writes nothing the disk is as it was if it is too small, as a sync leaves it if that is refused which is on
 -- it, and one or the other if a device call failed; and no failed call is counted unless one is reported; then one is,
--- or the disk is worn. A journal of a format has a head that says so. While a journal starts over, each image that is
--- left before its head gate is written has the journal as it was. The gates of an area that starts over are open at the
--- head, and closed where they read open. A sector that is left alone reads at each moment as before, and what a power
--- loss may leave in it at each moment it could leave there before. To keep a change takes 4 device calls at most; or,
--- where all 256 slots are used, 523 and one for each record of a snapshot.
+-- or the disk is worn. A journal of a format has a head that says so. Of two open heads of one identity that of the
+-- greater generation is found, and they are at odds where their generations are the same, or their identities are not.
+-- While a journal starts over, each image that is left before its head gate is written has the journal as it was. The
+-- gates of an area that starts over are open at the head, and closed where they read open. A sector that is left alone
+-- reads at each moment as before, and what a power loss may leave in it at each moment it could leave there before. To
+-- keep a change takes 4 device calls at most; or, where all 256 slots are used, 523 and one for each record of a
+-- snapshot.
 pub record JournalWords : Type 0 where
   pub format_writes : (seen : Image) (i : ℕ) → FormatWrites seen i
       → (i ≤ 2) ⊎ ((k : ℕ) × (k < 257) × (i ≡ 2 * k + 1) × IsOpen (seen i))
@@ -110,5 +114,12 @@ pub record JournalWords : Type 0 where
       → ((new.past k).pending i ≡ true → IsSector octets)
       → ((now old).pending i ≡ false → octets ≡ (now old).durable i)
       × ((now old).pending i ≡ true → IsSector octets))
+  pub passed_over : (image : Image) (c : Content) (before : Head) → HasContent image c
+      → HasHead image (other_area c.area) before → before.generation < c.head.generation
+      → before.identity ≡ c.head.identity → HasJournal image c
+  pub at_odds : (image : Image) → AreAtOdds image
+      → (first : Head) × (second : Head) × HasHead image 0 first × HasHead image 1 second
+      × ((first.generation ≡ second.generation) ⊎ (¬ (first.identity ≡ second.identity)))
+  pub open_head : (image : Image) → HasOpenHead image ↔ (IsOpen (image 1) ⊎ IsOpen (image 515))
   pub most_calls : (used : ℕ) (s : Standing)
       → most_with_change used s ≤ (if used == 256 then 523 + length (snapshot s) else 4)

@@ -1,7 +1,10 @@
 -- Which parts of a snapshot are read after which, by an edition: alike by all, but for its keys and its channels.
-use Rattle.std.specs.Prelude.{◌≡◌, ◌&&◌, if◌then◌else◌, is_none, nat_le, nat_lt, not, ℕ, List, [], ◌∷◌, length, None}
+use Rattle.std.specs.Prelude.{◌≡◌, ◌&&◌, ◌+◌, if◌then◌else◌, is_none, nat_le, nat_lt, not, true, ℕ, List, [], ◌∷◌}
+use Rattle.std.specs.Prelude.{length, None}
+use Rattle.std.specs.List.{list_all}
 use Rattle.std.specs.Str.{bytes_eq}
-use Rattle.macs_config.specs.Config.{Config, Edition, default, has_channel, takes_key, this_edition}
+use Rattle.macs_config.specs.Config.{Config, Edition, are_distinct, default, has_channel, is_among, max_spent, spent_of}
+use Rattle.macs_config.specs.Config.{takes_key}
 use Rattle.macs_config.specs.Identity.{Identity}
 use Rattle.macs_config.specs.Snapshot.{are_ordered, config_of_parts, config_with_part, config_with_parts, may_follow}
 use Rattle.macs_config.specs.Snapshot.{place_of, whole_config}
@@ -11,13 +14,17 @@ use Rattle.macs_config.specs.declared.command.Role.{Role}
 use Rattle.macs_config.specs.declared.part.Part.{Part}
 use Rattle.macs_config.specs.declared.part.Part.TheVariants as part
 
--- Spent keys are read as this edition reads them; an association where there is none at its number, with a key that the
--- edition takes; a channel where there is none of its SCI, up to as many as the edition takes. The parts are read one
--- after another, settings first, each at its place, and what they make is whole.
+-- Spent keys are read, by each edition, where no two of a part are one, none is spent already, and they fit; an
+-- association where there is none at its number, with a key that the edition takes; a channel where there is none of
+-- its SCI, up to as many as the edition takes. Parts are in order where none has an earlier place than the one before
+-- it. The parts are read one after another, settings first, each at its place, and what they make is whole.
 pub record PartsFollow : Type 0 where
   pub spent : (edition : Edition) (identity : Identity) (c : Config) (role : Role) (fingerprints : List (List ℕ))
       → may_follow edition identity c (part.Spent role fingerprints)
-      ≡ may_follow this_edition identity c (part.Spent role fingerprints)
+      ≡ (are_distinct fingerprints && list_all (λ item. not (is_among (spent_of role c) item)) fingerprints
+      && nat_le (length (spent_of role c) + length fingerprints) max_spent)
+  pub in_order : (place : ℕ) (one : Part) (parts : List Part) → (are_ordered place [] ≡ true)
+      × (are_ordered place (one ∷ parts) ≡ (nat_le place (place_of one) && are_ordered (place_of one) parts))
   pub tx : (edition : Edition) (identity : Identity) (c : Config) (an : ℕ) (sa : TxSa)
       → may_follow edition identity c (part.TxSa an sa) ≡ (is_none (c.tx an) && takes_key edition sa.key)
   pub channel : (edition : Edition) (identity : Identity) (c : Config) (sci : List ℕ)

@@ -2,12 +2,13 @@
 use Rattle.std.specs.Prelude.{◌≡◌, ◌≢◌, ◌⊎◌, ◌++◌, ℕ, List, [], ◌∷◌, length, Contains, Option, Some, Result, Ok}
 use Rattle.std.specs.List.{range_with_len}
 use Rattle.macs_config.specs.declared.command.Command.{Command}
-use Rattle.macs_endpoint.specs.State.{Advanced, AdvancedLong, Call, Commands, Submitted}
+use Rattle.macs_endpoint.specs.State.{Advanced, AdvancedLong, Advances, Call, Commands, Ran, Reply, Submitted}
 use Rattle.macs_endpoint.specs.Step.{Exchange}
 use Rattle.macs_endpoint.specs.declared.fault.CommandFault.{CommandFault}
 use Rattle.macs_endpoint.specs.declared.progress.Step.TheVariants.{Done}
 use Rattle.macs_endpoint.specs.declared.queue.Waiting.{Waiting}
-use Rattle.macs_headline.specs.Commands.{WasHandedIn, failing, first_under, waiting_at_end, without_first}
+use Rattle.macs_headline.specs.Commands.{WasHandedIn, acknowledged_by, acknowledged_commands, acknowledged_from}
+use Rattle.macs_headline.specs.Commands.{failing, first_under, waiting_at_end, without_first}
 use Rattle.macs_headline.specs.Tickets.{AreTicketsKept, tickets_done, tickets_given, tickets_of}
 
 -- Tickets that are kept: those that were given are 1, 2 and so on; those that are done with, and then those that wait,
@@ -15,7 +16,8 @@ use Rattle.macs_headline.specs.Tickets.{AreTicketsKept, tickets_done, tickets_gi
 -- a step is done with, whatever became of it, among those that are done with; and each that waits among those that
 -- wait. A command that was handed in is the first that waits at the end; or none waits there, and it was given to
 -- `command`, which answered Disk or is the call that was cut short. A ticket takes the first command that waits, if it
--- is that one's, and else none.
+-- is that one's, and else none. Acknowledged is what `command` answers Ok, and the command that a step is done with and
+-- answers Ok, by its ticket; by no other answer.
 pub record QueueWords : Type 0 where
   pub given : (exchanges : List Exchange) (waiting : List Waiting) → AreTicketsKept exchanges waiting
       → tickets_given exchanges ≡ range_with_len 1 (length (tickets_given exchanges))
@@ -37,3 +39,12 @@ pub record QueueWords : Type 0 where
   pub not_under : (w : Waiting) (rest : List Waiting) (ticket : ℕ) → w.ticket ≢ ticket
       → (first_under ticket (w ∷ rest) ≡ []) × (without_first ticket (w ∷ rest) ≡ w ∷ rest)
   pub none_waits : (ticket : ℕ) → (first_under ticket [] ≡ []) × (without_first ticket [] ≡ [])
+  pub acknowledged : (command : Command) (waiting : List Waiting) (ticket : ℕ)
+      → (acknowledged_by waiting (Commands command) (Ran (Ok tt)) ≡ command ∷ [])
+      × (acknowledged_by waiting Advances (Advanced (Ok (Done ticket (Ok tt)))) ≡ first_under ticket waiting)
+  pub acknowledged_whole : (waiting : List Waiting) (exchanges : List Exchange)
+      → (acknowledged_from waiting [] ≡ []) × (acknowledged_commands exchanges ≡ acknowledged_from [] exchanges)
+  pub acknowledged_none : (waiting : List Waiting) (call : Call) (reply : Reply)
+      → ((command : Command) → call ≡ Commands command → reply ≢ Ran (Ok tt))
+      → ((ticket : ℕ) → call ≡ Advances → reply ≢ Advanced (Ok (Done ticket (Ok tt))))
+      → acknowledged_by waiting call reply ≡ []

@@ -8,20 +8,24 @@ use Rattle.macs_disk.specs.Disk.{Disk, now}
 use Rattle.macs_journal.specs.declared.fault.JournalFault.TheVariants.{Disk as DiskFault}
 use Rattle.macs_journal.specs.declared.recovery.RecoverRefused.{RecoverRefused}
 use Rattle.macs_endpoint.specs.Lives.{exchange_of}
+use Rattle.macs_endpoint.specs.Value.{EndpointValue, device_in}
 use Rattle.macs_endpoint.specs.State.{Commands, Protected, Protects, Ran, Received, Receives, Refilled, Refills}
 use Rattle.macs_headline.specs.Binding.{HasHistory}
 use Rattle.macs_headline.specs.Days.{IsRefusedDay, exchange_with, link_of}
-use Rattle.macs_headline.specs.Deeds.{Chain, Formatting, Living, PassingOn, Refusing}
+use Rattle.macs_headline.specs.Deeds.{Chain, Deed, Formatting, Living, PassingOn, Refusing}
 use Rattle.macs_headline.specs.Endings.{LosesPower}
 use Rattle.macs_headline.specs.History.{Formats, Refuses}
 use Rattle.macs_headline.specs.Nights.{IsRefusedEvening, IsRefusedMorning, IsRefusedNight}
-use Rattle.macs_headline.specs.Watches.{IsEvening, IsRefusedWatch, IsRefusedWatchMorning, evening_turns}
+use Rattle.macs_headline.specs.Watches.{IsEvening, IsMorning, IsRefusedWatch, IsRefusedWatchMorning, evening_turns}
+use Rattle.macs_headline.specs.Watches.{morning_turns}
+use Rattle.macs_headline.specs.declared.watch.Morning.{Morning}
 
 -- A day that is refused is a `format` and an opening that is refused, and so is its history; in the evening a device
 -- call failed then, or the disk is worn. An opening of the morning is refused as Disk alone, after the calls of the
 -- evening, each answered, and the power loss: of a watch these are a channel that is added, an association that is
 -- installed from packet number 1, the frame, a refill, and the frame once more. A night and a watch are refused in the
--- evening or in the morning, and so in no other way.
+-- evening or in the morning, and so in no other way. A link of their chains has the deed and the disk after it. A
+-- morning of a watch is a refill and the frame, of an endpoint that gives its disk back then.
 pub record RefusedWords {D : Type 0} (disk_of : D → Disk) : Type 0 where
   pub day : (old : D) (identity : Identity) (refused : RecoverRefused D) (i : IsRefusedDay disk_of old identity refused)
       → Chain disk_of old (link_of (Formatting identity i.formatted) i.between
@@ -67,3 +71,10 @@ pub record RefusedWords {D : Type 0} (disk_of : D → Disk) : Type 0 where
       (refused : RecoverRefused D) → IsRefusedWatch disk_of old identity sci an key frame out refused
       → IsRefusedEvening disk_of old identity refused
       ⊎ IsRefusedWatchMorning disk_of old identity sci an key frame out refused
+  pub linked : (deed : Deed D) (after : D) → link_of deed after ≡ record { deed = deed; after = after }
+  pub morning_calls : (start : EndpointValue D) (frame out : List ℕ) (morning : Morning) (left : D)
+      (m : IsMorning disk_of start frame out morning left)
+      → (map exchange_of (morning_turns frame out morning m.one m.last)
+      ≡ exchange_with Refills (Refilled morning.refilled)
+      ∷ exchange_with (Receives frame) (Received morning.received out) ∷ [])
+      × (left ≡ device_in m.last)

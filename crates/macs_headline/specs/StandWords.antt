@@ -55,13 +55,13 @@ use Rattle.macs_endpoint.specs.declared.progress.Step.TheVariants.{Reserved}
 -- the reservation under way are all, and whatever it is answered, those and the 523 of a journal that starts over, with
 -- one for each record of a snapshot; four of its own where a slot is left. Of a refill that a device call fails those
 -- calls are all, or the ceilings before it are raised, and it is the next one that is needed; of one that is not all
--- the work, as many as that takes. A `format` that is answered Ok counts no failed device call. What a power loss may
--- leave of one is what it could leave before, or no journal, or a new endpoint in a journal of format two. One leaves
--- each sector alone but those that it writes to, and all of them where a head gate reads open. So does an opening that
--- starts the journal over, in its other area, done or refused, and so does each compaction; and until that writes the
--- new head gate a power loss leaves the journal as it was. No failed device call that was counted is ever taken back:
--- by a call, by a `format` or by an opening that is refused. An endpoint that is opened begins with what is in its
--- store, on whatever disk, and a call is given what is in range.
+-- the work, as many as that takes. A `format` that is answered Ok, or is refused but for a failed device call, counts
+-- none. What a power loss may leave of one is what it could leave before, or no journal, or a new endpoint in a journal
+-- of format two. One leaves each sector alone but those that it writes to, and all of them where a head gate reads
+-- open. So does an opening that starts the journal over, in its other area, done or refused, and so does each
+-- compaction; and until that writes the new head gate a power loss leaves the journal as it was. No failed device call
+-- that was counted is ever taken back: by a call, by a `format` or by an opening that is refused. An endpoint that is
+-- opened begins with what is in its store, on whatever disk, and a call is given what is in range.
 pub record CallsLeave {D : Type 0} (disk_of : D → Disk) : Type 0 where
   pub opened : (disk : D) (first : EndpointValue D) → IsOpening disk_of disk (Ok first) → IsIdle first.store
       × (first.reserving ≡ None) × (first.in_hand ≡ None)
@@ -84,6 +84,8 @@ pub record CallsLeave {D : Type 0} (disk_of : D → Disk) : Type 0 where
       → FailsAs (disk_of old) (disk_of new) result
   pub format_done : (old new : D) (identity : Identity) → IsFormat disk_of old identity (Ok tt) new
       → (disk_of new).failures ≡ (disk_of old).failures
+  pub format_refused : (old new : D) (identity : Identity) (fault : JournalFault) → fault ≢ DiskFault
+      → IsFormat disk_of old identity (Err fault) new → (disk_of new).failures ≡ (disk_of old).failures
   pub format_leaves : (old new : D) (identity : Identity) (result : Result (Unit {0}) JournalFault) (image : Image)
       → IsFormat disk_of old identity result new
       → IsHonest (disk_of new) → LeftSince (disk_of new) (disk_of old).clock image

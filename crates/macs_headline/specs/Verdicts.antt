@@ -108,6 +108,8 @@ pub record VerdictsAreNamed : Type 0 where
   pub pn : (frame : List ℕ) → (tag_of frame).pn ≡ from_be_bytes w32 (slice_range frame 16 20)
   pub e_bit : (frame : List ℕ) → (tag_of frame).encrypted ≡ has_bit (slice_index frame 14) 0x08
   pub c_bit : (frame : List ℕ) → changed (control frame) ≡ has_bit (slice_index frame 14) 0x04
+  pub read_c : (frame : List ℕ) → (tag_of frame).changed ≡ has_bit (slice_index frame 14) 0x04
+  pub read_name : (frame : List ℕ) → (tag_of frame).name ≡ name_of frame
   pub bits : (octet k : ℕ) → has_bit octet (2 ^ k) ≡ ((octet / 2 ^ k) % 2 == 1)
   pub secure_data : (frame : List ℕ) (parts : Parts) → Tag frame parts
       → (parts.start ≡ behind_tag frame) × (parts.end ≡ behind_data frame)

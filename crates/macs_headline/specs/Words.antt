@@ -5,7 +5,8 @@ use Rattle.std.specs.Prelude.{length, All}
 use Rattle.macs_aes.specs.Keys.{octets_of_key}
 use Rattle.macs_aes.specs.declared.keys.Key.{Key}
 use Rattle.macs_frame.specs.Tag.{tag_of}
-use Rattle.macs_config.specs.Apply.{apply}
+use Rattle.macs_fields.specs.First.{first}
+use Rattle.macs_config.specs.Apply.{apply, refusal_of}
 use Rattle.macs_config.specs.Config.{Config, Edition}
 use Rattle.macs_config.specs.Identity.{Identity}
 use Rattle.macs_config.specs.declared.command.Command.{Command}
@@ -16,6 +17,7 @@ use Rattle.macs_config.specs.declared.command.Validate.{Validate}
 use Rattle.macs_disk.specs.Disk.{Disk}
 use Rattle.macs_record.specs.declared.format.Format.{Format}
 use Rattle.macs_journal.specs.Found.{Content}
+use Rattle.macs_txsc.specs.Transmit.{tx_faults}
 use Rattle.macs_rxsc.specs.Receive.{Numbers, RxSide, RxStep, channel_of}
 use Rattle.macs_rxsc.specs.declared.verdict.Verdict.{Verdict}
 use Rattle.macs_store.specs.Standing.{Standing, accept, ceilings_after, new_standing}
@@ -25,7 +27,7 @@ use Rattle.macs_endpoint.specs.Queue.{first_command}
 use Rattle.macs_endpoint.specs.Restart.{opened_state}
 use Rattle.macs_endpoint.specs.State.{Advanced, AdvancedLong, Advances, Call, Commands, Protected, Protects, Ran}
 use Rattle.macs_endpoint.specs.State.{Received, Receives, RefusedLong, Refilled, Refills, Reply, State, Submits}
-use Rattle.macs_endpoint.specs.State.{Submitted, no_logs, rx_side}
+use Rattle.macs_endpoint.specs.State.{Submitted, no_logs, rx_side, tx_side}
 use Rattle.macs_endpoint.specs.declared.fault.CommandFault.{CommandFault}
 use Rattle.macs_endpoint.specs.declared.fault.ProtectFault.{ProtectFault}
 use Rattle.macs_endpoint.specs.declared.fault.RefillFault.{RefillFault}
@@ -42,7 +44,7 @@ use Rattle.macs_headline.specs.History.{formatted_state}
 use Rattle.macs_headline.specs.NumbersMoved.{ComesInUnder, GoesOutUnder, MovesOnlyThese, SetsNext, SetsNumbers}
 use Rattle.macs_headline.specs.NumbersMoved.{TakesEffect}
 use Rattle.macs_headline.specs.Received.{IsVerdictOf, WasSeen}
-use Rattle.macs_headline.specs.Refused.{IsExact, IsFaultOf, fault_at}
+use Rattle.macs_headline.specs.Refused.{IsExact, IsFaultOf, fault_at, refusal_at}
 use Rattle.macs_headline.specs.Steps.{IsReplyOf}
 
 -- A state of a program of another edition is of that one, and the same but for it; and a content in another format is
@@ -113,7 +115,8 @@ pub record CommandWords : Type 0 where
 -- under an association where `receive` was given a frame that names it, by channel and AN, of an endpoint that runs. A
 -- packet number that is another one after a call is that of an association under which a frame went out, or came in so,
 -- or one that a command sets which takes effect. A number was seen where it is kept as the greatest that was. Work on a
--- command may begin in a step, on the first that waits, and in `command`, on its own, where none waits. A plain frame
+-- command may begin in a step, on the first that waits, and in `command`, on its own, where none waits. A command is
+-- refused, and a plain frame, by the state's configuration and sides, also where the endpoint is stopped. A plain frame
 -- that goes out has no fault; and one that has none but that there is no number, is under an association in use with a
 -- next number.
 pub record CallWords : Type 0 where
@@ -144,6 +147,9 @@ pub record CallWords : Type 0 where
       ⊎ ((cut ≡ Some (Commands command)) × (waiting ≡ []))
   pub faultless : (s new : State) (plain out : List ℕ) (pn : ℕ) → IsExact s (Protects plain) (Protected (Ok pn) out) new
       → fault_at s plain ≡ None
+  pub refusal : (s : State) (command : Command) → refusal_at s command
+      ≡ refusal_of s.edition s.identity s.config command
+  pub fault : (s : State) (plain : List ℕ) → fault_at s plain ≡ first (tx_faults (tx_side s) plain)
   pub no_number : (s : State) (plain : List ℕ) → IsFaultOf s plain NoNumber
       → (an : ℕ) × (pn : ℕ) × (s.config.encoding ≡ Some an) × (s.next an ≡ Some pn) × (pn < 2 ^ 32)
 

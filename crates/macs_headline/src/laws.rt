@@ -59,9 +59,12 @@ ghost use Rattle.macs_headline.specs.LayerWords.{LayerWords};
 ghost use Rattle.macs_headline.specs.DiskWords.{DiskWords};
 ghost use Rattle.macs_headline.specs.LayoutWords.{LayoutWords};
 ghost use Rattle.macs_headline.specs.OctetWords.{OctetWords};
+ghost use Rattle.macs_headline.specs.PlayedDisks.{PlayedDisks};
+ghost use Rattle.macs_headline.specs.RecordWords.{RecordWords};
 ghost use Rattle.macs_headline.specs.SideWords.{SideWords};
 ghost use Rattle.macs_headline.specs.SnapshotOrder.{SnapshotOrder};
 ghost use Rattle.macs_headline.specs.StandWords.{CallsLeave, ServedEnds};
+ghost use Rattle.macs_headline.specs.StepWords.{StepWords};
 ghost use Rattle.macs_headline.specs.Endings.{DroppedPassOn, EndsAreEarlier, ImagesAreWhole};
 ghost use Rattle.macs_headline.specs.Endings.{KillingsPassOn, LosesPower, LossesSettle};
 ghost use Rattle.macs_headline.specs.Endings.{PassedOnAgain, PassedOnAlone, PowerLossesPassOn};
@@ -359,10 +362,13 @@ pub fn words()
     ensures lives { (sectors : ℕ) → LifeWords sectors }
     // How a life goes on, and one life after another, and what a restart resumes.
     ensures histories { (sectors : ℕ) → HistoryWords sectors }
+    // What goes out, what comes in and what a command makes, from whatever state.
+    ensures steps { StepWords }
     // What the two sides begin with and keep, what a SecTAG is, and why a frame is not opened.
     ensures sides { SideWords }
-    // In which order a snapshot is written.
+    // In which order a snapshot is written, which kind each record has, and what is no record.
     ensures snapshots { SnapshotOrder }
+    ensures records { RecordWords }
     // In which words the contracts of the examples end.
     ensures examples { ExampleWords }
     // What the worked history and the worked migration are.
@@ -465,6 +471,8 @@ pub fn beginnings()
     ensures passed_on { PassedOnHaveHistories }
     // So has a disk with a fuse before it, and one without.
     ensures fuses { FusesChangeNone }
+    // What a new disk in memory is, what its power loss leaves, and which calls a fuse fails.
+    ensures played { PlayedDisks }
 {}
 
 /// Each way in which a program may end passes the medium of its disk on, in a call or between two.

@@ -7,8 +7,10 @@ use Rattle.macs_headline.proofs.FrameWords.{frame-words}
 use Rattle.macs_headline.proofs.QueueWords.{queue-words}
 use Rattle.macs_headline.proofs.WorkedWords.{migration-words, worked-words}
 use Rattle.macs_headline.proofs.HistoryWords.{history-words}
+use Rattle.macs_headline.proofs.RecordWords.{record-words}
 use Rattle.macs_headline.proofs.SideWords.{side-words}
 use Rattle.macs_headline.proofs.SnapshotOrder.{snapshot-order}
+use Rattle.macs_headline.proofs.StepWords.{step-words}
 use Rattle.macs_headline.proofs.laws.words.Goals as goal
 
 pub returns-clause-editions : goal.returns-clause-editions
@@ -61,6 +63,12 @@ returns-clause-lives c = life-words
 
 pub returns-clause-histories : goal.returns-clause-histories
 returns-clause-histories c = history-words
+
+pub returns-clause-records : goal.returns-clause-records
+returns-clause-records c = record-words
+
+pub returns-clause-steps : goal.returns-clause-steps
+returns-clause-steps c = step-words
 
 pub returns-clause-sides : goal.returns-clause-sides
 returns-clause-sides c = side-words

@@ -1,0 +1,43 @@
+-- The headline on what a sector is filled up with, which record has which kind, and why a sector is no record.
+use Rattle.std.specs.Prelude.{◌≡◌, ◌↔◌, ◌-◌, ◌++◌, ◌||◌, if◌then◌else◌, ℕ, List, [], ◌∷◌, length, replicate, Option}
+use Rattle.std.specs.Prelude.{Some, None}
+use Rattle.macs_config.specs.Apply.{has_wrong_offset, has_wrong_start}
+use Rattle.macs_config.specs.declared.command.Command.{Command}
+use Rattle.macs_config.specs.declared.command.Replay.{Replay}
+use Rattle.macs_config.specs.declared.command.Role.{Role}
+use Rattle.macs_config.specs.declared.command.SciMode.{SciMode}
+use Rattle.macs_config.specs.declared.command.Validate.{Validate}
+use Rattle.macs_record.specs.Commands.{record_of, record_of_accepted}
+use Rattle.macs_record.specs.Decoding.{HasFields, HasKind, HasRecord}
+use Rattle.macs_record.specs.Layout.{IsRecord, fields_of, kind_number, kind_of, sector_of}
+use Rattle.macs_record.specs.Sectors.{padded_sector}
+use Rattle.macs_record.specs.declared.kind.Kind.{Kind}
+use Rattle.macs_record.specs.declared.kind.Kind.TheVariants as kinds
+use Rattle.macs_record.specs.declared.record.Record.{Record}
+use Rattle.macs_record.specs.declared.record.Record.TheVariants as records
+
+-- A sector is filled up with zeros to 512 octets. Each record without a key has the kind of its name. A sector is of a
+-- kind where it begins with the mark and the number of one; has fields where it begins so with those of a record in
+-- their ranges; and is a record where it is that record's. A command has a record unless its start is 0, or its offset
+-- is no choice.
+pub record RecordWords : Type 0 where
+  pub padded : (octets : List ℕ) → padded_sector octets ≡ octets ++ replicate (512 - length octets) 0
+  pub kinds_of : (validate : Validate) (replay : Replay) (mode : SciMode) (encoding : Option ℕ) (role : Role)
+      (prints : List (List ℕ)) (sci : List ℕ) (an ceiling : ℕ)
+      → (kind_of (records.Settings validate replay mode encoding) ≡ kinds.Settings)
+      × (kind_of (records.Channel sci) ≡ kinds.Channel) × (kind_of (records.Spent role prints) ≡ kinds.Spent)
+      × (kind_of (records.SetValidate validate) ≡ kinds.SetValidate)
+      × (kind_of (records.SetReplay replay) ≡ kinds.SetReplay)
+      × (kind_of (records.SetSciMode mode) ≡ kinds.SetSciMode) × (kind_of (records.TxUse an) ≡ kinds.TxUse)
+      × (kind_of (records.TxRemove an) ≡ kinds.TxRemove) × (kind_of (records.RxAdd sci) ≡ kinds.RxAdd)
+      × (kind_of (records.RxDrop sci) ≡ kinds.RxDrop) × (kind_of (records.RxRemove sci an) ≡ kinds.RxRemove)
+      × (kind_of (records.TxCeiling an ceiling) ≡ kinds.TxCeiling)
+      × (kind_of (records.RxCeiling sci an ceiling) ≡ kinds.RxCeiling)
+  pub has_kind : (sector : List ℕ) → HasKind sector
+      ↔ ((kind : Kind) × (rest : List ℕ) × (sector ≡ (0x4d ∷ 0x52 ∷ 0x45 ∷ 0x43 ∷ kind_number kind ∷ []) ++ rest))
+  pub has_fields : (sector : List ℕ) → HasFields sector
+      ↔ ((r : Record) × IsRecord r × (rest : List ℕ)
+      × (sector ≡ ((0x4d ∷ 0x52 ∷ 0x45 ∷ 0x43 ∷ kind_number (kind_of r) ∷ []) ++ fields_of r) ++ rest))
+  pub has_record : (sector : List ℕ) → HasRecord sector ↔ ((r : Record) × IsRecord r × (sector_of r ≡ sector))
+  pub no_record : (command : Command) → record_of command
+      ≡ (if has_wrong_start command || has_wrong_offset command then None else Some (record_of_accepted command))
