@@ -1,11 +1,12 @@
 -- In which state a life ends, by the call that was cut short.
-use Rattle.std.proofs.Common.{◌≡◌, ◌≢◌, ◌⊎◌, inl, inr, true, false, [], Option, Some, None, refl, sym, ◌∙◌}
+use Rattle.std.proofs.Common.{◌≡◌, ◌≢◌, ◌⊎◌, inl, inr, true, false, [], Option, Some, None, refl, sym, ◌∙◌, ap}
 use Rattle.std.proofs.lemmas.Bool.{false≢true}
 use Rattle.macs_config.specs.declared.command.Command.{Command}
 use Rattle.macs_endpoint.specs.Advancing.{ToKeep, ToRaise, next_piece}
 use Rattle.macs_endpoint.specs.Ceilings.{Raise}
 use Rattle.macs_endpoint.specs.State.{Advances, Call, Commands}
 use Rattle.macs_endpoint.specs.Value.{EndpointValue, is_stopped}
+use Rattle.macs_endpoint.specs.declared.queue.Waiting.{Waiting}
 use Rattle.macs_headline.specs.Binding.{MayBeginIn, MayHaveBegun}
 use Rattle.macs_headline.specs.EndWords.{EndWords}
 
@@ -29,6 +30,14 @@ none_stopped : {D : Type 0} (e : EndpointValue D) (cut : Option Call) (c : Comma
     → ¬ MayHaveBegun e cut c
 none_stopped e cut c stopped may = absurd (false≢true (sym may.running ∙ stopped))
 
+begins_so : {D : Type 0} (e : EndpointValue D) (cut : Option Call) (c : Command) → MayBeginIn e cut c
+    → ((cut ≡ Some (Commands c)) × (e.waiting ≡ []))
+    ⊎ ((cut ≡ Some Advances) × (e.in_hand ≡ None) × (e.reserving ≡ None)
+    × (first : Waiting) × (next_piece e ≡ Some (ToKeep first)) × (first.command ≡ c))
+begins_so e (Some (Commands given)) c may = inl (ap (λ (x : Command). Some (Commands x)) may.1, may.0)
+begins_so e (Some Advances) c may = inr (refl, may.0, may.1, may.2, may.3, may.4)
+begins_so e cut c may = absurd may
+
 pub end-words : {D : Type 0} → EndWords D
 end-words = record {
   command = λ e logs c is running none accepted.
@@ -41,5 +50,6 @@ end-words = record {
       λ e logs cut is no_step no_command. is.unbegun (λ c may. begins_in_none e cut c no_step no_command may.begun);
   busy = λ e logs c is waits. is.unbegun (λ given may. waits may.begun.0);
   raising = λ e logs raise is raised. is.unbegun (λ c. none_raised e raise c raised);
+  may = λ e cut c may. (may.running, may.accepted, begins_so e cut c may.begun);
   stopped = λ e logs cut is stopped. is.unbegun (λ c. none_stopped e cut c stopped);
 }

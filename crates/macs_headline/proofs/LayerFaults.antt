@@ -23,6 +23,7 @@ layer-faults disk_of = record {
   commit_started = λ old new command result is.
       record { stopped = is.stopped; refused = is.refused; spent = is.spent };
   record_started = λ old new r result is. (is.stopped, is.spent);
+  reservation_started = λ old new after result is. (is.stopped, is.spent, is.same);
   stepped = λ old new result is. (is.stopped, is.idle, is.device);
   finished = λ old new result is. is.stopped;
   compacted = λ old new records result is. (is.stopped, is.spent);

@@ -1,9 +1,11 @@
 -- What is left where store, journal and endpoint refuse.
-use Rattle.std.proofs.Common.{◌≡◌, Some, None, Result, Ok, Err, ◌∙◌}
+use Rattle.std.proofs.Common.{◌≡◌, Some, None, Result, Ok, Err, ◌∙◌, refl, subst}
 use Rattle.macs_config.specs.declared.command.Command.{Command}
 use Rattle.macs_disk.specs.Disk.{Disk, Works}
 use Rattle.macs_record.specs.declared.record.Record.{Record}
 use Rattle.macs_record.specs.declared.record.Record.TheVariants as records
+use Rattle.macs_journal.specs.Work.{FailsWith}
+use Rattle.macs_journal.specs.declared.fault.JournalFault.{JournalFault}
 use Rattle.macs_journal.specs.declared.recovery.RecoverRefused.{RecoverRefused}
 use Rattle.macs_store.specs.Commands.{command_of}
 use Rattle.macs_store.specs.Value.{IsOfRecord}
@@ -12,6 +14,7 @@ use Rattle.macs_endpoint.specs.Value.{EndpointValue}
 use Rattle.macs_headline.specs.Deeds.{disk_after_opening}
 use Rattle.macs_headline.specs.LayerLeaves.{LayerLeaves}
 use Rattle.macs_headline.proofs.LookUps.{none-some}
+use Rattle.macs_headline.proofs.OpeningWords.{failures}
 
 opening_works : {D : Type 0} (disk_of : D → Disk) (disk : D) (result : Result (EndpointValue D) (RecoverRefused D))
     → IsOpening disk_of disk result → Works (disk_of disk) (disk_after_opening disk_of result)
@@ -43,6 +46,14 @@ layer-leaves disk_of = record {
   lent = λ work records is. is;
   judged_none = λ checked is. is;
   judged = judged;
+  judged_beside = λ r command is. is;
+  may_start = λ place r records. ((λ is. is, λ is. is), (λ is. is, λ is. is), refl, refl);
+  refused = λ disk left fault is. (
+    is.small,
+    is.untouched,
+    λ other. failures (disk_of disk) (disk_of left) fault other is.fails,
+    λ at. subst (λ (f : JournalFault). FailsWith (disk_of disk) (disk_of left) f) at is.fails,
+  );
   opening_works = opening_works disk_of;
   format_works = λ old new identity result is. is.device.work.works;
   call_works = λ old new call reply is. is.device.works;

@@ -186,6 +186,7 @@ journal-words = record {
     λ octets kept whole.
         let before = is.leaves k from to octets (record { kept = kept; whole = whole }) in (before.kept, before.whole),
   );
+  nothing_new = λ old new image none left. none.each image left;
   passed_over = λ image c before stands has earlier same. record {
     stands = stands;
     past = λ opens. record { past = before; is = has.is; earlier = earlier; same = same };

@@ -34,7 +34,7 @@ pub spent-are-last : SpentAreLast
 spent-are-last edition image fault spent =
     let at = spent.1 in
     let old = old-format edition at.content.head.format at.is.old in
-    (spent.0, at.content, at.is.found, old.0, old.1, at.last)
+    (spent.0, at.content, at.standing, at.is.found, at.is.stands, old.0, old.1, at.last)
 
 -- ---- refused openings
 

@@ -10,5 +10,7 @@ parts-follow = record {
   channel = λ edition identity c sci. refl;
   rx = λ edition identity c sci an sa. refl;
   next = λ edition identity c one parts. refl;
+  last = λ edition identity c. refl;
+  is_whole = λ identity c. refl;
   whole = λ edition identity one parts. refl;
 }

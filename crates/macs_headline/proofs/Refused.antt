@@ -134,13 +134,13 @@ by_stopped old (Protects plain) (Protected (Err protect.Stopped) out) new h = tt
 by_stopped old (Receives frame) reply new h = tt
 by_stopped old call reply new h = absurd h
 
-by_step : (old : State) (call : Call) (reply : Reply) (new : State) → Step old call reply new
+pub exactly : (old : State) (call : Call) (reply : Reply) (new : State) → Step old call reply new
     → IsExact old call reply new
-by_step old call reply new (inl (stopped, answer, is)) = by_stopped old call reply new answer
-by_step old call reply new (inr (running, h)) = by_call old call reply new h
+exactly old call reply new (inl (stopped, answer, is)) = by_stopped old call reply new answer
+exactly old call reply new (inr (running, h)) = by_call old call reply new h
 
 pub refusals-are-exact : (sectors : ℕ) → RefusalsAreExact sectors
-refusals-are-exact sectors s m call reply new step = by_step s call reply new step
+refusals-are-exact sectors s m call reply new step = exactly s call reply new step
 
 -- ---- limits
 

@@ -12,5 +12,5 @@ refused-words disk_of = record {
   either_night = λ old identity an key evening out refused is. is;
   either_watch = λ old identity sci an key frame out refused is. is;
   linked = λ deed after. refl;
-  morning_calls = λ start frame out morning left m. (refl, m.given);
+  morning_calls = λ start frame out morning left m. (refl, m.given, m.lives);
 }

@@ -42,6 +42,7 @@ side-words = record {
   control = λ tag. refl;
   written = λ tag an first last name alike.
       record { an = an; numbered = first; pn = last; name = name; alike = alike };
+  names = λ sci. ((λ is. is, λ is. is), tt, tt);
   tag_refused = λ frame key sci offset fault. (λ is. is, λ is. is);
   other_sci = λ frame key sci offset. (
     λ is. some-and _ (λ named. named ≢ sci) is,

@@ -113,6 +113,8 @@ module _ {D : Type 0} (disk_of : D → Disk) where
       ap (λ (s : State). s.tickets) (is.state no_logs),
       is.state,
     );
+    cut = λ old new call reply logs after image is honest backed left.
+        ((is.survives honest backed).any_moment logs after).each image left;
     in_range = λ old new call reply is. is.behaves.in_range;
     opened_settled = λ disk first i is honest.
         let settled = is.device.settled honest in

@@ -16,6 +16,8 @@ use Rattle.macs_endpoint.specs.Step.{state_after_hold, state_without_first}
 use Rattle.macs_endpoint.specs.declared.progress.Step.TheVariants.{Done}
 use Rattle.macs_endpoint.specs.declared.queue.Waiting.{Waiting}
 use Rattle.macs_headline.specs.StepWords.{StepWords}
+use Rattle.macs_headline.proofs.Refused.{exactly}
+use Rattle.macs_headline.proofs.Stopping.{received-stopped, sent-stopped, stays, was-stopped}
 
 sent : (s new : State) (plain out : List ℕ) (pn : ℕ) → Step s (Protects plain) (Protected (Ok pn) out) new
     → (o : Outgoing) × (next_outgoing (tx_side s) ≡ Some o) × (pn ≡ o.pn) × (out ≡ frame_of (tx_side s) o plain)
@@ -49,6 +51,11 @@ done s new ticket (inr (running, h)) =
 
 pub step-words : StepWords
 step-words = record {
+  exact = λ s new call reply. exactly s call reply new;
+  stopped = λ s new call reply. stays s call reply new;
+  running = λ s new call reply. was-stopped s call reply new;
+  not_sent = λ s new call out. sent-stopped s call out new;
+  not_judged = λ s new call answer out. received-stopped s call answer out new;
   sent = sent;
   received = received;
   obeyed = obeyed;

@@ -154,7 +154,7 @@ tells_stopped (Receives frame) (Received (Err stopped) out) h = h
 tells_stopped call reply h = absurd h
 
 -- each call of it is so answered, and it stays as it is
-stays : (old : State) (call : Call) (reply : Reply) (new : State) → Step old call reply new → old.stopped ≡ true
+pub stays : (old : State) (call : Call) (reply : Reply) (new : State) → Step old call reply new → old.stopped ≡ true
     → TellsStopped reply × (new ≡ old)
 stays old call reply new (inl (stopped, answer, is)) already = (tells_stopped call reply answer, is)
 stays old call reply new (inr (running, h)) already = absurd (false≢true (sym running ∙ already))
@@ -178,10 +178,11 @@ not_running old (Commands c) RefusedLong new told h = told
 not_running old Advances (AdvancedLong ticket) new told h = told
 not_running old call reply new told h = h
 
-was_stopped : (old : State) (call : Call) (reply : Reply) (new : State) → Step old call reply new → TellsStopped reply
+pub was-stopped : (old : State) (call : Call) (reply : Reply) (new : State)
+    → Step old call reply new → TellsStopped reply
     → old.stopped ≡ true
-was_stopped old call reply new (inl (stopped, answer, is)) told = stopped
-was_stopped old call reply new (inr (running, h)) told = absurd (not_running old call reply new told h)
+was-stopped old call reply new (inl (stopped, answer, is)) told = stopped
+was-stopped old call reply new (inr (running, h)) told = absurd (not_running old call reply new told h)
 
 -- ---- calls of a life
 
@@ -215,33 +216,33 @@ fault_of old (e ∷ exchanges) new (mid, step, steps) stopped = elim (fault_of m
 ]
 
 -- and with a frame no call is answered so that leaves something in `out`
-sent_stopped : (old : State) (call : Call) (out : List ℕ) (new : State)
+pub sent-stopped : (old : State) (call : Call) (out : List ℕ) (new : State)
     → Step old call (Protected (Err protect.Stopped) out) new → out ≡ []
-sent_stopped old (Protects plain) out new (inl (stopped, answer, is)) = answer
-sent_stopped old (Protects plain) out new (inr (running, h)) = absurd h
-sent_stopped old call out new (inl (stopped, answer, is)) = absurd answer
-sent_stopped old call out new (inr (running, h)) = absurd h
+sent-stopped old (Protects plain) out new (inl (stopped, answer, is)) = answer
+sent-stopped old (Protects plain) out new (inr (running, h)) = absurd h
+sent-stopped old call out new (inl (stopped, answer, is)) = absurd answer
+sent-stopped old call out new (inr (running, h)) = absurd h
 
-received_stopped : (old : State) (call : Call) (answer : Stopped) (out : List ℕ) (new : State)
+pub received-stopped : (old : State) (call : Call) (answer : Stopped) (out : List ℕ) (new : State)
     → Step old call (Received (Err answer) out) new → out ≡ []
-received_stopped old (Receives frame) answer out new (inl (stopped, empty, is)) = empty
-received_stopped old (Receives frame) answer out new (inr (running, h)) = absurd h
-received_stopped old call answer out new (inl (stopped, empty, is)) = absurd empty
-received_stopped old call answer out new (inr (running, h)) = absurd h
+received-stopped old (Receives frame) answer out new (inl (stopped, empty, is)) = empty
+received-stopped old (Receives frame) answer out new (inr (running, h)) = absurd h
+received-stopped old call answer out new (inl (stopped, empty, is)) = absurd empty
+received-stopped old call answer out new (inr (running, h)) = absurd h
 
 pub stopped-stays : (sectors : ℕ) → StoppedStays sectors
 stopped-stays sectors s m call reply new step =
     let begun = opened_state m.life.found (logs_of m.past) in (
       (
         λ had. (stays s call reply new step (stopped_by begun m.exchanges s m.life.steps had)).0,
-        λ told. elim (fault_of begun m.exchanges s m.life.steps (was_stopped s call reply new step told)) [
+        λ told. elim (fault_of begun m.exchanges s m.life.steps (was-stopped s call reply new step told)) [
           | inl at_first ↦ absurd (false≢true at_first)
           | inr had ↦ had
         ],
       ),
-      λ told. (stays s call reply new step (was_stopped s call reply new step told)).1,
+      λ told. (stays s call reply new step (was-stopped s call reply new step told)).1,
       λ out is. subst TellsStopped (sym is)
-          (sent_stopped s call out new (subst (λ (r : Reply). Step s call r new) is step)),
+          (sent-stopped s call out new (subst (λ (r : Reply). Step s call r new) is step)),
       λ out answer is. subst TellsStopped (sym is)
-          (received_stopped s call answer out new (subst (λ (r : Reply). Step s call r new) is step)),
+          (received-stopped s call answer out new (subst (λ (r : Reply). Step s call r new) is step)),
     )

@@ -211,6 +211,7 @@ verdicts-are-named = record {
   e_bit = λ frame. refl;
   c_bit = λ frame. refl;
   read_c = λ frame. refl;
+  read_tag = λ frame parts tag. tag.reading.tag;
   read_name = λ frame. refl;
   bits = octet-bits;
   secure_data = λ frame parts tag. (tag.reading.start, tag.reading.end);

@@ -13,7 +13,7 @@ use Rattle.macs_headline.specs.Refused.{refusal_at}
 -- the one that was given; in a step, where none was under way, no ceiling was being raised, and to keep the first that
 -- waits was next, that one. Else nothing changes: where work on no command may have begun; so in each other call, and
 -- between two; in `command` while one waits; in a step while a ceiling is being raised, or where to raise one is next;
--- and once it is stopped.
+-- and once it is stopped. Work may have begun so, and in no other way.
 pub record EndWords (D : Type 0) : Type 0 where
   pub command : (e : EndpointValue D) (logs : Logs) (c : Command) → IsExactEnd e logs (Some (Commands c))
       → is_stopped e ≡ false → e.waiting ≡ []
@@ -36,3 +36,8 @@ pub record EndWords (D : Type 0) : Type 0 where
       → state_left e logs (Some Advances) ≡ state_of e logs
   pub stopped : (e : EndpointValue D) (logs : Logs) (cut : Option Call) → IsExactEnd e logs cut → is_stopped e ≡ true
       → state_left e logs cut ≡ state_of e logs
+  pub may : (e : EndpointValue D) (cut : Option Call) (c : Command) → MayHaveBegun e cut c
+      → (is_stopped e ≡ false) × (refusal_at (state_of e no_logs) c ≡ None)
+      × (((cut ≡ Some (Commands c)) × (e.waiting ≡ []))
+      ⊎ ((cut ≡ Some Advances) × (e.in_hand ≡ None) × (e.reserving ≡ None)
+      × (first : Waiting) × (next_piece e ≡ Some (ToKeep first)) × (first.command ≡ c)))

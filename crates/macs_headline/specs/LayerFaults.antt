@@ -1,5 +1,5 @@
 -- Exactly when the store and the journal answer which fault.
-use Rattle.std.specs.Prelude.{◌≡◌, ◌≢◌, ◌^◌, ◌-◌, ◌↔◌, true, false, List, Result, Ok, Err, IsErrOf, IsOk}
+use Rattle.std.specs.Prelude.{◌≡◌, ◌≢◌, ◌^◌, ◌-◌, ◌↔◌, true, false, List, Result, Ok, Err, IsErrOf, IsOk, OnErr}
 use Rattle.macs_config.specs.Apply.{Named}
 use Rattle.macs_config.specs.declared.command.Command.{Command}
 use Rattle.macs_config.specs.declared.refusal.Refusal.{Refusal}
@@ -16,8 +16,9 @@ use Rattle.macs_journal.specs.declared.fault.JournalFault.TheVariants.{Generatio
 use Rattle.macs_journal.specs.declared.work.JournalStep.{JournalStep}
 use Rattle.macs_journal.specs.declared.work.JournalStep.TheVariants.{Idle}
 use Rattle.macs_store.specs.Keeps.{Commits, IsSpent}
-use Rattle.macs_store.specs.Standing.{accept}
+use Rattle.macs_store.specs.Standing.{Standing, accept}
 use Rattle.macs_store.specs.Stepping.{Finishes, StartsCommit, StartsRecord, Steps}
+use Rattle.macs_store.specs.Stepping as store_work
 use Rattle.macs_store.specs.Value.{IsIdle, StoreValue, standing_in}
 use Rattle.macs_store.specs.Value as store
 use Rattle.macs_store.specs.declared.fault.CommitFault.{CommitFault}
@@ -45,6 +46,10 @@ pub record LayerFaults {D : Type 0} (disk_of : D → Disk) : Type 0 where
   pub record_started : (old new : StoreValue D) (r : Record) (result : Result (Unit {0}) JournalFault)
       → StartsRecord disk_of old r result new
       → (IsErrOf result Stopped ↔ (store.is_stopped old ≡ true)) × (IsErrOf result GenerationsSpent ↔ IsSpent old)
+  pub reservation_started : (old new : StoreValue D) (after : Standing) (result : Result (Unit {0}) JournalFault)
+      → store_work.Starts disk_of old after result new
+      → (IsErrOf result Stopped ↔ (store.is_stopped old ≡ true)) × (IsErrOf result GenerationsSpent ↔ IsSpent old)
+      × OnErr result (new ≡ old)
   pub stepped : (old new : StoreValue D) (result : Result JournalStep JournalFault) → Steps disk_of old result new
       → (IsErrOf result Stopped ↔ (store.is_stopped old ≡ true))
       × ((result ≡ Ok Idle) ↔ ((store.is_stopped old ≡ false) × IsIdle old))

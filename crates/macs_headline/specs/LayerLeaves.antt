@@ -1,15 +1,18 @@
 -- What store, journal and endpoint are left with where they refuse, and what of a disk that claims nothing.
-use Rattle.std.specs.Prelude.{◌≡◌, ◌<◌, ◌≤◌, ◌⊎◌, true, ℕ, List, Option, Some, None, Result, Ok, Err, IsErrOf, OnErr}
-use Rattle.std.specs.Prelude.{length}
+use Rattle.std.specs.Prelude.{◌≡◌, ◌≢◌, ◌↔◌, ◌<◌, ◌≤◌, ◌⊎◌, true, ℕ, List, Option, Some, None, Result, Ok, Err}
+use Rattle.std.specs.Prelude.{IsErrOf, OnErr, length}
 use Rattle.macs_config.specs.Config.{this_edition}
 use Rattle.macs_config.specs.Identity.{Identity}
 use Rattle.macs_config.specs.declared.command.Command.{Command}
-use Rattle.macs_disk.specs.Disk.{Disk, IsHonest, MayLeave, Works, now}
+use Rattle.macs_disk.specs.Disk.{Disk, FailsOnce, IsHonest, MayLeave, Works, now}
 use Rattle.macs_disk.specs.States.{Image, state_after_sync}
+use Rattle.arrayvec.specs.ArrayVec.{ArrayVec}
+use Rattle.macs_record.specs.Commands.{record_of}
 use Rattle.macs_record.specs.Decoding.{IsSectorOf}
 use Rattle.macs_record.specs.declared.format.Format.{Format}
 use Rattle.macs_record.specs.declared.format.Format.TheVariants.{Two}
 use Rattle.macs_record.specs.declared.record.Record.{Record}
+use Rattle.macs_journal.specs.Areas.{least_sectors}
 use Rattle.macs_journal.specs.Compacting.{Compacts}
 use Rattle.macs_journal.specs.Found.{HasFormat}
 use Rattle.macs_journal.specs.Opening.{IsNoJournal, IsRecovery, IsRefused, Recovers}
@@ -18,12 +21,15 @@ use Rattle.macs_journal.specs.Value.{JournalValue, content_of}
 use Rattle.macs_journal.specs.Value as journal
 use Rattle.macs_journal.specs.declared.fault.JournalFault.{JournalFault}
 use Rattle.macs_journal.specs.declared.fault.JournalFault.TheVariants.{Disk as DiskFault, NotFormatted, Stopped}
+use Rattle.macs_journal.specs.declared.fault.JournalFault.TheVariants.{TooSmall}
 use Rattle.macs_journal.specs.declared.hand.Appending.{Appending}
 use Rattle.macs_journal.specs.declared.hand.Compacting.{Compacting}
 use Rattle.macs_journal.specs.declared.hand.Hand.TheVariants as hand
+use Rattle.macs_journal.specs.declared.place.Place.{Place}
 use Rattle.macs_journal.specs.declared.recovery.RecoverRefused.{RecoverRefused}
 use Rattle.macs_journal.specs.declared.work.JournalStep.{JournalStep}
 use Rattle.macs_journal.specs.declared.work.JournalStep.TheVariants.{Idle}
+use Rattle.macs_journal.specs.declared.work.Work.TheVariants as asked
 use Rattle.macs_store.specs.Commands.{command_of}
 use Rattle.macs_store.specs.Found.{StandingIs}
 use Rattle.macs_store.specs.Keeps.{Commits}
@@ -45,13 +51,13 @@ use Rattle.macs_headline.specs.Deeds.{disk_after_opening}
 -- does a step of a journal that is stopped or has nothing under way, or a journal that is refused to start over. What
 -- is recovered of a journal is, on each disk, as many records as there are used slots, under its head's format,
 -- identity and count; a recovery is refused as TooSmall exactly for a disk that is too small, and then no call is made;
--- as Disk exactly where a device call failed, which was the last one; and the disk after its first call stays as that
--- left it. An opening with no journal to rewrite makes its sync first, and only reads after it. A `format` answers Ok
--- only where no head gate reads open, and then each image of an honest disk is that of the new endpoint. A record that
--- is appended is the one in hand, from call to call, and as many records are lent to a journal that starts over as its
--- new head counts. What was judged of a command is kept beside its record alone, and no longer than that is under way.
--- On each disk, honest or not, an opening, a `format` and a call are work of the disk: its clock goes on, no failure is
--- taken back, and one that is worn stays so.
+-- as Disk exactly where a device call failed; and the disk after its first call stays as that left it. An opening with
+-- no journal to rewrite makes its sync first, and only reads after it. A `format` answers Ok only where no head gate
+-- reads open, and then each image of an honest disk is that of the new endpoint. A record that is appended is the one
+-- in hand, from call to call, and as many records are lent to a journal that starts over as its new head counts. What
+-- was judged of a command is kept beside its record alone, and no longer than that is under way. On each disk, honest
+-- or not, an opening, a `format` and a call are work of the disk: its clock goes on, no failure is taken back, and one
+-- that is worn stays so.
 pub record LayerLeaves {D : Type 0} (disk_of : D → Disk) : Type 0 where
   pub committed : (old new : StoreValue D) (command : Command) (result : Result (Unit {0}) CommitFault)
       → Commits disk_of old command result new → OnErr result (IsErrOf result commit.Disk ⊎ (new ≡ old))
@@ -87,6 +93,16 @@ pub record LayerLeaves {D : Type 0} (disk_of : D → Disk) : Type 0 where
       → length records ≡ work.head.count
   pub judged_none : (checked : Option Command) → IsOfChange change.Empty checked → checked ≡ None
   pub judged : (r : Record) (command : Command) → command_of r ≡ Some command → ¬ IsOfRecord r None
+  pub judged_beside : (r : Record) (command : Command) → IsOfRecord r (Some command) → record_of command ≡ Some r
+  pub may_start : (place : Place) (r : Record) (records : ArrayVec Record)
+      → (journal_work.FitsWork place (asked.Append r) ↔ (place.free < 256))
+      × (journal_work.FitsWork place (asked.Compact records) ↔ (1 ≤ length records.items))
+      × (journal_work.task_of (asked.Append r) ≡ journal_work.Appends r)
+      × (journal_work.task_of (asked.Compact records) ≡ journal_work.Renews records.items)
+  pub refused : (disk left : D) (fault : JournalFault) → IsRefused disk_of (IsNoJournal disk_of disk) disk left fault
+      → ((fault ≡ TooSmall) ↔ ((disk_of disk).sectors < least_sectors)) × (fault ≡ TooSmall → left ≡ disk)
+      × (fault ≢ DiskFault → (disk_of left).failures ≡ (disk_of disk).failures)
+      × (fault ≡ DiskFault → FailsOnce (disk_of disk) (disk_of left))
   pub opening_works : (disk : D) (result : Result (EndpointValue D) (RecoverRefused D)) → IsOpening disk_of disk result
       → Works (disk_of disk) (disk_after_opening disk_of result)
   pub format_works : (old new : D) (identity : Identity) (result : Result (Unit {0}) JournalFault)

@@ -1,5 +1,5 @@
 -- The headline on openings: why one is refused, what that changes, and under which identity one finds a disk.
-use Rattle.std.specs.Prelude.{◌≡◌, ◌⊎◌, ◌↔◌, ◌-◌, ◌^◌, ℕ, Bool, true, List, Contains}
+use Rattle.std.specs.Prelude.{◌≡◌, ◌⊎◌, ◌↔◌, ◌-◌, ◌^◌, ℕ, Bool, true, List, Contains, Some}
 use Rattle.macs_config.specs.Config.{Edition}
 use Rattle.macs_config.specs.Identity.{Identity}
 use Rattle.macs_disk.specs.States.{Image}
@@ -8,6 +8,7 @@ use Rattle.macs_journal.specs.Found.{Content, HasJournal}
 use Rattle.macs_journal.specs.declared.fault.JournalFault.{JournalFault}
 use Rattle.macs_journal.specs.declared.fault.JournalFault.TheVariants.{Disk, GenerationsSpent, NotFormatted}
 use Rattle.macs_store.specs.Found.{IsAtLast}
+use Rattle.macs_store.specs.Replay.{meaning_of}
 use Rattle.macs_store.specs.Standing.{Standing}
 use Rattle.macs_endpoint.specs.State.{State}
 use Rattle.macs_headline.specs.History.{Blank, FitsPast, Formats, Formatted, Leads, Past, Refuses, logs_of}
@@ -17,12 +18,12 @@ use Rattle.macs_headline.specs.Moments.{IsFoundAfter}
 abbrev pub IsSpentFor : Edition → Image → JournalFault → Type 0
 IsSpentFor edition image fault = (fault ≡ GenerationsSpent) × IsAtLast edition image
 
--- That is answered as GenerationsSpent, and is a journal of format one, in generation 2^64 - 1, and the edition reads
--- areas of format two.
+-- That is answered as GenerationsSpent, and is a journal of format one that means something, in generation 2^64 - 1,
+-- and the edition reads areas of format two.
 abbrev pub SpentAreLast : Type 0
 SpentAreLast = (edition : Edition) (image : Image) (fault : JournalFault) → IsSpentFor edition image fault
-    → (fault ≡ GenerationsSpent) × (c : Content) × HasJournal image c × (c.head.format ≡ One)
-    × (edition.format_two ≡ true) × (c.head.generation ≡ 2 ^ 64 - 1)
+    → (fault ≡ GenerationsSpent) × (c : Content) × (s : Standing) × HasJournal image c × (meaning_of edition c ≡ Some s)
+    × (c.head.format ≡ One) × (edition.format_two ≡ true) × (c.head.generation ≡ 2 ^ 64 - 1)
 
 -- once `format` has answered Ok, only for a device call that failed, or for that
 abbrev pub RefusedForDiskOrSpent : ℕ → Type 0

@@ -7,7 +7,7 @@ use Rattle.macs_config.specs.declared.command.Command.TheVariants.{RxAdd, RxInst
 use Rattle.macs_disk.specs.Disk.{Disk, now}
 use Rattle.macs_journal.specs.declared.fault.JournalFault.TheVariants.{Disk as DiskFault}
 use Rattle.macs_journal.specs.declared.recovery.RecoverRefused.{RecoverRefused}
-use Rattle.macs_endpoint.specs.Lives.{exchange_of}
+use Rattle.macs_endpoint.specs.Lives.{Lives, exchange_of}
 use Rattle.macs_endpoint.specs.Value.{EndpointValue, device_in}
 use Rattle.macs_endpoint.specs.State.{Commands, Protected, Protects, Ran, Received, Receives, Refilled, Refills}
 use Rattle.macs_headline.specs.Binding.{HasHistory}
@@ -77,4 +77,4 @@ pub record RefusedWords {D : Type 0} (disk_of : D → Disk) : Type 0 where
       → (map exchange_of (morning_turns frame out morning m.one m.last)
       ≡ exchange_with Refills (Refilled morning.refilled)
       ∷ exchange_with (Receives frame) (Received morning.received out) ∷ [])
-      × (left ≡ device_in m.last)
+      × (left ≡ device_in m.last) × Lives disk_of start (morning_turns frame out morning m.one m.last) m.last

@@ -1,6 +1,6 @@
 -- What the words say of the two sides of an endpoint, of the SecTAG of a frame, and of a frame that is opened by hand.
 use Rattle.std.specs.Prelude.{◌≡◌, ◌≢◌, ◌↔◌, ◌<◌, ◌≤◌, ◌⊎◌, ◌+◌, ◌^◌, ℕ, true, List, []}
-use Rattle.std.specs.Prelude.{Option, Some, None, is_none, if◌then◌else◌}
+use Rattle.std.specs.Prelude.{Option, Some, None, is_none, if◌then◌else◌, length}
 use Rattle.macs_config.specs.declared.association.RxSa.{RxSa}
 use Rattle.macs_config.specs.declared.command.SciMode.TheVariants.{Explicit}
 use Rattle.macs_config.specs.declared.command.Validate.TheVariants.{Strict}
@@ -8,6 +8,8 @@ use Rattle.macs_frame.specs.Opening.{OpenFaultHolds, Verified, named_sci}
 use Rattle.macs_frame.specs.Protection.{IsName, IsWritten, control_octet, name_bits}
 use Rattle.macs_frame.specs.Tag.{TagFaultHolds, name_of}
 use Rattle.macs_frame.specs.declared.opening.OpenFault.TheVariants.{NotValid, OtherSci, Tag as TagRefused}
+use Rattle.macs_frame.specs.declared.tag.ScName.TheVariants.{EndStation as NamesStation, Explicit as NamesSci}
+use Rattle.macs_frame.specs.declared.tag.ScName.TheVariants.{Implicit as NamesNone}
 use Rattle.macs_frame.specs.declared.tag.SecTag.{SecTag}
 use Rattle.macs_frame.specs.declared.tag.TagFault.{TagFault}
 use Rattle.macs_rxsc.specs.Receive.{IsNumbered, Numbers, new_rx_side}
@@ -18,9 +20,9 @@ use Rattle.macs_txsc.specs.Transmit.{AreOrdered, InOrder, TxSide, new_tx_side}
 -- ceiling, with 1 <= next <= ceiling <= 2^32, and where there is none there is neither; one for frames that come in has
 -- numbers and a ceiling, with 1 <= lowest <= next <= ceiling <= 2^32 and next no further above lowest than the window,
 -- and where there is none there is neither. Octet 3 of a SecTAG has SC or ES, E, C and the AN, each by itself; a SecTAG
--- whose fields are in their ranges, with E and C alike, is one that is written. A frame that is opened by hand is
--- refused for its tag where a fault of that holds, as of another SCI exactly where its tag names one that is not the
--- given one, and as not valid exactly where it verifies as no plain frame.
+-- whose fields are in their ranges, with E and C alike, is one that is written, and an SCI that is spelled out has 8
+-- octets. A frame that is opened by hand is refused for its tag where a fault of that holds, as of another SCI exactly
+-- where its tag names one that is not the given one, and as not valid exactly where it verifies as no plain frame.
 pub record SideWords : Type 0 where
   pub new_transmit : (sci : List ℕ) → new_tx_side sci
       ≡ record { sci = sci; mode = Explicit; encoding = None; tx = λ an. None; next = λ an. None }
@@ -46,6 +48,7 @@ pub record SideWords : Type 0 where
       ≡ name_bits tag.name + (if tag.encrypted then 0x08 else 0) + (if tag.changed then 0x04 else 0) + tag.an
   pub written : (tag : SecTag) → tag.an < 4 → 0 < tag.pn → tag.pn < 2 ^ 32 → IsName tag.name
       → tag.encrypted ≡ tag.changed → IsWritten tag
+  pub names : (sci : List ℕ) → (IsName (NamesSci sci) ↔ (length sci ≡ 8)) × IsName NamesStation × IsName NamesNone
   pub tag_refused : (frame key sci : List ℕ) (offset : ℕ) (fault : TagFault)
       → OpenFaultHolds frame key sci offset (TagRefused fault) ↔ TagFaultHolds frame fault
   pub other_sci : (frame key sci : List ℕ) (offset : ℕ) → OpenFaultHolds frame key sci offset OtherSci

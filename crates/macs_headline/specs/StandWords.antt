@@ -35,7 +35,7 @@ use Rattle.macs_endpoint.specs.Lives.{LeavesLife, Lives}
 use Rattle.macs_endpoint.specs.Opening.{IsOpening}
 use Rattle.macs_endpoint.specs.Serving.{EndsAs, IsServed, Told, is_halt}
 use Rattle.macs_endpoint.specs.RefillCosts.{HasRaised, RaisesBehind, Spends, most_behind, reserved_in}
-use Rattle.macs_endpoint.specs.Restart.{opened_state}
+use Rattle.macs_endpoint.specs.Restart.{Fits, opened_state, state_during}
 use Rattle.macs_endpoint.specs.State.{Advanced, Advances, Call, Commands, Logs, Ran, Reply, no_logs, rx_side}
 use Rattle.macs_endpoint.specs.State.{tx_side}
 use Rattle.macs_endpoint.specs.Value.{EndpointValue, IsBacked, disk_in, state_of}
@@ -67,6 +67,11 @@ pub record CallsLeave {D : Type 0} (disk_of : D → Disk) : Type 0 where
       × (first.reserving ≡ None) × (first.in_hand ≡ None)
       × (first.waiting ≡ []) × (first.tickets ≡ 0)
       × ((logs : Logs) → state_of first logs ≡ opened_state (standing_in first.store) logs)
+  pub cut : (old new : EndpointValue D) (call : Call) (reply : Reply) (logs after : Logs) (image : Image)
+      → IsCall disk_of old call reply new → IsHonest (disk_in disk_of new) → IsBacked disk_of old
+      → LeftSince (disk_in disk_of new) (disk_in disk_of old).clock image
+      → (Fits (state_of old logs).edition (disk_in disk_of old).sectors image (state_during (state_of old logs) call)
+      ⊎ Fits (state_of new after).edition (disk_in disk_of old).sectors image (state_of new after))
   pub in_range : (old new : EndpointValue D) (call : Call) (reply : Reply) → IsCall disk_of old call reply new
       → IsInRange call
   pub opened_settled : (disk : D) (first : EndpointValue D) (i : ℕ) → IsOpening disk_of disk (Ok first)

@@ -1,5 +1,5 @@
 -- The headline on what a step is, from whatever state: what goes out, what comes in, and what a command makes.
-use Rattle.std.specs.Prelude.{◌≡◌, ◌≤◌, ◌⊎◌, ◌+◌, ℕ, List, [], ◌∷◌, Some, None, Ok}
+use Rattle.std.specs.Prelude.{◌≡◌, ◌≤◌, ◌⊎◌, ◌+◌, ℕ, true, List, [], ◌∷◌, Some, None, Ok, Err}
 use Rattle.macs_fields.specs.First.{IsFirst}
 use Rattle.macs_config.specs.Apply.{apply}
 use Rattle.macs_config.specs.Config.{Config}
@@ -11,20 +11,34 @@ use Rattle.macs_rxsc.specs.Receive.{numbers_after_hold, put_numbers, rx_steps, v
 use Rattle.macs_rxsc.specs.Receive as rx
 use Rattle.macs_rxsc.specs.declared.verdict.Verdict.{Verdict}
 use Rattle.macs_rxsc.specs.declared.verdict.Verdict.TheVariants.{Delivered, HeldBack}
-use Rattle.macs_endpoint.specs.State.{Advanced, Advances, Commands, Protected, Protects, Ran, Received, Receives, State}
-use Rattle.macs_endpoint.specs.State.{rx_side, tx_side}
+use Rattle.macs_endpoint.specs.State.{Advanced, Advances, Call, Commands, Protected, Protects, Ran, Received, Receives}
+use Rattle.macs_endpoint.specs.State.{Reply, State, rx_side, tx_side}
 use Rattle.macs_endpoint.specs.Step.{Step, next_after, numbers_after, state_after_command, state_after_delivery}
 use Rattle.macs_endpoint.specs.Step.{state_after_frame, state_after_hold, state_without_first}
+use Rattle.macs_endpoint.specs.declared.fault.ProtectFault.TheVariants as protect
+use Rattle.macs_endpoint.specs.declared.fault.Stopped.{Stopped}
 use Rattle.macs_endpoint.specs.declared.progress.Step.TheVariants.{Done}
 use Rattle.macs_endpoint.specs.declared.queue.Waiting.{Waiting}
+use Rattle.macs_headline.specs.Refused.{IsExact}
+use Rattle.macs_headline.specs.Stopping.{TellsStopped}
 
--- A frame that goes out is that of the association in use with its next number, whatever else the endpoint has; that
--- number is used then, and the next one is one more. A received frame is settled by the first step that holds of it,
--- and nothing changes; or it verified, and is held back, if its number is not below next, or delivered. What is held
--- back moves what was seen, what is delivered the numbers of its association, and it joins what was given. A command
--- that is answered Ok, or the first that waited when a step is done with it and answers Ok, makes the configuration
--- that it makes of the one before, with the numbers that it sets.
+-- What `refusals_are_exact` says of an answer holds from each state; one that is stopped answers so, and no other, and
+-- leaves `out` empty. A frame that goes out is that of the association in use with its next number, whatever else the
+-- endpoint has; that number is used then, and the next one is one more. A received frame is settled by the first step
+-- that holds of it, and nothing changes; or it verified, and is held back, if its number is not below next, or
+-- delivered. What is held back moves what was seen, what is delivered the numbers of its association, and it joins what
+-- was given. A command that is answered Ok, or the first that waited when a step is done with it and answers Ok, makes
+-- the configuration that it makes of the one before, with the numbers that it sets.
 pub record StepWords : Type 0 where
+  pub exact : (s new : State) (call : Call) (reply : Reply) → Step s call reply new → IsExact s call reply new
+  pub stopped : (s new : State) (call : Call) (reply : Reply) → Step s call reply new → s.stopped ≡ true
+      → TellsStopped reply × (new ≡ s)
+  pub running : (s new : State) (call : Call) (reply : Reply) → Step s call reply new → TellsStopped reply
+      → s.stopped ≡ true
+  pub not_sent : (s new : State) (call : Call) (out : List ℕ) → Step s call (Protected (Err protect.Stopped) out) new
+      → out ≡ []
+  pub not_judged : (s new : State) (call : Call) (answer : Stopped) (out : List ℕ)
+      → Step s call (Received (Err answer) out) new → out ≡ []
   pub sent : (s new : State) (plain out : List ℕ) (pn : ℕ) → Step s (Protects plain) (Protected (Ok pn) out) new
       → (o : Outgoing) × (next_outgoing (tx_side s) ≡ Some o) × (pn ≡ o.pn) × (out ≡ frame_of (tx_side s) o plain)
       × (new ≡ state_after_frame s o)

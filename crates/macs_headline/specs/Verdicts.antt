@@ -109,6 +109,7 @@ pub record VerdictsAreNamed : Type 0 where
   pub e_bit : (frame : List ℕ) → (tag_of frame).encrypted ≡ has_bit (slice_index frame 14) 0x08
   pub c_bit : (frame : List ℕ) → changed (control frame) ≡ has_bit (slice_index frame 14) 0x04
   pub read_c : (frame : List ℕ) → (tag_of frame).changed ≡ has_bit (slice_index frame 14) 0x04
+  pub read_tag : (frame : List ℕ) (parts : Parts) → Tag frame parts → parts.tag ≡ tag_of frame
   pub read_name : (frame : List ℕ) → (tag_of frame).name ≡ name_of frame
   pub bits : (octet k : ℕ) → has_bit octet (2 ^ k) ≡ ((octet / 2 ^ k) % 2 == 1)
   pub secure_data : (frame : List ℕ) (parts : Parts) → Tag frame parts
