@@ -13,4 +13,10 @@ played-disks = record {
   passed = λ fuse inner. refl;
   stopped = λ fuse. (refl, refl, refl);
   blown = λ fuse. (refl, refl);
+  sector_read = λ old new at value into. (λ r. (r.same, r.ok), λ is. record { same = is.0; ok = is.1 });
+  no_sector_read = λ old new at error into. (λ r. r.same, λ is. record { same = is; ok = tt });
+  sector_written = λ old new at value octets. (λ w. w.ok, λ is. record { ok = is; err = tt });
+  no_sector_written = λ old new at error octets. (λ w. w.err, λ is. record { ok = tt; err = is });
+  synced = λ old new value. (λ s. s.ok, λ is. record { ok = is; err = tt });
+  not_synced = λ old new error. (λ s. s.err, λ is. record { ok = tt; err = is });
 }

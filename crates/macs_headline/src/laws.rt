@@ -471,7 +471,8 @@ pub fn beginnings()
     ensures passed_on { PassedOnHaveHistories }
     // So has a disk with a fuse before it, and one without.
     ensures fuses { FusesChangeNone }
-    // What a new disk in memory is, what its power loss leaves, and which calls a fuse fails.
+    // What calls of a disk do, what a disk in memory and its power loss are, and which calls a fuse
+    // fails.
     ensures played { PlayedDisks }
 {}
 
