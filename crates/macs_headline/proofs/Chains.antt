@@ -51,7 +51,7 @@ new-disks edition disk new = record {
 -- a disk of which each image fits
 pub fitting-disks : FittingHaveHistories
 fitting-disks edition disk lives past honest history images =
-    record { honest = honest; past = past; history = history; images = images }
+    (record { honest = honest; past = past; history = history; images = images }, refl)
 
 -- a disk on which nothing is pending
 pub settled-disks : SettledHaveHistories

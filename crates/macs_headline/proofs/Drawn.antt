@@ -11,7 +11,8 @@ use Rattle.macs_disk.specs.Disk.{Disk}
 use Rattle.macs_disk.specs.States.{Image}
 use Rattle.macs_frame.specs.Tag.{tag_of}
 use Rattle.macs_journal.specs.declared.fault.JournalFault.{JournalFault}
-use Rattle.macs_rxsc.specs.Receive.{NotVerified, Numbers, RxStepHolds, channel_of}
+use Rattle.macs_rxsc.specs.Receive.{NotVerified, Numbers, RxStepHolds, channel_of, numbers_after_delivery}
+use Rattle.macs_rxsc.specs.Receive.{numbers_after_hold, seen_after}
 use Rattle.macs_rxsc.specs.declared.verdict.Kind.{Kind}
 use Rattle.macs_endpoint.specs.Queue.{first_command}
 use Rattle.macs_endpoint.specs.Restart.{Restart, Resumes}
@@ -24,7 +25,7 @@ use Rattle.macs_headline.specs.CommandInHand.{MayBegin, WasBegun}
 use Rattle.macs_headline.specs.Commands.{IsPrefix, WasHandedIn, accepted_commands, failing, waiting_after}
 use Rattle.macs_headline.specs.Commands.{waiting_at_end, waiting_from, without_first}
 use Rattle.macs_headline.specs.Configurations.{LivesMake}
-use Rattle.macs_headline.specs.Deliveries.{IsOtherDelivery}
+use Rattle.macs_headline.specs.Deliveries.{IsOtherDelivery, greatest_seen}
 use Rattle.macs_headline.specs.Drawn.{LifeWords, LogWords, MomentsAreExact, NumberWords}
 use Rattle.macs_headline.specs.Formats.{AreUnformatted}
 use Rattle.macs_headline.specs.Frames.{IsOtherFrame}
@@ -157,6 +158,27 @@ seen_by s call sci an pn is = (
   }),
 )
 
+-- what was seen is the greatest
+seen-greatest : (seen : Option ℕ) (pn : ℕ) → seen_after seen pn ≡ Some (greatest_seen seen pn)
+seen-greatest None pn = refl
+seen-greatest (Some last) pn = refl
+
+delivered : (window pn : ℕ) (n : Numbers) → numbers_after_delivery window n pn
+    ≡ record {
+      next = max n.next (pn + 1);
+      lowest = max n.lowest (max n.next (pn + 1) - window);
+      seen = Some (greatest_seen n.seen pn);
+    }
+delivered window pn n i = record {
+  next = max n.next (pn + 1);
+  lowest = max n.lowest (max n.next (pn + 1) - window);
+  seen = seen-greatest n.seen pn i;
+}
+
+held : (pn : ℕ) (n : Numbers) → numbers_after_hold n pn
+    ≡ record { next = n.next; lowest = n.lowest; seen = Some (greatest_seen n.seen pn) }
+held pn n i = record { next = n.next; lowest = n.lowest; seen = seen-greatest n.seen pn i }
+
 pub number-words : NumberWords
 number-words = record {
   tickets = tickets-in-order 0;
@@ -166,6 +188,11 @@ number-words = record {
   window = λ n is. let low = is.0 in let high = is.1 in omega (arith, low, high);
   windows = λ window n is. is;
   widened = λ window n. refl;
+  delivered = delivered;
+  held = held;
+  begun = λ start. refl;
+  next_set = λ next an start offset key confidential. (refl, refl);
+  numbers_set = λ numbers sci an start offset key. (refl, refl, refl);
   replayed = λ old new on window sci an n set is.
       set sci an ∙ ap (λ (o : Option Numbers).
       option_map (λ (m : Numbers). record m { lowest = max m.lowest (m.next - window) }) o) is;

@@ -175,4 +175,5 @@ these-are-left = record {
   left = λ disk since k image later within is. (k, later, within, is);
   at = λ disk since image left. left;
   counts = λ disk image. (refl, refl, refl);
+  past = λ disk image k. refl;
 }

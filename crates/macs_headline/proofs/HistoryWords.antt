@@ -33,5 +33,9 @@ history-words sectors = record {
       sym (waits-from [] (opened_state m.life.found (logs_of m.past)) m.exchanges s refl m.life.steps);
   fitting = λ edition image s fits. (fits.found, fits.is_found, fits.restart);
   restarted = restarted;
+  tx_rises = λ block next found rises. rises;
+  rx_rises = λ block old found rises. rises;
+  none_rise = λ block next numbers. (λ none. none, λ none. none);
+  rx_limits = λ block next seen. (refl, refl);
   resumed = λ old new is. (is.edition, is.identity, is.config, is.next, is.numbers);
 }

@@ -115,6 +115,7 @@ mod OctetWords
 mod HistoryWords
 mod PlayedDisks
 mod RecordWords
+mod ReplayedWords
 mod LayerLeaves
 mod SideWords
 mod SnapshotOrder

@@ -186,6 +186,7 @@ journal-words = record {
     λ octets kept whole.
         let before = is.leaves k from to octets (record { kept = kept; whole = whole }) in (before.kept, before.whole),
   );
+  ran = λ old new other left. left.works;
   nothing_new = λ old new image none left. none.each image left;
   passed_over = λ image c before stands has earlier same. record {
     stands = stands;

@@ -14,4 +14,9 @@ record-words = record {
     λ is. (is.0, record { range = is.1; octets = is.2 }),
   );
   no_record = λ command. refl;
+  fingerprints = λ role prints. (λ is. is, λ is. is);
+  settings = λ validate replay mode an. ((λ is. is, λ is. is), (λ is. is, λ is. is));
+  ceilings = λ sci an ceiling. (λ is. (is.0, is.1.0, is.1.1), λ is. (is.0, is.1, is.2.0, is.2.1));
+  installs = λ sci an start tx rx. (λ is. (is.0, is.1, is.2.0, is.2.1), λ is. (is.0, is.1, is.2, is.3.0, is.3.1));
+  keys = λ key. (λ is. is, λ is. is);
 }

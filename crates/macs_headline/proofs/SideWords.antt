@@ -39,6 +39,12 @@ side-words = record {
   transmit_order = in_order;
   transmit = λ side ceilings an is. is;
   receive = numbered;
+  named_in = λ sci. (refl, refl, refl);
+  before = λ a b. refl;
+  put_first = λ sci. refl;
+  put_next = λ sci other others. refl;
+  counter = λ block. refl;
+  first_counter = λ iv. refl;
   control = λ tag. refl;
   written = λ tag an first last name alike.
       record { an = an; numbered = first; pn = last; name = name; alike = alike };

@@ -87,7 +87,8 @@ NewDisksHaveHistories = (edition : Edition) (disk : Disk) → IsNewDisk disk →
 abbrev pub FittingHaveHistories : Type 0
 FittingHaveHistories = (edition : Edition) (disk : Disk) (lives : List Life) (past : Past) → IsHonest disk
     → IsHistory disk.sectors lives past
-    → ((image : Image) → MayLeave disk image → FitsPast edition disk.sectors past image) → HasHistory edition disk lives
+    → ((image : Image) → MayLeave disk image → FitsPast edition disk.sectors past image)
+    → (h : HasHistory edition disk lives) × (h.past ≡ past)
 
 -- a disk on which nothing is pending has each history after which a program may come upon what is on it
 abbrev pub SettledHaveHistories : Type 0

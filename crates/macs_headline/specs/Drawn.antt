@@ -2,19 +2,23 @@
 use Rattle.std.specs.Prelude.{◌≡◌, ◌≢◌, ◌⊎◌, ◌↔◌, ◌<◌, ◌≤◌, ◌+◌, ◌++◌, ◌-◌, ◌/◌, ◌^◌, ℕ, true, false, List, [], ◌∷◌}
 use Rattle.std.specs.Prelude.{length, map, max, min, Bool, Contains, Option, Some, None, Ok, option_to_list}
 use Rattle.std.specs.List.{range_with_len}
+use Rattle.macs_aes.specs.declared.keys.Key.{Key}
 use Rattle.macs_config.specs.Apply.{apply}
 use Rattle.macs_config.specs.Config.{Config, Edition, default, is_spent, rx_fingerprint, this_edition, tx_fingerprint}
 use Rattle.macs_config.specs.Identity.{Identity}
+use Rattle.macs_config.specs.Tables.{put, put_at}
 use Rattle.macs_config.specs.declared.association.RxSa.{RxSa}
 use Rattle.macs_config.specs.declared.association.TxSa.{TxSa}
 use Rattle.macs_config.specs.declared.command.Command.{Command}
-use Rattle.macs_config.specs.declared.command.Command.TheVariants.{SetReplay}
+use Rattle.macs_config.specs.declared.command.Command.TheVariants.{RxDrop, RxInstall, RxRemove, SetReplay, TxInstall}
+use Rattle.macs_config.specs.declared.command.Command.TheVariants.{TxRemove}
 use Rattle.macs_disk.specs.Disk.{Disk}
 use Rattle.macs_disk.specs.States.{Image}
 use Rattle.macs_frame.specs.Tag.{tag_of}
 use Rattle.macs_journal.specs.Found.{Content}
 use Rattle.macs_journal.specs.declared.fault.JournalFault.{JournalFault}
-use Rattle.macs_rxsc.specs.Receive.{NotVerified, Numbers, RxStepHolds, channel_of, numbers_under_window}
+use Rattle.macs_rxsc.specs.Receive.{NotVerified, Numbers, RxStepHolds, channel_of, first_numbers}
+use Rattle.macs_rxsc.specs.Receive.{numbers_after_delivery, numbers_after_hold, numbers_under_window, put_numbers}
 use Rattle.macs_rxsc.specs.declared.verdict.Kind.{Kind}
 use Rattle.macs_store.specs.Found.{IsToMigrate, StandingIs}
 use Rattle.macs_store.specs.Standing.{Standing}
@@ -23,7 +27,7 @@ use Rattle.macs_endpoint.specs.Lives.{Transition, exchange_of}
 use Rattle.macs_endpoint.specs.Restart.{Restart}
 use Rattle.macs_endpoint.specs.State.{Call, Commands, Delivery, Logs, Receives, State, Submits, Submitted, Use, rx_side}
 use Rattle.macs_endpoint.specs.State.{tx_side}
-use Rattle.macs_endpoint.specs.Step.{Exchange, Step}
+use Rattle.macs_endpoint.specs.Step.{Exchange, Step, next_after, numbers_after}
 use Rattle.macs_endpoint.specs.Value.{EndpointValue, state_of}
 use Rattle.macs_endpoint.specs.declared.queue.Waiting.{Waiting}
 use Rattle.macs_headline.specs.Answered.{WasAnswered, exchanges_of_lives, lives_at}
@@ -34,6 +38,7 @@ use Rattle.macs_headline.specs.Commands.{acknowledged_by, acknowledged_commands,
 use Rattle.macs_headline.specs.Commands.{waiting_after, waiting_at_end}
 use Rattle.macs_headline.specs.Configurations.{AreKept, IsMadeByLives, LivesMake}
 use Rattle.macs_headline.specs.Deliveries.{IsOtherDelivery, IsVerifiedDelivery, IsVerifiedKind, delivering}
+use Rattle.macs_headline.specs.Deliveries.{greatest_seen}
 use Rattle.macs_headline.specs.Formats.{AreUnformatted}
 use Rattle.macs_headline.specs.Frames.{IsOtherFrame, IsStandardFrame, writing}
 use Rattle.macs_headline.specs.History.{FitsPast, Formats, Life, Past, Refuses, Serves, logs_of, state_at_end}
@@ -99,7 +104,8 @@ pub record LogWords (sectors : ℕ) : Type 0 where
 -- it is the next one. A command on replay protection moves it up into the window, and no other number. A number that
 -- was seen is that of a frame which the call was given, and which is not one that does not verify. Where what is found
 -- is beyond a number the key is spent, on the receive side for its SCI, and each association that has the key has a
--- next packet number, which is greater.
+-- next packet number, which is greater. A frame that is delivered, or held back, moves numbers as its association has
+-- them, whatever they are; and a command sets those that it names.
 pub record NumberWords : Type 0 where
   pub tickets : (tickets : List ℕ) → AreInOrder 0 tickets → tickets ≡ range_with_len 1 (length tickets)
   pub moved : (block : ℕ) (old new : Numbers) → IsMoved block old new
@@ -114,6 +120,23 @@ pub record NumberWords : Type 0 where
       → (n.lowest ≤ n.next) × (n.next ≤ n.lowest + window)
   pub widened : (window : ℕ) (n : Numbers)
       → numbers_under_window window n ≡ record { next = n.next; lowest = max n.lowest (n.next - window); seen = n.seen }
+  pub delivered : (window pn : ℕ) (n : Numbers) → numbers_after_delivery window n pn
+      ≡ record {
+        next = max n.next (pn + 1);
+        lowest = max n.lowest (max n.next (pn + 1) - window);
+        seen = Some (greatest_seen n.seen pn);
+      }
+  pub held : (pn : ℕ) (n : Numbers) → numbers_after_hold n pn
+      ≡ record { next = n.next; lowest = n.lowest; seen = Some (greatest_seen n.seen pn) }
+  pub begun : (start : ℕ) → first_numbers start ≡ record { next = start; lowest = start; seen = None }
+  pub next_set : (next : ℕ → Option ℕ) (an start offset : ℕ) (key : Key) (confidential : Bool)
+      → (next_after (TxInstall an key start confidential offset) next ≡ put next an (Some start))
+      × (next_after (TxRemove an) next ≡ put next an None)
+  pub numbers_set : (numbers : List ℕ → ℕ → Option Numbers) (sci : List ℕ) (an start offset : ℕ) (key : Key)
+      → (numbers_after (RxInstall sci an key start offset) numbers
+      ≡ put_numbers numbers sci an (Some (first_numbers start)))
+      × (numbers_after (RxRemove sci an) numbers ≡ put_numbers numbers sci an None)
+      × (numbers_after (RxDrop sci) numbers ≡ put_at numbers sci (λ an. None))
   pub replayed : (old new : State) (on : Bool) (window : ℕ) (sci : List ℕ) (an : ℕ) (n : Numbers)
       → AreSet old (SetReplay on window) new
       → old.numbers sci an ≡ Some n

@@ -42,7 +42,8 @@ TheseLosePower = (ran new : Disk) (since : ℕ) (image : Image) → LeftSince ra
     → now new ≡ settled_state image → LosesPower ran since new
 
 -- An image is left by a power loss at some moment since where it is one of that moment, whichever moment it is, the
--- first and the last included; and else it is not. To the counts of a disk in memory a power loss does nothing.
+-- first and the last included; and else it is not. To the counts of a disk in memory a power loss does nothing, and
+-- nothing of its past is left.
 pub record TheseAreLeft : Type 0 where
   pub left : (disk : Disk) (since k : ℕ) (image : Image) → since ≤ k → k ≤ disk.clock → IsImage (disk.past k) image
       → LeftSince disk since image
@@ -50,6 +51,7 @@ pub record TheseAreLeft : Type 0 where
       → (k : ℕ) × (since ≤ k) × (k ≤ disk.clock) × IsImage (disk.past k) image
   pub counts : (disk : Disk) (image : Image) → ((disk_after_loss disk image).clock ≡ disk.clock)
       × ((disk_after_loss disk image).failures ≡ disk.failures) × ((disk_after_loss disk image).worn ≡ disk.worn)
+  pub past : (disk : Disk) (image : Image) (k : ℕ) → (disk_after_loss disk image).past k ≡ settled_state image
 
 -- Power is lost.
 abbrev pub PowerLossesPassOn : Type 0

@@ -1,14 +1,16 @@
 -- What the words say of which histories are made: how a life goes on, and one life after another.
-use Rattle.std.specs.Prelude.{◌≡◌, ◌⊎◌, ◌++◌, ℕ, Bool, List, [], ◌∷◌, Option, Some, Ok}
+use Rattle.std.specs.Prelude.{◌≡◌, ◌⊎◌, ◌≤◌, ◌+◌, ◌/◌, ◌^◌, ◌++◌, ℕ, min, max, Bool, List, [], ◌∷◌, Option, Some, None}
+use Rattle.std.specs.Prelude.{Ok}
 use Rattle.macs_config.specs.Apply.{apply}
 use Rattle.macs_config.specs.Config.{Config, Edition, IsUpTo}
 use Rattle.macs_config.specs.Identity.{Identity}
 use Rattle.macs_config.specs.declared.command.Command.{Command}
 use Rattle.macs_disk.specs.States.{Image}
 use Rattle.macs_journal.specs.declared.fault.JournalFault.{JournalFault}
+use Rattle.macs_rxsc.specs.Receive.{Numbers}
 use Rattle.macs_store.specs.Found.{StandingIs}
 use Rattle.macs_store.specs.Standing.{Standing}
-use Rattle.macs_endpoint.specs.Restart.{Fits, Restart, Resumes, RxRises, TxRises, opened_state}
+use Rattle.macs_endpoint.specs.Restart.{Fits, Restart, Resumes, RxRises, TxRises, opened_state, rx_limit}
 use Rattle.macs_endpoint.specs.State.{Call, State, no_logs}
 use Rattle.macs_endpoint.specs.Step.{Exchange, Step, Steps, state_after_command}
 use Rattle.macs_headline.specs.Answered.{exchanges_in, exchanges_of_lives}
@@ -49,3 +51,12 @@ pub record HistoryWords (sectors : ℕ) : Type 0 where
       → IsUpTo old.edition new.edition × (new.identity ≡ old.identity) × (new.config ≡ old.config)
       × ((an : ℕ) → TxRises old.identity.tx_block (old.next an) (new.next an))
       × ((sci : List ℕ) (an : ℕ) → RxRises old.identity.rx_block (old.numbers sci an) (new.numbers sci an))
+  pub tx_rises : (block next : ℕ) (found : Option ℕ) → TxRises block (Some next) found
+      → (later : ℕ) × (found ≡ Some later) × (next ≤ later) × (later ≤ next + (block + block / 2)) × (later ≤ 2 ^ 32)
+  pub rx_rises : (block : ℕ) (old : Numbers) (found : Option Numbers) → RxRises block (Some old) found
+      → (later : ℕ) × (found ≡ Some (record { next = later; lowest = later; seen = None })) × (old.next ≤ later)
+      × (later ≤ rx_limit block old.next old.seen)
+  pub none_rise : (block : ℕ) (next : Option ℕ) (numbers : Option Numbers)
+      → (TxRises block None next → next ≡ None) × (RxRises block None numbers → numbers ≡ None)
+  pub rx_limits : (block next seen : ℕ) → (rx_limit block next None ≡ next)
+      × (rx_limit block next (Some seen) ≡ max next (min (seen + block) (2 ^ 32)))

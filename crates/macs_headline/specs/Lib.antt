@@ -70,6 +70,7 @@ pub mod OctetWords
 pub mod HistoryWords
 pub mod PlayedDisks
 pub mod RecordWords
+pub mod ReplayedWords
 pub mod LayerLeaves
 pub mod SideWords
 pub mod SnapshotOrder

@@ -2,8 +2,8 @@
 use Rattle.std.specs.Prelude.{◌≡◌, ◌≢◌, ◌⊎◌, ◌↔◌, ◌≤◌, ◌<◌, ◌+◌, ◌*◌, ◌-◌, ◌^◌, ◌==◌, if◌then◌else◌, ℕ, true, length}
 use Rattle.std.specs.Prelude.{false, List, Some, None, Ok, Err}
 use Rattle.macs_config.specs.Config.{Edition, this_edition}
-use Rattle.macs_disk.specs.Disk.{Disk, LeftSince, MayLeave, now}
-use Rattle.macs_disk.specs.Runs.{LeavesNothingNew}
+use Rattle.macs_disk.specs.Disk.{Disk, LeftSince, MayLeave, Works, now}
+use Rattle.macs_disk.specs.Runs.{Leaves, LeavesNothingNew}
 use Rattle.macs_disk.specs.States.{DiskState, Image, IsImage, IsSector, settled_state}
 use Rattle.macs_record.specs.Gates.{IsOpen, closed_gate}
 use Rattle.macs_record.specs.declared.format.Format.{Format}
@@ -115,6 +115,7 @@ pub record JournalWords : Type 0 where
       → ((new.past k).pending i ≡ true → IsSector octets)
       → ((now old).pending i ≡ false → octets ≡ (now old).durable i)
       × ((now old).pending i ≡ true → IsSector octets))
+  pub ran : (old new other : Disk) → Leaves old new (MayLeave other) → Works old new
   pub nothing_new : (old new : Disk) (image : Image) → LeavesNothingNew old new → LeftSince new old.clock image
       → MayLeave old image
   pub passed_over : (image : Image) (c : Content) (before : Head) → HasContent image c

@@ -1,12 +1,15 @@
 -- The headline on what a sector is filled up with, which record has which kind, and why a sector is no record.
-use Rattle.std.specs.Prelude.{◌≡◌, ◌↔◌, ◌-◌, ◌++◌, ◌||◌, if◌then◌else◌, ℕ, List, [], ◌∷◌, length, replicate, Option}
-use Rattle.std.specs.Prelude.{Some, None}
-use Rattle.macs_config.specs.Apply.{has_wrong_offset, has_wrong_start}
+use Rattle.std.specs.Prelude.{◌≡◌, ◌⊎◌, ◌↔◌, ◌<◌, ◌≤◌, ◌-◌, ◌^◌, ◌++◌, ◌||◌, if◌then◌else◌, ℕ, List, [], ◌∷◌, length}
+use Rattle.std.specs.Prelude.{replicate, Option, Some, None, All}
+use Rattle.macs_config.specs.Apply.{IsKey, has_wrong_offset, has_wrong_start}
+use Rattle.macs_config.specs.declared.association.RxSa.{RxSa}
+use Rattle.macs_config.specs.declared.association.TxSa.{TxSa}
 use Rattle.macs_config.specs.declared.command.Command.{Command}
 use Rattle.macs_config.specs.declared.command.Replay.{Replay}
 use Rattle.macs_config.specs.declared.command.Role.{Role}
 use Rattle.macs_config.specs.declared.command.SciMode.{SciMode}
 use Rattle.macs_config.specs.declared.command.Validate.{Validate}
+use Rattle.macs_fields.specs.Fields.{IsOctets, IsSci}
 use Rattle.macs_record.specs.Commands.{record_of, record_of_accepted}
 use Rattle.macs_record.specs.Decoding.{HasFields, HasKind, HasRecord}
 use Rattle.macs_record.specs.Layout.{IsRecord, fields_of, kind_number, kind_of, sector_of}
@@ -19,7 +22,8 @@ use Rattle.macs_record.specs.declared.record.Record.TheVariants as records
 -- A sector is filled up with zeros to 512 octets. Each record without a key has the kind of its name. A sector is of a
 -- kind where it begins with the mark and the number of one; has fields where it begins so with those of a record in
 -- their ranges; and is a record where it is that record's. A command has a record unless its start is 0, or its offset
--- is no choice.
+-- is no choice. A record of spent keys has 1 to 15 fingerprints, of 32 octets each; a number from which an association
+-- begins is 1 to 2^32 - 1, a ceiling 1 to 2^32, an AN below 4, and a key has 16 octets, or 32.
 pub record RecordWords : Type 0 where
   pub padded : (octets : List ℕ) → padded_sector octets ≡ octets ++ replicate (512 - length octets) 0
   pub kinds_of : (validate : Validate) (replay : Replay) (mode : SciMode) (encoding : Option ℕ) (role : Role)
@@ -41,3 +45,16 @@ pub record RecordWords : Type 0 where
   pub has_record : (sector : List ℕ) → HasRecord sector ↔ ((r : Record) × IsRecord r × (sector_of r ≡ sector))
   pub no_record : (command : Command) → record_of command
       ≡ (if has_wrong_start command || has_wrong_offset command then None else Some (record_of_accepted command))
+  pub fingerprints : (role : Role) (prints : List (List ℕ)) → IsRecord (records.Spent role prints)
+      ↔ ((1 ≤ length prints) × (length prints ≤ 15) × All (IsOctets 32) prints)
+  pub settings : (validate : Validate) (replay : Replay) (mode : SciMode) (an : ℕ)
+      → (IsRecord (records.Settings validate replay mode None) ↔ ((replay.window < 2 ^ 32) × Unit {0}))
+      × (IsRecord (records.Settings validate replay mode (Some an)) ↔ ((replay.window < 2 ^ 32) × (an < 4)))
+  pub ceilings : (sci : List ℕ) (an ceiling : ℕ)
+      → (IsRecord (records.TxCeiling an ceiling) → (an < 4) × (1 ≤ ceiling) × (ceiling ≤ 2 ^ 32))
+      × (IsRecord (records.RxCeiling sci an ceiling) → IsSci sci × (an < 4) × (1 ≤ ceiling) × (ceiling ≤ 2 ^ 32))
+  pub installs : (sci : List ℕ) (an start : ℕ) (tx : TxSa) (rx : RxSa)
+      → (IsRecord (records.TxInstall an tx start) → (an < 4) × IsKey tx.key × (0 < start) × (start < 2 ^ 32))
+      × (IsRecord (records.RxInstall sci an rx start)
+      → IsSci sci × (an < 4) × IsKey rx.key × (0 < start) × (start < 2 ^ 32))
+  pub keys : (key : List ℕ) → IsKey key ↔ (IsOctets 16 key ⊎ IsOctets 32 key)

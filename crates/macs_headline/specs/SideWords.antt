@@ -1,9 +1,15 @@
 -- What the words say of the two sides of an endpoint, of the SecTAG of a frame, and of a frame that is opened by hand.
-use Rattle.std.specs.Prelude.{◌≡◌, ◌≢◌, ◌↔◌, ◌<◌, ◌≤◌, ◌⊎◌, ◌+◌, ◌^◌, ℕ, true, List, []}
+use Rattle.std.specs.Prelude.{◌≡◌, ◌≢◌, ◌↔◌, ◌<◌, ◌≤◌, ◌⊎◌, ◌+◌, ◌%◌, ◌^◌, ◌++◌, ℕ, true, List, [], ◌∷◌, take, drop}
 use Rattle.std.specs.Prelude.{Option, Some, None, is_none, if◌then◌else◌, length}
+use Rattle.std.specs.Cmp.Lexicographic.{slice_cmp}
+use Rattle.std.specs.Int.{from_be_bytes, to_be_bytes, w32}
+use Rattle.std.specs.Ordering.{is_lt, nat_cmp}
+use Rattle.macs_config.specs.Config.{comes_before, put_among}
 use Rattle.macs_config.specs.declared.association.RxSa.{RxSa}
-use Rattle.macs_config.specs.declared.command.SciMode.TheVariants.{Explicit}
+use Rattle.macs_config.specs.declared.command.SciMode.TheVariants.{EndStation, Explicit, Implicit}
 use Rattle.macs_config.specs.declared.command.Validate.TheVariants.{Strict}
+use Rattle.macs_gcm.specs.Counter.{inc32}
+use Rattle.macs_gcm.specs.Gcm.{pre_counter_block}
 use Rattle.macs_frame.specs.Opening.{OpenFaultHolds, Verified, named_sci}
 use Rattle.macs_frame.specs.Protection.{IsName, IsWritten, control_octet, name_bits}
 use Rattle.macs_frame.specs.Tag.{TagFaultHolds, name_of}
@@ -13,13 +19,15 @@ use Rattle.macs_frame.specs.declared.tag.ScName.TheVariants.{Implicit as NamesNo
 use Rattle.macs_frame.specs.declared.tag.SecTag.{SecTag}
 use Rattle.macs_frame.specs.declared.tag.TagFault.{TagFault}
 use Rattle.macs_rxsc.specs.Receive.{IsNumbered, Numbers, new_rx_side}
-use Rattle.macs_txsc.specs.Transmit.{AreOrdered, InOrder, TxSide, new_tx_side}
+use Rattle.macs_txsc.specs.Transmit.{AreOrdered, InOrder, TxSide, name_in, new_tx_side}
 
 -- A new transmit side spells the SCI out, and has no association; a new receive side validates strictly, with replay
 -- protection on and window 0, and has no channel. An association for frames that go out has a next number and a
 -- ceiling, with 1 <= next <= ceiling <= 2^32, and where there is none there is neither; one for frames that come in has
 -- numbers and a ceiling, with 1 <= lowest <= next <= ceiling <= 2^32 and next no further above lowest than the window,
--- and where there is none there is neither. Octet 3 of a SecTAG has SC or ES, E, C and the AN, each by itself; a SecTAG
+-- and where there is none there is neither. An SCI is put among those that ascend, octet by octet. A frame is sealed
+-- with the counter that goes up by one for each 16 octets, from 1 after its initialisation vector on (SP 800-38D). The
+-- tag names the channel as the mode says. Octet 3 of a SecTAG has SC or ES, E, C and the AN, each by itself; a SecTAG
 -- whose fields are in their ranges, with E and C alike, is one that is written, and an SCI that is spelled out has 8
 -- octets. A frame that is opened by hand is refused for its tag where a fault of that holds, as of another SCI exactly
 -- where its tag names one that is not the given one, and as not valid exactly where it verifies as no plain frame.
@@ -44,6 +52,15 @@ pub record SideWords : Type 0 where
       → ((sa ≡ None) × (numbers ≡ None) × (ceiling ≡ None))
       ⊎ ((a : RxSa) × (n : Numbers) × (last : ℕ) × (sa ≡ Some a) × (numbers ≡ Some n) × (ceiling ≡ Some last)
       × (1 ≤ n.lowest) × (n.lowest ≤ n.next) × (n.next ≤ n.lowest + window) × (n.next ≤ last) × (last ≤ 2 ^ 32))
+  pub named_in : (sci : List ℕ) → (name_in Explicit sci ≡ NamesSci sci) × (name_in EndStation sci ≡ NamesStation)
+      × (name_in Implicit sci ≡ NamesNone)
+  pub before : (a b : List ℕ) → comes_before a b ≡ is_lt (slice_cmp nat_cmp a b)
+  pub put_first : (sci : List ℕ) → put_among sci [] ≡ sci ∷ []
+  pub put_next : (sci other : List ℕ) (others : List (List ℕ)) → put_among sci (other ∷ others)
+      ≡ (if comes_before sci other then sci ∷ other ∷ others else other ∷ put_among sci others)
+  pub counter : (block : List ℕ) → inc32 block
+      ≡ take 12 block ++ to_be_bytes w32 ((from_be_bytes w32 (drop 12 block) + 1) % 2 ^ 32)
+  pub first_counter : (iv : List ℕ) → pre_counter_block iv ≡ iv ++ 0 ∷ 0 ∷ 0 ∷ 1 ∷ []
   pub control : (tag : SecTag) → control_octet tag
       ≡ name_bits tag.name + (if tag.encrypted then 0x08 else 0) + (if tag.changed then 0x04 else 0) + tag.an
   pub written : (tag : SecTag) → tag.an < 4 → 0 < tag.pn → tag.pn < 2 ^ 32 → IsName tag.name

@@ -61,6 +61,7 @@ ghost use Rattle.macs_headline.specs.LayoutWords.{LayoutWords};
 ghost use Rattle.macs_headline.specs.OctetWords.{OctetWords};
 ghost use Rattle.macs_headline.specs.PlayedDisks.{PlayedDisks};
 ghost use Rattle.macs_headline.specs.RecordWords.{RecordWords};
+ghost use Rattle.macs_headline.specs.ReplayedWords.{ReplayedWords};
 ghost use Rattle.macs_headline.specs.SideWords.{SideWords};
 ghost use Rattle.macs_headline.specs.SnapshotOrder.{SnapshotOrder};
 ghost use Rattle.macs_headline.specs.StandWords.{CallsLeave, ServedEnds};
@@ -369,6 +370,8 @@ pub fn words()
     // In which order a snapshot is written, which kind each record has, and what is no record.
     ensures snapshots { SnapshotOrder }
     ensures records { RecordWords }
+    // How records are replayed, and what a new journal has.
+    ensures replayed { ReplayedWords }
     // In which words the contracts of the examples end.
     ensures examples { ExampleWords }
     // What the worked history and the worked migration are.

@@ -271,6 +271,41 @@ fn many_lengths_under_long_keys(rt: HostRuntime) {
     assert!(rt; n == 31);
 }
 
+/// How many octets of the largest frame are encrypted: 9,216 less the addresses, a SecTAG with an
+/// SCI, and the ICV.
+const LONGEST: usize = 9172;
+
+// A text of more blocks than an octet counts, and of more bits than two octets count: the last
+// block of its ciphertext and its tag, by the same implementation under the rules of vector 0.
+#[test]
+fn longest_text(rt: HostRuntime) {
+    let cases = [
+        (
+            short_key(0),
+            0xfde996617b8c720fcfd69341dc28d496,
+            0x96c08e8a417db705ab171c7ce6bcfb14,
+        ),
+        (
+            long_key(0),
+            0x1d45f6e9a2353a42d84fdf291936c3ea,
+            0x65284335947188e5f7fa7c00c382fe77,
+        ),
+    ];
+    let mut iv = [0; 12];
+    fill_by_rule(&mut iv, 17, 1);
+    let mut aad = [0; 28];
+    fill_by_rule(&mut aad, 11, 5);
+    for (key, last, tag) in cases {
+        let mut text = [0; LONGEST];
+        fill_by_rule(&mut text, 7, 3);
+        let sealed = seal(&GcmKey::new(&key), &iv, &aad, &mut text);
+        assert_eq!(rt; u128::from_be_bytes(sealed), tag);
+        let mut end = [0; 16];
+        end.copy_from_slice(&text[LONGEST - 16..]);
+        assert_eq!(rt; u128::from_be_bytes(end), last);
+    }
+}
+
 // The last 32 bits begin again at zero, and the first 96 stay (SP 800-38D, 6.2): the two counter
 // blocks encrypted by another implementation of AES.
 #[test]

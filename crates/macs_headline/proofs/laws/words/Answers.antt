@@ -8,6 +8,7 @@ use Rattle.macs_headline.proofs.QueueWords.{queue-words}
 use Rattle.macs_headline.proofs.WorkedWords.{migration-words, worked-words}
 use Rattle.macs_headline.proofs.HistoryWords.{history-words}
 use Rattle.macs_headline.proofs.RecordWords.{record-words}
+use Rattle.macs_headline.proofs.ReplayedWords.{replayed-words}
 use Rattle.macs_headline.proofs.SideWords.{side-words}
 use Rattle.macs_headline.proofs.SnapshotOrder.{snapshot-order}
 use Rattle.macs_headline.proofs.StepWords.{step-words}
@@ -66,6 +67,9 @@ returns-clause-histories c = history-words
 
 pub returns-clause-records : goal.returns-clause-records
 returns-clause-records c = record-words
+
+pub returns-clause-replayed : goal.returns-clause-replayed
+returns-clause-replayed c = replayed-words
 
 pub returns-clause-steps : goal.returns-clause-steps
 returns-clause-steps c = step-words
