@@ -18,7 +18,8 @@ disk-words = record {
   any_read = λ old new at into result r. r.same;
   cut = λ old. refl;
   found = λ layout sectors file f. (f.whole, f.count, f.is_size_durable, f.keeps.found);
-  sized = λ layout file k. (k.found, k.sized);
+  sized = λ layout file k. (k.found, k.sized, k.durable);
+  ready = λ layout sectors file. refl;
   sure = λ file. (λ is. is, λ is. is);
   claimed = λ file. (λ is. is, λ is. is);
 }

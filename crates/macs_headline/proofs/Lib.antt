@@ -114,6 +114,7 @@ mod DiskWords
 mod OctetWords
 mod HistoryWords
 mod PlayedDisks
+mod FoundWords
 mod RecordWords
 mod ReplayedWords
 mod LayerLeaves

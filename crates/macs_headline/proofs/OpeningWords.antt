@@ -187,6 +187,7 @@ journal-words = record {
         let before = is.leaves k from to octets (record { kept = kept; whole = whole }) in (before.kept, before.whole),
   );
   ran = λ old new other left. left.works;
+  each_left = λ old new other image leaves left. leaves.each image left;
   nothing_new = λ old new image none left. none.each image left;
   passed_over = λ image c before stands has earlier same. record {
     stands = stands;

@@ -19,4 +19,5 @@ played-disks = record {
   no_sector_written = λ old new at error octets. (λ w. w.err, λ is. record { ok = tt; err = is });
   synced = λ old new value. (λ s. s.ok, λ is. record { ok = is; err = tt });
   not_synced = λ old new error. (λ s. s.err, λ is. record { ok = tt; err = is });
+  sound = λ state i is. (is.seen i, is.durable i, is.fit);
 }

@@ -10,7 +10,7 @@ use Rattle.macs_record.specs.declared.record.Record.TheVariants as records
 use Rattle.macs_store.specs.Commands.{command_of}
 use Rattle.macs_store.specs.Replay.{ceilings_with_records, snapshot_of, snapshot_parts, standing_after_command}
 use Rattle.macs_store.specs.Replay.{standing_after_record}
-use Rattle.macs_store.specs.Standing.{Standing, no_ceilings}
+use Rattle.macs_store.specs.Standing.{Standing, no_ceilings, standing_or_refusal}
 use Rattle.macs_headline.specs.ReplayedWords.{ReplayedWords}
 use Rattle.macs_headline.proofs.Ledger.{some_one}
 use Rattle.macs_headline.proofs.LookUps.{none-some}
@@ -46,6 +46,11 @@ replayed-words = record {
   one_after = λ s r records. refl;
   replayed = λ edition identity count records. refl;
   means = λ edition c. refl;
+  read_so = λ edition format identity count records. refl;
+  reads_one = λ edition. (refl, refl);
+  taken = λ s command config is. ap (standing_or_refusal s command) is;
+  not_taken = λ s command reason is. ap (standing_or_refusal s command) is;
+  no_ceiling_moves = λ identity c an sci on window validate mode. (refl, refl, refl, refl, refl);
   no_ceilings_more = λ c. refl;
   ceilings_more = λ c r records. refl;
   snapshot = snapshot;

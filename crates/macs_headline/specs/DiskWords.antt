@@ -1,10 +1,10 @@
 -- The headline on which octets of its file a disk shows, how a fuse fails a write, and what a read and a cut leave.
-use Rattle.std.specs.Prelude.{◌≡◌, ◌↔◌, ◌⊎◌, ◌≤◌, ◌+◌, ◌-◌, ◌%◌, ℕ, true, false, if◌then◌else◌, List, replicate, Result}
-use Rattle.std.specs.Prelude.{is_ok}
+use Rattle.std.specs.Prelude.{◌≡◌, ◌↔◌, ◌⊎◌, ◌≤◌, ◌+◌, ◌-◌, ◌%◌, ◌&&◌, ℕ, true, false, if◌then◌else◌}
+use Rattle.std.specs.Prelude.{List, Result, is_ok, nat_le, replicate}
 use Rattle.macs_disk.specs.Disk.{Disk, IsDeviceCall, IsHonest, Writes, now}
-use Rattle.macs_disk.specs.FileDisks.{HasMark, IsBlank, IsFoundAs, IsOpened, KeepsLayout, state_in_file}
+use Rattle.macs_disk.specs.FileDisks.{HasMark, IsBlank, IsFoundAs, IsOpened, KeepsLayout, is_ready, state_in_file}
 use Rattle.macs_disk.specs.Files.{FileState, IsClaimed, IsSure, ReadsFile, Settles, file_after_sync, file_after_write}
-use Rattle.macs_disk.specs.Files.{file_cut}
+use Rattle.macs_disk.specs.Files.{file_cut, values_from}
 use Rattle.macs_disk.specs.Fuses.{BlowsWrite, FuseValue}
 use Rattle.macs_disk.specs.Layouts.{layout_in, mark_place, place, sectors_in}
 use Rattle.macs_disk.specs.declared.disk.DeviceFault.{DeviceFault}
@@ -43,5 +43,8 @@ pub record DiskWords : Type 0 where
       × (layout_in file ≡ layout)
   pub sized : (layout : Layout) (file : FileState) → KeepsLayout layout file
       → (layout_in file ≡ layout) × ((file.is_size_durable ≡ true) ⊎ (file.size ≤ mark_place))
+      × (values_from file.durable mark_place 512 ≡ values_from file.seen mark_place 512)
+  pub ready : (layout : Layout) (sectors : ℕ) (file : FileState) → is_ready layout sectors file
+      ≡ (file.is_clean && file.is_size_durable && nat_le (place layout sectors) file.size)
   pub sure : (file : FileState) → IsSure file ↔ (file.is_sure ≡ true)
   pub claimed : (file : FileState) → IsClaimed file ↔ (file.is_claimed ≡ true)

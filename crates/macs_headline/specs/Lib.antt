@@ -69,6 +69,7 @@ pub mod LayoutWords
 pub mod OctetWords
 pub mod HistoryWords
 pub mod PlayedDisks
+pub mod FoundWords
 pub mod RecordWords
 pub mod ReplayedWords
 pub mod LayerLeaves

@@ -116,6 +116,8 @@ pub record JournalWords : Type 0 where
       → ((now old).pending i ≡ false → octets ≡ (now old).durable i)
       × ((now old).pending i ≡ true → IsSector octets))
   pub ran : (old new other : Disk) → Leaves old new (MayLeave other) → Works old new
+  pub each_left : (old new other : Disk) (image : Image) → Leaves old new (MayLeave other)
+      → LeftSince new old.clock image → MayLeave other image
   pub nothing_new : (old new : Disk) (image : Image) → LeavesNothingNew old new → LeftSince new old.clock image
       → MayLeave old image
   pub passed_over : (image : Image) (c : Content) (before : Head) → HasContent image c

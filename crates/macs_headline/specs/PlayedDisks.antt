@@ -4,7 +4,7 @@ use Rattle.macs_disk.specs.Disk.{Reads, Syncs, Writes, disk_after_loss, now}
 use Rattle.macs_disk.specs.Fuses.{FuseValue, IsPassing, fuse_after_blown_call, fuse_after_passed_call}
 use Rattle.macs_disk.specs.Fuses.{fuse_after_stopped_call}
 use Rattle.macs_disk.specs.Memory.{Memory, blank_memory, image_left, memory_after_loss}
-use Rattle.macs_disk.specs.States.{DiskState, IsSector, state_after_sync, state_after_write}
+use Rattle.macs_disk.specs.States.{DiskState, IsImage, IsSector, IsSound, state_after_sync, state_after_write}
 use Rattle.macs_disk.specs.declared.fuse.Blow.TheVariants.{NoCall}
 
 -- A read gives what is seen of a sector, and changes nothing, whichever way it ends; a write is of its octets, or where
@@ -42,3 +42,5 @@ pub record PlayedDisks : Type 0 where
   pub synced : (old new : DiskState) (value : ℕ)
       → Syncs {T = ℕ} {E = ℕ} old new (Ok value) ↔ (new ≡ state_after_sync old)
   pub not_synced : (old new : DiskState) (error : ℕ) → Syncs {T = ℕ} {E = ℕ} old new (Err error) ↔ (new ≡ old)
+  pub sound : (state : DiskState) (i : ℕ) → IsSound state
+      → IsSector (state.seen i) × IsSector (state.durable i) × IsImage state state.seen

@@ -81,6 +81,7 @@ ghost use Rattle.macs_headline.specs.WorkedWords.{MigrationWords, WorkedWords};
 ghost use Rattle.macs_headline.specs.OnceWords.{OnceWords};
 ghost use Rattle.macs_headline.specs.RefusedWords.{RefusedWords};
 ghost use Rattle.macs_headline.specs.FittingImages.{RestartsFit};
+ghost use Rattle.macs_headline.specs.FoundWords.{FoundWords};
 ghost use Rattle.macs_headline.specs.FrameWords.{FrameWords};
 ghost use Rattle.macs_headline.specs.QueueWords.{QueueWords};
 ghost use Rattle.macs_headline.specs.EndWords.{EndWords};
@@ -370,7 +371,8 @@ pub fn words()
     // In which order a snapshot is written, which kind each record has, and what is no record.
     ensures snapshots { SnapshotOrder }
     ensures records { RecordWords }
-    // How records are replayed, and what a new journal has.
+    // Which journal is found, how records are replayed, and what a new journal has.
+    ensures found { FoundWords }
     ensures replayed { ReplayedWords }
     // In which words the contracts of the examples end.
     ensures examples { ExampleWords }

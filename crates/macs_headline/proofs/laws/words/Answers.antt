@@ -3,6 +3,7 @@ use Rattle.macs_headline.proofs.Drawn.{life-words, log-words, number-words}
 use Rattle.macs_headline.proofs.One.{one-change-comes, one-frame-comes, one-state-comes}
 use Rattle.macs_headline.proofs.Words.{call-words, command-words, edition-words, one-comes-of-it, reply-words}
 use Rattle.macs_headline.proofs.ExampleWords.{example-words}
+use Rattle.macs_headline.proofs.FoundWords.{found-words}
 use Rattle.macs_headline.proofs.FrameWords.{frame-words}
 use Rattle.macs_headline.proofs.QueueWords.{queue-words}
 use Rattle.macs_headline.proofs.WorkedWords.{migration-words, worked-words}
@@ -67,6 +68,9 @@ returns-clause-histories c = history-words
 
 pub returns-clause-records : goal.returns-clause-records
 returns-clause-records c = record-words
+
+pub returns-clause-found : goal.returns-clause-found
+returns-clause-found c = found-words
 
 pub returns-clause-replayed : goal.returns-clause-replayed
 returns-clause-replayed c = replayed-words
