@@ -14,7 +14,7 @@ use Rattle.macs_endpoint.specs.declared.fault.SubmitFault.TheVariants as submit
 use Rattle.macs_endpoint.specs.State.{Advanced, AdvancedLong, Advances, Call, Commands, Protected, Protects, Ran}
 use Rattle.macs_endpoint.specs.State.{Received, Receives, Refilled, Refills, RefusedLong, Reply, State, Submits}
 use Rattle.macs_endpoint.specs.State.{Submitted}
-use Rattle.macs_endpoint.specs.Step.{CommandStep, ProtectStep, ReceiveStep, RefillStep, RunningStep, Step, SubmitStep}
+use Rattle.macs_endpoint.specs.Step.{CommandStep, ProtectStep, ReceiveStep, RefillStep, RunningStep, SubmitStep}
 use Rattle.macs_headline.specs.CommandInHand.{OthersBeginNone}
 use Rattle.macs_headline.proofs.Ledger.{some_one}
 

@@ -1,6 +1,6 @@
 -- What is counted of each answer, and of each channel.
-use Rattle.std.proofs.Common.{◌≡◌, ◌≢◌, ℕ, Bool, true, false, cond, List, [], ◌∷◌, Option, Some, None, Result, Ok, Err}
-use Rattle.std.proofs.Common.{bytes_eq, refl, sym, ◌∙◌, ap, subst}
+use Rattle.std.proofs.Common.{◌≡◌, ◌≢◌, ℕ, Bool, true, cond, List, Option, Some, None, Result, Ok, Err}
+use Rattle.std.proofs.Common.{refl, sym, ◌∙◌, ap}
 use Rattle.std.specs.Option.{option_map}
 use Rattle.macs_config.specs.Numbers.{one_more}
 use Rattle.macs_config.specs.Tables.{put_at}
@@ -33,7 +33,6 @@ use Rattle.macs_endpoint.specs.declared.fault.ProtectFault.{ProtectFault}
 use Rattle.macs_endpoint.specs.declared.fault.Stopped.{Stopped}
 use Rattle.macs_headline.specs.CountWords.{CountsAreNamed, CountsRiseAlone, is_counted_by_channel}
 use Rattle.macs_headline.proofs.LookUps.{none-some}
-use Rattle.macs_headline.proofs.Ledger.{some_one}
 
 -- ---- by name
 

@@ -1,8 +1,7 @@
 -- Which lives the deeds of a chain make, deed by deed.
-use Rattle.std.proofs.Common.{◌≡◌, ◌⊎◌, inl, inr, List, [], ◌∷◌, map, Contains, Result, Ok, Err, refl, sym, ap, is_ok}
+use Rattle.std.proofs.Common.{◌≡◌, ◌⊎◌, inl, inr, List, [], ◌∷◌, map, Contains, Ok, Err, refl, sym, ap}
 use Rattle.std.proofs.Common.{false, true}
 use Rattle.macs_config.specs.Config.{this_edition}
-use Rattle.macs_config.specs.Identity.{Identity}
 use Rattle.macs_disk.specs.Disk.{Disk}
 use Rattle.macs_disk.specs.States.{Image}
 use Rattle.macs_endpoint.specs.Lives.{exchange_of}

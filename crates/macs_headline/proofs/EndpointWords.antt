@@ -1,6 +1,6 @@
 -- What is to be drawn of the endpoint's contracts on openings, ceilings, refills, commands, turns, counters and events.
-use Rattle.std.proofs.Common.{◌≡◌, ◌≢◌, ◌<◌, ◌≤◌, ◌⊎◌, ◌+◌, ◌-◌, ◌*◌, ◌++◌, ◌==◌, inl, inr, ℕ, zero, suc, Bool, true}
-use Rattle.std.proofs.Common.{false, cond, List, [], ◌∷◌, length, Option, Some, None, Result, Ok, Err, refl, sym, ◌∙◌}
+use Rattle.std.proofs.Common.{◌≡◌, ◌≢◌, ◌<◌, ◌≤◌, ◌⊎◌, ◌+◌, ◌-◌, ◌*◌, ◌++◌, ◌==◌, inl, inr, ℕ, Bool, true}
+use Rattle.std.proofs.Common.{false, cond, List, [], ◌∷◌, length, Option, Some, None, Ok, Err, refl, sym, ◌∙◌}
 use Rattle.std.proofs.Common.{ap, subst, arith, le_refl}
 use Rattle.std.specs.Option.{option_map}
 use Rattle.std.proofs.lemmas.Bool.{cases_eq, eq-eqb, ne_eqb}
@@ -24,7 +24,7 @@ use Rattle.macs_rxsc.specs.declared.verdict.Kind.TheVariants as kind
 use Rattle.macs_rxsc.specs.declared.verdict.Reason.TheVariants as reason
 use Rattle.macs_rxsc.specs.declared.verdict.Verdict.{Verdict}
 use Rattle.macs_rxsc.specs.declared.verdict.Verdict.TheVariants.{Delivered, Discarded, HeldBack}
-use Rattle.macs_store.specs.Keeps.{generation_with_change, most_with_change, slots_with_change}
+use Rattle.macs_store.specs.Keeps.{generation_with_change, slots_with_change}
 use Rattle.macs_store.specs.Snapshot.{snapshot}
 use Rattle.macs_store.specs.Standing.{Standing}
 use Rattle.macs_store.specs.Value.{IsIdle, StoreValue, calls_left, calls_with, generation, generation_then}
@@ -39,7 +39,7 @@ use Rattle.macs_endpoint.specs.Lives.{FitsLife, LeavesLife, Transition}
 use Rattle.macs_endpoint.specs.Serving.{EndsAs, is_halt}
 use Rattle.macs_endpoint.specs.Queue.{first_command}
 use Rattle.macs_endpoint.specs.RefillCosts.{Spends, generation_in_raises, most_in_raises, reserved_in, slots_in_raises}
-use Rattle.macs_endpoint.specs.State.{Advanced, Commands, Protected, Protects, Ran, Received, Receives, Refilled}
+use Rattle.macs_endpoint.specs.State.{Advanced, Protected, Ran, Received, Refilled}
 use Rattle.macs_endpoint.specs.State.{Refills, Reply, Submitted, no_logs, rx_side, tx_side}
 use Rattle.macs_endpoint.specs.Value.{EndpointValue, disk_in, state_of}
 use Rattle.macs_endpoint.specs.declared.event.ServeEnd.TheVariants.{Halted}

@@ -1,5 +1,5 @@
 -- All that is to be drawn of the words in which the contracts of the example programs end.
-use Rattle.std.proofs.Common.{◌≡◌, ◌⊎◌, inl, inr, List, [], ◌∷◌, ℕ, is_ok, Result, Ok, refl, sym, subst}
+use Rattle.std.proofs.Common.{◌≡◌, inl, inr, List, [], ◌∷◌, ℕ, is_ok, Result, Ok, refl, sym, subst}
 use Rattle.std.specs.Prelude.{None}
 use Rattle.macs_config.specs.Config.{this_edition}
 use Rattle.macs_disk.specs.Disk.{Disk, now}

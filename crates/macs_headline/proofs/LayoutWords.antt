@@ -8,7 +8,6 @@ use Rattle.macs_disk.specs.FileDisks.{state_in_file}
 use Rattle.macs_disk.specs.FileEvidence.{is_same}
 use Rattle.macs_disk.specs.Files.{FileState, values_from}
 use Rattle.macs_disk.specs.Layouts.{is_marked, layout_in, place, spaced_mark}
-use Rattle.macs_disk.specs.declared.layout.Layout.{Layout}
 use Rattle.macs_disk.specs.declared.layout.Layout.TheVariants.{Packed, Spaced}
 use Rattle.macs_headline.specs.LayoutWords.{LayoutWords}
 

@@ -1,6 +1,6 @@
 -- Ceilings that are needed, the order in which they are raised, and whose turn it is after a call.
 use Rattle.std.proofs.Common.{◌≡◌, ◌≢◌, ◌<◌, ◌≤◌, ◌⊎◌, inl, inr, ◌-◌, ◌/◌, ◌^◌, ◌++◌, ◌||◌, ℕ, zero, suc, Bool, true}
-use Rattle.std.proofs.Common.{false, cond, List, [], ◌∷◌, Option, Some, None, Result, Ok, Err, refl, sym, ◌∙◌, ap}
+use Rattle.std.proofs.Common.{false, cond, List, [], ◌∷◌, Option, Some, None, Result, Err, refl, sym, ◌∙◌, ap}
 use Rattle.std.proofs.Common.{subst, arith}
 use Rattle.std.proofs.Common.{◌==◌, Ordering, Less, Equal, Greater, nat_cmp, is_lt}
 use Rattle.std.specs.Prelude.{Contains, nat_le, nat_lt}
@@ -22,10 +22,9 @@ use Rattle.macs_rxsc.specs.Receive.{Numbers}
 use Rattle.macs_rxsc.proofs.Needed.{is-need, needs_among, own-place}
 use Rattle.macs_endpoint.specs.Advancing.{ToKeep, ToRaise, piece_among, piece_by_turn, turn_after, turn_after_refill}
 use Rattle.macs_endpoint.specs.Ceilings.{Raise, either_raise}
-use Rattle.macs_endpoint.specs.State.{Advanced, Advances, Commands, Protects, Ran, Receives, Refilled, Refills, Reply}
+use Rattle.macs_endpoint.specs.State.{Advanced, Advances, Commands, Ran, Refilled, Refills, Reply}
 use Rattle.macs_endpoint.specs.Needed.{raise_in}
 use Rattle.macs_endpoint.specs.Queue.{first_waiting}
-use Rattle.macs_endpoint.specs.State.{Submits}
 use Rattle.macs_endpoint.specs.Value.{EndpointValue}
 use Rattle.macs_endpoint.specs.declared.fault.CommandFault.{CommandFault}
 use Rattle.macs_endpoint.specs.declared.fault.CommandFault.TheVariants as ran

@@ -1,6 +1,6 @@
 -- What an endpoint is left with.
 use Rattle.std.proofs.Common.{◌≡◌, ◌≢◌, ◌≤◌, ◌<◌, ◌⊎◌, inl, inr, ◌+◌, ◌++◌, ◌==◌, ℕ, Bool, true, false, cond, List, []}
-use Rattle.std.proofs.Common.{◌∷◌, length, Some, None, Result, Ok, Err, refl, sym, ◌∙◌, ap, subst, arith}
+use Rattle.std.proofs.Common.{◌∷◌, length, Result, Ok, Err, refl, sym, ◌∙◌, ap, subst, arith}
 use Rattle.std.specs.Prelude.{Contains}
 use Rattle.std.specs.Result.{IsErrOf}
 use Rattle.std.proofs.lemmas.Bool.{eq-eqb, ne_eqb}
@@ -8,10 +8,9 @@ use Rattle.macs_config.specs.declared.command.Command.{Command}
 use Rattle.macs_disk.specs.Disk.{Disk}
 use Rattle.macs_journal.specs.declared.fault.JournalFault.{JournalFault}
 use Rattle.macs_journal.specs.declared.fault.JournalFault.TheVariants.{AlreadyFormatted, Disk as DiskFault, TooSmall}
-use Rattle.macs_store.specs.Keeps.{generation_with_change, most_with_change, slots_with_change}
 use Rattle.macs_store.specs.Snapshot.{snapshot}
 use Rattle.macs_store.specs.Standing.{Standing}
-use Rattle.macs_store.specs.Value.{IsIdle, StoreValue, calls_left, calls_with, generation, generation_then}
+use Rattle.macs_store.specs.Value.{IsIdle, calls_left, calls_with, generation, generation_then}
 use Rattle.macs_store.specs.Value.{generation_with, slots_then, slots_with, used_slots}
 use Rattle.macs_endpoint.specs.KeptCommands.{KeepsCommand}
 use Rattle.macs_endpoint.specs.Serving.{EndsAs, is_halt}

@@ -1,5 +1,5 @@
 -- What the endpoint's own laws count and ask for is counted and built call by call.
-use Rattle.std.proofs.Common.{◌≡◌, ◌≢◌, ◌≤◌, ◌+◌, ◌==◌, inl, inr, ℕ, Bool, true, false, cond, List, [], ◌∷◌, Result, Ok}
+use Rattle.std.proofs.Common.{◌≡◌, ◌≢◌, ◌≤◌, ◌+◌, ◌==◌, inl, inr, ℕ, Bool, true, false, cond, List, Result, Ok}
 use Rattle.std.proofs.Common.{Err, refl, ap, ◌∙◌, arith}
 use Rattle.std.specs.Prelude.{Option, Some, None}
 use Rattle.std.proofs.lemmas.Bool.{cases_eq, eq-eqb, ne_eqb}
@@ -10,9 +10,9 @@ use Rattle.macs_store.specs.Value.{standing_in}
 use Rattle.macs_endpoint.specs.WorkThroughCalls.{IsNotDone, IsNotReserved, commands_done, commands_in_reply}
 use Rattle.macs_endpoint.specs.WorkThroughCalls.{reservations_in_reply, reservations_made, steps_in_call, steps_made}
 use Rattle.macs_endpoint.specs.Queue.{first_command}
-use Rattle.macs_endpoint.specs.Rooms.{SparesRx, SparesTx, frames_in_reply, frames_sent}
-use Rattle.macs_endpoint.specs.State.{Advanced, Advances, Call, Commands, Protected, Protects, Receives, Refilled}
-use Rattle.macs_endpoint.specs.State.{Ran, Refills, Reply, State, Submits, command_made}
+use Rattle.macs_endpoint.specs.Rooms.{SparesRx, SparesTx, frames_in_reply}
+use Rattle.macs_endpoint.specs.State.{Advanced, Advances, Call, Commands, Protected, Refilled}
+use Rattle.macs_endpoint.specs.State.{Ran, Reply, State, command_made}
 use Rattle.macs_endpoint.specs.declared.fault.CommandFault.{CommandFault}
 use Rattle.macs_endpoint.specs.declared.fault.RefillFault.TheVariants as refill
 use Rattle.macs_endpoint.specs.declared.fault.StepFault.TheVariants as step

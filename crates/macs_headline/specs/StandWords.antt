@@ -1,6 +1,6 @@
 -- The headline on what an endpoint is left with by an opening, by a `format`, by a command or a step, and by events
 -- that are served.
-use Rattle.std.specs.Prelude.{◌≡◌, ◌≢◌, ◌≤◌, ◌<◌, ◌⊎◌, ◌+◌, ◌++◌, true, false, ℕ, List, [], ◌∷◌, length, map, Contains}
+use Rattle.std.specs.Prelude.{◌≡◌, ◌≢◌, ◌≤◌, ◌<◌, ◌⊎◌, ◌+◌, ◌++◌, false, ℕ, List, [], ◌∷◌, length, map, Contains}
 use Rattle.std.specs.Prelude.{Some, None, Result, Ok, Err}
 use Rattle.macs_config.specs.Config.{this_edition}
 use Rattle.macs_config.specs.Identity.{Identity}
@@ -21,7 +21,6 @@ use Rattle.macs_journal.specs.declared.fault.JournalFault.TheVariants.{AlreadyFo
 use Rattle.macs_journal.specs.declared.fault.JournalFault.TheVariants.{NotFormatted, TooSmall}
 use Rattle.macs_journal.specs.declared.recovery.RecoverRefused.{RecoverRefused}
 use Rattle.macs_store.specs.Found.{IsToMigrate, StandingIs}
-use Rattle.macs_store.specs.Keeps.{most_with_change}
 use Rattle.macs_store.specs.Snapshot.{snapshot}
 use Rattle.macs_store.specs.Standing.{Standing, new_standing}
 use Rattle.macs_store.specs.Value.{IsIdle, StoreValue, calls_left, generation, generation_then, slots_then, standing_in}

@@ -1,5 +1,5 @@
 -- The headline on its worked history and on its worked migration: what they are, entry by entry.
-use Rattle.std.specs.Prelude.{◌≡◌, ℕ, true, List, [], ◌∷◌, ◌++◌, map, replicate, length, Option, Some, None, Ok}
+use Rattle.std.specs.Prelude.{◌≡◌, ℕ, true, [], ◌∷◌, ◌++◌, map, replicate, length, Option, Some, None, Ok}
 use Rattle.macs_config.specs.Config.{IsUpTo, first_edition, this_edition}
 use Rattle.macs_disk.specs.Disk.{Disk, IsHonest, MayLeave, now}
 use Rattle.macs_disk.specs.States.{settled_state}
