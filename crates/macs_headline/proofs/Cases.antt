@@ -5,7 +5,8 @@ use Rattle.macs_frame.specs.Opening.{bare_frame}
 use Rattle.macs_rxsc.specs.declared.verdict.Kind.{Kind}
 use Rattle.macs_rxsc.specs.declared.verdict.Kind.TheVariants.{Untagged}
 use Rattle.macs_rxsc.specs.declared.verdict.Verdict.TheVariants.{Delivered}
-use Rattle.macs_endpoint.specs.State.{Advanced, AdvancedLong, Advances, Ran, RefusedLong, Reply}
+use Rattle.macs_endpoint.specs.State.{Advanced, AdvancedLong, Advances, Call, Protects, Ran, Receives, RefusedLong}
+use Rattle.macs_endpoint.specs.State.{Reply}
 use Rattle.macs_endpoint.specs.declared.fault.CommandFault.TheVariants as ran
 use Rattle.macs_endpoint.specs.declared.fault.StepFault.{StepFault}
 use Rattle.macs_endpoint.specs.declared.fault.StepFault.TheVariants as step
@@ -14,6 +15,7 @@ use Rattle.macs_endpoint.specs.declared.progress.Step.TheVariants.{Done, Worked}
 use Rattle.macs_headline.specs.Cases.{CasesAre}
 use Rattle.macs_headline.specs.Deliveries.{out_after}
 use Rattle.macs_headline.specs.Editions.{TellsEdition}
+use Rattle.macs_headline.specs.NumbersMoved.{IsFrameCall}
 use Rattle.macs_headline.specs.Steps.{IsToldWhole, LeavesOpen}
 
 open_ones : (reply : Reply) → LeavesOpen reply → (reply ≡ Advanced (Ok Worked)) ⊎ (reply ≡ Advanced (Err step.Disk))
@@ -40,6 +42,12 @@ bare : (frame : List ℕ) (kind : Kind) → kind ≢ Untagged → out_after fram
 bare frame Untagged tagged = absurd (tagged refl)
 bare frame kind tagged = refl
 
+frame_calls : (call : Call) → IsFrameCall call
+    → ((plain : List ℕ) × (call ≡ Protects plain)) ⊎ ((frame : List ℕ) × (call ≡ Receives frame))
+frame_calls (Protects plain) is = inl (plain, refl)
+frame_calls (Receives frame) is = inr (frame, refl)
+frame_calls call is = absurd is
+
 pub cases-are : CasesAre
 cases-are = record {
   sent = λ plain. tt;
@@ -59,6 +67,9 @@ cases-are = record {
   told_long_step = λ ticket. tt;
   used = λ logs key pn among. among;
   given = λ logs d among. (d.kind, among);
+  used_alone = λ logs key pn was. was;
+  given_alone = λ logs sci key pn was. was;
+  frame_calls = frame_calls;
   one_but_hand = λ a b same hand. (λ i. record (same i) { in_hand = hand i });
   one_but_numbers =
       λ a b same next numbers logs. (λ i. record (same i) { next = next i; numbers = numbers i; logs = logs i });

@@ -18,6 +18,9 @@ disk-words = record {
   any_read = λ old new at into result r. r.same;
   cut = λ old. refl;
   found = λ layout sectors file f. (f.whole, f.count, f.is_size_durable, f.keeps.found);
+  found_so = λ layout sectors file whole count durable keeps.
+      record { whole = whole; count = count; is_size_durable = durable; keeps = keeps };
+  nothing_new = λ old new block size images. record { block = block; size = size; images = images };
   sized = λ layout file k. (k.found, k.sized, k.durable);
   ready = λ layout sectors file. refl;
   sure = λ file. (λ is. is, λ is. is);

@@ -199,6 +199,8 @@ number-words = record {
   seen = seen_by;
   beyond_tx = λ found key pn b.
       (b.spent, λ an sa is same. some-and (found.ceilings.tx an) (λ (next : ℕ). pn < next) (b.below an sa is same));
+  beyond_tx_so = λ found key pn spent below. record { spent = spent; below = below };
+  beyond_rx_so = λ found sci key pn spent below. record { spent = spent; below = below };
   beyond_rx = λ found sci key pn b.
       (b.spent, λ an sa is same. some-and (found.ceilings.rx sci an) (λ (next : ℕ). pn < next) (b.below an sa is same));
 }

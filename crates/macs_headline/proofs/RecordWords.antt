@@ -16,7 +16,17 @@ record-words = record {
   no_record = λ command. refl;
   fingerprints = λ role prints. (λ is. is, λ is. is);
   settings = λ validate replay mode an. ((λ is. is, λ is. is), (λ is. is, λ is. is));
-  ceilings = λ sci an ceiling. (λ is. (is.0, is.1.0, is.1.1), λ is. (is.0, is.1, is.2.0, is.2.1));
-  installs = λ sci an start tx rx. (λ is. (is.0, is.1, is.2.0, is.2.1), λ is. (is.0, is.1, is.2, is.3.0, is.3.1));
+  ceilings = λ sci an ceiling. (
+    (λ is. (is.0, is.1.0, is.1.1), λ is. (is.0, (is.1, is.2))),
+    (λ is. (is.0, is.1, is.2.0, is.2.1), λ is. (is.0, is.1, (is.2, is.3))),
+  );
+  associations = λ sci an ceiling tx rx. (
+    (λ is. (is.0, is.1, is.2.0, is.2.1), λ is. (is.0, is.1, (is.2, is.3))),
+    (λ is. (is.0, is.1, is.2, is.3.0, is.3.1), λ is. (is.0, is.1, is.2, (is.3, is.4))),
+  );
+  installs = λ sci an start tx rx. (
+    (λ is. (is.0, is.1, is.2.0, is.2.1), λ is. (is.0, is.1, (is.2, is.3))),
+    (λ is. (is.0, is.1, is.2, is.3.0, is.3.1), λ is. (is.0, is.1, is.2, (is.3, is.4))),
+  );
   keys = λ key. (λ is. is, λ is. is);
 }

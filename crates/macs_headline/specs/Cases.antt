@@ -12,8 +12,9 @@ use Rattle.macs_rxsc.specs.declared.verdict.Verdict.TheVariants.{Delivered}
 use Rattle.macs_store.specs.declared.fault.CommitFault.TheVariants as commit
 use Rattle.macs_endpoint.specs.Faults.{command_fault_of, refill_fault_of}
 use Rattle.macs_endpoint.specs.Queue.{with_waiting}
-use Rattle.macs_endpoint.specs.State.{Advanced, AdvancedLong, Advances, Commands, Delivery, Logs, Protected, Protects}
-use Rattle.macs_endpoint.specs.State.{Ran, Receives, RefusedLong, Refilled, Refills, Reply, State, Submits, Submitted}
+use Rattle.macs_endpoint.specs.State.{Advanced, AdvancedLong, Advances, Call, Commands, Delivery, Logs, Protected}
+use Rattle.macs_endpoint.specs.State.{Protects, Ran, Receives, RefusedLong, Refilled, Refills, Reply, State}
+use Rattle.macs_endpoint.specs.State.{Submits, Submitted}
 use Rattle.macs_endpoint.specs.declared.fault.CommandFault.{CommandFault}
 use Rattle.macs_endpoint.specs.declared.fault.CommandFault.TheVariants as ran
 use Rattle.macs_endpoint.specs.declared.fault.ProtectFault.{ProtectFault}
@@ -38,10 +39,10 @@ use Rattle.macs_headline.specs.Steps.{IsToldWhole, LeavesOpen, state_but_hand}
 -- under way; a larger edition may answer otherwise only where ChannelsFull or LongKey was; and GenerationsSpent is
 -- answered to a command, a refill, a step, and a command that waited. What `IsExact` says of each answer is all of it,
 -- but of Ok, of `Stopped`, and of received frames; so of a refusal as LongKey. Each entry of the two lists was used, or
--- given. Two states that are one but for what is under way, or but for numbers and logs, differ in nothing else. What
--- waits after a command was submitted is what waited, and then that command, whatever it is, under its ticket. A fault
--- of the store has the same name as that of a command, and one of a reservation as that of a refill; what `out` holds
--- of a frame that is delivered with a tag is its addresses and Secure Data, whatever its kind.
+-- given, and nothing else was. Two states that are one but for what is under way, or but for numbers and logs, differ
+-- in nothing else. What waits after a command was submitted is what waited, and then that command, whatever it is,
+-- under its ticket. A fault of the store has the same name as that of a command, and one of a reservation as that of a
+-- refill; what `out` holds of a frame that is delivered with a tag is its addresses and Secure Data, whatever its kind.
 pub record CasesAre : Type 0 where
   pub sent : (plain : List ℕ) → IsFrameCall (Protects plain)
   pub received : (frame : List ℕ) → IsFrameCall (Receives frame)
@@ -71,6 +72,12 @@ pub record CasesAre : Type 0 where
   pub used : (logs : Logs) (key : List ℕ) (pn : ℕ) → Contains logs.used (record { key = key; pn = pn })
       → WasUsed logs key pn
   pub given : (logs : Logs) (d : Delivery) → Contains logs.given d → WasGiven logs d.sci d.key d.pn
+  pub used_alone : (logs : Logs) (key : List ℕ) (pn : ℕ) → WasUsed logs key pn
+      → Contains logs.used (record { key = key; pn = pn })
+  pub given_alone : (logs : Logs) (sci key : List ℕ) (pn : ℕ) → WasGiven logs sci key pn
+      → (kind : Kind) × Contains logs.given (record { sci = sci; key = key; pn = pn; kind = kind })
+  pub frame_calls : (call : Call) → IsFrameCall call
+      → ((plain : List ℕ) × (call ≡ Protects plain)) ⊎ ((frame : List ℕ) × (call ≡ Receives frame))
   pub one_but_hand : (a b : State) → state_but_hand a ≡ state_but_hand b → a.in_hand ≡ b.in_hand → a ≡ b
   pub one_but_numbers : (a b : State) → state_but_numbers a ≡ state_but_numbers b → a.next ≡ b.next
       → a.numbers ≡ b.numbers → a.logs ≡ b.logs → a ≡ b

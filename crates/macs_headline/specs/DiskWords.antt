@@ -3,8 +3,8 @@ use Rattle.std.specs.Prelude.{◌≡◌, ◌↔◌, ◌⊎◌, ◌≤◌, ◌+�
 use Rattle.std.specs.Prelude.{List, Result, is_ok, nat_le, replicate}
 use Rattle.macs_disk.specs.Disk.{Disk, IsDeviceCall, IsHonest, Writes, now}
 use Rattle.macs_disk.specs.FileDisks.{HasMark, IsBlank, IsFoundAs, IsOpened, KeepsLayout, is_ready, state_in_file}
-use Rattle.macs_disk.specs.Files.{FileState, IsClaimed, IsSure, ReadsFile, Settles, file_after_sync, file_after_write}
-use Rattle.macs_disk.specs.Files.{file_cut, values_from}
+use Rattle.macs_disk.specs.Files.{FileState, HasNothingNew, IsClaimed, IsFileImage, IsSure, ReadsFile, Settles}
+use Rattle.macs_disk.specs.Files.{file_after_sync, file_after_write, file_cut, values_from}
 use Rattle.macs_disk.specs.Fuses.{BlowsWrite, FuseValue}
 use Rattle.macs_disk.specs.Layouts.{layout_in, mark_place, place, sectors_in}
 use Rattle.macs_disk.specs.declared.disk.DeviceFault.{DeviceFault}
@@ -19,7 +19,8 @@ use Rattle.macs_disk.specs.declared.layout.Layout.{Layout}
 -- nothing of a file, even of one in doubt. A file that was cut shows nothing, and a power loss may leave any octets of
 -- it, and another size. One that is found as a disk of some layout has that layout, whole sectors, as many as are said,
 -- and a durable size; one that keeps a layout has it, and a size that is durable, or none beyond the place of the mark.
--- A file is sure, or claimed, exactly where it says so.
+-- A file is sure, or claimed, exactly where it says so. Nothing is new of each file of the same blocks that keeps a
+-- durable size and may leave no other image.
 pub record DiskWords : Type 0 where
   pub opened : (file : FileState) (least : ℕ) (layout : Layout) (disk : Disk) → IsOpened file least layout disk
       → (settled : FileState) × Settles file settled × (layout ≡ layout_in settled)
@@ -41,6 +42,13 @@ pub record DiskWords : Type 0 where
   pub found : (layout : Layout) (sectors : ℕ) (file : FileState) → IsFoundAs layout sectors file
       → (file.size % 512 ≡ 0) × (sectors_in layout file.size ≡ sectors) × (file.is_size_durable ≡ true)
       × (layout_in file ≡ layout)
+  pub found_so : (layout : Layout) (sectors : ℕ) (file : FileState) → file.size % 512 ≡ 0
+      → sectors_in layout file.size ≡ sectors → file.is_size_durable ≡ true → KeepsLayout layout file
+      → IsFoundAs layout sectors file
+  pub nothing_new : (old new : FileState) → new.block ≡ old.block
+      → (old.is_size_durable ≡ true → (new.size ≡ old.size) × (new.is_size_durable ≡ true))
+      → ((image : ℕ → ℕ) → IsFileImage new image → IsFileImage old image)
+      → HasNothingNew old new
   pub sized : (layout : Layout) (file : FileState) → KeepsLayout layout file
       → (layout_in file ≡ layout) × ((file.is_size_durable ≡ true) ⊎ (file.size ≤ mark_place))
       × (values_from file.durable mark_place 512 ≡ values_from file.seen mark_place 512)

@@ -1,6 +1,6 @@
 -- The headline on words in what its clauses conclude: what is to be drawn from each of them.
 use Rattle.std.specs.Prelude.{◌≡◌, ◌≢◌, ◌⊎◌, ◌↔◌, ◌<◌, ◌≤◌, ◌+◌, ◌++◌, ◌-◌, ◌/◌, ◌^◌, ℕ, true, false, List, [], ◌∷◌}
-use Rattle.std.specs.Prelude.{length, map, max, min, Bool, Contains, Option, Some, None, Ok, option_to_list}
+use Rattle.std.specs.Prelude.{length, map, max, min, Bool, Contains, IsSomeAnd, Option, Some, None, Ok, option_to_list}
 use Rattle.std.specs.List.{range_with_len}
 use Rattle.macs_aes.specs.declared.keys.Key.{Key}
 use Rattle.macs_config.specs.Apply.{apply}
@@ -149,6 +149,14 @@ pub record NumberWords : Type 0 where
       → (is_spent found.config.spent_tx (tx_fingerprint key) ≡ true)
       × ((an : ℕ) (sa : TxSa) → found.config.tx an ≡ Some sa → sa.key ≡ key
       → (next : ℕ) × (found.ceilings.tx an ≡ Some next) × (pn < next))
+  pub beyond_tx_so : (found : Standing) (key : List ℕ) (pn : ℕ)
+      → is_spent found.config.spent_tx (tx_fingerprint key) ≡ true
+      → ((an : ℕ) (sa : TxSa) → found.config.tx an ≡ Some sa → sa.key ≡ key
+      → IsSomeAnd (found.ceilings.tx an) (λ next. pn < next)) → IsBeyondTx found key pn
+  pub beyond_rx_so : (found : Standing) (sci key : List ℕ) (pn : ℕ)
+      → is_spent found.config.spent_rx (rx_fingerprint sci key) ≡ true
+      → ((an : ℕ) (sa : RxSa) → found.config.rx sci an ≡ Some sa → sa.key ≡ key
+      → IsSomeAnd (found.ceilings.rx sci an) (λ next. pn < next)) → IsBeyondRx found sci key pn
   pub beyond_rx : (found : Standing) (sci key : List ℕ) (pn : ℕ) → IsBeyondRx found sci key pn
       → (is_spent found.config.spent_rx (rx_fingerprint sci key) ≡ true)
       × ((an : ℕ) (sa : RxSa) → found.config.rx sci an ≡ Some sa → sa.key ≡ key
