@@ -121,3 +121,4 @@ mod LayerLeaves
 mod SideWords
 mod SnapshotOrder
 mod StepWords
+mod StoreWords

@@ -32,10 +32,8 @@ use Rattle.macs_endpoint.specs.Lives.{Transition, exchange_of}
 use Rattle.macs_endpoint.specs.Opening.{IsOpening}
 use Rattle.macs_endpoint.specs.State.{Commands, Logs, Protects, Protected, Ran, Refilled, Refills, State}
 use Rattle.macs_endpoint.specs.Step.{Exchange}
-use Rattle.macs_endpoint.specs.Value.{EndpointValue, IsSoundEndpoint, device_in, state_of}
-use Rattle.macs_endpoint.specs.declared.fault.CommandFault.{CommandFault}
+use Rattle.macs_endpoint.specs.Value.{EndpointValue, state_of}
 use Rattle.macs_endpoint.specs.declared.fault.ProtectFault.{ProtectFault}
-use Rattle.macs_endpoint.specs.declared.fault.RefillFault.{RefillFault}
 use Rattle.macs_headline.specs.Answered.{WasAnswered, exchanges_of_lives, lives_at}
 use Rattle.macs_headline.specs.Binding.{HasHistory, IsNewDisk, IsWrittenOnce}
 use Rattle.macs_headline.specs.Deeds.{Formatting, Link, Living, LivesFrom, PassingOn}
@@ -43,7 +41,10 @@ use Rattle.macs_headline.specs.Endings.{LosesPower}
 use Rattle.macs_headline.specs.Frames.{IsStandardFrame, writing}
 use Rattle.macs_headline.specs.History.{Formats, Life, Serves}
 use Rattle.macs_headline.specs.Moments.{Moment}
-use Rattle.macs_headline.specs.Nights.{IsNightFrame, IsRefusedEvening, IsRefusedMorning, night_install}
+use Rattle.macs_headline.specs.Nights.{IsEvening, IsMorning, IsNightFrame, IsRefusedEvening, IsRefusedMorning}
+use Rattle.macs_headline.specs.Nights.{evening_turns, night_install}
+use Rattle.macs_headline.specs.declared.night.Evening.{Evening}
+use Rattle.macs_headline.specs.declared.night.Morning.{Morning}
 use Rattle.macs_headline.proofs.Built.{blank-is-new}
 use Rattle.macs_headline.proofs.Chains.{deeds-are-histories, fuse-now, new-deeds-are-histories}
 use Rattle.macs_headline.proofs.Endings.{power-losses-pass-on}
@@ -203,14 +204,9 @@ refused-first disk_of sound identity old mid is_new formatted format refused ope
 module _ {D : Type 0} (disk_of : D → Disk) (sound : (it : D) → IsHonest (disk_of it) → IsSound (now (disk_of it)))
     (identity : Identity) (an : ℕ) (key : Key)
     (old mid : D) (is_new : IsNewDisk (disk_of old)) (formatted : Result (Unit {0}) JournalFault)
-    (format : IsFormat disk_of old identity formatted mid)
-    (first one two three : EndpointValue D) (opening : IsOpening disk_of mid (Ok first))
-    (kept : IsSoundEndpoint first) (installed : Result (Unit {0}) CommandFault)
-    (install : IsCall disk_of first (Commands (night_install an key)) (Ran installed) one)
-    (kept_one : IsSoundEndpoint one) (chosen : Result (Unit {0}) CommandFault)
-    (choose : IsCall disk_of one (Commands (TxUse an)) (Ran chosen) two)
-    (kept_two : IsSoundEndpoint two) (evening : List ℕ) (sent : Result ℕ ProtectFault) (out : List ℕ)
-    (protect : IsCall disk_of two (Protects evening) (Protected sent out) three) where
+    (format : IsFormat disk_of old identity formatted mid) (start : EndpointValue D)
+    (opening : IsOpening disk_of mid (Ok start)) (plain out : List ℕ)
+    (evening : Evening) (left : D) (e : IsEvening disk_of start an key plain out evening left) where
   abbrev before : List Life
   before = Formats this_edition identity (is_ok formatted) ∷ []
 
@@ -218,110 +214,103 @@ module _ {D : Type 0} (disk_of : D → Disk) (sound : (it : D) → IsHonest (dis
   has_before = new-deeds-are-histories disk_of sound old mid
       (record { deed = Formatting identity formatted; after = mid } ∷ []) is_new (format, refl)
 
+  -- the calls before the frame
   abbrev commands : List (Transition D)
   commands =
-      record { call = Commands (night_install an key); reply = Ran installed; after = one }
-      ∷ record { call = Commands (TxUse an); reply = Ran chosen; after = two }
+      record { call = Commands (night_install an key); reply = Ran evening.installed; after = e.one }
+      ∷ record { call = Commands (TxUse an); reply = Ran evening.chosen; after = e.two }
       ∷ []
 
-  abbrev with_frame : List (Transition D)
-  with_frame =
-      record { call = Commands (night_install an key); reply = Ran installed; after = one }
-      ∷ record { call = Commands (TxUse an); reply = Ran chosen; after = two }
-      ∷ record { call = Protects evening; reply = Protected sent out; after = three }
-      ∷ []
-
-  lived : LivesFrom disk_of mid first commands two
-  lived = (opening, (kept, install, (kept_one, choose, refl)))
+  lived : LivesFrom disk_of mid start commands e.two
+  lived =
+      let one = e.lives in
+      let two = one.2 in
+      (opening, (one.0, one.1, (two.0, two.1, refl)))
 
   -- the frame of the evening
-  pub evening-frame : (pn : ℕ) → sent ≡ Ok pn → IsNightFrame identity an (octets_of_key key) evening pn out
+  pub evening-frame : (pn : ℕ) → evening.sent ≡ Ok pn → IsNightFrame identity an (octets_of_key key) plain pn out
   evening-frame pn is =
-      let w = frames-are-written-once disk_of sound mid before first two three commands evening pn out has_before lived
-      (subst (λ (r : Result ℕ ProtectFault). IsCall disk_of two (Protects evening) (Protected r out) three)
-      is protect) in
-      night-frame identity an key (state_of two w.at.logs) evening pn out (state_of three w.later)
-      (our-moment identity an key (disk_of mid).sectors (state_of two w.at.logs) w.at.moment
+      let w = frames-are-written-once disk_of sound mid before start e.two e.last commands plain pn out has_before lived
+      (subst (λ (r : Result ℕ ProtectFault). IsCall disk_of e.two (Protects plain) (Protected r out) e.last)
+      is e.lives.2.2.1) in
+      night-frame identity an key (state_of e.two w.at.logs) plain pn out (state_of e.last w.later)
+      (our-moment identity an key (disk_of mid).sectors (state_of e.two w.at.logs) w.at.moment
       (subst (AllByRecursion (IsOurLife identity an key)) (sym w.at.after_lives) (refl, tt))
       (subst (AreOurCalls identity an key) (sym w.at.calls) (inl refl, (inr refl, tt))))
       w.standard
 
-  module _ (left : D) (gave : left ≡ device_in three) (lost : D)
-      (loses : LosesPower (disk_of left) (disk_of left).clock (disk_of lost)) where
+  module _ (lost : D) (loses : LosesPower (disk_of left) (disk_of left).clock (disk_of lost)) where
+    abbrev all : List (Transition D)
+    all = evening_turns an key plain out evening e.one e.two e.last
+
     abbrev evening_life : Life
-    evening_life = Serves this_edition (now (disk_of mid)).seen (map exchange_of with_frame) None
+    evening_life = Serves this_edition (now (disk_of mid)).seen (map exchange_of all) None
 
     abbrev both : List Life
     both = Formats this_edition identity (is_ok formatted) ∷ evening_life ∷ []
 
     abbrev links : List (Link D)
-    links = record { deed = Living first with_frame three None; after = left }
-        ∷ record { deed = PassingOn; after = lost } ∷ []
+    links =
+        record { deed = Living start all e.last None; after = left } ∷ record { deed = PassingOn; after = lost } ∷ []
 
     has_both : HasHistory this_edition (disk_of lost) both
     has_both = deeds-are-histories disk_of sound mid lost before links has_before (
-      ((opening, (kept, install, (kept_one, choose, (kept_two, protect, refl)))), gave),
+      ((opening, e.lives), e.given),
       (power-losses-pass-on (disk_of left) (disk_of lost) (disk_of left).clock loses, refl),
     )
 
     -- the second opening was refused
     pub refused-again : (refused : RecoverRefused D) → IsOpening disk_of lost (Err refused)
-        → IsRefusedMorning disk_of old identity an key evening out refused
+        → IsRefusedMorning disk_of old identity an key plain out refused
     refused-again refused opening_again = record {
       formatted = formatted;
-      installed = installed;
-      chosen = chosen;
-      sent = sent;
       between = mid;
-      first = first;
-      turns = with_frame;
-      last = three;
-      called = refl;
+      start = start;
+      evening = evening;
       left = left;
+      served = e;
       lost = lost;
       loses = loses;
       chain = (
         format,
         (
-          ((opening, (kept, install, (kept_one, choose, (kept_two, protect, refl)))), gave),
+          ((opening, e.lives), e.given),
           (power-losses-pass-on (disk_of left) (disk_of lost) (disk_of left).clock loses, (opening_again, refl)),
         ),
       );
       for_disk = elim (refusals-are-failures disk_of sound lost both refused has_both opening_again) [
         | inl disk ↦ disk.0
         | inr later ↦ elim later [
-          | inl blank ↦ absurd (blank.2 this_edition (now (disk_of mid)).seen (map exchange_of with_frame) None
+          | inl blank ↦ absurd (blank.2 this_edition (now (disk_of mid)).seen (map exchange_of all) None
               (contains-later (Formats this_edition identity (is_ok formatted)) (evening_life ∷ []) evening_life
               (contains-first evening_life [])))
-          | inr spent ↦ absurd (never-spent disk_of sound mid before has_before first with_frame three
-              (opening, (kept, install, (kept_one, choose, (kept_two, protect, refl)))) left lost gave loses
+          | inr spent ↦ absurd (never-spent disk_of sound mid before has_before start all e.last (opening, e.lives)
+              left lost e.given loses
               refused.fault spent)
         ]
       ];
     }
 
-    module _ (again four five : EndpointValue D) (opening_again : IsOpening disk_of lost (Ok again))
-        (kept_again : IsSoundEndpoint again) (refilled : Result (Unit {0}) RefillFault)
-        (refill : IsCall disk_of again Refills (Refilled refilled) four)
-        (morning : List ℕ) (sent_again : Result ℕ ProtectFault) (second : List ℕ)
-        (protect_again : IsCall disk_of four (Protects morning) (Protected sent_again second) five) where
+    module _ (again : EndpointValue D) (opening_again : IsOpening disk_of lost (Ok again)) (next second : List ℕ)
+        (morning : Morning) (finally : D)
+        (m : IsMorning disk_of again next second morning finally) where
       abbrev refills : List (Transition D)
-      refills = record { call = Refills; reply = Refilled refilled; after = four } ∷ []
+      refills = record { call = Refills; reply = Refilled morning.refilled; after = m.one } ∷ []
 
-      lived_again : LivesFrom disk_of lost again refills four
-      lived_again = (opening_again, (kept_again, refill, refl))
+      lived_again : LivesFrom disk_of lost again refills m.one
+      lived_again = let one = m.lives in (opening_again, (one.0, one.1, refl))
 
-      written : (pn : ℕ) → sent_again ≡ Ok pn
-          → IsWrittenOnce (disk_of lost).sectors both (now (disk_of lost)).seen refills again four five
-          morning pn second
+      written : (pn : ℕ) → morning.sent ≡ Ok pn
+          → IsWrittenOnce (disk_of lost).sectors both (now (disk_of lost)).seen refills again m.one m.last
+          next pn second
       written pn is =
-          frames-are-written-once disk_of sound lost both again four five refills morning pn second has_both lived_again
-          (subst (λ (r : Result ℕ ProtectFault). IsCall disk_of four (Protects morning) (Protected r second) five) is
-          protect_again)
+          frames-are-written-once disk_of sound lost both again m.one m.last refills next pn second has_both lived_again
+          (subst (λ (r : Result ℕ ProtectFault). IsCall disk_of m.one (Protects next) (Protected r second) m.last) is
+          m.lives.2.1)
 
-      module _ (pn : ℕ) (is : sent_again ≡ Ok pn) where
-        abbrev w : IsWrittenOnce (disk_of lost).sectors both (now (disk_of lost)).seen refills again four five
-            morning pn second
+      module _ (pn : ℕ) (is : morning.sent ≡ Ok pn) where
+        abbrev w : IsWrittenOnce (disk_of lost).sectors both (now (disk_of lost)).seen refills again m.one m.last
+            next pn second
         w = written pn is
 
         both_ours : AllByRecursion (IsOurLife identity an key) w.at.moment.lives
@@ -331,37 +320,40 @@ module _ {D : Type 0} (disk_of : D → Disk) (sound : (it : D) → IsHonest (dis
         refills_ours : AreOurCalls identity an key w.at.moment.exchanges
         refills_ours = subst (AreOurCalls identity an key) (sym w.at.calls) (tt, tt)
 
-        now_ours : IsOurs identity an key (state_of four w.at.logs)
-        now_ours = our-moment identity an key (disk_of lost).sectors (state_of four w.at.logs) w.at.moment both_ours
+        now_ours : IsOurs identity an key (state_of m.one w.at.logs)
+        now_ours = our-moment identity an key (disk_of lost).sectors (state_of m.one w.at.logs) w.at.moment both_ours
             refills_ours
 
         -- the frame of the morning
-        pub morning-frame : IsNightFrame identity an (octets_of_key key) morning pn second
-        morning-frame = night-frame identity an key (state_of four w.at.logs) morning pn second (state_of five w.later)
+        pub morning-frame : IsNightFrame identity an (octets_of_key key) next pn second
+        morning-frame = night-frame identity an key (state_of m.one w.at.logs) next pn second (state_of m.last w.later)
             now_ours w.standard
 
         -- and that of the evening has another number
-        pub numbers-apart : (number : ℕ) → sent ≡ Ok number → number ≢ pn
+        pub numbers-apart : (number : ℕ) → evening.sent ≡ Ok number → number ≢ pn
         numbers-apart number was =
-            let e = writing evening number out in
-            let m = w.at.moment in
-            let lives = lives_at m in
-            let frame : Exchange = record { call = Protects evening; reply = Protected sent out } in
-            let installing : Exchange = record { call = Commands (night_install an key); reply = Ran installed } in
-            let choosing : Exchange = record { call = Commands (TxUse an); reply = Ran chosen } in
-            let same : frame ≡ e = λ i. record { call = Protects evening; reply = Protected (was i) out } in
-            let rest = m.exchanges ++ [] in
-            let front : Contains (frame ∷ rest) e = subst (Contains (frame ∷ rest)) same (contains-first frame rest) in
-            let here : Contains (exchanges_of_lives (both ++ Serves m.edition m.image m.exchanges None ∷ [])) e =
-            contains-later installing (choosing ∷ frame ∷ rest) e (contains-later choosing (frame ∷ rest) e front) in
-            let among : Contains (exchanges_of_lives lives) e =
+            let written = writing plain number out in
+            let at = w.at.moment in
+            let lives = lives_at at in
+            let frame : Exchange = record { call = Protects plain; reply = Protected evening.sent out } in
+            let installing : Exchange =
+            record { call = Commands (night_install an key); reply = Ran evening.installed } in
+            let choosing : Exchange = record { call = Commands (TxUse an); reply = Ran evening.chosen } in
+            let same : frame ≡ written = λ i. record { call = Protects plain; reply = Protected (was i) out } in
+            let rest = at.exchanges ++ [] in
+            let front : Contains (frame ∷ rest) written =
+            subst (Contains (frame ∷ rest)) same (contains-first frame rest) in
+            let here : Contains (exchanges_of_lives (both ++ Serves at.edition at.image at.exchanges None ∷ [])) written =
+            contains-later installing (choosing ∷ frame ∷ rest) written
+            (contains-later choosing (frame ∷ rest) written front) in
+            let among : Contains (exchanges_of_lives lives) written =
             subst (λ (lives : List Life). Contains (exchanges_of_lives
-            (lives ++ Serves m.edition m.image m.exchanges None ∷ [])) e) (sym w.at.after_lives) here in
-            let other = w.others evening number out among in
-            let ours = our-answer identity an key (disk_of lost).sectors lives e w.at.logs other.answered
-            (all-on (IsOurLife identity an key) m.lives (Serves m.edition m.image m.exchanges None) both_ours
+            (lives ++ Serves at.edition at.image at.exchanges None ∷ [])) written) (sym w.at.after_lives) here in
+            let other = w.others plain number out among in
+            let ours = our-answer identity an key (disk_of lost).sectors lives written w.at.logs other.answered
+            (all-on (IsOurLife identity an key) at.lives (Serves at.edition at.image at.exchanges None) both_ours
             refills_ours) in
             other.other
-            (key-is identity an key other.answered.at evening number out other.answered.after ours other.frame
-            ∙ sym (key-is identity an key (state_of four w.at.logs) morning pn second (state_of five w.later) now_ours
+            (key-is identity an key other.answered.at plain number out other.answered.after ours other.frame
+            ∙ sym (key-is identity an key (state_of m.one w.at.logs) next pn second (state_of m.last w.later) now_ours
             w.standard))

@@ -7,10 +7,11 @@ pub refused-words : {D : Type 0} (disk_of : D → Disk) → RefusedWords disk_of
 refused-words disk_of = record {
   day = λ old identity refused i. (i.chain, i.history);
   evening = λ old identity refused e. (e.day, e.failed);
-  morning = λ old identity an key evening out refused i. (i.for_disk, i.called, i.loses, i.chain);
+  night = λ old identity an key plain out refused i. (i.for_disk, i.served, refl, i.loses, i.chain);
   watch = λ old identity sci an key frame out refused i. (i.for_disk, i.served, refl, i.loses, i.chain);
   either_night = λ old identity an key evening out refused is. is;
   either_watch = λ old identity sci an key frame out refused is. is;
   linked = λ deed after. refl;
   morning_calls = λ start frame out morning left m. (refl, m.given, m.lives);
+  night_calls = λ start plain out morning left m. (refl, m.given, m.lives);
 }

@@ -76,3 +76,4 @@ pub mod LayerLeaves
 pub mod SideWords
 pub mod SnapshotOrder
 pub mod StepWords
+pub mod StoreWords

@@ -1,5 +1,5 @@
 -- A night of an endpoint: power is lost between two frames under one key.
-use Rattle.std.specs.Prelude.{◌≡◌, ◌≢◌, ◌⊎◌, ◌<◌, ◌≤◌, ◌^◌, ℕ, true, List, [], ◌∷◌, map, None, Result, Ok}
+use Rattle.std.specs.Prelude.{◌≡◌, ◌≢◌, ◌⊎◌, ◌<◌, ◌≤◌, ◌^◌, ℕ, true, List, [], ◌∷◌, None, Result, Ok}
 use Rattle.macs_frame.specs.Protection.{protected_frame}
 use Rattle.macs_frame.specs.declared.tag.ScName.TheVariants.{Explicit}
 use Rattle.macs_aes.specs.declared.keys.Key.{Key}
@@ -10,14 +10,14 @@ use Rattle.macs_disk.specs.Disk.{Disk}
 use Rattle.macs_journal.specs.declared.fault.JournalFault.{JournalFault}
 use Rattle.macs_journal.specs.declared.fault.JournalFault.TheVariants.{Disk as DiskFault}
 use Rattle.macs_journal.specs.declared.recovery.RecoverRefused.{RecoverRefused}
-use Rattle.macs_endpoint.specs.Lives.{Transition, exchange_of}
-use Rattle.macs_endpoint.specs.State.{Commands, Protected, Protects, Ran}
-use Rattle.macs_endpoint.specs.Value.{EndpointValue}
-use Rattle.macs_endpoint.specs.declared.fault.CommandFault.{CommandFault}
-use Rattle.macs_endpoint.specs.declared.fault.ProtectFault.{ProtectFault}
-use Rattle.macs_headline.specs.Days.{IsRefusedDay, exchange_with, link_of}
+use Rattle.macs_endpoint.specs.Lives.{Lives, Transition}
+use Rattle.macs_endpoint.specs.State.{Commands, Protected, Protects, Ran, Refilled, Refills}
+use Rattle.macs_endpoint.specs.Value.{EndpointValue, device_in}
+use Rattle.macs_headline.specs.Days.{IsRefusedDay, link_of}
 use Rattle.macs_headline.specs.Deeds.{Chain, Formatting, Living, PassingOn, Refusing}
 use Rattle.macs_headline.specs.Endings.{LosesPower}
+use Rattle.macs_headline.specs.declared.night.Evening.{Evening}
+use Rattle.macs_headline.specs.declared.night.Morning.{Morning}
 use Rattle.macs_headline.specs.declared.night.Night.{Night}
 
 -- an association of this number and key, from packet number 1, under which User Data are encrypted whole
@@ -36,9 +36,47 @@ pub record IsNightFrame (identity : Identity) (an : ℕ) (key plain : List ℕ) 
 -- have two numbers.
 pub record IsNight {D : Type 0} (identity : Identity) (an : ℕ) (key evening first morning second : List ℕ)
     (night : Night D) : Type 0 where
-  pub before : (pn : ℕ) → night.sent ≡ Ok pn → IsNightFrame identity an key evening pn first
-  pub behind : (pn : ℕ) → night.sent_again ≡ Ok pn → IsNightFrame identity an key morning pn second
-  pub apart : (one other : ℕ) → night.sent ≡ Ok one → night.sent_again ≡ Ok other → one ≢ other
+  pub before : (pn : ℕ) → night.evening.sent ≡ Ok pn → IsNightFrame identity an key evening pn first
+  pub behind : (pn : ℕ) → night.morning.sent ≡ Ok pn → IsNightFrame identity an key morning pn second
+  pub apart : (one other : ℕ) → night.evening.sent ≡ Ok one → night.morning.sent ≡ Ok other → one ≢ other
+
+-- ---- the calls of the two lives
+
+-- those of the evening, with what they answered and the endpoint after each
+abbrev pub evening_turns : {D : Type 0} → (an : ℕ) (key : Key) (plain out : List ℕ) → Evening
+    → (one two last : EndpointValue D)
+    → List (Transition D)
+evening_turns an key plain out evening one two last =
+    record { call = Commands (night_install an key); reply = Ran evening.installed; after = one }
+    ∷ record { call = Commands (TxUse an); reply = Ran evening.chosen; after = two }
+    ∷ record { call = Protects plain; reply = Protected evening.sent out; after = last }
+    ∷ []
+
+-- An endpoint answered them and gave its disk back, as their contracts say.
+pub record IsEvening {D : Type 0} (disk_of : D → Disk) (start : EndpointValue D) (an : ℕ) (key : Key)
+    (plain out : List ℕ) (evening : Evening)
+    (left : D) : Type 0 where
+  pub one : EndpointValue D
+  pub two : EndpointValue D
+  pub last : EndpointValue D
+  pub lives : Lives disk_of start (evening_turns an key plain out evening one two last) last
+  pub given : left ≡ device_in last
+
+-- and those of the morning
+abbrev pub morning_turns : {D : Type 0} → (plain out : List ℕ) → Morning → (one last : EndpointValue D)
+    → List (Transition D)
+morning_turns plain out morning one last =
+    record { call = Refills; reply = Refilled morning.refilled; after = one }
+    ∷ record { call = Protects plain; reply = Protected morning.sent out; after = last }
+    ∷ []
+
+-- a morning is a life of two calls, a refill and a protect of this frame, after which the program gives its disk back
+pub record IsMorning {D : Type 0} (disk_of : D → Disk) (start : EndpointValue D) (plain out : List ℕ)
+    (morning : Morning) (left : D) : Type 0 where
+  pub one : EndpointValue D
+  pub last : EndpointValue D
+  pub lives : Lives disk_of start (morning_turns plain out morning one last) last
+  pub given : left ≡ device_in last
 
 -- ---- an opening that is refused
 
@@ -48,28 +86,23 @@ pub record IsRefusedEvening {D : Type 0} (disk_of : D → Disk) (old : D) (ident
   pub day : IsRefusedDay disk_of old identity refused
   pub failed : ((disk_of old).failures < (disk_of refused.disk).failures) ⊎ ((disk_of refused.disk).worn ≡ true)
 
--- The disk was formatted and opened, the endpoint answered its three calls and gave the disk back, power was lost, and
--- the second opening was refused as Disk.
+-- The disk was formatted and opened, the endpoint answered the calls of the evening and gave the disk back, power was
+-- lost, and the second opening was refused as Disk.
 pub record IsRefusedMorning {D : Type 0} (disk_of : D → Disk) (old : D) (identity : Identity) (an : ℕ) (key : Key)
-    (evening out : List ℕ)
+    (plain out : List ℕ)
     (refused : RecoverRefused D) : Type 0 where
   pub formatted : Result (Unit {0}) JournalFault
-  pub installed : Result (Unit {0}) CommandFault
-  pub chosen : Result (Unit {0}) CommandFault
-  pub sent : Result ℕ ProtectFault
   pub between : D
-  pub first : EndpointValue D
-  pub turns : List (Transition D)
-  pub last : EndpointValue D
-  pub called : map exchange_of turns ≡
-      exchange_with (Commands (night_install an key)) (Ran installed) ∷ exchange_with (Commands (TxUse an)) (Ran chosen)
-      ∷ exchange_with (Protects evening) (Protected sent out) ∷ []
+  pub start : EndpointValue D
+  pub evening : Evening
   pub left : D
+  pub served : IsEvening disk_of start an key plain out evening left
   pub lost : D
   pub loses : LosesPower (disk_of left) (disk_of left).clock (disk_of lost)
   pub chain : Chain disk_of old (
       link_of (Formatting identity formatted) between
-      ∷ link_of (Living first turns last None) left
+      ∷ link_of
+      (Living start (evening_turns an key plain out evening served.one served.two served.last) served.last None) left
       ∷ link_of PassingOn lost
       ∷ link_of (Refusing refused.fault) refused.disk
       ∷ []

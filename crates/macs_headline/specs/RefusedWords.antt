@@ -15,9 +15,12 @@ use Rattle.macs_headline.specs.Days.{IsRefusedDay, exchange_with, link_of}
 use Rattle.macs_headline.specs.Deeds.{Chain, Deed, Formatting, Living, PassingOn, Refusing}
 use Rattle.macs_headline.specs.Endings.{LosesPower}
 use Rattle.macs_headline.specs.History.{Formats, Refuses}
-use Rattle.macs_headline.specs.Nights.{IsRefusedEvening, IsRefusedMorning, IsRefusedNight}
+use Rattle.macs_headline.specs.Nights.{IsEvening as IsNightEvening, IsMorning as IsNightMorning, IsRefusedEvening}
+use Rattle.macs_headline.specs.Nights.{IsRefusedMorning, IsRefusedNight, evening_turns as night_evening}
+use Rattle.macs_headline.specs.Nights.{morning_turns as night_morning}
 use Rattle.macs_headline.specs.Watches.{IsEvening, IsMorning, IsRefusedWatch, IsRefusedWatchMorning, evening_turns}
 use Rattle.macs_headline.specs.Watches.{morning_turns}
+use Rattle.macs_headline.specs.declared.night.Morning.{Morning as NightMorning}
 use Rattle.macs_headline.specs.declared.watch.Morning.{Morning}
 
 -- A day that is refused is a `format` and an opening that is refused, and so is its history; in the evening a device
@@ -25,7 +28,7 @@ use Rattle.macs_headline.specs.declared.watch.Morning.{Morning}
 -- evening, each answered, and the power loss: of a watch these are a channel that is added, an association that is
 -- installed from packet number 1, the frame, a refill, and the frame once more. A night and a watch are refused in the
 -- evening or in the morning, and so in no other way. A link of their chains has the deed and the disk after it. A
--- morning of a watch is a refill and the frame, of an endpoint that gives its disk back then.
+-- morning is a refill and the frame, of an endpoint that gives its disk back then.
 pub record RefusedWords {D : Type 0} (disk_of : D → Disk) : Type 0 where
   pub day : (old : D) (identity : Identity) (refused : RecoverRefused D) (i : IsRefusedDay disk_of old identity refused)
       → Chain disk_of old (link_of (Formatting identity i.formatted) i.between
@@ -37,15 +40,17 @@ pub record RefusedWords {D : Type 0} (disk_of : D → Disk) : Type 0 where
       → IsRefusedEvening disk_of old identity refused
       → IsRefusedDay disk_of old identity refused
       × (((disk_of old).failures < (disk_of refused.disk).failures) ⊎ ((disk_of refused.disk).worn ≡ true))
-  pub morning : (old : D) (identity : Identity) (an : ℕ) (key : Key) (evening out : List ℕ) (refused : RecoverRefused D)
-      (i : IsRefusedMorning disk_of old identity an key evening out refused)
+  pub night : (old : D) (identity : Identity) (an : ℕ) (key : Key) (plain out : List ℕ) (refused : RecoverRefused D)
+      (i : IsRefusedMorning disk_of old identity an key plain out refused)
       → (refused.fault ≡ DiskFault)
-      × (map exchange_of i.turns ≡ exchange_with (Commands (TxInstall an key 1 true 0)) (Ran i.installed)
-      ∷ exchange_with (Commands (TxUse an)) (Ran i.chosen)
-      ∷ exchange_with (Protects evening) (Protected i.sent out) ∷ [])
+      × (s : IsNightEvening disk_of i.start an key plain out i.evening i.left)
+      × (map exchange_of (night_evening an key plain out i.evening s.one s.two s.last)
+      ≡ exchange_with (Commands (TxInstall an key 1 true 0)) (Ran i.evening.installed)
+      ∷ exchange_with (Commands (TxUse an)) (Ran i.evening.chosen)
+      ∷ exchange_with (Protects plain) (Protected i.evening.sent out) ∷ [])
       × LosesPower (disk_of i.left) (disk_of i.left).clock (disk_of i.lost)
-      × Chain disk_of old
-      (link_of (Formatting identity i.formatted) i.between ∷ link_of (Living i.first i.turns i.last None) i.left
+      × Chain disk_of old (link_of (Formatting identity i.formatted) i.between
+      ∷ link_of (Living i.start (night_evening an key plain out i.evening s.one s.two s.last) s.last None) i.left
       ∷ link_of PassingOn i.lost ∷ link_of (Refusing refused.fault) refused.disk ∷ []) refused.disk
   pub watch : (old : D) (identity : Identity) (sci : List ℕ) (an : ℕ) (key : Key) (frame out : List ℕ)
       (refused : RecoverRefused D)
@@ -78,3 +83,9 @@ pub record RefusedWords {D : Type 0} (disk_of : D → Disk) : Type 0 where
       ≡ exchange_with Refills (Refilled morning.refilled)
       ∷ exchange_with (Receives frame) (Received morning.received out) ∷ [])
       × (left ≡ device_in m.last) × Lives disk_of start (morning_turns frame out morning m.one m.last) m.last
+  pub night_calls : (start : EndpointValue D) (plain out : List ℕ) (morning : NightMorning) (left : D)
+      (m : IsNightMorning disk_of start plain out morning left)
+      → (map exchange_of (night_morning plain out morning m.one m.last)
+      ≡ exchange_with Refills (Refilled morning.refilled)
+      ∷ exchange_with (Protects plain) (Protected morning.sent out) ∷ [])
+      × (left ≡ device_in m.last) × Lives disk_of start (night_morning plain out morning m.one m.last) m.last

@@ -66,6 +66,7 @@ ghost use Rattle.macs_headline.specs.SideWords.{SideWords};
 ghost use Rattle.macs_headline.specs.SnapshotOrder.{SnapshotOrder};
 ghost use Rattle.macs_headline.specs.StandWords.{CallsLeave, ServedEnds};
 ghost use Rattle.macs_headline.specs.StepWords.{StepWords};
+ghost use Rattle.macs_headline.specs.StoreWords.{StoreWords};
 ghost use Rattle.macs_headline.specs.Endings.{DroppedPassOn, EndsAreEarlier, ImagesAreWhole};
 ghost use Rattle.macs_headline.specs.Endings.{KillingsPassOn, LosesPower, LossesSettle};
 ghost use Rattle.macs_headline.specs.Endings.{PassedOnAgain, PassedOnAlone, PowerLossesPassOn};
@@ -402,6 +403,8 @@ pub fn endpoint_words<D: SectorDisk>()
     ensures layers { LayerWords D.disk }
     ensures layer_faults { LayerFaults D.disk }
     ensures layer_leaves { LayerLeaves D.disk }
+    // What a store keeps in memory, and what is to come of its work.
+    ensures stores { StoreWords D }
     // What a loss of power leaves of events that are served, and when that halts.
     ensures served { ServedWords D.disk }
     // That they are calls, and that no answer before the last says that a device call failed.

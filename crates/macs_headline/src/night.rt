@@ -5,7 +5,7 @@ ghost use Rattle.std.specs.Prelude.{IfErr, IfOk, IfSome};
 ghost use Rattle.macs_aes.specs.Keys.{octets_of_key};
 ghost use Rattle.macs_headline.specs.Binding.{IsNewDisk};
 ghost use Rattle.macs_headline.specs.Endings.{LosesPower};
-ghost use Rattle.macs_headline.specs.Nights.{IsNight, IsRefusedNight};
+ghost use Rattle.macs_headline.specs.Nights.{IsEvening, IsMorning, IsNight, IsRefusedNight};
 
 use macs_aes::Key;
 use macs_config::{Command, Identity};
@@ -38,15 +38,27 @@ impl<D: PowerLoss> PowerLoss for Fuse<D> {
     }
 }
 
+/// What the calls of the evening answered.
+#[derive(Drop)]
+pub struct Evening {
+    pub installed: Result<(), CommandFault>,
+    pub chosen: Result<(), CommandFault>,
+    pub sent: Result<Pn, ProtectFault>,
+}
+
+/// What those of the morning answered.
+#[derive(Drop)]
+pub struct Morning {
+    pub refilled: Result<(), RefillFault>,
+    pub sent: Result<Pn, ProtectFault>,
+}
+
 /// What the calls of a night answered, and the disk after them.
 #[derive(Drop)]
 pub struct Night<D: SectorDisk> {
     pub formatted: Result<(), JournalFault>,
-    pub installed: Result<(), CommandFault>,
-    pub chosen: Result<(), CommandFault>,
-    pub sent: Result<Pn, ProtectFault>,
-    pub refilled: Result<(), RefillFault>,
-    pub sent_again: Result<Pn, ProtectFault>,
+    pub evening: Evening,
+    pub morning: Morning,
     pub disk: D,
 }
 
@@ -74,7 +86,29 @@ pub fn a_night<D: PowerLoss>(
         IsRefusedNight D.disk disk identity.now an key evening.now first.new.items refused) }
 {
     let formatted = format(&mut disk, identity);
-    let mut endpoint = Endpoint::open(disk)?;
+    let endpoint = Endpoint::open(disk)?;
+    let (before, left) = serve_evening(endpoint, an, key, evening, first);
+    let lost = left.lose_power();
+    let again = Endpoint::open(lost)?;
+    let (after, disk) = serve_morning(again, morning, second);
+    Ok(Night {
+        formatted,
+        evening: before,
+        morning: after,
+        disk,
+    })
+}
+
+/// The calls of the endpoint that was opened first, and its disk.
+fn serve_evening<D: SectorDisk>(
+    mut endpoint: Endpoint<D>,
+    an: An,
+    key: Key,
+    plain: &[u8],
+    out: &mut FrameBuf,
+) -> (Evening, D)
+    ensures { IsEvening D.disk endpoint an key plain.now out.new.items result.0 result.1 }
+{
     endpoint.facts();
     let installed = endpoint.command(Command::TxInstall {
         an,
@@ -86,22 +120,28 @@ pub fn a_night<D: PowerLoss>(
     endpoint.facts();
     let chosen = endpoint.command(Command::TxUse { an });
     endpoint.facts();
-    let sent = endpoint.protect(evening, first);
-    let left = endpoint.into_disk();
-    let lost = left.lose_power();
-    let mut again = Endpoint::open(lost)?;
-    again.facts();
-    let refilled = again.refill();
-    let sent_again = again.protect(morning, second);
-    Ok(Night {
-        formatted,
+    let sent = endpoint.protect(plain, out);
+    let evening = Evening {
         installed,
         chosen,
         sent,
-        refilled,
-        sent_again,
-        disk: again.into_disk(),
-    })
+    };
+    (evening, endpoint.into_disk())
+}
+
+/// The calls of the endpoint that was opened after the power loss, and its disk.
+fn serve_morning<D: SectorDisk>(
+    mut endpoint: Endpoint<D>,
+    plain: &[u8],
+    out: &mut FrameBuf,
+) -> (Morning, D)
+    ensures { IsMorning D.disk endpoint plain.now out.new.items result.0 result.1 }
+{
+    endpoint.facts();
+    let refilled = endpoint.refill();
+    endpoint.facts();
+    let sent = endpoint.protect(plain, out);
+    (Morning { refilled, sent }, endpoint.into_disk())
 }
 
 /// A night over a new disk in memory, of 1,028 sectors. None where there is no memory for it, or an

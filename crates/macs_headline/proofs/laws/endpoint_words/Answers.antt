@@ -9,6 +9,7 @@ use Rattle.macs_headline.proofs.LayerLeaves.{layer-leaves}
 use Rattle.macs_headline.proofs.LayerWords.{layer-words}
 use Rattle.macs_headline.proofs.NeedWords.{needs-are-in-order, turns-are-used}
 use Rattle.macs_headline.proofs.StandWords.{calls-leave, served-ends}
+use Rattle.macs_headline.proofs.StoreWords.{store-words}
 use Rattle.macs_headline.proofs.Turns.{turns-are-built, turns-are-counted}
 use Rattle.macs_headline.proofs.laws.endpoint_words.Goals as goal
 
@@ -74,3 +75,6 @@ returns-clause-refused g c = refused-words g.D.SectorDisk.disk
 
 pub returns-clause-once : goal.returns-clause-once
 returns-clause-once g c = once-words
+
+pub returns-clause-stores : goal.returns-clause-stores
+returns-clause-stores g c = store-words

@@ -7,36 +7,22 @@ pub returns-clause-opened : goal.returns-clause-opened
 returns-clause-opened g c =
     let first = evening-frame g.D.SectorDisk.disk g.met.D.SectorDisk.sound c.args.identity.now c.args.an c.args.key
     c.args.disk c.format-formatted.new.disk c.requires.new c.format-formatted.result c.format-formatted.ensures
-    c.in_ok-endpoint.endpoint c.command-installed.new.self c.command-chosen.new.self c.protect-sent.new.self
-    c.in_ok-endpoint.ensures
-    c.facts.ensures c.command-installed.result c.command-installed.ensures.call
-    c.facts-2.ensures c.command-chosen.result c.command-chosen.ensures.call
-    c.facts-3.ensures c.args.evening.now c.protect-sent.result c.protect-sent.new.out.items
-    c.protect-sent.ensures.call in
+    c.in_ok-endpoint.endpoint c.in_ok-endpoint.ensures c.args.evening.now c.serve_evening-left.new.out.items
+    c.serve_evening-left.result.0 c.serve_evening-left.result.1 c.serve_evening-left.ensures in
     let second = morning-frame g.D.SectorDisk.disk g.met.D.SectorDisk.sound c.args.identity.now c.args.an c.args.key
     c.args.disk c.format-formatted.new.disk c.requires.new c.format-formatted.result c.format-formatted.ensures
-    c.in_ok-endpoint.endpoint c.command-installed.new.self c.command-chosen.new.self c.protect-sent.new.self
-    c.in_ok-endpoint.ensures
-    c.facts.ensures c.command-installed.result c.command-installed.ensures.call
-    c.facts-2.ensures c.command-chosen.result c.command-chosen.ensures.call
-    c.facts-3.ensures c.args.evening.now c.protect-sent.result c.protect-sent.new.out.items c.protect-sent.ensures.call
-    c.into_disk-left.result c.into_disk-left.ensures c.lose_power-lost.result c.lose_power-lost.ensures
-    c.in_ok-again.again c.refill-refilled.new.self c.protect-sent_again.new.self c.in_ok-again.ensures
-    c.facts-4.ensures c.refill-refilled.result c.refill-refilled.ensures.call
-    c.args.morning.now c.protect-sent_again.result c.protect-sent_again.new.out.items
-    c.protect-sent_again.ensures.call in
+    c.in_ok-endpoint.endpoint c.in_ok-endpoint.ensures c.args.evening.now c.serve_evening-left.new.out.items
+    c.serve_evening-left.result.0 c.serve_evening-left.result.1 c.serve_evening-left.ensures
+    c.lose_power-lost.result c.lose_power-lost.ensures
+    c.in_ok-again.again c.in_ok-again.ensures c.args.morning.now c.serve_morning-disk.new.out.items
+    c.serve_morning-disk.result.0 c.serve_morning-disk.result.1 c.serve_morning-disk.ensures in
     let apart = numbers-apart g.D.SectorDisk.disk g.met.D.SectorDisk.sound c.args.identity.now c.args.an c.args.key
     c.args.disk c.format-formatted.new.disk c.requires.new c.format-formatted.result c.format-formatted.ensures
-    c.in_ok-endpoint.endpoint c.command-installed.new.self c.command-chosen.new.self c.protect-sent.new.self
-    c.in_ok-endpoint.ensures
-    c.facts.ensures c.command-installed.result c.command-installed.ensures.call
-    c.facts-2.ensures c.command-chosen.result c.command-chosen.ensures.call
-    c.facts-3.ensures c.args.evening.now c.protect-sent.result c.protect-sent.new.out.items c.protect-sent.ensures.call
-    c.into_disk-left.result c.into_disk-left.ensures c.lose_power-lost.result c.lose_power-lost.ensures
-    c.in_ok-again.again c.refill-refilled.new.self c.protect-sent_again.new.self c.in_ok-again.ensures
-    c.facts-4.ensures c.refill-refilled.result c.refill-refilled.ensures.call
-    c.args.morning.now c.protect-sent_again.result c.protect-sent_again.new.out.items
-    c.protect-sent_again.ensures.call in
+    c.in_ok-endpoint.endpoint c.in_ok-endpoint.ensures c.args.evening.now c.serve_evening-left.new.out.items
+    c.serve_evening-left.result.0 c.serve_evening-left.result.1 c.serve_evening-left.ensures
+    c.lose_power-lost.result c.lose_power-lost.ensures
+    c.in_ok-again.again c.in_ok-again.ensures c.args.morning.now c.serve_morning-disk.new.out.items
+    c.serve_morning-disk.result.0 c.serve_morning-disk.result.1 c.serve_morning-disk.ensures in
     record { before = first; behind = second; apart = λ one other is_one is_other. apart other is_other one is_one }
 
 pub returns-in_err-endpoint-clause-refused : goal.returns-in_err-endpoint-clause-refused
@@ -53,10 +39,6 @@ returns-in_err-again-clause-refused g c =
     rw (risen.1, risen.2)
     (inr (refused-again g.D.SectorDisk.disk g.met.D.SectorDisk.sound c.args.identity.now c.args.an c.args.key
     c.args.disk c.format-formatted.new.disk c.requires.new c.format-formatted.result c.format-formatted.ensures
-    c.in_ok-endpoint.endpoint c.command-installed.new.self c.command-chosen.new.self c.protect-sent.new.self
-    c.in_ok-endpoint.ensures
-    c.facts.ensures c.command-installed.result c.command-installed.ensures.call
-    c.facts-2.ensures c.command-chosen.result c.command-chosen.ensures.call
-    c.facts-3.ensures c.args.evening.now c.protect-sent.result c.protect-sent.new.out.items c.protect-sent.ensures.call
-    c.into_disk-left.result c.into_disk-left.ensures c.lose_power-lost.result c.lose_power-lost.ensures
-    c.in_err-again.field-0.0 c.in_err-again.ensures))
+    c.in_ok-endpoint.endpoint c.in_ok-endpoint.ensures c.args.evening.now c.serve_evening-left.new.out.items
+    c.serve_evening-left.result.0 c.serve_evening-left.result.1 c.serve_evening-left.ensures
+    c.lose_power-lost.result c.lose_power-lost.ensures c.in_err-again.field-0.0 c.in_err-again.ensures))
