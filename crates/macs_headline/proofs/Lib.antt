@@ -113,7 +113,7 @@ mod LayoutWords
 mod DiskWords
 mod OctetWords
 mod HistoryWords
-mod PlayedDisks
+mod DiskCalls
 mod FoundWords
 mod RecordWords
 mod ReplayedWords

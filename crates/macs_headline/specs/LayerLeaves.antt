@@ -47,17 +47,17 @@ use Rattle.macs_endpoint.specs.State.{Call, Reply}
 use Rattle.macs_endpoint.specs.Value.{EndpointValue, disk_in}
 use Rattle.macs_headline.specs.Deeds.{disk_after_opening}
 
--- A command that a store refuses, kept in one call or in steps, changes nothing, but where a device call failed; nor
+-- A command that a store refuses, kept in one call or in steps, changes nothing, but where a device call failed. Nor
 -- does a step of a journal that is stopped or has nothing under way, or a journal that is refused to start over. What
 -- is recovered of a journal is, on each disk, as many records as there are used slots, under its head's format,
--- identity and count; a recovery is refused as TooSmall exactly for a disk that is too small, and then no call is made;
--- as Disk exactly where a device call failed; and the disk after its first call stays as that left it. An opening with
--- no journal to rewrite makes its sync first, and only reads after it. A `format` answers Ok only where no head gate
--- reads open, and then each image of an honest disk is that of the new endpoint. A record that is appended is the one
--- in hand, from call to call, and as many records are lent to a journal that starts over as its new head counts. What
--- was judged of a command is kept beside its record alone, and no longer than that is under way. On each disk, honest
--- or not, an opening, a `format` and a call are work of the disk: its clock goes on, no failure is taken back, and one
--- that is worn stays so.
+-- identity and count. A recovery is refused as TooSmall exactly for a disk that is too small, and then no call is made;
+-- and as Disk exactly where a device call failed. The disk after its first call stays as that left it. An opening with
+-- no journal to rewrite makes its sync first, and only reads after it. A `format` of an honest disk answers Ok only
+-- where what is seen of it is not formatted, and then each image is that of the new endpoint. A record that is appended
+-- is the one in hand, from call to call, and as many records are lent to a journal that starts over as its new head
+-- counts. What was judged of a command is kept beside its record alone, and no longer than that is under way. On each
+-- disk, honest or not, an opening, a `format` and a call are work of the disk: its clock goes on, no failure is taken
+-- back, and one that is worn stays so.
 pub record LayerLeaves {D : Type 0} (disk_of : D → Disk) : Type 0 where
   pub committed : (old new : StoreValue D) (command : Command) (result : Result (Unit {0}) CommitFault)
       → Commits disk_of old command result new → OnErr result (IsErrOf result commit.Disk ⊎ (new ≡ old))

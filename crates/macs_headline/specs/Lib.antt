@@ -68,7 +68,7 @@ pub mod PartsFollow
 pub mod LayoutWords
 pub mod OctetWords
 pub mod HistoryWords
-pub mod PlayedDisks
+pub mod DiskCalls
 pub mod FoundWords
 pub mod RecordWords
 pub mod ReplayedWords

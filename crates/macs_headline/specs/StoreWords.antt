@@ -18,8 +18,9 @@ use Rattle.macs_store.specs.declared.change.Change.TheVariants as change
 -- A store's device, its used slots, its generation and whether it is stopped are those of its journal; and a journal's
 -- generation is that of the head of its current area. A store keeps no change any more exactly where it runs, all 256
 -- slots are used, and that generation is the last. Nothing is to come where no work is under way. A record that is
--- appended makes its standing, in one slot more of the same generation; one after which the journal starts over makes
--- it in the next generation, in the slot after the snapshot, with four device calls more.
+-- appended makes its standing, in one slot more of the same generation. One for which the journal starts over makes it
+-- in the next generation, in the slot after the snapshot, with four device calls more. An append has a device call left
+-- for each stage from its own on, and a journal that starts over at most two for each gate and one for each record.
 pub record StoreWords (D : Type 0) : Type 0 where
   pub kept : (s : StoreValue D)
       → (device_in s ≡ s.journal.disk) × (is_stopped s ≡ s.journal.stopped)

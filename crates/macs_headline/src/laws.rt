@@ -59,7 +59,7 @@ ghost use Rattle.macs_headline.specs.LayerWords.{LayerWords};
 ghost use Rattle.macs_headline.specs.DiskWords.{DiskWords};
 ghost use Rattle.macs_headline.specs.LayoutWords.{LayoutWords};
 ghost use Rattle.macs_headline.specs.OctetWords.{OctetWords};
-ghost use Rattle.macs_headline.specs.PlayedDisks.{PlayedDisks};
+ghost use Rattle.macs_headline.specs.DiskCalls.{DiskCalls};
 ghost use Rattle.macs_headline.specs.RecordWords.{RecordWords};
 ghost use Rattle.macs_headline.specs.ReplayedWords.{ReplayedWords};
 ghost use Rattle.macs_headline.specs.SideWords.{SideWords};
@@ -481,7 +481,7 @@ pub fn beginnings()
     ensures fuses { FusesChangeNone }
     // What calls of a disk do, what a disk in memory and its power loss are, and which calls a fuse
     // fails.
-    ensures played { PlayedDisks }
+    ensures calls { DiskCalls }
 {}
 
 /// Each way in which a program may end passes the medium of its disk on, in a call or between two.

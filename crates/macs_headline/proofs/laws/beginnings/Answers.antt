@@ -2,7 +2,7 @@ use Rattle.macs_headline.proofs.AlikeEditions.{these-are-larger}
 use Rattle.macs_headline.proofs.Chains.{fitting-disks, fuses-change-none, new-disks, passed-on, settled-disks}
 use Rattle.macs_headline.proofs.Chains.{these-are-new}
 use Rattle.macs_headline.proofs.Older.{larger-find, older}
-use Rattle.macs_headline.proofs.PlayedDisks.{played-disks}
+use Rattle.macs_headline.proofs.DiskCalls.{disk-calls}
 use Rattle.macs_headline.proofs.laws.beginnings.Goals as goal
 
 pub returns-clause-new : goal.returns-clause-new
@@ -35,5 +35,5 @@ returns-clause-passed_on c = passed-on
 pub returns-clause-fuses : goal.returns-clause-fuses
 returns-clause-fuses c = fuses-change-none
 
-pub returns-clause-played : goal.returns-clause-played
-returns-clause-played c = played-disks
+pub returns-clause-calls : goal.returns-clause-calls
+returns-clause-calls c = disk-calls

@@ -1,11 +1,11 @@
 -- What is to be drawn of disks that play failures.
 use Rattle.std.proofs.Common.{refl}
 use Rattle.macs_disk.specs.States.{zero_sector}
-use Rattle.macs_headline.specs.PlayedDisks.{PlayedDisks}
+use Rattle.macs_headline.specs.DiskCalls.{DiskCalls}
 
-pub played-disks : PlayedDisks
+pub disk-calls : DiskCalls
 unfolding zero_sector
-played-disks = record {
+disk-calls = record {
   blank = λ sectors at. (refl, refl, refl, refl, refl, refl, refl, refl);
   crashed = λ memory. refl;
   counts = λ memory. (refl, refl, refl);

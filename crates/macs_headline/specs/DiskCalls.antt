@@ -1,4 +1,4 @@
--- The headline on disks that play failures: one in memory, and a fuse before a disk.
+-- The headline on the calls of a disk, on one in memory, and on a fuse before a disk.
 use Rattle.std.specs.Prelude.{◌≡◌, ◌<◌, ◌⊎◌, ◌↔◌, ◌-◌, ℕ, false, List, None, Ok, Err, replicate}
 use Rattle.macs_disk.specs.Disk.{Reads, Syncs, Writes, disk_after_loss, now}
 use Rattle.macs_disk.specs.Fuses.{FuseValue, IsPassing, fuse_after_blown_call, fuse_after_passed_call}
@@ -13,7 +13,7 @@ use Rattle.macs_disk.specs.declared.fuse.Blow.TheVariants.{NoCall}
 -- was chosen for its sectors, and its counts as they were. A fuse passes a call on as long as one is left, and once it
 -- failed its one call; one less is left then, and it fails the same calls later. One that fails each call goes on to do
 -- so, and one that fails one call passes on all later ones. A call that it fails does not reach the disk behind it.
-pub record PlayedDisks : Type 0 where
+pub record DiskCalls : Type 0 where
   pub blank : (sectors at : ℕ) → ((now (blank_memory sectors).disk).seen at ≡ replicate 512 0)
       × ((now (blank_memory sectors).disk).durable at ≡ replicate 512 0)
       × ((now (blank_memory sectors).disk).pending at ≡ false) × ((blank_memory sectors).disk.sectors ≡ sectors)
