@@ -343,7 +343,8 @@ module _ {D : Type 0} (disk_of : D → Disk) (sound : (it : D) → IsHonest (dis
             let rest = at.exchanges ++ [] in
             let front : Contains (frame ∷ rest) written =
             subst (Contains (frame ∷ rest)) same (contains-first frame rest) in
-            let here : Contains (exchanges_of_lives (both ++ Serves at.edition at.image at.exchanges None ∷ [])) written =
+            let this : Life = Serves at.edition at.image at.exchanges None in
+            let here : Contains (exchanges_of_lives (both ++ this ∷ [])) written =
             contains-later installing (choosing ∷ frame ∷ rest) written
             (contains-later choosing (frame ∷ rest) written front) in
             let among : Contains (exchanges_of_lives lives) written =

@@ -49,15 +49,16 @@ pub record ExampleWords : Type 0 where
 -- out, E and C set, and all User Data encrypted. No number is that of both.
 pub record NightWords (D : Type 0) : Type 0 where
   pub evening : (identity : Identity) (an : ℕ) (key evening first morning second : List ℕ) (night : Night D) (pn : ℕ)
-      → IsNight identity an key evening first morning second night → night.evening.sent ≡ Ok pn → (1 ≤ pn) × (pn < 2 ^ 32)
-      × (first ≡ protected_frame key identity.sci
+      → IsNight identity an key evening first morning second night → night.evening.sent ≡ Ok pn
+      → (1 ≤ pn) × (pn < 2 ^ 32) × (first ≡ protected_frame key identity.sci
       (record { an = an; pn = pn; name = Explicit identity.sci; encrypted = true; changed = true }) 0 evening)
   pub morning : (identity : Identity) (an : ℕ) (key evening first morning second : List ℕ) (night : Night D) (pn : ℕ)
-      → IsNight identity an key evening first morning second night → night.morning.sent ≡ Ok pn → (1 ≤ pn) × (pn < 2 ^ 32)
-      × (second ≡ protected_frame key identity.sci
+      → IsNight identity an key evening first morning second night → night.morning.sent ≡ Ok pn
+      → (1 ≤ pn) × (pn < 2 ^ 32) × (second ≡ protected_frame key identity.sci
       (record { an = an; pn = pn; name = Explicit identity.sci; encrypted = true; changed = true }) 0 morning)
   pub apart : (identity : Identity) (an : ℕ) (key evening first morning second : List ℕ) (night : Night D) (pn : ℕ)
-      → IsNight identity an key evening first morning second night → night.evening.sent ≡ Ok pn → night.morning.sent ≢ Ok pn
+      → IsNight identity an key evening first morning second night → night.evening.sent ≡ Ok pn
+      → night.morning.sent ≢ Ok pn
 
 -- This frame was delivered as Ok: it names the association, verifies under its key and SCI, and gives its plain frame
 -- and no other.
