@@ -7,22 +7,22 @@ pub returns-clause-opened : goal.returns-clause-opened
 returns-clause-opened g c =
     let first = evening-frame g.D.SectorDisk.disk g.met.D.SectorDisk.sound c.args.identity.now c.args.an c.args.key
     c.args.disk c.format-formatted.new.disk c.requires.new c.format-formatted.result c.format-formatted.ensures
-    c.in_ok-endpoint.endpoint c.in_ok-endpoint.ensures c.args.evening.now c.serve_evening-left.new.out.items
-    c.serve_evening-left.result.0 c.serve_evening-left.result.1 c.serve_evening-left.ensures in
+    c.in_ok-endpoint.endpoint c.in_ok-endpoint.ensures c.args.evening.now c.serve_evening-before.new.out.items
+    c.serve_evening-before.result.0 c.serve_evening-before.result.1 c.serve_evening-before.ensures in
     let second = morning-frame g.D.SectorDisk.disk g.met.D.SectorDisk.sound c.args.identity.now c.args.an c.args.key
     c.args.disk c.format-formatted.new.disk c.requires.new c.format-formatted.result c.format-formatted.ensures
-    c.in_ok-endpoint.endpoint c.in_ok-endpoint.ensures c.args.evening.now c.serve_evening-left.new.out.items
-    c.serve_evening-left.result.0 c.serve_evening-left.result.1 c.serve_evening-left.ensures
+    c.in_ok-endpoint.endpoint c.in_ok-endpoint.ensures c.args.evening.now c.serve_evening-before.new.out.items
+    c.serve_evening-before.result.0 c.serve_evening-before.result.1 c.serve_evening-before.ensures
     c.lose_power-lost.result c.lose_power-lost.ensures
-    c.in_ok-again.again c.in_ok-again.ensures c.args.morning.now c.serve_morning-disk.new.out.items
-    c.serve_morning-disk.result.0 c.serve_morning-disk.result.1 c.serve_morning-disk.ensures in
+    c.in_ok-again.again c.in_ok-again.ensures c.args.morning.now c.serve_morning-after.new.out.items
+    c.serve_morning-after.result.0 c.serve_morning-after.result.1 c.serve_morning-after.ensures in
     let apart = numbers-apart g.D.SectorDisk.disk g.met.D.SectorDisk.sound c.args.identity.now c.args.an c.args.key
     c.args.disk c.format-formatted.new.disk c.requires.new c.format-formatted.result c.format-formatted.ensures
-    c.in_ok-endpoint.endpoint c.in_ok-endpoint.ensures c.args.evening.now c.serve_evening-left.new.out.items
-    c.serve_evening-left.result.0 c.serve_evening-left.result.1 c.serve_evening-left.ensures
+    c.in_ok-endpoint.endpoint c.in_ok-endpoint.ensures c.args.evening.now c.serve_evening-before.new.out.items
+    c.serve_evening-before.result.0 c.serve_evening-before.result.1 c.serve_evening-before.ensures
     c.lose_power-lost.result c.lose_power-lost.ensures
-    c.in_ok-again.again c.in_ok-again.ensures c.args.morning.now c.serve_morning-disk.new.out.items
-    c.serve_morning-disk.result.0 c.serve_morning-disk.result.1 c.serve_morning-disk.ensures in
+    c.in_ok-again.again c.in_ok-again.ensures c.args.morning.now c.serve_morning-after.new.out.items
+    c.serve_morning-after.result.0 c.serve_morning-after.result.1 c.serve_morning-after.ensures in
     record { before = first; behind = second; apart = λ one other is_one is_other. apart other is_other one is_one }
 
 pub returns-in_err-endpoint-clause-refused : goal.returns-in_err-endpoint-clause-refused
@@ -39,6 +39,6 @@ returns-in_err-again-clause-refused g c =
     rw (risen.1, risen.2)
     (inr (refused-again g.D.SectorDisk.disk g.met.D.SectorDisk.sound c.args.identity.now c.args.an c.args.key
     c.args.disk c.format-formatted.new.disk c.requires.new c.format-formatted.result c.format-formatted.ensures
-    c.in_ok-endpoint.endpoint c.in_ok-endpoint.ensures c.args.evening.now c.serve_evening-left.new.out.items
-    c.serve_evening-left.result.0 c.serve_evening-left.result.1 c.serve_evening-left.ensures
+    c.in_ok-endpoint.endpoint c.in_ok-endpoint.ensures c.args.evening.now c.serve_evening-before.new.out.items
+    c.serve_evening-before.result.0 c.serve_evening-before.result.1 c.serve_evening-before.ensures
     c.lose_power-lost.result c.lose_power-lost.ensures c.in_err-again.field-0.0 c.in_err-again.ensures))
