@@ -36,7 +36,7 @@ pub night-words : {D : Type 0} → NightWords D
 night-words = record {
   evening = λ identity an key evening first morning second night pn i sent. let f = i.before pn sent in
       (f.least, f.most, f.frame);
-  morning = λ identity an key evening first morning second night pn i sent. let f = i.behind pn sent in
+  morning = λ identity an key evening first morning second night pn i sent. let f = i.after pn sent in
       (f.least, f.most, f.frame);
   apart = λ identity an key evening first morning second night pn i sent again. i.apart pn pn sent again refl;
 }
@@ -62,7 +62,7 @@ watch-words = record {
       (i.before (verified_answer watch.evening.received kind is answered));
   morning = λ sci an key evening first morning second watch kind i is answered.
       given sci an key morning watch.morning.received second
-      (i.behind (verified_answer watch.morning.received kind is answered));
+      (i.after (verified_answer watch.morning.received kind is answered));
   once = λ sci an key evening first morning second watch one other i is also tried received.
       i.once (verified_answer watch.evening.tried one is tried)
       (verified_answer watch.evening.received other also received);

@@ -44,4 +44,7 @@ store-words = record {
     left_over work,
     left_over work,
   );
+  append_stages = (refl, refl, refl, refl);
+  gate_stages = λ count k is_open. (refl, refl, refl, refl, refl);
+  body_stages = λ count slot is_open. (refl, refl, refl, refl, refl, refl);
 }

@@ -37,7 +37,7 @@ pub record IsNightFrame (identity : Identity) (an : ℕ) (key plain : List ℕ) 
 pub record IsNight {D : Type 0} (identity : Identity) (an : ℕ) (key evening first morning second : List ℕ)
     (night : Night D) : Type 0 where
   pub before : (pn : ℕ) → night.evening.sent ≡ Ok pn → IsNightFrame identity an key evening pn first
-  pub behind : (pn : ℕ) → night.morning.sent ≡ Ok pn → IsNightFrame identity an key morning pn second
+  pub after : (pn : ℕ) → night.morning.sent ≡ Ok pn → IsNightFrame identity an key morning pn second
   pub apart : (one other : ℕ) → night.evening.sent ≡ Ok one → night.morning.sent ≡ Ok other → one ≢ other
 
 -- ---- the calls of the two lives

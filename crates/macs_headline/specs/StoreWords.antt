@@ -1,6 +1,9 @@
 -- The headline on what a store keeps in memory, and on what its work under way makes of that.
-use Rattle.std.specs.Prelude.{◌≡◌, ◌↔◌, ◌+◌, ◌*◌, ◌-◌, ◌^◌, ℕ, false, Some, length}
+use Rattle.std.specs.Prelude.{◌≡◌, ◌↔◌, ◌+◌, ◌*◌, ◌-◌, ◌^◌, ◌==◌, ℕ, Bool, true, false, if◌then◌else◌, None, Some}
+use Rattle.std.specs.Prelude.{length}
 use Rattle.macs_record.specs.declared.record.Record.{Record}
+use Rattle.macs_journal.specs.Appending.{next_append}
+use Rattle.macs_journal.specs.Stages.{body_from, gate_from, next_stage}
 use Rattle.macs_journal.specs.Value.{JournalValue, left_of}
 use Rattle.macs_journal.specs.Value as journal
 use Rattle.macs_journal.specs.declared.appending.AppendStage.TheVariants as append_stage
@@ -19,8 +22,11 @@ use Rattle.macs_store.specs.declared.change.Change.TheVariants as change
 -- generation is that of the head of its current area. A store keeps no change any more exactly where it runs, all 256
 -- slots are used, and that generation is the last. Nothing is to come where no work is under way. A record that is
 -- appended makes its standing, in one slot more of the same generation. One for which the journal starts over makes it
--- in the next generation, in the slot after the snapshot, with four device calls more. An append has a device call left
--- for each stage from its own on, and a journal that starts over at most two for each gate and one for each record.
+-- in the next generation, in the slot after the snapshot, with four device calls more.
+--
+-- An append writes a body and syncs, then a gate and syncs. A journal that starts over reads the 257 gates of the other
+-- area, the head's first, closes each that is open, and syncs; it writes the head's body and those of its records from
+-- the first slot on, and syncs; and it opens the head gate and syncs. So many device calls are left from each on.
 pub record StoreWords (D : Type 0) : Type 0 where
   pub kept : (s : StoreValue D)
       → (device_in s ≡ s.journal.disk) × (is_stopped s ≡ s.journal.stopped)
@@ -62,3 +68,20 @@ pub record StoreWords (D : Type 0) : Type 0 where
       × (work.stage ≡ compact_stage.BodiesSync → left_of (hand.Compact work) ≡ 3)
       × (work.stage ≡ compact_stage.HeadGate → left_of (hand.Compact work) ≡ 2)
       × (work.stage ≡ compact_stage.HeadSync → left_of (hand.Compact work) ≡ 1)
+  pub append_stages : (next_append append_stage.Body ≡ Some append_stage.BodySync)
+      × (next_append append_stage.BodySync ≡ Some append_stage.Gate)
+      × (next_append append_stage.Gate ≡ Some append_stage.GateSync)
+      × (next_append append_stage.GateSync ≡ None)
+  pub gate_stages : (count k : ℕ) (is_open : Bool)
+      → (next_stage count (compact_stage.ReadGate k) true ≡ Some (compact_stage.CloseGate k))
+      × (next_stage count (compact_stage.ReadGate k) false ≡ Some (gate_from (k + 1)))
+      × (next_stage count (compact_stage.CloseGate k) is_open ≡ Some (gate_from (k + 1)))
+      × (next_stage count compact_stage.GatesSync is_open ≡ Some compact_stage.HeadBody)
+      × (gate_from k ≡ (if k == 257 then compact_stage.GatesSync else compact_stage.ReadGate k))
+  pub body_stages : (count slot : ℕ) (is_open : Bool)
+      → (next_stage count compact_stage.HeadBody is_open ≡ Some (body_from count 0))
+      × (next_stage count (compact_stage.Body slot) is_open ≡ Some (body_from count (slot + 1)))
+      × (body_from count slot ≡ (if slot == count then compact_stage.BodiesSync else compact_stage.Body slot))
+      × (next_stage count compact_stage.BodiesSync is_open ≡ Some compact_stage.HeadGate)
+      × (next_stage count compact_stage.HeadGate is_open ≡ Some compact_stage.HeadSync)
+      × (next_stage count compact_stage.HeadSync is_open ≡ None)

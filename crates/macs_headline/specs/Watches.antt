@@ -49,7 +49,7 @@ pub record IsWatch {D : Type 0} (sci : List ℕ) (an : ℕ) (key evening first m
   pub before : IsVerifiedAnswer watch.evening.received → IsWatchFrame sci an key evening watch.evening.received first
   pub tried : IsVerifiedAnswer watch.evening.tried
       → (early : List ℕ) × IsWatchFrame sci an key evening watch.evening.tried early
-  pub behind : IsVerifiedAnswer watch.morning.received → IsWatchFrame sci an key morning watch.morning.received second
+  pub after : IsVerifiedAnswer watch.morning.received → IsWatchFrame sci an key morning watch.morning.received second
   pub once : IsVerifiedAnswer watch.evening.tried → ¬ IsVerifiedAnswer watch.evening.received
   pub apart : IsVerifiedAnswer watch.evening.tried ⊎ IsVerifiedAnswer watch.evening.received
       → IsVerifiedAnswer watch.morning.received

@@ -73,11 +73,11 @@ pub fn a_watch<D: PowerLoss>(
     let (before, left) = serve_evening(endpoint, sci, an, key, evening, first);
     let lost = left.lose_power();
     let again = Endpoint::open(lost)?;
-    let (behind, disk) = serve_morning(again, morning, second);
+    let (after, disk) = serve_morning(again, morning, second);
     Ok(Watch {
         formatted,
         evening: before,
-        morning: behind,
+        morning: after,
         disk,
     })
 }

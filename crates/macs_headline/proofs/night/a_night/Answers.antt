@@ -23,7 +23,7 @@ returns-clause-opened g c =
     c.lose_power-lost.result c.lose_power-lost.ensures
     c.in_ok-again.again c.in_ok-again.ensures c.args.morning.now c.serve_morning-after.new.out.items
     c.serve_morning-after.result.0 c.serve_morning-after.result.1 c.serve_morning-after.ensures in
-    record { before = first; behind = second; apart = λ one other is_one is_other. apart other is_other one is_one }
+    record { before = first; after = second; apart = λ one other is_one is_other. apart other is_other one is_one }
 
 pub returns-in_err-endpoint-clause-refused : goal.returns-in_err-endpoint-clause-refused
 returns-in_err-endpoint-clause-refused g c =

@@ -38,7 +38,7 @@ returns-clause-opened g c =
     c.lose_power-lost.result c.lose_power-lost.ensures
     c.in_ok-again.again c.in_ok-again.ensures c.args.morning.now c.serve_morning-disk.new.out.items
     c.serve_morning-disk.result.0 c.serve_morning-disk.result.1 c.serve_morning-disk.ensures in
-    record { before = first; tried = early; behind = second; once = once; apart = apart }
+    record { before = first; tried = early; after = second; once = once; apart = apart }
 
 pub returns-in_err-endpoint-clause-refused : goal.returns-in_err-endpoint-clause-refused
 returns-in_err-endpoint-clause-refused g c =
