@@ -19,5 +19,6 @@ disk-calls = record {
   no_sector_written = λ old new at error octets. (λ w. w.err, λ is. record { ok = tt; err = is });
   synced = λ old new value. (λ s. s.ok, λ is. record { ok = is; err = tt });
   not_synced = λ old new error. (λ s. s.err, λ is. record { ok = tt; err = is });
+  sound_so = λ state seen durable fit. record { fit = fit; seen = seen; durable = durable };
   sound = λ state i is. (is.seen i, is.durable i, is.fit);
 }

@@ -18,6 +18,7 @@ fails_once old new (Err commit.Disk) is = (λ at. is, λ other. absurd (other re
 
 pub layer-faults : {D : Type 0} (disk_of : D → Disk) → LayerFaults disk_of
 layer-faults disk_of = record {
+  said = λ old command result is. (is.stopped, is.refused, is.spent);
   committed = λ old new command result is.
       record { stopped = is.stopped; refused = is.refused; spent = is.spent };
   commit_started = λ old new command result is.

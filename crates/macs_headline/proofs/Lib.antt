@@ -122,3 +122,4 @@ mod SideWords
 mod SnapshotOrder
 mod StepWords
 mod StoreWords
+mod RefusedCalls

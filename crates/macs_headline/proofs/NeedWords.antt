@@ -282,10 +282,20 @@ ascending (c ∷ []) behind sci next is =
 ascending (c ∷ d ∷ front) behind sci next is = ascending (d ∷ front) behind sci next
     (and_parts (comes_before c d) (is_ascending (d ∷ front ++ sci ∷ next ∷ behind)) is).1
 
+receive-alone : (block an : ℕ) (sci : List ℕ) (numbers : Option Numbers) (ceiling : Option ℕ) (need : Need)
+    → need_of block sci an numbers ceiling ≡ Some need
+    → (n : Numbers) × (last : ℕ) × (numbers ≡ Some n) × (ceiling ≡ Some last)
+receive-alone block an sci (Some n) (Some last) need is = (n, last, refl, refl)
+receive-alone block an sci None ceiling need is = absurd (none-some need is)
+receive-alone block an sci (Some n) None need is = absurd (none-some need is)
+
 pub needs-are-in-order : NeedsAreInOrder
 needs-are-in-order = record {
   receive = received;
   to_receive = to_receive;
+  receive_alone = receive-alone;
+  below_none = λ pn. refl;
+  below = λ ceiling pn. refl;
   send = λ t ceilings block an is. sent ceilings block an (next_outgoing t) is;
   to_send = λ t ceilings block ceiling o is has below few. to_send ceilings block ceiling
       (next_outgoing t) o is has below few;

@@ -39,6 +39,7 @@ pub replayed-words : ReplayedWords
 replayed-words = record {
   tx_ceiling = λ s an ceiling. refl;
   rx_ceiling = λ s sci an ceiling. refl;
+  standing = λ s tx rx. record { tx = tx; rx = rx };
   placed = λ table at other x. refl;
   placed_at = λ table at other x. refl;
   of_command = of_command;

@@ -39,6 +39,7 @@ side-words = record {
   transmit_order = in_order;
   transmit = λ side ceilings an is. is;
   receive = numbered;
+  numbered = λ side each. each;
   named_in = λ sci. (refl, refl, refl);
   before = λ a b. refl;
   put_first = λ sci. refl;

@@ -32,6 +32,7 @@ store-words = record {
       (ap (standing_with (standing_in s)) is, ap (slots_with s) is, ap (generation_with s) is, ap (calls_with s) is);
   with_renewal = λ s r is.
       (ap (standing_with (standing_in s)) is, ap (slots_with s) is, ap (generation_with s) is, ap (calls_with s) is);
+  most = λ s. refl;
   left_of_none = refl;
   left_of_append = λ work. (left work, left work, left work, left work);
   left_of_compaction = λ work. (

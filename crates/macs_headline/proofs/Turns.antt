@@ -1,12 +1,19 @@
 -- What the endpoint's own laws count and ask for is counted and built call by call.
 use Rattle.std.proofs.Common.{◌≡◌, ◌≢◌, ◌≤◌, ◌+◌, ◌==◌, inl, inr, ℕ, Bool, true, false, cond, List, Result, Ok}
-use Rattle.std.proofs.Common.{Err, refl, ap, ◌∙◌, arith}
+use Rattle.std.proofs.Common.{Err, refl, ap, ◌∙◌, arith, subst, ◌/◌, ◌^◌}
 use Rattle.std.specs.Prelude.{Option, Some, None}
 use Rattle.std.proofs.lemmas.Bool.{cases_eq, eq-eqb, ne_eqb}
 use Rattle.macs_aes.specs.declared.keys.Key.{Key}
 use Rattle.macs_config.specs.declared.command.Command.{Command}
 use Rattle.macs_config.specs.declared.command.Command.TheVariants.{RxDrop, RxInstall, RxRemove, TxInstall, TxRemove}
+use Rattle.macs_txsc.specs.Value.{tx_side_of}
+use Rattle.macs_txsc.specs.Value as tx
+use Rattle.macs_rxsc.specs.Receive.{Numbers}
+use Rattle.macs_rxsc.specs.Value.{rx_side_of}
+use Rattle.macs_rxsc.specs.Value as rx
 use Rattle.macs_store.specs.Value.{standing_in}
+use Rattle.macs_endpoint.specs.Restart.{rx_limit}
+use Rattle.macs_endpoint.specs.Value.{IsRxWithin, IsTxWithin}
 use Rattle.macs_endpoint.specs.WorkThroughCalls.{IsNotDone, IsNotReserved, commands_done, commands_in_reply}
 use Rattle.macs_endpoint.specs.WorkThroughCalls.{reservations_in_reply, reservations_made, steps_in_call, steps_made}
 use Rattle.macs_endpoint.specs.Queue.{first_command}
@@ -133,6 +140,20 @@ is_not_reserved (Advanced (Err step.GenerationsSpent)) made spent filled = absur
 is_not_reserved (Refilled (Err refill.GenerationsSpent)) made spent filled = absurd (filled refl)
 is_not_reserved reply made spent filled = tt
 
+within_tx : (block : ℕ) (at top : Option ℕ) (next ceiling : ℕ) → at ≡ Some next → top ≡ Some ceiling
+    → IsTxWithin block at top
+    → (1 ≤ next) × (next ≤ ceiling) × (ceiling ≤ next + (block + block / 2)) × (ceiling ≤ 2 ^ 32)
+within_tx block at top next ceiling is same within =
+    subst (λ (at : Option ℕ). IsTxWithin block at (Some ceiling)) is
+    (subst (λ (top : Option ℕ). IsTxWithin block at top) same within)
+
+within_rx : (block : ℕ) (numbers : Option Numbers) (top : Option ℕ) (n : Numbers) (ceiling : ℕ) → numbers ≡ Some n
+    → top ≡ Some ceiling
+    → IsRxWithin block numbers top → (n.next ≤ ceiling) × (ceiling ≤ rx_limit block n.next n.seen)
+within_rx block numbers top n ceiling is same within =
+    subst (λ (numbers : Option Numbers). IsRxWithin block numbers (Some ceiling)) is
+    (subst (λ (top : Option ℕ). IsRxWithin block numbers top) same within)
+
 pub turns-are-built : {D : Type 0} → TurnsAreBuilt D
 turns-are-built {D} = record {
   tx_none = λ an e. tt;
@@ -150,5 +171,12 @@ turns-are-built {D} = record {
   not_reserved = λ turn turns made spent filled later. (is_not_reserved turn.reply made spent filled, later);
   encoding = λ e an is numbered. (is, numbered);
   queue = λ e sound. (sound.few, sound.tickets);
+  sends_within = λ e an next ceiling sound is top.
+      within_tx (standing_in e.store).identity.tx_block ((tx_side_of e.tx).next an) (tx.ceilings_of e.tx an) next ceiling
+      is top (sound.within.tx_within an);
+  receives_within = λ e sci an ceiling n sound is top.
+      within_rx (standing_in e.store).identity.rx_block ((rx_side_of e.rx).numbers sci an) (rx.ceilings_of e.rx sci an)
+      n ceiling is top (sound.within.rx_within sci an);
+  receives_few = λ e sci an sound beyond. sound.within.few sci an beyond;
   identity = λ e sound. (sound.identity.sci.size, sound.identity.tx_block, sound.identity.rx_block);
 }

@@ -42,5 +42,7 @@ pub record DiskCalls : Type 0 where
   pub synced : (old new : DiskState) (value : ℕ)
       → Syncs {T = ℕ} {E = ℕ} old new (Ok value) ↔ (new ≡ state_after_sync old)
   pub not_synced : (old new : DiskState) (error : ℕ) → Syncs {T = ℕ} {E = ℕ} old new (Err error) ↔ (new ≡ old)
+  pub sound_so : (state : DiskState) → ((i : ℕ) → IsSector (state.seen i)) → ((i : ℕ) → IsSector (state.durable i))
+      → IsImage state state.seen → IsSound state
   pub sound : (state : DiskState) (i : ℕ) → IsSound state
       → IsSector (state.seen i) × IsSector (state.durable i) × IsImage state state.seen

@@ -1,9 +1,9 @@
 -- The headline on which octets of its file a disk shows, how a fuse fails a write, and what a read and a cut leave.
-use Rattle.std.specs.Prelude.{◌≡◌, ◌↔◌, ◌⊎◌, ◌≤◌, ◌+◌, ◌-◌, ◌%◌, ◌&&◌, ℕ, true, false, if◌then◌else◌}
+use Rattle.std.specs.Prelude.{◌≡◌, ◌↔◌, ◌⊎◌, ◌<◌, ◌≤◌, ◌+◌, ◌-◌, ◌*◌, ◌%◌, ◌&&◌, ℕ, true, false, if◌then◌else◌}
 use Rattle.std.specs.Prelude.{List, Result, is_ok, nat_le, replicate}
 use Rattle.macs_disk.specs.Disk.{Disk, IsDeviceCall, IsHonest, Writes, now}
 use Rattle.macs_disk.specs.FileDisks.{HasMark, IsBlank, IsFoundAs, IsOpened, KeepsLayout, is_ready, state_in_file}
-use Rattle.macs_disk.specs.Files.{FileState, HasNothingNew, IsClaimed, IsFileImage, IsSure, ReadsFile, Settles}
+use Rattle.macs_disk.specs.Files.{FileState, HasNothingNew, IsClaimed, IsFileImage, IsSoundFile, IsSure, ReadsFile, Settles}
 use Rattle.macs_disk.specs.Files.{file_after_sync, file_after_write, file_cut, values_from}
 use Rattle.macs_disk.specs.Fuses.{BlowsWrite, FuseValue}
 use Rattle.macs_disk.specs.Layouts.{layout_in, mark_place, place, sectors_in}
@@ -19,7 +19,8 @@ use Rattle.macs_disk.specs.declared.layout.Layout.{Layout}
 -- nothing of a file, even of one in doubt. A file that was cut shows nothing, and a power loss may leave any octets of
 -- it, and another size. One that is found as a disk of some layout has that layout, whole sectors, as many as are said,
 -- and a durable size; one that keeps a layout has it, and a size that is durable, or none beyond the place of the mark.
--- A file is sure, or claimed, exactly where it says so. Nothing is new of each file of the same blocks that keeps a
+-- A file is sure, or claimed, exactly where it says so. It is sound where its blocks have octets, each below 256, nothing
+-- is pending while it is clean, and what it shows is durable where it is sure and nothing is pending. Nothing is new of each file of the same blocks that keeps a
 -- durable size and may leave no other image.
 pub record DiskWords : Type 0 where
   pub opened : (file : FileState) (least : ℕ) (layout : Layout) (disk : Disk) → IsOpened file least layout disk
@@ -52,6 +53,11 @@ pub record DiskWords : Type 0 where
   pub sized : (layout : Layout) (file : FileState) → KeepsLayout layout file
       → (layout_in file ≡ layout) × ((file.is_size_durable ≡ true) ⊎ (file.size ≤ mark_place))
       × (values_from file.durable mark_place 512 ≡ values_from file.seen mark_place 512)
+  pub sound_so : (file : FileState) → 0 < file.block → ((p : ℕ) → file.seen p < 256)
+      → ((p : ℕ) → file.durable p < 256) → (file.is_clean ≡ true → (n : ℕ) → file.pending n ≡ false)
+      → (IsSure file → (n k : ℕ) → file.pending n ≡ false → k < file.block
+      → file.seen (file.block * n + k) ≡ file.durable (file.block * n + k))
+      → IsSoundFile file
   pub ready : (layout : Layout) (sectors : ℕ) (file : FileState) → is_ready layout sectors file
       ≡ (file.is_clean && file.is_size_durable && nat_le (place layout sectors) file.size)
   pub sure : (file : FileState) → IsSure file ↔ (file.is_sure ≡ true)

@@ -39,6 +39,12 @@ pub record RefusesAsSaid {D : Type 0} (old : StoreValue D) (command : Command) (
 -- and a journal that is to start over; as GenerationsSpent exactly where it is at its end. A command, work that is
 -- finished, and a journal that starts over are answered Disk exactly where a device call failed.
 pub record LayerFaults {D : Type 0} (disk_of : D → Disk) : Type 0 where
+  pub said : (old : StoreValue D) (command : Command) (result : Result (Unit {0}) CommitFault)
+      → RefusesAsSaid old command result
+      → (IsErrOf result commit.Stopped ↔ (store.is_stopped old ≡ true))
+      × ((refusal : Refusal) → (result ≡ Err (commit.Refused refusal))
+      ↔ ((store.is_stopped old ≡ false) × (accept (standing_in old) command ≡ Err (Named refusal))))
+      × (IsErrOf result commit.GenerationsSpent ↔ (IsOk (accept (standing_in old) command) × IsSpent old))
   pub committed : (old new : StoreValue D) (command : Command) (result : Result (Unit {0}) CommitFault)
       → Commits disk_of old command result new → RefusesAsSaid old command result
   pub commit_started : (old new : StoreValue D) (command : Command) (result : Result (Unit {0}) CommitFault)

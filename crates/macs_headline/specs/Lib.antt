@@ -77,3 +77,4 @@ pub mod SideWords
 pub mod SnapshotOrder
 pub mod StepWords
 pub mod StoreWords
+pub mod RefusedCalls

@@ -1,7 +1,6 @@
 -- The headline on ceilings that are needed, in which order they are raised, and whose turn it is after a call.
 use Rattle.std.specs.Prelude.{◌≡◌, ◌≢◌, ◌<◌, ◌≤◌, ◌⊎◌, ◌-◌, ◌/◌, ◌^◌, ◌++◌, ℕ, true, false, List, [], ◌∷◌, Contains}
-use Rattle.std.specs.Prelude.{Option, Some}
-use Rattle.std.specs.Prelude.{None, Result, Ok, Err}
+use Rattle.std.specs.Prelude.{Option, Some, None, Result, Ok, Err, nat_lt}
 use Rattle.macs_config.specs.Apply.{apply}
 use Rattle.macs_config.specs.Config.{Config, Edition, IsConfig, comes_before, is_ascending}
 use Rattle.macs_config.specs.Identity.{Identity}
@@ -12,7 +11,7 @@ use Rattle.macs_txsc.specs.Transmit.{Outgoing, TxSide, next_outgoing}
 use Rattle.macs_txsc.specs.Transmit as transmit
 use Rattle.macs_rxsc.specs.Needs.{Need}
 use Rattle.macs_rxsc.specs.Needs as needs
-use Rattle.macs_rxsc.specs.Receive.{Numbers, RxSide}
+use Rattle.macs_rxsc.specs.Receive.{Numbers, RxSide, is_below}
 use Rattle.macs_store.specs.Standing.{Standing}
 use Rattle.macs_store.specs.Value.{standing_in}
 use Rattle.macs_endpoint.specs.Advancing.{ToKeep, ToRaise, next_piece}
@@ -35,10 +34,11 @@ use Rattle.macs_endpoint.specs.declared.turn.Turn.TheVariants.{Command as Comman
 
 -- A receive association needs a higher ceiling where a frame was seen on it, a higher one is to be had, which is a
 -- block beyond the greatest number seen; and that number has reached the ceiling, or half a block at most is left below
--- it. The association that frames go out under needs one where half a block at most is left below a ceiling that is
--- below 2^32. The transmit side comes first, and then receive associations: by channels in their order, of one channel
--- by their numbers. Channels that ascend do so from each SCI to the next, by the first octet in which two differ. They
--- stay so after each command.
+-- it. One without numbers or without a ceiling needs none, and where there is no ceiling no number is below it. The
+-- association that frames go out under needs one where half a block at most is left below a ceiling that is below 2^32.
+-- The transmit side comes first, and then receive associations: by channels in their order, of one channel by their
+-- numbers. Channels that ascend do so from each SCI to the next, by the first octet in which two differ. They stay so
+-- after each command.
 pub record NeedsAreInOrder : Type 0 where
   pub receive : (block an ceiling : ℕ) (sci : List ℕ) (n : Numbers) (need : Need)
       → needs.need_of block sci an (Some n) (Some ceiling) ≡ Some need
@@ -48,6 +48,11 @@ pub record NeedsAreInOrder : Type 0 where
       → ceiling < block_beyond pn block
       → (ceiling ≤ pn) ⊎ (ceiling - n.next ≤ block / 2)
       → needs.need_of block sci an (Some n) (Some ceiling) ≡ Some (record { sci = sci; an = an; pn = pn })
+  pub receive_alone : (block an : ℕ) (sci : List ℕ) (numbers : Option Numbers) (ceiling : Option ℕ) (need : Need)
+      → needs.need_of block sci an numbers ceiling ≡ Some need
+      → (n : Numbers) × (last : ℕ) × (numbers ≡ Some n) × (ceiling ≡ Some last)
+  pub below_none : (pn : ℕ) → is_below None pn ≡ false
+  pub below : (ceiling pn : ℕ) → is_below (Some ceiling) pn ≡ nat_lt pn ceiling
   pub send : (t : TxSide) (ceilings : ℕ → Option ℕ) (block an : ℕ) → transmit.need_of t ceilings block ≡ Some an
       → (o : Outgoing) × (ceiling : ℕ) × (next_outgoing t ≡ Some o) × (o.an ≡ an) × (ceilings an ≡ Some ceiling)
       × (ceiling < 2 ^ 32)

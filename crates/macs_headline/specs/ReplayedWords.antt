@@ -1,6 +1,6 @@
 -- The headline on how records are replayed, one after another: ceilings, commands, a snapshot, and a new journal.
 use Rattle.std.specs.Prelude.{◌≡◌, ◌==◌, ◌&&◌, if◌then◌else◌, ℕ, Bool, true, List, [], ◌∷◌, drop, take}
-use Rattle.std.specs.Prelude.{Option, Some, None, Ok, Err}
+use Rattle.std.specs.Prelude.{Option, Some, None, Ok, Err, is_some}
 use Rattle.std.specs.Option.{option_and_then}
 use Rattle.std.specs.Str.{bytes_eq}
 use Rattle.macs_config.specs.Apply.{Reason, apply}
@@ -22,10 +22,11 @@ use Rattle.macs_store.specs.Commands.{command_of}
 use Rattle.macs_store.specs.Replay.{ceilings_with_record, ceilings_with_records, meaning_of, reading_of, replay_of}
 use Rattle.macs_store.specs.Replay.{all_belong, reads, snapshot_of}
 use Rattle.macs_store.specs.Replay.{standing_after_command, standing_after_record, standing_after_records}
-use Rattle.macs_store.specs.Standing.{Ceilings, Standing, accept, ceilings_after, no_ceilings, standing_with_rx_ceiling}
+use Rattle.macs_store.specs.Standing.{IsStanding, Ceilings, Standing, accept, ceilings_after, no_ceilings, standing_with_rx_ceiling}
 use Rattle.macs_store.specs.Standing.{standing_with_tx_ceiling}
 
--- A ceiling is raised to the number that the record has, for its association alone. The record of a command is read as
+-- A ceiling is raised to the number that the record has, for its association alone; and whatever has a ceiling exactly
+-- for each association is a standing. The record of a command is read as
 -- the command, and refused where that is. The snapshot comes first and then each record after it, in their order; the
 -- ceilings of a snapshot are those of its records, in whatever order. A content means what its records do under its
 -- head, whatever its area and generation, in format one for each edition, and in format two for those that read it. A
@@ -39,6 +40,8 @@ pub record ReplayedWords : Type 0 where
       ≡ record s {
         ceilings = record s.ceilings { rx = put_at s.ceilings.rx sci (put (s.ceilings.rx sci) an (Some ceiling)) };
       }
+  pub standing : (s : Standing) → ((an : ℕ) → is_some (s.ceilings.tx an) ≡ is_some (s.config.tx an))
+      → ((sci : List ℕ) (an : ℕ) → is_some (s.ceilings.rx sci an) ≡ is_some (s.config.rx sci an)) → IsStanding s
   pub placed : (table : ℕ → Option ℕ) (at other : ℕ) (x : Option ℕ)
       → put table at x other ≡ (if other == at then x else table other)
   pub placed_at : (table : List ℕ → ℕ → Option ℕ) (at other : List ℕ) (x : ℕ → Option ℕ)

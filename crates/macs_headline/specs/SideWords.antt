@@ -1,6 +1,6 @@
 -- What the words say of the two sides of an endpoint, of the SecTAG of a frame, and of a frame that is opened by hand.
 use Rattle.std.specs.Prelude.{◌≡◌, ◌≢◌, ◌↔◌, ◌<◌, ◌≤◌, ◌⊎◌, ◌+◌, ◌%◌, ◌^◌, ◌++◌, ℕ, true, List, [], ◌∷◌, take, drop}
-use Rattle.std.specs.Prelude.{Option, Some, None, is_none, if◌then◌else◌, length}
+use Rattle.std.specs.Prelude.{IsSome, Option, Some, None, is_none, if◌then◌else◌, length}
 use Rattle.std.specs.Cmp.Lexicographic.{slice_cmp}
 use Rattle.std.specs.Int.{from_be_bytes, to_be_bytes, w32}
 use Rattle.std.specs.Ordering.{is_lt, nat_cmp}
@@ -18,14 +18,14 @@ use Rattle.macs_frame.specs.declared.tag.ScName.TheVariants.{EndStation as Names
 use Rattle.macs_frame.specs.declared.tag.ScName.TheVariants.{Implicit as NamesNone}
 use Rattle.macs_frame.specs.declared.tag.SecTag.{SecTag}
 use Rattle.macs_frame.specs.declared.tag.TagFault.{TagFault}
-use Rattle.macs_rxsc.specs.Receive.{IsNumbered, Numbers, new_rx_side}
+use Rattle.macs_rxsc.specs.Receive.{AreNumbered, IsNumbered, Numbers, RxSide, new_rx_side}
 use Rattle.macs_txsc.specs.Transmit.{AreOrdered, InOrder, TxSide, name_in, new_tx_side}
 
 -- A new transmit side spells the SCI out, and has no association; a new receive side validates strictly, with replay
 -- protection on and window 0, and has no channel. An association for frames that go out has a next number and a
 -- ceiling, with 1 <= next <= ceiling <= 2^32. One for frames that come in has numbers and a ceiling, with
 -- 1 <= lowest <= next <= ceiling <= 2^32 and next no further above lowest than the window. Where there is no
--- association there are no numbers and no ceiling. An SCI is put among those that ascend, octet by octet. A frame is
+-- association there are no numbers and no ceiling; and a side has its numbers where each association has. An SCI is put among those that ascend, octet by octet. A frame is
 -- sealed with the counter that goes up by one for each 16 octets, from 1 after its initialisation vector on (SP
 -- 800-38D). The tag names the channel as the mode says. Octet 3 of a SecTAG has SC or ES, E, C and the AN, each by
 -- itself. A SecTAG whose fields are in their ranges, with E and C alike, is one that is written, and an SCI that is
@@ -53,6 +53,8 @@ pub record SideWords : Type 0 where
       → ((sa ≡ None) × (numbers ≡ None) × (ceiling ≡ None))
       ⊎ ((a : RxSa) × (n : Numbers) × (last : ℕ) × (sa ≡ Some a) × (numbers ≡ Some n) × (ceiling ≡ Some last)
       × (1 ≤ n.lowest) × (n.lowest ≤ n.next) × (n.next ≤ n.lowest + window) × (n.next ≤ last) × (last ≤ 2 ^ 32))
+  pub numbered : (side : RxSide) → ((sci : List ℕ) (an : ℕ) → IsSome (side.rx sci an) → IsSome (side.numbers sci an))
+      → AreNumbered side
   pub named_in : (sci : List ℕ) → (name_in Explicit sci ≡ NamesSci sci) × (name_in EndStation sci ≡ NamesStation)
       × (name_in Implicit sci ≡ NamesNone)
   pub before : (a b : List ℕ) → comes_before a b ≡ is_lt (slice_cmp nat_cmp a b)

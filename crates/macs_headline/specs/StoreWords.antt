@@ -11,7 +11,7 @@ use Rattle.macs_journal.specs.declared.compact_stage.CompactStage.TheVariants as
 use Rattle.macs_journal.specs.declared.hand.Appending.{Appending}
 use Rattle.macs_journal.specs.declared.hand.Compacting.{Compacting}
 use Rattle.macs_journal.specs.declared.hand.Hand.TheVariants as hand
-use Rattle.macs_store.specs.Keeps.{IsSpent}
+use Rattle.macs_store.specs.Keeps.{IsSpent, most_calls}
 use Rattle.macs_store.specs.Replay.{standing_after_record}
 use Rattle.macs_store.specs.Snapshot.{snapshot}
 use Rattle.macs_store.specs.Value.{IsIdle, StoreValue, calls_left, device_in, generation, generation_then, is_stopped}
@@ -22,7 +22,8 @@ use Rattle.macs_store.specs.declared.change.Change.TheVariants as change
 -- generation is that of the head of its current area. A store keeps no change any more exactly where it runs, all 256
 -- slots are used, and that generation is the last. Nothing is to come where no work is under way. A record that is
 -- appended makes its standing, in one slot more of the same generation. One for which the journal starts over makes it
--- in the next generation, in the slot after the snapshot, with four device calls more.
+-- in the next generation, in the slot after the snapshot, with four device calls more. One change more takes 4 device
+-- calls at most, or where all slots are used 523 and one for each record of the snapshot.
 --
 -- An append writes a body and syncs, then a gate and syncs. A journal that starts over reads the 257 gates of the other
 -- area, the head's first, closes each that is open, and syncs; it writes the head's body and those of its records from
@@ -50,6 +51,8 @@ pub record StoreWords (D : Type 0) : Type 0 where
       → (standing_then s ≡ standing_after_record (standing_in s) r)
       × (slots_then s ≡ length (snapshot (standing_in s)) + 1)
       × (generation_then s ≡ generation s + 1) × (calls_left s ≡ left_of s.journal.hand + 4)
+  pub most : (s : StoreValue D)
+      → most_calls s ≡ (if used_slots s == 256 then 523 + length (snapshot (standing_in s)) else 4)
   pub left_of_none : left_of hand.Empty ≡ 0
   pub left_of_append : (work : Appending)
       → (work.stage ≡ append_stage.Body → left_of (hand.Append work) ≡ 4)

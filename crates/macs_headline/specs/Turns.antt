@@ -1,11 +1,17 @@
 -- The endpoint's own laws on turns, on work that lasts and on numbers that are left: what they count they count call by
 -- call, and what they ask for is built call by call, from each call and its answer.
-use Rattle.std.specs.Prelude.{◌≡◌, ◌≢◌, ◌≤◌, ◌+◌, ◌-◌, ◌^◌, false, ℕ, Bool, List, [], ◌∷◌, length, Some, None, IsSome}
+use Rattle.std.specs.Prelude.{◌≡◌, ◌≢◌, ◌≤◌, ◌+◌, ◌-◌, ◌/◌, ◌^◌, false, ℕ, Bool, List, [], ◌∷◌, length, Some, None, IsSome}
 use Rattle.std.specs.Prelude.{Result, Ok, Err}
 use Rattle.macs_aes.specs.declared.keys.Key.{Key}
 use Rattle.macs_config.specs.declared.command.Command.{Command}
 use Rattle.macs_config.specs.declared.command.Command.TheVariants.{RxDrop, RxInstall, RxRemove, TxInstall, TxRemove}
+use Rattle.macs_txsc.specs.Value.{tx_side_of}
+use Rattle.macs_txsc.specs.Value as tx
+use Rattle.macs_rxsc.specs.Receive.{Numbers}
+use Rattle.macs_rxsc.specs.Value.{rx_side_of}
+use Rattle.macs_rxsc.specs.Value as rx
 use Rattle.macs_store.specs.Value.{IsIdle, standing_in}
+use Rattle.macs_endpoint.specs.Restart.{rx_limit}
 use Rattle.macs_endpoint.specs.WorkThroughCalls.{Lasts, Needs, NoneDone, NoneReserved, commands_done, reservations_made}
 use Rattle.macs_endpoint.specs.WorkThroughCalls.{steps_made}
 use Rattle.macs_endpoint.specs.Lives.{Transition}
@@ -66,7 +72,9 @@ pub record TurnsAreCounted (D : Type 0) : Type 0 where
 -- command is done with, a ceiling is needed, and none is raised, by no calls, and by one more whose answer says so, or
 -- before which one is needed. An association is the one that frames go out under where it is so configured and has a
 -- number. Of an endpoint that is sound 16 commands wait at most, 2^64 - 1 tickets were given at most, its SCI has 8
--- octets, and its blocks are of 1 to 65,536 numbers.
+-- octets, and its blocks are of 1 to 65,536 numbers. A ceiling for frames that go out is not below next, which is 1 or
+-- more, nor more than a block and a half above it, nor above 2^32. One for frames that come in is not below next, nor
+-- beyond where a restart may move it; and a channel has associations 0 to 3 at most.
 pub record TurnsAreBuilt (D : Type 0) : Type 0 where
   pub tx_none : (an : ℕ) (e : EndpointValue D) → TxStays an e []
   pub tx_stays : (an : ℕ) (e : EndpointValue D) (turn : Transition D) (turns : List (Transition D))
@@ -100,6 +108,16 @@ pub record TurnsAreBuilt (D : Type 0) : Type 0 where
   pub encoding : (e : EndpointValue D) (an : ℕ) → (standing_in e.store).config.encoding ≡ Some an
       → IsSome ((state_of e no_logs).next an) → IsEncodingAn e an
   pub queue : (e : EndpointValue D) → IsSoundEndpoint e → (length e.waiting ≤ 16) × (e.tickets ≤ 2 ^ 64 - 1)
+  pub sends_within : (e : EndpointValue D) (an next ceiling : ℕ) → IsSoundEndpoint e
+      → (tx_side_of e.tx).next an ≡ Some next → tx.ceilings_of e.tx an ≡ Some ceiling
+      → (1 ≤ next) × (next ≤ ceiling)
+      × (ceiling ≤ next + ((standing_in e.store).identity.tx_block + (standing_in e.store).identity.tx_block / 2))
+      × (ceiling ≤ 2 ^ 32)
+  pub receives_within : (e : EndpointValue D) (sci : List ℕ) (an ceiling : ℕ) (n : Numbers) → IsSoundEndpoint e
+      → (rx_side_of e.rx).numbers sci an ≡ Some n → rx.ceilings_of e.rx sci an ≡ Some ceiling
+      → (n.next ≤ ceiling) × (ceiling ≤ rx_limit (standing_in e.store).identity.rx_block n.next n.seen)
+  pub receives_few : (e : EndpointValue D) (sci : List ℕ) (an : ℕ) → IsSoundEndpoint e → 4 ≤ an
+      → (rx_side_of e.rx).numbers sci an ≡ None
   pub identity : (e : EndpointValue D) → IsSoundEndpoint e → (length (standing_in e.store).identity.sci ≡ 8)
       × ((1 ≤ (standing_in e.store).identity.tx_block) × ((standing_in e.store).identity.tx_block ≤ 65536))
       × ((1 ≤ (standing_in e.store).identity.rx_block) × ((standing_in e.store).identity.rx_block ≤ 65536))

@@ -62,6 +62,7 @@ ghost use Rattle.macs_headline.specs.OctetWords.{OctetWords};
 ghost use Rattle.macs_headline.specs.DiskCalls.{DiskCalls};
 ghost use Rattle.macs_headline.specs.RecordWords.{RecordWords};
 ghost use Rattle.macs_headline.specs.ReplayedWords.{ReplayedWords};
+ghost use Rattle.macs_headline.specs.RefusedCalls.{RefusedCalls};
 ghost use Rattle.macs_headline.specs.SideWords.{SideWords};
 ghost use Rattle.macs_headline.specs.SnapshotOrder.{SnapshotOrder};
 ghost use Rattle.macs_headline.specs.StandWords.{CallsLeave, ServedEnds};
@@ -367,6 +368,8 @@ pub fn words()
     ensures histories { (sectors : ℕ) → HistoryWords sectors }
     // What goes out, what comes in and what a command makes, from whatever state.
     ensures steps { StepWords }
+    // When a call is refused or does nothing, and what it leaves, from whatever state.
+    ensures refused_calls { RefusedCalls }
     // What the two sides begin with and keep, what a SecTAG is, and why a frame is not opened.
     ensures sides { SideWords }
     // In which order a snapshot is written, which kind each record has, and what is no record.

@@ -9,6 +9,7 @@ use Rattle.macs_headline.proofs.QueueWords.{queue-words}
 use Rattle.macs_headline.proofs.WorkedWords.{migration-words, worked-words}
 use Rattle.macs_headline.proofs.HistoryWords.{history-words}
 use Rattle.macs_headline.proofs.RecordWords.{record-words}
+use Rattle.macs_headline.proofs.RefusedCalls.{refused-calls}
 use Rattle.macs_headline.proofs.ReplayedWords.{replayed-words}
 use Rattle.macs_headline.proofs.SideWords.{side-words}
 use Rattle.macs_headline.proofs.SnapshotOrder.{snapshot-order}
@@ -92,3 +93,6 @@ returns-clause-worked c = worked-words
 
 pub returns-clause-migration : goal.returns-clause-migration
 returns-clause-migration c = migration-words
+
+pub returns-clause-refused_calls : goal.returns-clause-refused_calls
+returns-clause-refused_calls c = refused-calls
