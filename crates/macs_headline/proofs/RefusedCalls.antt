@@ -39,7 +39,8 @@ refused s new command refusal (inr (running, h)) = h
 refused_later : (s new : State) (ticket : ℕ) (refusal : Refusal)
     → Step s Advances (Advanced (Ok (Done ticket (Err (ran.Refused refusal))))) new
     → (w : Waiting) × (rest : List Waiting) × (s.waiting ≡ w ∷ rest) × (w.ticket ≡ ticket) × (s.in_hand ≡ None)
-    × (apply s.edition s.identity s.config w.command ≡ Err (Named refusal)) × (new ≡ record s { waiting = rest; in_hand = None })
+    × (apply s.edition s.identity s.config w.command ≡ Err (Named refusal))
+    × (new ≡ record s { waiting = rest; in_hand = None })
 refused_later s new ticket refusal (inl (stopped, answer, is)) = absurd answer
 refused_later s new ticket refusal (inr (running, (w, rest, waiting, same, (idle, why, is)))) =
     (w, rest, waiting, sym same, idle, why, is)
@@ -51,7 +52,8 @@ long s new command (inr (running, h)) = h
 
 long_later : (s new : State) (ticket : ℕ) → Step s Advances (AdvancedLong ticket) new
     → (w : Waiting) × (rest : List Waiting) × (s.waiting ≡ w ∷ rest) × (w.ticket ≡ ticket) × (s.in_hand ≡ None)
-    × (apply s.edition s.identity s.config w.command ≡ Err LongKey) × (new ≡ record s { waiting = rest; in_hand = None })
+    × (apply s.edition s.identity s.config w.command ≡ Err LongKey)
+    × (new ≡ record s { waiting = rest; in_hand = None })
 long_later s new ticket (inl (stopped, answer, is)) = absurd answer
 long_later s new ticket (inr (running, (w, rest, waiting, same, (idle, why, is)))) =
     (w, rest, waiting, sym same, idle, why, is)
@@ -64,7 +66,8 @@ spent s new command (inr (running, (none, accepts, is))) =
 
 spent_later : (s new : State) (ticket : ℕ)
     → Step s Advances (Advanced (Ok (Done ticket (Err ran.GenerationsSpent)))) new
-    → (w : Waiting) × (rest : List Waiting) × (config : Config) × (s.waiting ≡ w ∷ rest) × (w.ticket ≡ ticket) × (s.in_hand ≡ None)
+    → (w : Waiting) × (rest : List Waiting) × (config : Config) × (s.waiting ≡ w ∷ rest) × (w.ticket ≡ ticket)
+    × (s.in_hand ≡ None)
     × (apply s.edition s.identity s.config w.command ≡ Ok config) × (new ≡ record s { waiting = rest; in_hand = None })
 spent_later s new ticket (inl (stopped, answer, is)) = absurd answer
 spent_later s new ticket (inr (running, (w, rest, waiting, same, (idle, accepts, is)))) =

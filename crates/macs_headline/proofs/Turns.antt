@@ -172,7 +172,8 @@ turns-are-built {D} = record {
   encoding = λ e an is numbered. (is, numbered);
   queue = λ e sound. (sound.few, sound.tickets);
   sends_within = λ e an next ceiling sound is top.
-      within_tx (standing_in e.store).identity.tx_block ((tx_side_of e.tx).next an) (tx.ceilings_of e.tx an) next ceiling
+      within_tx (standing_in e.store).identity.tx_block ((tx_side_of e.tx).next an) (tx.ceilings_of e.tx an)
+      next ceiling
       is top (sound.within.tx_within an);
   receives_within = λ e sci an ceiling n sound is top.
       within_rx (standing_in e.store).identity.rx_block ((rx_side_of e.rx).numbers sci an) (rx.ceilings_of e.rx sci an)

@@ -33,18 +33,22 @@ pub record RefusedCalls : Type 0 where
   pub refused_later : (s new : State) (ticket : ℕ) (refusal : Refusal)
       → Step s Advances (Advanced (Ok (Done ticket (Err (ran.Refused refusal))))) new
       → (w : Waiting) × (rest : List Waiting) × (s.waiting ≡ w ∷ rest) × (w.ticket ≡ ticket) × (s.in_hand ≡ None)
-      × (apply s.edition s.identity s.config w.command ≡ Err (Named refusal)) × (new ≡ record s { waiting = rest; in_hand = None })
+      × (apply s.edition s.identity s.config w.command ≡ Err (Named refusal))
+      × (new ≡ record s { waiting = rest; in_hand = None })
   pub long : (s new : State) (command : Command) → Step s (Commands command) RefusedLong new
       → (s.waiting ≡ []) × (apply s.edition s.identity s.config command ≡ Err LongKey) × (new ≡ s)
   pub long_later : (s new : State) (ticket : ℕ) → Step s Advances (AdvancedLong ticket) new
       → (w : Waiting) × (rest : List Waiting) × (s.waiting ≡ w ∷ rest) × (w.ticket ≡ ticket) × (s.in_hand ≡ None)
-      × (apply s.edition s.identity s.config w.command ≡ Err LongKey) × (new ≡ record s { waiting = rest; in_hand = None })
+      × (apply s.edition s.identity s.config w.command ≡ Err LongKey)
+      × (new ≡ record s { waiting = rest; in_hand = None })
   pub spent : (s new : State) (command : Command) → Step s (Commands command) (Ran (Err ran.GenerationsSpent)) new
       → (config : Config) × (s.waiting ≡ []) × (apply s.edition s.identity s.config command ≡ Ok config) × (new ≡ s)
   pub spent_later : (s new : State) (ticket : ℕ)
       → Step s Advances (Advanced (Ok (Done ticket (Err ran.GenerationsSpent)))) new
-      → (w : Waiting) × (rest : List Waiting) × (config : Config) × (s.waiting ≡ w ∷ rest) × (w.ticket ≡ ticket) × (s.in_hand ≡ None)
-      × (apply s.edition s.identity s.config w.command ≡ Ok config) × (new ≡ record s { waiting = rest; in_hand = None })
+      → (w : Waiting) × (rest : List Waiting) × (config : Config) × (s.waiting ≡ w ∷ rest) × (w.ticket ≡ ticket)
+      × (s.in_hand ≡ None)
+      × (apply s.edition s.identity s.config w.command ≡ Ok config)
+      × (new ≡ record s { waiting = rest; in_hand = None })
   pub failed : (s new : State) (command : Command) → Step s (Commands command) (Ran (Err ran.Disk)) new
       → (config : Config) × (s.waiting ≡ []) × (apply s.edition s.identity s.config command ≡ Ok config)
       × (new ≡ record s { in_hand = Some command; stopped = true })

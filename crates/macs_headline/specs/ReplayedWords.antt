@@ -22,7 +22,8 @@ use Rattle.macs_store.specs.Commands.{command_of}
 use Rattle.macs_store.specs.Replay.{ceilings_with_record, ceilings_with_records, meaning_of, reading_of, replay_of}
 use Rattle.macs_store.specs.Replay.{all_belong, reads, snapshot_of}
 use Rattle.macs_store.specs.Replay.{standing_after_command, standing_after_record, standing_after_records}
-use Rattle.macs_store.specs.Standing.{IsStanding, Ceilings, Standing, accept, ceilings_after, no_ceilings, standing_with_rx_ceiling}
+use Rattle.macs_store.specs.Standing.{IsStanding, Ceilings, Standing, accept, ceilings_after, no_ceilings}
+use Rattle.macs_store.specs.Standing.{standing_with_rx_ceiling}
 use Rattle.macs_store.specs.Standing.{standing_with_tx_ceiling}
 
 -- A ceiling is raised to the number that the record has, for its association alone; and whatever has a ceiling exactly

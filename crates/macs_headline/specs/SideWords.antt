@@ -25,13 +25,13 @@ use Rattle.macs_txsc.specs.Transmit.{AreOrdered, InOrder, TxSide, name_in, new_t
 -- protection on and window 0, and has no channel. An association for frames that go out has a next number and a
 -- ceiling, with 1 <= next <= ceiling <= 2^32. One for frames that come in has numbers and a ceiling, with
 -- 1 <= lowest <= next <= ceiling <= 2^32 and next no further above lowest than the window. Where there is no
--- association there are no numbers and no ceiling; and a side has its numbers where each association has. An SCI is put among those that ascend, octet by octet. A frame is
--- sealed with the counter that goes up by one for each 16 octets, from 1 after its initialisation vector on (SP
--- 800-38D). The tag names the channel as the mode says. Octet 3 of a SecTAG has SC or ES, E, C and the AN, each by
--- itself. A SecTAG whose fields are in their ranges, with E and C alike, is one that is written, and an SCI that is
--- spelled out has 8 octets. A frame that is opened by hand is refused for its tag where a fault of that holds: as of
--- another SCI exactly where its tag names one that is not the given one, and as not valid exactly where it verifies as
--- no plain frame.
+-- association there are no numbers and no ceiling; and a side has its numbers where each association has. An SCI is put
+-- among those that ascend, octet by octet. A frame is sealed with the counter that goes up by one for each 16 octets,
+-- from 1 after its initialisation vector on (SP 800-38D). The tag names the channel as the mode says. Octet 3 of a
+-- SecTAG has SC or ES, E, C and the AN, each by itself. A SecTAG whose fields are in their ranges, with E and C alike,
+-- is one that is written, and an SCI that is spelled out has 8 octets. A frame that is opened by hand is refused for
+-- its tag where a fault of that holds: as of another SCI exactly where its tag names one that is not the given one, and
+-- as not valid exactly where it verifies as no plain frame.
 pub record SideWords : Type 0 where
   pub new_transmit : (sci : List ℕ) → new_tx_side sci
       ≡ record { sci = sci; mode = Explicit; encoding = None; tx = λ an. None; next = λ an. None }
