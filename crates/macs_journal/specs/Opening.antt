@@ -33,9 +33,9 @@ pub record IsOpened (old new : Disk) : Type 0 where
   pub any_moment : IsHonest new → LeavesNothingNew old new
 
 -- An opening that is refused, and gives the disk back. TooSmall is answered exactly for a disk that is too small, and
--- then no call is made; Disk exactly where a device call failed, which was the last one. On an honest disk every other
--- fault is what `Found` says, nothing is written, the calls after the first change nothing, and no power loss on the
--- way left anything that it could not leave before.
+-- then no call is made; Disk exactly where a device call failed. On an honest disk every other fault is what `Found`
+-- says, nothing is written, the calls after the first change nothing, and no power loss on the way left anything that
+-- it could not leave before.
 pub record IsRefused {D : Type 0} (disk_of : D → Disk) (Found : JournalFault → Type 0) (disk left : D)
     (fault : JournalFault) : Type 0 where
   pub name : IsRecoverName fault

@@ -87,9 +87,9 @@ abbrev pub IsOpenName : JournalFault → Type 0
 IsOpenName name = IsRecoverName name ⊎ (name ≡ variant.GenerationsSpent)
 
 -- An opening that is refused, and gives the disk back. The fault is TooSmall exactly where the disk is too small, and
--- then no call is made; it is Disk exactly where a device call failed, which was the last one. On an honest disk every
--- other fault is what the disk is unfit for, and nothing is written; nor is anything where the fault is Disk and
--- nothing was to start over. Else the journal started over at most.
+-- then no call is made; it is Disk exactly where a device call failed. On an honest disk every other fault is what the
+-- disk is unfit for, and nothing is written; nor is anything where the fault is Disk and nothing was to start over.
+-- Else the journal started over at most.
 pub record RefusesDisk {D : Type 0} (disk_of : D → Disk) (disk left : D) (fault : JournalFault) : Type 0 where
   pub name : IsOpenName fault
   pub small : (fault ≡ variant.TooSmall) ↔ ((disk_of disk).sectors < least_sectors)
