@@ -31,6 +31,7 @@ history-words sectors = record {
   logged = λ s identities. (refl, refl);
   waiting = λ s m.
       sym (waits-from [] (opened_state m.life.found (logs_of m.past)) m.exchanges s refl m.life.steps);
+  ending = λ s call. (refl, refl);
   fitting = λ edition image s fits. (fits.found, fits.is_found, fits.restart);
   restarted = restarted;
   tx_rises = λ block next found rises. rises;

@@ -43,7 +43,8 @@ layer-leaves disk_of = record {
   );
   appended = λ j r work is. is;
   appending = λ work later is. is;
-  lent = λ work records is. is;
+  lent = λ work records. (λ is. is, λ is. is);
+  lent_else = λ work records. (tt, tt);
   judged_none = λ checked is. is;
   judged = judged;
   judged_beside = λ r command is. is;

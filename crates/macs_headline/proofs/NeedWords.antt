@@ -383,6 +383,8 @@ by_turn whose o w raise first is waits i = piece_among whose (is i) (waits i)
 pub turns-are-used : {D : Type 0} (disk_of : D → Disk) → TurnsAreUsed disk_of
 turns-are-used disk_of = record {
   needed = λ e. refl;
+  first_waits = λ e first rest is. ap first_waiting is;
+  stopped_is = λ e logs. refl;
   next_raised = λ e raise is. raised_next e.turn (raise_in e) (first_waiting e.waiting) raise is;
   next_kept = λ e first is. kept_next e.turn (raise_in e) (first_waiting e.waiting) first is;
   next_one = λ e is. none_next e.turn (raise_in e) e.waiting is;

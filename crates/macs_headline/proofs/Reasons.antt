@@ -22,7 +22,8 @@ use Rattle.macs_config.specs.declared.command.SciMode.TheVariants.{EndStation, E
 use Rattle.macs_config.specs.declared.refusal.Refusal.TheVariants.{ChannelTaken, ChannelsFull, EndStationSci, InUse}
 use Rattle.macs_config.specs.declared.refusal.Refusal.TheVariants.{KeySpent, NoChannel, OffsetChoice, OwnSci, SlotEmpty}
 use Rattle.macs_config.specs.declared.refusal.Refusal.TheVariants.{SlotTaken, SpentFull, StartRange}
-use Rattle.macs_headline.specs.Reasons.{IsNoOffset, IsReasonOf, ReasonsAreNamed}
+use Rattle.macs_config.specs.declared.refusal.Refusal.{Refusal}
+use Rattle.macs_headline.specs.Reasons.{IsNoOffset, IsReasonOf, ReasonsAreNamed, reasons_in_order}
 use Rattle.macs_headline.proofs.Accepted.{NoTest, no-test}
 use Rattle.macs_headline.proofs.Ledger.{some_one}
 
@@ -286,6 +287,31 @@ module _ (edition : Edition) (identity : Identity) (c : Config) where
         false≢true
         (sym (no_tests (no-test (refusals edition identity c command) none) refusal) ∙ (reason refusal).1 has)
 
+-- where the last reason is the first that holds, no other does
+passed : {P Q : Type 0} {refusal : Refusal} → (P × (LongKey ≡ Named refusal)) ⊎ ((¬ P) × Q) → (¬ P) × Q
+passed (inl is) = absurd (cc)
+passed (inr is) = is
+
+none_before : (Holds : Reason → Type 0) → IsFirst Holds reasons_in_order LongKey → (refusal : Refusal)
+    → ¬ Holds (Named refusal)
+none_before Holds is StartRange = (passed is).0
+none_before Holds is OffsetChoice = (passed (passed is).1).0
+none_before Holds is OwnSci = (passed (passed (passed is).1).1).0
+none_before Holds is EndStationSci = (passed (passed (passed (passed is).1).1).1).0
+none_before Holds is NoChannel = (passed (passed (passed (passed (passed is).1).1).1).1).0
+none_before Holds is ChannelTaken = (passed (passed (passed (passed (passed (passed is).1).1).1).1).1).0
+none_before Holds is ChannelsFull = (passed (passed (passed (passed (passed (passed (passed is).1).1).1).1).1).1).0
+none_before Holds is SlotTaken =
+    (passed (passed (passed (passed (passed (passed (passed (passed is).1).1).1).1).1).1).1).0
+none_before Holds is SlotEmpty =
+    (passed (passed (passed (passed (passed (passed (passed (passed (passed is).1).1).1).1).1).1).1).1).0
+none_before Holds is InUse =
+    (passed (passed (passed (passed (passed (passed (passed (passed (passed (passed is).1).1).1).1).1).1).1).1).1).0
+none_before Holds is KeySpent = (passed
+    (passed (passed (passed (passed (passed (passed (passed (passed (passed (passed is).1).1).1).1).1).1).1).1).1).1).0
+none_before Holds is SpentFull = (passed (passed (passed
+    (passed (passed (passed (passed (passed (passed (passed (passed (passed is).1).1).1).1).1).1).1).1).1).1).1).0
+
 pub reasons-are-named : ReasonsAreNamed
 reasons-are-named = record {
   named = λ edition identity c command refusal is. is_named edition identity c command refusal is;
@@ -293,4 +319,8 @@ reasons-are-named = record {
       is_first edition identity c command (refusals edition identity c command) refusal
       (agree edition identity c command) is;
   held = λ edition identity c command refusal has. is_held edition identity c command refusal has;
+  long_last = λ edition identity c command refusal is.
+      none_before (IsReasonOf edition identity c command)
+      (is_first edition identity c command (refusals edition identity c command) LongKey
+      (agree edition identity c command) is) refusal;
 }

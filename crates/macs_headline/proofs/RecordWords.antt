@@ -16,6 +16,15 @@ record-words = record {
   no_record = λ command. refl;
   fingerprints = λ role prints. (λ is. is, λ is. is);
   settings = λ validate replay mode an. ((λ is. is, λ is. is), (λ is. is, λ is. is));
+  names = λ sci an. (
+    (λ is. is, λ is. is),
+    (λ is. is, λ is. is),
+    (λ is. is, λ is. is),
+    (λ is. is, λ is. is),
+    (λ is. is, λ is. is),
+    (λ is. is, λ is. is),
+  );
+  choices = λ validate replay mode. (tt, (λ is. is, λ is. is), tt);
   ceilings = λ sci an ceiling. (
     (λ is. (is.0, is.1.0, is.1.1), λ is. (is.0, (is.1, is.2))),
     (λ is. (is.0, is.1, is.2.0, is.2.1), λ is. (is.0, is.1, (is.2, is.3))),

@@ -1,5 +1,5 @@
 -- The headline on which octets of its file a disk shows, how a fuse fails a write, and what a read and a cut leave.
-use Rattle.std.specs.Prelude.{◌≡◌, ◌↔◌, ◌⊎◌, ◌<◌, ◌≤◌, ◌+◌, ◌-◌, ◌*◌, ◌%◌, ◌&&◌, ℕ, true, false, if◌then◌else◌}
+use Rattle.std.specs.Prelude.{◌≡◌, ◌↔◌, ◌⊎◌, ◌<◌, ◌≤◌, ◌+◌, ◌-◌, ◌*◌, ◌/◌, ◌%◌, ◌&&◌, ℕ, true, false, if◌then◌else◌}
 use Rattle.std.specs.Prelude.{List, Result, is_ok, nat_le, replicate}
 use Rattle.macs_disk.specs.Disk.{Disk, IsDeviceCall, IsHonest, Writes, now}
 use Rattle.macs_disk.specs.FileDisks.{HasMark, IsBlank, IsFoundAs, IsOpened, KeepsLayout, is_ready, state_in_file}
@@ -7,7 +7,7 @@ use Rattle.macs_disk.specs.Files.{FileState, HasNothingNew, IsClaimed, IsFileIma
 use Rattle.macs_disk.specs.Files.{Settles}
 use Rattle.macs_disk.specs.Files.{file_after_sync, file_after_write, file_cut, values_from}
 use Rattle.macs_disk.specs.Fuses.{BlowsWrite, FuseValue}
-use Rattle.macs_disk.specs.Layouts.{layout_in, mark_place, place, sectors_in}
+use Rattle.macs_disk.specs.Layouts.{layout_in, mark_place, place, sectors_in, suits}
 use Rattle.macs_disk.specs.declared.disk.DeviceFault.{DeviceFault}
 use Rattle.macs_disk.specs.declared.fuse.Blow.TheVariants.{NoCall}
 use Rattle.macs_disk.specs.declared.layout.Layout.{Layout}
@@ -54,6 +54,10 @@ pub record DiskWords : Type 0 where
   pub sized : (layout : Layout) (file : FileState) → KeepsLayout layout file
       → (layout_in file ≡ layout) × ((file.is_size_durable ≡ true) ⊎ (file.size ≤ mark_place))
       × (values_from file.durable mark_place 512 ≡ values_from file.seen mark_place 512)
+  pub keeps_so : (layout : Layout) (file : FileState) → layout_in file ≡ layout
+      → values_from file.durable mark_place 512 ≡ values_from file.seen mark_place 512
+      → (suits layout file.block ≡ true → file.pending (mark_place / file.block) ≡ false)
+      → ((file.is_size_durable ≡ true) ⊎ (file.size ≤ mark_place)) → KeepsLayout layout file
   pub sound_so : (file : FileState) → 0 < file.block → ((p : ℕ) → file.seen p < 256)
       → ((p : ℕ) → file.durable p < 256) → (file.is_clean ≡ true → (n : ℕ) → file.pending n ≡ false)
       → (IsSure file → (n k : ℕ) → file.pending n ≡ false → k < file.block

@@ -10,20 +10,22 @@ use Rattle.macs_journal.specs.declared.fault.JournalFault.{JournalFault}
 use Rattle.macs_rxsc.specs.Receive.{Numbers}
 use Rattle.macs_store.specs.Found.{StandingIs}
 use Rattle.macs_store.specs.Standing.{Standing}
-use Rattle.macs_endpoint.specs.Restart.{Fits, Restart, Resumes, RxRises, TxRises, opened_state, rx_limit}
+use Rattle.macs_endpoint.specs.Restart.{Fits, Restart, Resumes, RxRises, TxRises, opened_state, rx_limit, state_during}
 use Rattle.macs_endpoint.specs.State.{Call, State, no_logs}
 use Rattle.macs_endpoint.specs.Step.{Exchange, Step, Steps, state_after_command}
 use Rattle.macs_headline.specs.Answered.{exchanges_in, exchanges_of_lives}
 use Rattle.macs_headline.specs.Commands.{waiting_at_end}
 use Rattle.macs_headline.specs.History.{Blank, Formats, Formatted, LeadOn, Leads, Life, Past, Refuses, Serves, logs_of}
+use Rattle.macs_headline.specs.History.{state_at_end}
 use Rattle.macs_headline.specs.Moments.{Moment}
 
 -- A life goes on call by call, each a step of the endpoint, and one life comes after another. What a life answered is
 -- the answers of its calls, in their order; a `format` and a refused opening answered none; and those of lives come
 -- life by life. The next life begins with the very lists that the one before it left. The commands that wait after the
--- calls of a life are those that wait in its endpoint. What fits a state stands for a restart of it. A restart resumes
--- the state, or the state after the command under way, which is not refused; it is of no smaller edition and of the
--- same identity and configuration, and each number rises as far as it may, or is still none, whatever is installed.
+-- calls of a life are those that wait in its endpoint. A life that ends in a call ends in the state during it. What
+-- fits a state stands for a restart of it. A restart resumes the state, or the state after the command under way, which
+-- is not refused; it is of no smaller edition and of the same identity and configuration, and each number rises as far
+-- as it may, or is still none, whatever is installed.
 pub record HistoryWords (sectors : ℕ) : Type 0 where
   pub called_none : (old new : State) → Steps old [] new → new ≡ old
   pub called_more : (old new : State) (e : Exchange) (rest : List Exchange) → Steps old (e ∷ rest) new
@@ -40,6 +42,8 @@ pub record HistoryWords (sectors : ℕ) : Type 0 where
   pub logged : (s : State) (identities : List Identity) → (logs_of (Formatted s) ≡ s.logs)
       × (logs_of (Blank identities) ≡ no_logs)
   pub waiting : (s : State) (m : Moment sectors s) → waiting_at_end m.exchanges ≡ s.waiting
+  pub ending : (s : State) (call : Call)
+      → (state_at_end s None ≡ s) × (state_at_end s (Some call) ≡ state_during s call)
   pub fitting : (edition : Edition) (image : Image) (s : State) → Fits edition sectors image s
       → (found : Standing) × StandingIs edition sectors image (Ok found) × Restart s (opened_state found s.logs)
   pub restarted : (old new : State) → Restart old new

@@ -55,9 +55,9 @@ use Rattle.macs_headline.specs.Deeds.{disk_after_opening}
 -- no journal to rewrite makes its sync first, and only reads after it. A `format` of an honest disk answers Ok only
 -- where what is seen of it is not formatted, and then each image is that of the new endpoint. A record that is appended
 -- is the one in hand, from call to call, and as many records are lent to a journal that starts over as its new head
--- counts. What was judged of a command is kept beside its record alone, and no longer than that is under way. On each
--- disk, honest or not, an opening, a `format` and a call are work of the disk: its clock goes on, no failure is taken
--- back, and one that is worn stays so.
+-- counts, and to any other whatever comes. What was judged of a command is kept beside its record alone, and no longer
+-- than that is under way. On each disk, honest or not, an opening, a `format` and a call are work of the disk: its
+-- clock goes on, no failure is taken back, and one that is worn stays so.
 pub record LayerLeaves {D : Type 0} (disk_of : D → Disk) : Type 0 where
   pub committed : (old new : StoreValue D) (command : Command) (result : Result (Unit {0}) CommitFault)
       → Commits disk_of old command result new → OnErr result (IsErrOf result commit.Disk ⊎ (new ≡ old))
@@ -89,8 +89,10 @@ pub record LayerLeaves {D : Type 0} (disk_of : D → Disk) : Type 0 where
       → journal_work.IsTaskInHand j (journal_work.Appends r) (hand.Append work) → IsSectorOf r work.sector
   pub appending : (work later : Appending) → journal_work.IsSameTask (hand.Append work) (hand.Append later)
       → later.sector ≡ work.sector
-  pub lent : (work : Compacting) (records : List Record) → journal.AreLent (hand.Compact work) records
-      → length records ≡ work.head.count
+  pub lent : (work : Compacting) (records : List Record)
+      → journal.AreLent (hand.Compact work) records ↔ (length records ≡ work.head.count)
+  pub lent_else : (work : Appending) (records : List Record)
+      → journal.AreLent hand.Empty records × journal.AreLent (hand.Append work) records
   pub judged_none : (checked : Option Command) → IsOfChange change.Empty checked → checked ≡ None
   pub judged : (r : Record) (command : Command) → command_of r ≡ Some command → ¬ IsOfRecord r None
   pub judged_beside : (r : Record) (command : Command) → IsOfRecord r (Some command) → record_of command ≡ Some r

@@ -20,8 +20,8 @@ use Rattle.macs_endpoint.specs.Ceilings.{Raise, RaiseRx, first_raise}
 use Rattle.macs_endpoint.specs.State.{Advanced, Advances, Commands, Protects, Ran, Receives, Refilled, Refills, Reply}
 use Rattle.macs_endpoint.specs.Needed.{raise_in}
 use Rattle.macs_endpoint.specs.Queue.{first_waiting}
-use Rattle.macs_endpoint.specs.State.{Submits, no_logs, rx_side, tx_side}
-use Rattle.macs_endpoint.specs.Value.{EndpointValue, state_of}
+use Rattle.macs_endpoint.specs.State.{Logs, Submits, no_logs, rx_side, tx_side}
+use Rattle.macs_endpoint.specs.Value.{EndpointValue, is_stopped, state_of}
 use Rattle.macs_endpoint.specs.declared.fault.CommandFault.{CommandFault}
 use Rattle.macs_endpoint.specs.declared.fault.CommandFault.TheVariants as ran
 use Rattle.macs_endpoint.specs.declared.fault.RefillFault.{RefillFault}
@@ -90,10 +90,14 @@ pub record NeedsAreInOrder : Type 0 where
 -- refill that found one under way. Other steps and refills, those that fail or are not begun included, frames, and
 -- commands that are to wait or are not begun leave the turn as it was. What an endpoint is to raise is the first
 -- ceiling that is needed, whatever waits or is under way. The next piece of its work is to raise that or to keep the
--- first command that waits; where there are both, by the turn, and where there is neither, nothing.
+-- first command that waits; where there are both, by the turn, and where there is neither, nothing. An
+-- endpoint is stopped where its state is.
 pub record TurnsAreUsed {D : Type 0} (disk_of : D → Disk) : Type 0 where
   pub needed : (e : EndpointValue D)
       → raise_in e ≡ first_raise (standing_in e.store) (tx_side (state_of e no_logs)) (rx_side (state_of e no_logs))
+  pub first_waits : (e : EndpointValue D) (first : Waiting) (rest : List Waiting) → e.waiting ≡ first ∷ rest
+      → first_waiting e.waiting ≡ Some first
+  pub stopped_is : (e : EndpointValue D) (logs : Logs) → is_stopped e ≡ (state_of e logs).stopped
   pub next_raised : (e : EndpointValue D) (raise : Raise) → next_piece e ≡ Some (ToRaise raise)
       → raise_in e ≡ Some raise
   pub next_kept : (e : EndpointValue D) (first : Waiting) → next_piece e ≡ Some (ToKeep first)

@@ -10,6 +10,7 @@ use Rattle.macs_config.specs.declared.command.Command.{Command}
 use Rattle.macs_config.specs.declared.command.Command.TheVariants.{RxAdd, RxDrop, RxInstall, RxRemove, SetSciMode}
 use Rattle.macs_config.specs.declared.command.Command.TheVariants.{TxInstall, TxRemove, TxUse}
 use Rattle.macs_config.specs.declared.command.SciMode.TheVariants.{EndStation}
+use Rattle.macs_config.specs.declared.refusal.Refusal.{Refusal}
 use Rattle.macs_config.specs.declared.refusal.Refusal.TheVariants.{ChannelTaken, ChannelsFull, EndStationSci, InUse}
 use Rattle.macs_config.specs.declared.refusal.Refusal.TheVariants.{KeySpent, NoChannel, OffsetChoice, OwnSci, SlotEmpty}
 use Rattle.macs_config.specs.declared.refusal.Refusal.TheVariants.{SlotTaken, SpentFull, StartRange}
@@ -64,7 +65,8 @@ reasons_in_order =
     ∷ Named ChannelsFull ∷ Named SlotTaken
     ∷ Named SlotEmpty ∷ Named InUse ∷ Named KeySpent ∷ Named SpentFull ∷ LongKey ∷ []
 
--- A command that is refused for a reason has it, and none that comes before it; and one that has any is refused.
+-- A command that is refused for a reason has it, and none that comes before it; and one that has any is refused. The
+-- length of its key is the last reason.
 pub record ReasonsAreNamed : Type 0 where
   pub named : (edition : Edition) (identity : Identity) (c : Config) (command : Command) (reason : Reason)
       → refusal_of edition identity c command ≡ Some reason → IsReasonOf edition identity c command reason
@@ -74,3 +76,6 @@ pub record ReasonsAreNamed : Type 0 where
   pub held : (edition : Edition) (identity : Identity) (c : Config) (command : Command) (reason : Reason)
       → IsReasonOf edition identity c command reason
       → ¬ (refusal_of edition identity c command ≡ None)
+  pub long_last : (edition : Edition) (identity : Identity) (c : Config) (command : Command) (refusal : Refusal)
+      → refusal_of edition identity c command ≡ Some LongKey
+      → ¬ IsReasonOf edition identity c command (Named refusal)
