@@ -1,5 +1,5 @@
 -- The headline on what a call is that did not do what it was asked for, from whatever state: when, and what it leaves.
-use Rattle.std.specs.Prelude.{◌≡◌, ◌≢◌, ◌⊎◌, ◌<◌, ◌≤◌, ◌-◌, ◌^◌, ℕ, true, List, [], ◌∷◌, length, Option, Some, None}
+use Rattle.std.specs.Prelude.{◌≡◌, ◌≢◌, ◌⊎◌, ◌<◌, ◌≤◌, ◌-◌, ◌^◌, ℕ, true, List, [], ◌∷◌, length, Some, None}
 use Rattle.std.specs.Prelude.{Ok, Err}
 use Rattle.macs_fields.specs.First.{first}
 use Rattle.macs_config.specs.Apply.{LongKey, Named, apply}
