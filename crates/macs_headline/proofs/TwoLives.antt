@@ -1,5 +1,5 @@
 -- A disk is formatted, an endpoint lives on it, and power is lost: the history then, and an opening that is refused.
-use Rattle.std.proofs.Common.{◌≡◌, inl, inr, List, [], ◌∷◌, map, None, Result, Ok, Err, is_ok, refl}
+use Rattle.std.proofs.Common.{◌≡◌, inl, inr, List, [], ◌∷◌, map, None, Result, Err, is_ok, refl}
 use Rattle.macs_config.specs.Config.{this_edition}
 use Rattle.macs_config.specs.Identity.{Identity}
 use Rattle.macs_disk.specs.Disk.{Disk, IsHonest, now}
