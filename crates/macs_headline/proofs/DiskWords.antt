@@ -14,6 +14,8 @@ disk-words = record {
     ap (λ (f : FuseValue ℕ). f.added) b.1.after,
     ap (λ (f : FuseValue ℕ). f.missed) b.1.after,
     ap (λ (f : FuseValue ℕ). f.blow) b.1.after,
+    ap (λ (f : FuseValue ℕ). f.left) b.1.after,
+    ap (λ (f : FuseValue ℕ). f.when) b.1.after,
   );
   any_read = λ old new at into result r. r.same;
   cut = λ old. refl;

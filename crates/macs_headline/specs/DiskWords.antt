@@ -38,6 +38,7 @@ pub record DiskWords : Type 0 where
       → (answer : Result (Unit {0}) DeviceFault) × IsDeviceCall (disk old.inner) (disk new.inner) answer
       × (IsHonest (disk new.inner) → Writes (now (disk old.inner)) (now (disk new.inner)) at fill answer)
       × (new.added ≡ old.added + (if is_ok answer then 1 else 0)) × (new.missed ≡ old.missed) × (new.blow ≡ NoCall)
+      × (new.left ≡ old.left) × (new.when ≡ old.inner)
   pub any_read : (old new : FileState) (at : ℕ) (into : List ℕ) (result : Result ℕ ℕ)
       → ReadsFile old new at into result → new ≡ old
   pub cut : (old : FileState) → file_cut old
