@@ -50,6 +50,9 @@ frame_calls call is = absurd is
 
 pub cases-are : CasesAre
 cases-are = record {
+  untagged = λ frame. refl;
+  discarded = λ frame reason. refl;
+  held_back = λ frame. refl;
   sent = λ plain. tt;
   received = λ frame. tt;
   open_ones = open_ones;

@@ -216,6 +216,7 @@ prints-are = record {
   transmit = λ key. refl;
   receive = λ sci key. refl;
   among = λ items item. (among_to items item, among_from items item);
+  distinct = λ items item. (refl, refl);
   spent = λ prints print. (among_to prints print, among_from prints print);
   short_key = λ octets. refl;
   long_key = λ octets. refl;

@@ -12,7 +12,7 @@ disk-calls = record {
   passing = λ fuse. (λ is. is, λ is. is);
   passed = λ fuse inner. refl;
   stopped = λ fuse. (refl, refl, refl);
-  blown = λ fuse. (refl, refl);
+  blown = λ fuse. (refl, refl, refl);
   sector_read = λ old new at value into. (λ r. (r.same, r.ok), λ is. record { same = is.0; ok = is.1 });
   no_sector_read = λ old new at error into. (λ r. r.same, λ is. record { same = is; ok = tt });
   sector_written = λ old new at value octets. (λ w. w.ok, λ is. record { ok = is; err = tt });

@@ -63,11 +63,11 @@ module _ (sectors : ℕ) where
         tickets = refl;
       });
     };
-    carried = λ s mid command edition image hand makes fits. record {
+    carried = λ s mid command config edition image hand applies is fits. record {
       found = fits.found;
       is_found = fits.is_found;
-      restart = subst (λ (logs : Logs). Restart s (opened_state fits.found logs)) (ap (λ (t : State). t.logs) makes.2)
-          (through s mid (opened_state fits.found mid.logs) command hand makes fits.restart);
+      restart = subst (λ (logs : Logs). Restart s (opened_state fits.found logs)) (ap (λ (t : State). t.logs) is)
+          (through s mid (opened_state fits.found mid.logs) command hand (config, applies, is) fits.restart);
     };
     come_upon = λ s edition image fits. fits;
     come_upon_none = λ identities edition image large none. inl (large, none);

@@ -26,6 +26,7 @@ found-words = record {
   );
   past = λ image area head. (λ is. is, λ is. is);
   found = λ image c. (λ is. (is.stands, is.past), λ is. record { stands = is.0; past = is.1 });
+  either = λ before after image. (λ is. is, λ is. is);
   gates = λ area k. refl;
   bodies = λ area slot. (refl, refl);
   none_open = λ seen area count. (λ is. is, λ is. is);

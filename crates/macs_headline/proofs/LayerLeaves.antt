@@ -45,6 +45,9 @@ layer-leaves disk_of = record {
   appending = λ work later is. is;
   lent = λ work records. (λ is. is, λ is. is);
   lent_else = λ work records. (tt, tt);
+  made_of = λ work records before after. (λ is. is, λ is. is);
+  made_else = λ work records before after. (tt, tt);
+  held_with = λ d place at records before after holds made. record { holds = holds; made = made };
   judged_none = λ checked is. is;
   judged = judged;
   judged_beside = λ r command is. is;

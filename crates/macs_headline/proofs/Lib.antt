@@ -123,3 +123,4 @@ mod SnapshotOrder
 mod StepWords
 mod StoreWords
 mod RefusedCalls
+mod TwoLives

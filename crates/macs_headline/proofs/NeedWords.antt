@@ -14,7 +14,7 @@ use Rattle.macs_config.specs.Numbers.{block_beyond}
 use Rattle.macs_config.specs.declared.command.Command.{Command}
 use Rattle.macs_config.proofs.Kept.{apply-keeps}
 use Rattle.macs_disk.specs.Disk.{Disk}
-use Rattle.macs_txsc.specs.Transmit.{Outgoing, TxSide, next_outgoing}
+use Rattle.macs_txsc.specs.Transmit.{Outgoing, next_outgoing}
 use Rattle.macs_txsc.specs.Transmit as transmit
 use Rattle.macs_rxsc.specs.Needs.{Need, first_need, need_by_seen, need_of, raised_ceiling}
 use Rattle.macs_rxsc.specs.Needs as needs

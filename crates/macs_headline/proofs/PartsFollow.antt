@@ -4,6 +4,7 @@ use Rattle.macs_headline.specs.PartsFollow.{PartsFollow}
 
 pub parts-follow : PartsFollow
 parts-follow = record {
+  none = λ identity. refl;
   spent = λ edition identity c role fingerprints. refl;
   in_order = λ place one parts. (refl, refl);
   tx = λ edition identity c an sa. refl;

@@ -319,6 +319,21 @@ reasons-are-named = record {
       is_first edition identity c command (refusals edition identity c command) refusal
       (agree edition identity c command) is;
   held = λ edition identity c command refusal has. is_held edition identity c command refusal has;
+  tested = λ edition identity c command. (
+    reason edition identity c command (Named StartRange),
+    reason edition identity c command (Named OffsetChoice),
+    reason edition identity c command (Named OwnSci),
+    reason edition identity c command (Named EndStationSci),
+    reason edition identity c command (Named NoChannel),
+    reason edition identity c command (Named ChannelTaken),
+    reason edition identity c command (Named ChannelsFull),
+    reason edition identity c command (Named SlotTaken),
+    reason edition identity c command (Named SlotEmpty),
+    reason edition identity c command (Named InUse),
+    reason edition identity c command (Named KeySpent),
+    reason edition identity c command (Named SpentFull),
+    reason edition identity c command LongKey,
+  );
   long_last = λ edition identity c command refusal is.
       none_before (IsReasonOf edition identity c command)
       (is_first edition identity c command (refusals edition identity c command) LongKey

@@ -1,5 +1,5 @@
 -- What a store keeps in memory, and what its work under way makes of that.
-use Rattle.std.proofs.Common.{◌≡◌, ℕ, Some, ap, refl}
+use Rattle.std.proofs.Common.{◌≡◌, Some, ap, refl}
 use Rattle.macs_journal.specs.Appending.{calls_left}
 use Rattle.macs_journal.specs.Stages.{compact_left}
 use Rattle.macs_journal.specs.Value.{left_of}

@@ -179,5 +179,6 @@ turns-are-built {D} = record {
       within_rx (standing_in e.store).identity.rx_block ((rx_side_of e.rx).numbers sci an) (rx.ceilings_of e.rx sci an)
       n ceiling is top (sound.within.rx_within sci an);
   receives_few = λ e sci an sound beyond. sound.within.few sci an beyond;
-  identity = λ e sound. (sound.identity.sci.size, sound.identity.tx_block, sound.identity.rx_block);
+  identity =
+      λ e sound. (sound.identity.sci.size, sound.identity.sci.each, sound.identity.tx_block, sound.identity.rx_block);
 }

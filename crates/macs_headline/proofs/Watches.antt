@@ -34,7 +34,7 @@ use Rattle.macs_endpoint.specs.Value.{EndpointValue, state_of}
 use Rattle.macs_endpoint.specs.declared.fault.Stopped.{Stopped}
 use Rattle.macs_headline.specs.Answered.{WasAnswered, exchanges_of_lives, lives_at}
 use Rattle.macs_headline.specs.Binding.{HasHistory, IsDeliveredOnce, IsNewDisk}
-use Rattle.macs_headline.specs.Deeds.{Formatting, Link, Living, LivesFrom, PassingOn}
+use Rattle.macs_headline.specs.Deeds.{LivesFrom}
 use Rattle.macs_headline.specs.Deliveries.{IsInTime, IsVerifiedAnswer, IsVerifiedDelivery, IsVerifiedKind, delivering}
 use Rattle.macs_headline.specs.Endings.{LosesPower}
 use Rattle.macs_headline.specs.History.{Formats, Life, Serves}
@@ -43,15 +43,12 @@ use Rattle.macs_headline.specs.Watches.{IsEvening, IsMorning, IsRefusedWatchMorn
 use Rattle.macs_headline.specs.Watches.{watch_install}
 use Rattle.macs_headline.specs.declared.watch.Evening.{Evening}
 use Rattle.macs_headline.specs.declared.watch.Morning.{Morning}
-use Rattle.macs_headline.proofs.Chains.{deeds-are-histories, new-deeds-are-histories}
-use Rattle.macs_headline.proofs.Endings.{power-losses-pass-on}
-use Rattle.macs_headline.proofs.InFormatTwo.{never-spent}
 use Rattle.macs_headline.proofs.Ledger.{some_one}
 use Rattle.macs_headline.proofs.Lists.{all-on, contains-first, contains-later}
 use Rattle.macs_headline.proofs.Moments.{frames-are-delivered-once}
 use Rattle.macs_headline.proofs.Ours as alone
+use Rattle.macs_headline.proofs.TwoLives.{formatted-history, has-both, is-refused-again}
 use Rattle.macs_headline.proofs.Places.{cases_place, put_rx-that, put_rx-this}
-use Rattle.macs_headline.proofs.Refusals.{refusals-are-failures}
 
 none_some : {X : Type 0} (x : X) → ◌≡◌ {A = Option X} None (Some x) → ⊥
 none_some x is = cc
@@ -214,8 +211,7 @@ module _ {D : Type 0} (disk_of : D → Disk) (sound : (it : D) → IsHonest (dis
   before = Formats this_edition identity (is_ok formatted) ∷ []
 
   has_before : HasHistory this_edition (disk_of mid) before
-  has_before = new-deeds-are-histories disk_of sound old mid
-      (record { deed = Formatting identity formatted; after = mid } ∷ []) is_new (format, refl)
+  has_before = formatted-history disk_of sound old mid is_new identity formatted format
 
   -- the calls before the frame was handed in again
   abbrev refilled : List (Transition D)
@@ -331,46 +327,21 @@ module _ {D : Type 0} (disk_of : D → Disk) (sound : (it : D) → IsHonest (dis
     abbrev both : List Life
     both = Formats this_edition identity (is_ok formatted) ∷ evening_life ∷ []
 
-    abbrev links : List (Link D)
-    links =
-        record { deed = Living start all e.last None; after = left } ∷ record { deed = PassingOn; after = lost } ∷ []
-
     has_both : HasHistory this_edition (disk_of lost) both
-    has_both = deeds-are-histories disk_of sound mid lost before links has_before (
-      ((opening, e.lives), e.given),
-      (power-losses-pass-on (disk_of left) (disk_of lost) (disk_of left).clock loses, refl),
-    )
+    has_both = has-both disk_of sound old mid is_new identity formatted format start all e.last (opening, e.lives) left
+        e.given lost loses
 
     -- the second opening was refused
     pub refused-morning : (refused : RecoverRefused D) → IsOpening disk_of lost (Err refused)
         → IsRefusedWatchMorning disk_of old identity sci an key frame out refused
     refused-morning refused opening_again = record {
-      formatted = formatted;
-      between = mid;
       start = start;
       evening = evening;
       left = left;
       served = e;
-      lost = lost;
-      loses = loses;
-      chain = (
-        format,
-        (
-          ((opening, e.lives), e.given),
-          (power-losses-pass-on (disk_of left) (disk_of lost) (disk_of left).clock loses, (opening_again, refl)),
-        ),
-      );
-      for_disk = elim (refusals-are-failures disk_of sound lost both refused has_both opening_again) [
-        | inl disk ↦ disk.0
-        | inr later ↦ elim later [
-          | inl blank ↦ absurd (blank.2 this_edition (now (disk_of mid)).seen (map exchange_of all) None
-              (contains-later (Formats this_edition identity (is_ok formatted)) (evening_life ∷ []) evening_life
-              (contains-first evening_life [])))
-          | inr spent ↦ absurd (never-spent disk_of sound mid before has_before start all e.last (opening, e.lives)
-              left lost e.given loses
-              refused.fault spent)
-        ]
-      ];
+      again =
+          is-refused-again disk_of sound old mid is_new identity formatted format start all e.last (opening, e.lives)
+          left e.given lost loses refused opening_again;
     }
 
     module _ (again : EndpointValue D) (opening_again : IsOpening disk_of lost (Ok again)) (next second : List ℕ)

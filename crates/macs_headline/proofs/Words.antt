@@ -29,6 +29,7 @@ use Rattle.macs_rxsc.specs.declared.verdict.Verdict.{Verdict}
 use Rattle.macs_rxsc.specs.declared.verdict.Verdict.TheVariants.{Delivered, Discarded}
 use Rattle.macs_store.specs.Standing.{Standing, standing_or_refusal}
 use Rattle.macs_endpoint.specs.Queue.{first_command}
+use Rattle.macs_endpoint.specs.declared.progress.Step.TheVariants.{Done}
 use Rattle.macs_endpoint.specs.State.{Advanced, AdvancedLong, Advances, Call, Commands, Protected, Protects, Ran}
 use Rattle.macs_endpoint.specs.State.{Received, Receives, RefusedLong, Refilled, Refills, Reply, State, Submits}
 use Rattle.macs_endpoint.specs.State.{Submitted, rx_side}
@@ -43,7 +44,7 @@ use Rattle.macs_endpoint.specs.declared.queue.Waiting.{Waiting}
 use Rattle.macs_headline.specs.CommandInHand.{MayBegin}
 use Rattle.macs_headline.specs.Binding.{CountsOneFailure, IsBegunAnew}
 use Rattle.macs_headline.specs.Changing.{IsOnChannel, IsOnEncoding, IsOnMode, IsOnReplay, IsOnRx, IsOnTx, IsOnValidate}
-use Rattle.macs_headline.specs.NumbersMoved.{ComesInUnder, GoesOutUnder, SetsNext, SetsNumbers}
+use Rattle.macs_headline.specs.NumbersMoved.{ComesInUnder, GoesOutUnder, SetsNext, SetsNumbers, TakesEffect}
 use Rattle.macs_headline.specs.Received.{IsDiscardedUnless, IsVerdictOf}
 use Rattle.macs_headline.specs.Steps.{IsReplyOf}
 use Rattle.macs_headline.specs.Words.{CallWords, CommandWords, EditionWords, OneComesOfIt, ReplyWords}
@@ -152,6 +153,14 @@ goes_out : (s : State) (call : Call) (reply : Reply) (an : ℕ) → GoesOutUnder
 goes_out s (Protects plain) (Protected (Ok pn) out) an is = (plain, out, pn, refl, refl, is)
 goes_out s call reply an is = absurd is
 
+takes_effect : (s : State) (call : Call) (reply : Reply) (c : Command) → TakesEffect s call reply c
+    → ((call ≡ Commands c) × (reply ≡ Ran (Ok tt)))
+    ⊎ ((ticket : ℕ) × (call ≡ Advances) × (reply ≡ Advanced (Ok (Done ticket (Ok tt))))
+    × (first_command s.waiting ≡ Some c))
+takes_effect s (Commands given) (Ran (Ok done)) c is = inl (ap Commands is, refl)
+takes_effect s Advances (Advanced (Ok (Done ticket (Ok done)))) c is = inr (ticket, refl, refl, is)
+takes_effect s call reply c is = absurd is
+
 comes_in : (s : State) (call : Call) (reply : Reply) (sci : List ℕ) (an : ℕ) → ComesInUnder s call reply sci an
     → (frame : List ℕ) × (out : List ℕ) × (verdict : Verdict) × (call ≡ Receives frame)
     × (reply ≡ Received (Ok verdict) out)
@@ -170,6 +179,7 @@ pub call-words : CallWords
 call-words = record {
   goes_out = goes_out;
   comes_in = comes_in;
+  takes_effect = takes_effect;
   moves_next = λ s new call reply an moves other. elim (moves.transmit an) [
     | inl same ↦ absurd (other same)
     | inr (inl out) ↦ inl (goes_out s call reply an out)

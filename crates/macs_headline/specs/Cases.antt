@@ -8,7 +8,8 @@ use Rattle.macs_frame.specs.Opening.{bare_frame}
 use Rattle.macs_journal.specs.declared.fault.JournalFault.TheVariants as journal
 use Rattle.macs_rxsc.specs.declared.verdict.Kind.{Kind}
 use Rattle.macs_rxsc.specs.declared.verdict.Kind.TheVariants.{Untagged}
-use Rattle.macs_rxsc.specs.declared.verdict.Verdict.TheVariants.{Delivered}
+use Rattle.macs_rxsc.specs.declared.verdict.Reason.{Reason}
+use Rattle.macs_rxsc.specs.declared.verdict.Verdict.TheVariants.{Delivered, Discarded, HeldBack}
 use Rattle.macs_store.specs.declared.fault.CommitFault.TheVariants as commit
 use Rattle.macs_endpoint.specs.Faults.{command_fault_of, refill_fault_of}
 use Rattle.macs_endpoint.specs.Queue.{with_waiting}
@@ -42,7 +43,8 @@ use Rattle.macs_headline.specs.Steps.{IsToldWhole, LeavesOpen, state_but_hand}
 -- given, and nothing else was. Two states that are one but for what is under way, or but for numbers and logs, differ
 -- in nothing else. What waits after a command was submitted is what waited, and then that command, whatever it is,
 -- under its ticket. A fault of the store has the same name as that of a command, and one of a reservation as that of a
--- refill; what `out` holds of a frame that is delivered with a tag is its addresses and Secure Data, whatever its kind.
+-- refill; what `out` holds of a frame that is delivered with a tag is its addresses and Secure Data, whatever its kind;
+-- of one without a tag it is the frame, and of one that is discarded or held back nothing.
 pub record CasesAre : Type 0 where
   pub sent : (plain : List ℕ) → IsFrameCall (Protects plain)
   pub received : (frame : List ℕ) → IsFrameCall (Receives frame)
@@ -89,4 +91,7 @@ pub record CasesAre : Type 0 where
   pub refill_faults : (refill_fault_of journal.Stopped ≡ refill.Stopped)
       × (refill_fault_of journal.GenerationsSpent ≡ refill.GenerationsSpent)
       × (refill_fault_of journal.Disk ≡ refill.Disk)
+  pub untagged : (frame : List ℕ) → out_after frame (Ok (Delivered Untagged)) ≡ frame
+  pub discarded : (frame : List ℕ) (reason : Reason) → out_after frame (Ok (Discarded reason)) ≡ []
+  pub held_back : (frame : List ℕ) → out_after frame (Ok HeldBack) ≡ []
   pub bare : (frame : List ℕ) (kind : Kind) → kind ≢ Untagged → out_after frame (Ok (Delivered kind)) ≡ bare_frame frame

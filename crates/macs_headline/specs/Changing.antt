@@ -1,5 +1,6 @@
 -- The headline on the configuration: what an endpoint is formatted with, and what each command makes of it.
-use Rattle.std.specs.Prelude.{◌≡◌, ◌↔◌, ◌++◌, true, false, ℕ, Bool, List, [], Contains, None, Some, IsSomeAnd, Ok}
+use Rattle.std.specs.Prelude.{◌≡◌, ◌↔◌, ◌++◌, ◌∷◌, ◌&&◌, not, true, false, ℕ, Bool, List, [], Contains, None, Some}
+use Rattle.std.specs.Prelude.{IsSomeAnd, Ok}
 use Rattle.sha2.specs.Sha256.{sha256}
 use Rattle.macs_aes.specs.Keys.{octets_of_key}
 use Rattle.macs_aes.specs.declared.keys.Key.{Key}
@@ -7,7 +8,8 @@ use Rattle.macs_aes.specs.declared.keys.Key.TheVariants.{Long, Short}
 use Rattle.macs_fields.specs.Fields.{octets_of}
 use Rattle.macs_config.specs.Apply.{apply}
 use Rattle.macs_config.specs.Association.{is_confidential, offset_of}
-use Rattle.macs_config.specs.Config.{Config, Edition, default, is_among, is_spent, rx_fingerprint, tx_fingerprint}
+use Rattle.macs_config.specs.Config.{Config, Edition, are_distinct, default, is_among, is_spent, rx_fingerprint}
+use Rattle.macs_config.specs.Config.{tx_fingerprint}
 use Rattle.macs_config.specs.Identity.{Identity}
 use Rattle.macs_config.specs.declared.association.RxSa.{RxSa}
 use Rattle.macs_config.specs.declared.association.TxSa.{TxSa}
@@ -123,11 +125,14 @@ CommandsChange = (edition : Edition) (identity : Identity) (old new : Config) (c
 
 -- What is kept of a spent key: on the transmit side the SHA-256 of the key, on the receive side that of the SCI and the
 -- key, so that a key may serve another SCI. An SCI or a fingerprint is among others where one of them is the same,
--- octet by octet. The octets of a key are those that it was given as, in their order.
+-- octet by octet, and they are distinct where none is among those after it. The octets of a key are those that it was
+-- given as, in their order.
 pub record PrintsAre : Type 0 where
   pub transmit : (key : List ℕ) → tx_fingerprint key ≡ sha256 key
   pub receive : (sci key : List ℕ) → rx_fingerprint sci key ≡ sha256 (sci ++ key)
   pub among : (items : List (List ℕ)) (item : List ℕ) → (is_among items item ≡ true) ↔ Contains items item
+  pub distinct : (items : List (List ℕ)) (item : List ℕ) → (are_distinct [] ≡ true)
+      × (are_distinct (item ∷ items) ≡ (not (is_among items item) && are_distinct items))
   pub spent : (prints : List (List ℕ)) (print : List ℕ) → (is_spent prints print ≡ true) ↔ Contains prints print
   pub short_key : (octets : List ℕ) → octets_of_key (Short octets) ≡ octets
   pub long_key : (octets : List ℕ) → octets_of_key (Long octets) ≡ octets

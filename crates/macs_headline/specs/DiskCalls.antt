@@ -29,7 +29,7 @@ pub record DiskCalls : Type 0 where
   pub stopped : (fuse : FuseValue ℕ) → ((fuse_after_stopped_call fuse).blow ≡ fuse.blow)
       × ((fuse_after_stopped_call fuse).left ≡ fuse.left) × ((fuse_after_stopped_call fuse).inner ≡ fuse.inner)
   pub blown : (fuse : FuseValue ℕ) → ((fuse_after_blown_call fuse).blow ≡ NoCall)
-      × ((fuse_after_blown_call fuse).inner ≡ fuse.inner)
+      × ((fuse_after_blown_call fuse).left ≡ fuse.left) × ((fuse_after_blown_call fuse).inner ≡ fuse.inner)
   pub sector_read : (old new : DiskState) (at value : ℕ) (into : List ℕ)
       → Reads {T = ℕ} {E = ℕ} old new at into (Ok value) ↔ ((new ≡ old) × (into ≡ old.seen at))
   pub no_sector_read : (old new : DiskState) (at error : ℕ) (into : List ℕ)

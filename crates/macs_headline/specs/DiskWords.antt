@@ -3,7 +3,8 @@ use Rattle.std.specs.Prelude.{◌≡◌, ◌↔◌, ◌⊎◌, ◌<◌, ◌≤�
 use Rattle.std.specs.Prelude.{List, Result, is_ok, nat_le, replicate}
 use Rattle.macs_disk.specs.Disk.{Disk, IsDeviceCall, IsHonest, Writes, now}
 use Rattle.macs_disk.specs.FileDisks.{HasMark, IsBlank, IsFoundAs, IsOpened, KeepsLayout, is_ready, state_in_file}
-use Rattle.macs_disk.specs.Files.{FileState, HasNothingNew, IsClaimed, IsFileImage, IsSoundFile, IsSure, ReadsFile}
+use Rattle.macs_disk.specs.Files.{Behaves, FileState, HasNothingNew, IsClaimed, IsFileImage, IsSoundFile, IsSure}
+use Rattle.macs_disk.specs.Files.{ReadsFile}
 use Rattle.macs_disk.specs.Files.{Settles}
 use Rattle.macs_disk.specs.Files.{file_after_sync, file_after_write, file_cut, values_from}
 use Rattle.macs_disk.specs.Fuses.{BlowsWrite, FuseValue}
@@ -20,9 +21,9 @@ use Rattle.macs_disk.specs.declared.layout.Layout.{Layout}
 -- nothing of a file, even of one in doubt. A file that was cut shows nothing, and a power loss may leave any octets of
 -- it, and another size. One that is found as a disk of some layout has that layout, whole sectors, as many as are said,
 -- and a durable size; one that keeps a layout has it, and a size that is durable, or none beyond the place of the mark.
--- A file is sure, or claimed, exactly where it says so. It is sound where its blocks have octets, each below 256,
--- nothing is pending while it is clean, and what it shows is durable where it is sure and nothing is pending. Nothing
--- is new of each file of the same blocks that keeps a durable size and may leave no other image.
+-- A file behaves, is sure, or claimed, exactly where it says so. It is sound where its blocks have octets, each below
+-- 256, nothing is pending while it is clean, and what it shows is durable where it is sure and nothing is pending.
+-- Nothing is new of each file of the same blocks that keeps a durable size and may leave no other image.
 pub record DiskWords : Type 0 where
   pub opened : (file : FileState) (least : ℕ) (layout : Layout) (disk : Disk) → IsOpened file least layout disk
       → (settled : FileState) × Settles file settled × (layout ≡ layout_in settled)
@@ -37,6 +38,7 @@ pub record DiskWords : Type 0 where
       → (answer : Result (Unit {0}) DeviceFault) × IsDeviceCall (disk old.inner) (disk new.inner) answer
       × (IsHonest (disk new.inner) → Writes (now (disk old.inner)) (now (disk new.inner)) at fill answer)
       × (new.added ≡ old.added + (if is_ok answer then 1 else 0)) × (new.missed ≡ old.missed) × (new.blow ≡ NoCall)
+      × (new.left ≡ old.left) × (new.when ≡ old.inner)
   pub any_read : (old new : FileState) (at : ℕ) (into : List ℕ) (result : Result ℕ ℕ)
       → ReadsFile old new at into result → new ≡ old
   pub cut : (old : FileState) → file_cut old
@@ -54,6 +56,7 @@ pub record DiskWords : Type 0 where
   pub sized : (layout : Layout) (file : FileState) → KeepsLayout layout file
       → (layout_in file ≡ layout) × ((file.is_size_durable ≡ true) ⊎ (file.size ≤ mark_place))
       × (values_from file.durable mark_place 512 ≡ values_from file.seen mark_place 512)
+      × (suits layout file.block ≡ true → file.pending (mark_place / file.block) ≡ false)
   pub keeps_so : (layout : Layout) (file : FileState) → layout_in file ≡ layout
       → values_from file.durable mark_place 512 ≡ values_from file.seen mark_place 512
       → (suits layout file.block ≡ true → file.pending (mark_place / file.block) ≡ false)
@@ -65,5 +68,6 @@ pub record DiskWords : Type 0 where
       → IsSoundFile file
   pub ready : (layout : Layout) (sectors : ℕ) (file : FileState) → is_ready layout sectors file
       ≡ (file.is_clean && file.is_size_durable && nat_le (place layout sectors) file.size)
+  pub behaves : (file : FileState) → Behaves file ↔ (file.behaves ≡ true)
   pub sure : (file : FileState) → IsSure file ↔ (file.is_sure ≡ true)
   pub claimed : (file : FileState) → IsClaimed file ↔ (file.is_claimed ≡ true)

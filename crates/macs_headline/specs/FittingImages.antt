@@ -1,7 +1,8 @@
 -- The headline on what fits: which images an opening may come upon after a life, whatever is installed, and in programs
 -- of which editions.
 use Rattle.std.specs.Prelude.{◌≡◌, ◌≤◌, ◌^◌, ℕ, List, Contains, Some, None, IsSomeAnd, Ok}
-use Rattle.macs_config.specs.Config.{Edition, IsUpTo}
+use Rattle.macs_config.specs.Apply.{apply}
+use Rattle.macs_config.specs.Config.{Config, Edition, IsUpTo}
 use Rattle.macs_config.specs.Identity.{Identity}
 use Rattle.macs_config.specs.declared.command.Command.{Command}
 use Rattle.macs_disk.specs.States.{Image}
@@ -12,7 +13,7 @@ use Rattle.macs_store.specs.Found.{StandingIs}
 use Rattle.macs_store.specs.Standing.{Standing, new_standing}
 use Rattle.macs_endpoint.specs.Restart.{Fits}
 use Rattle.macs_endpoint.specs.State.{State}
-use Rattle.macs_endpoint.specs.Step.{Makes}
+use Rattle.macs_endpoint.specs.Step.{state_after_command}
 use Rattle.macs_headline.specs.History.{Blank, FitsPast, Formatted}
 use Rattle.macs_headline.specs.Numbers.{IsMoved, IsSkipped}
 
@@ -32,8 +33,9 @@ pub record RestartsFit (sectors : ℕ) : Type 0 where
       → ((sci : List ℕ) (an : ℕ) (old : Numbers) → s.numbers sci an ≡ Some old
       → IsSomeAnd (found.ceilings.rx sci an) (λ later. IsMoved s.identity.rx_block old (first_numbers later)))
       → Fits edition sectors image s
-  pub carried : (s mid : State) (command : Command) (edition : Edition) (image : Image) → s.in_hand ≡ Some command
-      → Makes s command mid
+  pub carried : (s mid : State) (command : Command) (config : Config) (edition : Edition) (image : Image)
+      → s.in_hand ≡ Some command → apply s.edition s.identity s.config command ≡ Ok config
+      → mid ≡ state_after_command s command config
       → Fits edition sectors image mid → Fits edition sectors image s
   pub come_upon : (s : State) (edition : Edition) (image : Image) → Fits edition sectors image s
       → FitsPast edition sectors (Formatted s) image

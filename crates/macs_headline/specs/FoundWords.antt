@@ -5,6 +5,7 @@ use Rattle.macs_record.specs.Decoding.{IsSectorOf}
 use Rattle.macs_record.specs.Gates.{IsOpen}
 use Rattle.macs_record.specs.Heads.{Head, IsHeadOf}
 use Rattle.macs_record.specs.declared.record.Record.{Record}
+use Rattle.macs_journal.specs.Appending.{HasEitherJournal}
 use Rattle.macs_journal.specs.Areas.{IsArea, gate, head_body, other_area, slot_body}
 use Rattle.macs_journal.specs.Renewal.{HasOpenGates}
 use Rattle.macs_journal.specs.Found.{Content, HasContent, HasEarlier, HasHead, HasJournal, IsHeadless, IsPast}
@@ -13,7 +14,7 @@ use Rattle.macs_journal.specs.Found.{Content, HasContent, HasEarlier, HasHead, H
 -- body is no head's, whatever the area and the generation. A content is in an image where its area has its head, the
 -- gates of the records after the snapshot are open, and of no later slot, and the body of each slot is its record's. It
 -- is found where the other head gate is closed, or that area has an earlier head of the same identity. Open gates are
--- counted one by one.
+-- counted one by one. Of two contents one is found, or the other.
 pub record FoundWords : Type 0 where
   pub has_head : (image : Image) (area : ℕ) (head : Head) → HasHead image area head
       ↔ (IsOpen (image (gate area 0)) × IsHeadOf head (image (head_body area)))
@@ -31,6 +32,8 @@ pub record FoundWords : Type 0 where
       → IsPast image area head ↔ (IsOpen (image (gate area 0)) → HasEarlier image area head)
   pub found : (image : Image) (c : Content)
       → HasJournal image c ↔ (HasContent image c × IsPast image (other_area c.area) c.head)
+  pub either : (before after : Content) (image : Image)
+      → HasEitherJournal before after image ↔ (HasJournal image before ⊎ HasJournal image after)
   pub gates : (area k : ℕ) → gate area k ≡ 514 * area + 1 + 2 * k
   pub bodies : (area slot : ℕ) → (head_body area ≡ 514 * area) × (slot_body area slot ≡ 514 * area + 2 + 2 * slot)
   pub none_open : (seen : Image) (area count : ℕ) → HasOpenGates seen area 0 count ↔ (count ≡ 0)

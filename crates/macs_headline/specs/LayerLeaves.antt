@@ -14,8 +14,9 @@ use Rattle.macs_record.specs.declared.format.Format.TheVariants.{Two}
 use Rattle.macs_record.specs.declared.record.Record.{Record}
 use Rattle.macs_journal.specs.Areas.{least_sectors}
 use Rattle.macs_journal.specs.Compacting.{Compacts}
-use Rattle.macs_journal.specs.Found.{HasFormat}
+use Rattle.macs_journal.specs.Found.{Content, HasFormat}
 use Rattle.macs_journal.specs.Opening.{IsNoJournal, IsRecovery, IsRefused, Recovers}
+use Rattle.macs_journal.specs.Renewal as renewal
 use Rattle.macs_journal.specs.Stepping as journal_work
 use Rattle.macs_journal.specs.Value.{JournalValue, content_of}
 use Rattle.macs_journal.specs.Value as journal
@@ -24,6 +25,7 @@ use Rattle.macs_journal.specs.declared.fault.JournalFault.TheVariants.{Disk as D
 use Rattle.macs_journal.specs.declared.fault.JournalFault.TheVariants.{TooSmall}
 use Rattle.macs_journal.specs.declared.hand.Appending.{Appending}
 use Rattle.macs_journal.specs.declared.hand.Compacting.{Compacting}
+use Rattle.macs_journal.specs.declared.hand.Hand.{Hand}
 use Rattle.macs_journal.specs.declared.hand.Hand.TheVariants as hand
 use Rattle.macs_journal.specs.declared.place.Place.{Place}
 use Rattle.macs_journal.specs.declared.recovery.RecoverRefused.{RecoverRefused}
@@ -55,9 +57,10 @@ use Rattle.macs_headline.specs.Deeds.{disk_after_opening}
 -- no journal to rewrite makes its sync first, and only reads after it. A `format` of an honest disk answers Ok only
 -- where what is seen of it is not formatted, and then each image is that of the new endpoint. A record that is appended
 -- is the one in hand, from call to call, and as many records are lent to a journal that starts over as its new head
--- counts, and to any other whatever comes. What was judged of a command is kept beside its record alone, and no longer
--- than that is under way. On each disk, honest or not, an opening, a `format` and a call are work of the disk: its
--- clock goes on, no failure is taken back, and one that is worn stays so.
+-- counts, and to any other whatever comes. Of
+-- those the journal that starts over is made, and the disk holds it so. What was judged of a command is kept beside its
+-- record alone, and no longer than that is under way. On each disk, honest or not, an opening, a `format` and a call
+-- are work of the disk: its clock goes on, no failure is taken back, and one that is worn stays so.
 pub record LayerLeaves {D : Type 0} (disk_of : D → Disk) : Type 0 where
   pub committed : (old new : StoreValue D) (command : Command) (result : Result (Unit {0}) CommitFault)
       → Commits disk_of old command result new → OnErr result (IsErrOf result commit.Disk ⊎ (new ≡ old))
@@ -93,6 +96,13 @@ pub record LayerLeaves {D : Type 0} (disk_of : D → Disk) : Type 0 where
       → journal.AreLent (hand.Compact work) records ↔ (length records ≡ work.head.count)
   pub lent_else : (work : Appending) (records : List Record)
       → journal.AreLent hand.Empty records × journal.AreLent (hand.Append work) records
+  pub made_of : (work : Compacting) (records : List Record) (before after : Content)
+      → journal.IsMadeOf (hand.Compact work) records before after ↔ (after ≡ renewal.compacted before records)
+  pub made_else : (work : Appending) (records : List Record) (before after : Content)
+      → journal.IsMadeOf hand.Empty records before after × journal.IsMadeOf (hand.Append work) records before after
+  pub held_with : (d : Disk) (place : Place) (at : Hand) (records : List Record) (before after : Content)
+      → journal.IsHolding d place at before after → journal.IsMadeOf at records before after
+      → journal.HoldsWith d place at records before after
   pub judged_none : (checked : Option Command) → IsOfChange change.Empty checked → checked ≡ None
   pub judged : (r : Record) (command : Command) → command_of r ≡ Some command → ¬ IsOfRecord r None
   pub judged_beside : (r : Record) (command : Command) → IsOfRecord r (Some command) → record_of command ≡ Some r

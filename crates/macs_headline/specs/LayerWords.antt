@@ -3,6 +3,7 @@ use Rattle.std.specs.Prelude.{◌≡◌, ◌≢◌, ◌≤◌, ◌⊎◌, ◌↔
 use Rattle.std.specs.Prelude.{OnErr, OnOk}
 use Rattle.macs_config.specs.Config.{this_edition}
 use Rattle.macs_config.specs.Identity.{Identity}
+use Rattle.macs_config.specs.declared.command.Command.{Command}
 use Rattle.macs_disk.specs.Disk.{Disk, IsHonest, LeftSince, MayLeave, Writes, now}
 use Rattle.macs_disk.specs.Fuses.{BlowsWrite, FuseValue}
 use Rattle.macs_disk.specs.Runs.{LeavesNothingNew}
@@ -13,7 +14,7 @@ use Rattle.macs_record.specs.declared.record.Record.{Record}
 use Rattle.macs_journal.specs.Areas.{other_area}
 use Rattle.macs_journal.specs.Compacting.{Compacts, next_head}
 use Rattle.macs_journal.specs.Formatting.{IsJournalFormat, first_content}
-use Rattle.macs_journal.specs.Found.{HasFormat, HasJournal, JournalIs}
+use Rattle.macs_journal.specs.Found.{HasFormat, HasJournal, IsNotFormatted, JournalIs}
 use Rattle.macs_journal.specs.Opening.{IsRecovery, Recovers}
 use Rattle.macs_journal.specs.Recovery.{IsRecoverName}
 use Rattle.macs_journal.specs.Value.{JournalValue}
@@ -26,26 +27,29 @@ use Rattle.macs_journal.specs.declared.recovery.Recovered.{Recovered}
 use Rattle.macs_journal.specs.declared.work.JournalStep.{JournalStep}
 use Rattle.macs_journal.specs.declared.work.JournalStep.TheVariants.{Idle}
 use Rattle.macs_store.specs.Found.{StandsFor}
-use Rattle.macs_store.specs.Keeps.{IsSpent, Keeps, generation_after, most_calls, slots_after}
-use Rattle.macs_store.specs.Standing.{Standing}
+use Rattle.macs_store.specs.Keeps.{Commits, IsSpent, Keeps, generation_after, most_calls, slots_after}
+use Rattle.macs_store.specs.Standing.{Standing, accept}
 use Rattle.macs_store.specs.Stepping.{Finishes, Steps}
 use Rattle.macs_store.specs.Value.{IsIdle, IsStored, StoreValue, generation, generation_then, slots_then, standing_in}
 use Rattle.macs_store.specs.Value.{used_slots}
 use Rattle.macs_store.specs.Value as store
+use Rattle.macs_store.specs.declared.fault.CommitFault.{CommitFault}
 
 -- A reservation that the store keeps in one call makes its standing where it is answered Ok. It is refused as Stopped
 -- exactly where the store is stopped, as GenerationsSpent exactly where the journal is at its end, and both change
 -- nothing; a call of the disk failed exactly where it is answered Disk. It leaves nothing under way, and makes as many
 -- device calls as a change does, at most. Once it is kept it used a slot, where the journal did not start over. At each
--- moment a power loss leaves the standing before or after it, in format two. It is refused for no other reason; after
--- Disk the store is stopped with the standing before, and after Ok it runs, holds what is in memory on its disk, and a
--- power loss leaves that. A step, and work that is finished, change nothing where the store is stopped, nor does a step
--- with nothing under way; and a step leaves the slots and the generation that are to come. A journal that is recovered
--- with its records is what a recovery into a room is, and is refused for the same, with nothing new on the disk. One
--- that starts over goes on in its other area, in the next generation, after its records; where that is refused, or a
--- call fails, it stays where it was. It is stopped where a call failed, and makes 519 device calls and one for each
--- record at most. Once a `format` of the journal is answered Ok nothing is pending, and what is seen of each sector is
--- durable: the new journal. In the place of a write that a fuse fails once, its own octets are written to that sector.
+-- moment a power loss leaves the standing before or after it, in format two; so it does of a command that is kept. It
+-- is refused for no other reason; after Disk the store is stopped with the standing before, and after Ok it runs, holds
+-- what is in memory on its disk, and a power loss leaves that. A step, and work that is finished, change nothing where
+-- the store is stopped, nor does a step with nothing under way; and a step leaves the slots and the generation that are
+-- to come. A journal that is recovered with its records is what a recovery into a room is, and is refused for the same,
+-- with nothing new on the disk. One that starts over goes on in its other area, in the next generation, after its
+-- records; where that is refused, or a call fails, it stays where it was. It is stopped where a call failed, and makes
+-- 519 device calls and one for each record at most. On the way of a `format` of the journal a power loss leaves what it
+-- could leave before, no journal, or the new one. Once it is answered Ok nothing is pending, and what is seen of each
+-- sector is durable: the new journal. In the place of a write that a fuse fails once, its own octets are written to
+-- that sector.
 pub record LayerWords {D : Type 0} (disk_of : D → Disk) : Type 0 where
   pub reserved : (old new : StoreValue D) (after : Standing) (result : Result (Unit {0}) JournalFault)
       → Keeps disk_of old after result new
@@ -63,6 +67,15 @@ pub record LayerWords {D : Type 0} (disk_of : D → Disk) : Type 0 where
       → LeftSince (store.disk_in disk_of new) (store.disk_in disk_of old).clock image
       → (StandsFor (standing_in old).edition image (standing_in old)
       ⊎ StandsFor (standing_in old).edition image after)
+      × HasFormat image Two
+  pub committed_leaves : (old new : StoreValue D) (command : Command) (result : Result (Unit {0}) CommitFault)
+      (image : Image)
+      → Commits disk_of old command result new
+      → IsHonest (store.disk_in disk_of new) → IsStored disk_of old
+      → LeftSince (store.disk_in disk_of new) (store.disk_in disk_of old).clock image
+      → (StandsFor (standing_in old).edition image (standing_in old)
+      ⊎ ((after : Standing) × (accept (standing_in old) command ≡ Ok after)
+      × StandsFor (standing_in old).edition image after))
       × HasFormat image Two
   pub reserved_after : (old new : StoreValue D) (after : Standing) (result : Result (Unit {0}) JournalFault)
       → Keeps disk_of old after result new
@@ -94,6 +107,10 @@ pub record LayerWords {D : Type 0} (disk_of : D → Disk) : Type 0 where
         head = next_head old.place.head (length records);
         free = length records;
       })
+  pub format_leaves : (old new : D) (identity : Identity) (result : Result (Unit {0}) JournalFault) (image : Image)
+      → IsJournalFormat disk_of old identity result new → IsHonest (disk_of new)
+      → LeftSince (disk_of new) (disk_of old).clock image
+      → MayLeave (disk_of old) image ⊎ (IsNotFormatted image ⊎ HasJournal image (first_content identity))
   pub format_settles : (old new : D) (identity : Identity) → IsJournalFormat disk_of old identity (Ok tt) new
       → IsHonest (disk_of new) → ((i : ℕ) → ((now (disk_of new)).pending i ≡ false)
       × ((now (disk_of new)).seen i ≡ (now (disk_of new)).durable i))

@@ -86,28 +86,34 @@ pub record IsRefusedEvening {D : Type 0} (disk_of : D → Disk) (old : D) (ident
   pub day : IsRefusedDay disk_of old identity refused
   pub failed : ((disk_of old).failures < (disk_of refused.disk).failures) ⊎ ((disk_of refused.disk).worn ≡ true)
 
--- The disk was formatted and opened, the endpoint answered the calls of the evening and gave the disk back, power was
--- lost, and the second opening was refused as Disk.
-pub record IsRefusedMorning {D : Type 0} (disk_of : D → Disk) (old : D) (identity : Identity) (an : ℕ) (key : Key)
-    (plain out : List ℕ)
+-- The disk was formatted, an endpoint that was opened lived through these turns and gave the disk back, power was lost,
+-- and the next opening was refused as Disk.
+pub record IsRefusedAgain {D : Type 0} (disk_of : D → Disk) (old : D) (identity : Identity) (start : EndpointValue D)
+    (turns : List (Transition D)) (last : EndpointValue D) (left : D)
     (refused : RecoverRefused D) : Type 0 where
   pub formatted : Result (Unit {0}) JournalFault
   pub between : D
-  pub start : EndpointValue D
-  pub evening : Evening
-  pub left : D
-  pub served : IsEvening disk_of start an key plain out evening left
   pub lost : D
   pub loses : LosesPower (disk_of left) (disk_of left).clock (disk_of lost)
   pub chain : Chain disk_of old (
       link_of (Formatting identity formatted) between
-      ∷ link_of
-      (Living start (evening_turns an key plain out evening served.one served.two served.last) served.last None) left
+      ∷ link_of (Living start turns last None) left
       ∷ link_of PassingOn lost
       ∷ link_of (Refusing refused.fault) refused.disk
       ∷ []
       ) refused.disk
   pub for_disk : refused.fault ≡ DiskFault
+
+-- So it was after the calls of an evening.
+pub record IsRefusedMorning {D : Type 0} (disk_of : D → Disk) (old : D) (identity : Identity) (an : ℕ) (key : Key)
+    (plain out : List ℕ)
+    (refused : RecoverRefused D) : Type 0 where
+  pub start : EndpointValue D
+  pub evening : Evening
+  pub left : D
+  pub served : IsEvening disk_of start an key plain out evening left
+  pub again : IsRefusedAgain disk_of old identity start
+      (evening_turns an key plain out evening served.one served.two served.last) served.last left refused
 
 -- the one or the other
 abbrev pub IsRefusedNight : {D : Type 0} → (D → Disk) → D → Identity → (an : ℕ) → Key → (evening out : List ℕ)

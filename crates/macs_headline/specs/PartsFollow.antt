@@ -41,6 +41,7 @@ pub record PartsFollow : Type 0 where
       ≡ (if may_follow edition identity c one
       then config_with_parts edition identity (config_with_part c one) parts else None)
   pub last : (edition : Edition) (identity : Identity) (c : Config) → config_with_parts edition identity c [] ≡ Some c
+  pub none : (identity : Identity) → whole_config identity None ≡ None
   pub is_whole : (identity : Identity) (c : Config) → whole_config identity (Some c)
       ≡ (if list_all (λ an. option_map_or (λ (sa : TxSa). is_spent c.spent_tx (tx_fingerprint sa.key)) (c.tx an) true)
       (0 ∷ 1 ∷ 2 ∷ 3 ∷ [])

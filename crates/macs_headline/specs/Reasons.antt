@@ -1,8 +1,11 @@
 -- The headline on the reasons for which a command is refused.
-use Rattle.std.specs.Prelude.{◌≡◌, ◌≢◌, ◌⊎◌, ◌≤◌, ℕ, true, false, List, [], ◌∷◌, drop, length, Some, None, IsSome}
+use Rattle.std.specs.Prelude.{◌≡◌, ◌≢◌, ◌↔◌, ◌⊎◌, ◌≤◌, ℕ, true, false, List, [], ◌∷◌, drop, length, Some, None, IsSome}
 use Rattle.macs_aes.specs.Keys.{octets_of_key}
 use Rattle.macs_fields.specs.First.{IsFirst}
-use Rattle.macs_config.specs.Apply.{LongKey, Named, Reason, refusal_of}
+use Rattle.macs_config.specs.Apply.{LongKey, Named, Reason, are_channels_full, are_spent_full, has_no_channel}
+use Rattle.macs_config.specs.Apply.{has_wrong_offset, has_wrong_start, is_channel_taken, is_in_use, is_key_spent}
+use Rattle.macs_config.specs.Apply.{is_long_key, is_own_sci, is_slot_empty, is_slot_taken, is_wrong_end_station}
+use Rattle.macs_config.specs.Apply.{refusal_of}
 use Rattle.macs_config.specs.Config.{Config, Edition, is_among, is_spent, max_spent, rx_fingerprint, takes_key}
 use Rattle.macs_config.specs.Config.{tx_fingerprint}
 use Rattle.macs_config.specs.Identity.{Identity}
@@ -65,8 +68,8 @@ reasons_in_order =
     ∷ Named ChannelsFull ∷ Named SlotTaken
     ∷ Named SlotEmpty ∷ Named InUse ∷ Named KeySpent ∷ Named SpentFull ∷ LongKey ∷ []
 
--- A command that is refused for a reason has it, and none that comes before it; and one that has any is refused. The
--- length of its key is the last reason.
+-- A command that is refused for a reason has it, and none that comes before it; and one that has any is refused. Each
+-- is what the configuration's own test finds, and the length of its key is the last one.
 pub record ReasonsAreNamed : Type 0 where
   pub named : (edition : Edition) (identity : Identity) (c : Config) (command : Command) (reason : Reason)
       → refusal_of edition identity c command ≡ Some reason → IsReasonOf edition identity c command reason
@@ -76,6 +79,20 @@ pub record ReasonsAreNamed : Type 0 where
   pub held : (edition : Edition) (identity : Identity) (c : Config) (command : Command) (reason : Reason)
       → IsReasonOf edition identity c command reason
       → ¬ (refusal_of edition identity c command ≡ None)
+  pub tested : (edition : Edition) (identity : Identity) (c : Config) (command : Command)
+      → ((has_wrong_start command ≡ true) ↔ IsReasonOf edition identity c command (Named StartRange))
+      × ((has_wrong_offset command ≡ true) ↔ IsReasonOf edition identity c command (Named OffsetChoice))
+      × ((is_own_sci identity command ≡ true) ↔ IsReasonOf edition identity c command (Named OwnSci))
+      × ((is_wrong_end_station identity command ≡ true) ↔ IsReasonOf edition identity c command (Named EndStationSci))
+      × ((has_no_channel c command ≡ true) ↔ IsReasonOf edition identity c command (Named NoChannel))
+      × ((is_channel_taken c command ≡ true) ↔ IsReasonOf edition identity c command (Named ChannelTaken))
+      × ((are_channels_full edition c command ≡ true) ↔ IsReasonOf edition identity c command (Named ChannelsFull))
+      × ((is_slot_taken c command ≡ true) ↔ IsReasonOf edition identity c command (Named SlotTaken))
+      × ((is_slot_empty c command ≡ true) ↔ IsReasonOf edition identity c command (Named SlotEmpty))
+      × ((is_in_use c command ≡ true) ↔ IsReasonOf edition identity c command (Named InUse))
+      × ((is_key_spent c command ≡ true) ↔ IsReasonOf edition identity c command (Named KeySpent))
+      × ((are_spent_full c command ≡ true) ↔ IsReasonOf edition identity c command (Named SpentFull))
+      × ((is_long_key edition command ≡ true) ↔ IsReasonOf edition identity c command LongKey)
   pub long_last : (edition : Edition) (identity : Identity) (c : Config) (command : Command) (refusal : Refusal)
       → refusal_of edition identity c command ≡ Some LongKey
       → ¬ IsReasonOf edition identity c command (Named refusal)

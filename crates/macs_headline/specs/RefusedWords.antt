@@ -7,7 +7,7 @@ use Rattle.macs_config.specs.declared.command.Command.TheVariants.{RxAdd, RxInst
 use Rattle.macs_disk.specs.Disk.{Disk, now}
 use Rattle.macs_journal.specs.declared.fault.JournalFault.TheVariants.{Disk as DiskFault}
 use Rattle.macs_journal.specs.declared.recovery.RecoverRefused.{RecoverRefused}
-use Rattle.macs_endpoint.specs.Lives.{Lives, exchange_of}
+use Rattle.macs_endpoint.specs.Lives.{Lives, Transition, exchange_of}
 use Rattle.macs_endpoint.specs.Value.{EndpointValue, device_in}
 use Rattle.macs_endpoint.specs.State.{Commands, Protected, Protects, Ran, Received, Receives, Refilled, Refills}
 use Rattle.macs_headline.specs.Binding.{HasHistory}
@@ -15,8 +15,9 @@ use Rattle.macs_headline.specs.Days.{IsRefusedDay, exchange_with, link_of}
 use Rattle.macs_headline.specs.Deeds.{Chain, Deed, Formatting, Living, PassingOn, Refusing}
 use Rattle.macs_headline.specs.Endings.{LosesPower}
 use Rattle.macs_headline.specs.History.{Formats, Refuses}
-use Rattle.macs_headline.specs.Nights.{IsEvening as IsNightEvening, IsMorning as IsNightMorning, IsRefusedEvening}
-use Rattle.macs_headline.specs.Nights.{IsRefusedMorning, IsRefusedNight, evening_turns as night_evening}
+use Rattle.macs_headline.specs.Nights.{IsEvening as IsNightEvening, IsMorning as IsNightMorning, IsRefusedAgain}
+use Rattle.macs_headline.specs.Nights.{IsRefusedEvening, IsRefusedMorning, IsRefusedNight}
+use Rattle.macs_headline.specs.Nights.{evening_turns as night_evening}
 use Rattle.macs_headline.specs.Nights.{morning_turns as night_morning}
 use Rattle.macs_headline.specs.Watches.{IsEvening, IsMorning, IsRefusedWatch, IsRefusedWatchMorning, evening_turns}
 use Rattle.macs_headline.specs.Watches.{morning_turns}
@@ -40,34 +41,34 @@ pub record RefusedWords {D : Type 0} (disk_of : D → Disk) : Type 0 where
       → IsRefusedEvening disk_of old identity refused
       → IsRefusedDay disk_of old identity refused
       × (((disk_of old).failures < (disk_of refused.disk).failures) ⊎ ((disk_of refused.disk).worn ≡ true))
+  pub again : (old : D) (identity : Identity) (start : EndpointValue D) (turns : List (Transition D))
+      (last : EndpointValue D) (left : D) (refused : RecoverRefused D)
+      (i : IsRefusedAgain disk_of old identity start turns last left refused)
+      → (refused.fault ≡ DiskFault) × LosesPower (disk_of left) (disk_of left).clock (disk_of i.lost)
+      × Chain disk_of old (link_of (Formatting identity i.formatted) i.between
+      ∷ link_of (Living start turns last None) left
+      ∷ link_of PassingOn i.lost ∷ link_of (Refusing refused.fault) refused.disk ∷ []) refused.disk
   pub night : (old : D) (identity : Identity) (an : ℕ) (key : Key) (plain out : List ℕ) (refused : RecoverRefused D)
       (i : IsRefusedMorning disk_of old identity an key plain out refused)
-      → (refused.fault ≡ DiskFault)
-      × (s : IsNightEvening disk_of i.start an key plain out i.evening i.left)
+      → (s : IsNightEvening disk_of i.start an key plain out i.evening i.left)
       × (map exchange_of (night_evening an key plain out i.evening s.one s.two s.last)
       ≡ exchange_with (Commands (TxInstall an key 1 true 0)) (Ran i.evening.installed)
       ∷ exchange_with (Commands (TxUse an)) (Ran i.evening.chosen)
       ∷ exchange_with (Protects plain) (Protected i.evening.sent out) ∷ [])
-      × LosesPower (disk_of i.left) (disk_of i.left).clock (disk_of i.lost)
-      × Chain disk_of old (link_of (Formatting identity i.formatted) i.between
-      ∷ link_of (Living i.start (night_evening an key plain out i.evening s.one s.two s.last) s.last None) i.left
-      ∷ link_of PassingOn i.lost ∷ link_of (Refusing refused.fault) refused.disk ∷ []) refused.disk
+      × IsRefusedAgain disk_of old identity i.start (night_evening an key plain out i.evening s.one s.two s.last) s.last
+      i.left refused
   pub watch : (old : D) (identity : Identity) (sci : List ℕ) (an : ℕ) (key : Key) (frame out : List ℕ)
       (refused : RecoverRefused D)
       (i : IsRefusedWatchMorning disk_of old identity sci an key frame out refused)
-      → (refused.fault ≡ DiskFault)
-      × (s : IsEvening disk_of i.start sci an key frame out i.evening i.left)
+      → (s : IsEvening disk_of i.start sci an key frame out i.evening i.left)
       × (map exchange_of (evening_turns sci an key frame s.early out i.evening s.one s.two s.three s.four s.last)
       ≡ exchange_with (Commands (RxAdd sci)) (Ran i.evening.added)
       ∷ exchange_with (Commands (RxInstall sci an key 1 0)) (Ran i.evening.installed)
       ∷ exchange_with (Receives frame) (Received i.evening.tried s.early)
       ∷ exchange_with Refills (Refilled i.evening.refilled)
       ∷ exchange_with (Receives frame) (Received i.evening.received out) ∷ [])
-      × LosesPower (disk_of i.left) (disk_of i.left).clock (disk_of i.lost)
-      × Chain disk_of old (link_of (Formatting identity i.formatted) i.between
-      ∷ link_of (Living i.start
-      (evening_turns sci an key frame s.early out i.evening s.one s.two s.three s.four s.last) s.last None) i.left
-      ∷ link_of PassingOn i.lost ∷ link_of (Refusing refused.fault) refused.disk ∷ []) refused.disk
+      × IsRefusedAgain disk_of old identity i.start
+      (evening_turns sci an key frame s.early out i.evening s.one s.two s.three s.four s.last) s.last i.left refused
   pub either_night : (old : D) (identity : Identity) (an : ℕ) (key : Key) (evening out : List ℕ)
       (refused : RecoverRefused D) → IsRefusedNight disk_of old identity an key evening out refused
       → IsRefusedEvening disk_of old identity refused

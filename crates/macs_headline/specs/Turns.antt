@@ -1,8 +1,7 @@
 -- The endpoint's own laws on turns, on work that lasts and on numbers that are left: what they count they count call by
 -- call, and what they ask for is built call by call, from each call and its answer.
-use Rattle.std.specs.Prelude.{◌≡◌, ◌≢◌, ◌≤◌, ◌+◌, ◌-◌, ◌/◌, ◌^◌, false, ℕ, Bool, List, [], ◌∷◌, length, Some, None}
-use Rattle.std.specs.Prelude.{IsSome}
-use Rattle.std.specs.Prelude.{Result, Ok, Err}
+use Rattle.std.specs.Prelude.{◌≡◌, ◌≢◌, ◌<◌, ◌≤◌, ◌+◌, ◌-◌, ◌/◌, ◌^◌, false, ℕ, Bool, List, [], ◌∷◌, length, Some, None}
+use Rattle.std.specs.Prelude.{All, IsSome, Result, Ok, Err}
 use Rattle.macs_aes.specs.declared.keys.Key.{Key}
 use Rattle.macs_config.specs.declared.command.Command.{Command}
 use Rattle.macs_config.specs.declared.command.Command.TheVariants.{RxDrop, RxInstall, RxRemove, TxInstall, TxRemove}
@@ -120,5 +119,6 @@ pub record TurnsAreBuilt (D : Type 0) : Type 0 where
   pub receives_few : (e : EndpointValue D) (sci : List ℕ) (an : ℕ) → IsSoundEndpoint e → 4 ≤ an
       → (rx_side_of e.rx).numbers sci an ≡ None
   pub identity : (e : EndpointValue D) → IsSoundEndpoint e → (length (standing_in e.store).identity.sci ≡ 8)
+      × All (λ octet. octet < 256) (standing_in e.store).identity.sci
       × ((1 ≤ (standing_in e.store).identity.tx_block) × ((standing_in e.store).identity.tx_block ≤ 65536))
       × ((1 ≤ (standing_in e.store).identity.rx_block) × ((standing_in e.store).identity.rx_block ≤ 65536))

@@ -1,5 +1,5 @@
 -- A watch of an endpoint: power is lost between two frames that are received on one association.
-use Rattle.std.specs.Prelude.{◌≡◌, ◌≢◌, ◌⊎◌, ℕ, List, [], ◌∷◌, None, Result, Ok}
+use Rattle.std.specs.Prelude.{◌≡◌, ◌≢◌, ◌⊎◌, ℕ, List, [], ◌∷◌, Result, Ok}
 use Rattle.macs_fields.specs.Fields.{octets_of}
 use Rattle.macs_frame.specs.Opening.{Verified}
 use Rattle.macs_frame.specs.Tag.{tag_of}
@@ -9,8 +9,6 @@ use Rattle.macs_config.specs.Identity.{Identity}
 use Rattle.macs_config.specs.declared.command.Command.{Command}
 use Rattle.macs_config.specs.declared.command.Command.TheVariants.{RxAdd, RxInstall}
 use Rattle.macs_disk.specs.Disk.{Disk}
-use Rattle.macs_journal.specs.declared.fault.JournalFault.{JournalFault}
-use Rattle.macs_journal.specs.declared.fault.JournalFault.TheVariants.{Disk as DiskFault}
 use Rattle.macs_journal.specs.declared.recovery.RecoverRefused.{RecoverRefused}
 use Rattle.macs_rxsc.specs.declared.verdict.Kind.TheVariants.{Ok as AsOk}
 use Rattle.macs_rxsc.specs.declared.verdict.Verdict.{Verdict}
@@ -19,11 +17,8 @@ use Rattle.macs_endpoint.specs.Lives.{Lives, Transition}
 use Rattle.macs_endpoint.specs.State.{Commands, Ran, Received, Receives, Refilled, Refills}
 use Rattle.macs_endpoint.specs.Value.{EndpointValue, device_in}
 use Rattle.macs_endpoint.specs.declared.fault.Stopped.{Stopped}
-use Rattle.macs_headline.specs.Days.{link_of}
-use Rattle.macs_headline.specs.Deeds.{Chain, Formatting, Living, PassingOn, Refusing}
 use Rattle.macs_headline.specs.Deliveries.{IsVerifiedAnswer}
-use Rattle.macs_headline.specs.Endings.{LosesPower}
-use Rattle.macs_headline.specs.Nights.{IsRefusedEvening}
+use Rattle.macs_headline.specs.Nights.{IsRefusedAgain, IsRefusedEvening}
 use Rattle.macs_headline.specs.declared.watch.Evening.{Evening}
 use Rattle.macs_headline.specs.declared.watch.Morning.{Morning}
 use Rattle.macs_headline.specs.declared.watch.Watch.{Watch}
@@ -101,29 +96,17 @@ pub record IsMorning {D : Type 0} (disk_of : D → Disk) (start : EndpointValue 
 
 -- ---- an opening that is refused
 
--- The disk was formatted and opened, the endpoint answered the calls of the evening and gave the disk back, power was
--- lost, and the second opening was refused as Disk.
+-- The second opening was refused as Disk, after the calls of the evening and a power loss.
 pub record IsRefusedWatchMorning {D : Type 0} (disk_of : D → Disk) (old : D) (identity : Identity) (sci : List ℕ)
     (an : ℕ) (key : Key)
     (frame out : List ℕ) (refused : RecoverRefused D) : Type 0 where
-  pub formatted : Result (Unit {0}) JournalFault
-  pub between : D
   pub start : EndpointValue D
   pub evening : Evening
   pub left : D
   pub served : IsEvening disk_of start sci an key frame out evening left
-  pub lost : D
-  pub loses : LosesPower (disk_of left) (disk_of left).clock (disk_of lost)
-  pub chain : Chain disk_of old (
-      link_of (Formatting identity formatted) between
-      ∷ link_of
-      (Living start (evening_turns sci an key frame served.early out evening served.one served.two served.three
-      served.four served.last) served.last None) left
-      ∷ link_of PassingOn lost
-      ∷ link_of (Refusing refused.fault) refused.disk
-      ∷ []
-      ) refused.disk
-  pub for_disk : refused.fault ≡ DiskFault
+  pub again : IsRefusedAgain disk_of old identity start
+      (evening_turns sci an key frame served.early out evening served.one served.two served.three served.four
+      served.last) served.last left refused
 
 -- that, or the first opening was refused, where a device call failed or the disk is worn
 abbrev pub IsRefusedWatch : {D : Type 0} → (D → Disk) → D → Identity → (sci : List ℕ) → (an : ℕ) → Key

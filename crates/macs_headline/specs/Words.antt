@@ -24,6 +24,7 @@ use Rattle.macs_store.specs.Standing.{Standing, accept, ceilings_after, new_stan
 use Rattle.macs_txsc.specs.declared.fault.TxFault.TheVariants.{NoNumber}
 use Rattle.macs_endpoint.specs.Calls.{IsInRange}
 use Rattle.macs_endpoint.specs.Queue.{first_command}
+use Rattle.macs_endpoint.specs.declared.progress.Step.TheVariants.{Done}
 use Rattle.macs_endpoint.specs.Restart.{opened_state}
 use Rattle.macs_endpoint.specs.State.{Advanced, AdvancedLong, Advances, Call, Commands, Protected, Protects, Ran}
 use Rattle.macs_endpoint.specs.State.{Received, Receives, RefusedLong, Refilled, Refills, Reply, State, Submits}
@@ -114,11 +115,12 @@ pub record CommandWords : Type 0 where
 -- A frame goes out under an association where `protect` answered its number, and it is the one in use; one comes in
 -- under an association where `receive` was given a frame that names it, by channel and AN, of an endpoint that runs. A
 -- packet number that is another one after a call is that of an association under which a frame went out, or came in so,
--- or one that a command sets which takes effect. A number was seen where it is kept as the greatest that was. Work on a
--- command may begin in a step, on the first that waits, and in `command`, on its own, where none waits. A command is
--- refused, and a plain frame, by the state's configuration and sides, also where the endpoint is stopped. A plain frame
--- that goes out has no fault; and one that has none but that there is no number, is under an association in use with a
--- next number.
+-- or one that a command sets which takes effect: it was given to `command`, or was the first that waited when a step
+-- was done with it, and was answered Ok. A number was seen where it is kept as the greatest that was. Work on a command
+-- may begin in a step, on the first that waits, and in `command`, on its own, where none waits. A command is refused,
+-- and a plain frame, by the state's configuration and sides, also where the endpoint is stopped. A plain frame that
+-- goes out has no fault; and one that has none but that there is no number, is under an association in use with a next
+-- number.
 pub record CallWords : Type 0 where
   pub goes_out : (s : State) (call : Call) (reply : Reply) (an : ℕ) → GoesOutUnder s call reply an
       → (plain : List ℕ) × (out : List ℕ) × (pn : ℕ) × (call ≡ Protects plain) × (reply ≡ Protected (Ok pn) out)
@@ -127,6 +129,10 @@ pub record CallWords : Type 0 where
       → (frame : List ℕ) × (out : List ℕ) × (verdict : Verdict) × (call ≡ Receives frame)
       × (reply ≡ Received (Ok verdict) out)
       × (channel_of (rx_side s) frame ≡ Some sci) × ((tag_of frame).an ≡ an)
+  pub takes_effect : (s : State) (call : Call) (reply : Reply) (c : Command) → TakesEffect s call reply c
+      → ((call ≡ Commands c) × (reply ≡ Ran (Ok tt)))
+      ⊎ ((ticket : ℕ) × (call ≡ Advances) × (reply ≡ Advanced (Ok (Done ticket (Ok tt))))
+      × (first_command s.waiting ≡ Some c))
   pub moves_next : (s new : State) (call : Call) (reply : Reply) (an : ℕ) → MovesOnlyThese s call reply new
       → new.next an ≢ s.next an
       → ((plain : List ℕ) × (out : List ℕ) × (pn : ℕ) × (call ≡ Protects plain) × (reply ≡ Protected (Ok pn) out)
