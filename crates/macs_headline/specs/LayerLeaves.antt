@@ -57,10 +57,10 @@ use Rattle.macs_headline.specs.Deeds.{disk_after_opening}
 -- no journal to rewrite makes its sync first, and only reads after it. A `format` of an honest disk answers Ok only
 -- where what is seen of it is not formatted, and then each image is that of the new endpoint. A record that is appended
 -- is the one in hand, from call to call, and as many records are lent to a journal that starts over as its new head
--- counts, and to any other whatever comes. Of
--- those the journal that starts over is made, and the disk holds it so. What was judged of a command is kept beside its
--- record alone, and no longer than that is under way. On each disk, honest or not, an opening, a `format` and a call
--- are work of the disk: its clock goes on, no failure is taken back, and one that is worn stays so.
+-- counts, and to any other whatever comes. Of those the journal that starts over is made, and the disk holds it so.
+-- What was judged of a command is kept beside its record alone, and no longer than that is under way. On each disk,
+-- honest or not, an opening, a `format` and a call are work of the disk: its clock goes on, no failure is taken back,
+-- and one that is worn stays so.
 pub record LayerLeaves {D : Type 0} (disk_of : D → Disk) : Type 0 where
   pub committed : (old new : StoreValue D) (command : Command) (result : Result (Unit {0}) CommitFault)
       → Commits disk_of old command result new → OnErr result (IsErrOf result commit.Disk ⊎ (new ≡ old))

@@ -90,8 +90,8 @@ pub record NeedsAreInOrder : Type 0 where
 -- refill that found one under way. Other steps and refills, those that fail or are not begun included, frames, and
 -- commands that are to wait or are not begun leave the turn as it was. What an endpoint is to raise is the first
 -- ceiling that is needed, whatever waits or is under way. The next piece of its work is to raise that or to keep the
--- first command that waits; where there are both, by the turn, and where there is neither, nothing. An
--- endpoint is stopped where its state is.
+-- first command that waits; where there are both, by the turn, and where there is neither, nothing. An endpoint is
+-- stopped where its state is.
 pub record TurnsAreUsed {D : Type 0} (disk_of : D → Disk) : Type 0 where
   pub needed : (e : EndpointValue D)
       → raise_in e ≡ first_raise (standing_in e.store) (tx_side (state_of e no_logs)) (rx_side (state_of e no_logs))

@@ -27,13 +27,12 @@ use Rattle.macs_store.specs.Standing.{standing_with_rx_ceiling}
 use Rattle.macs_store.specs.Standing.{standing_with_tx_ceiling}
 
 -- A ceiling is raised to the number that the record has, for its association alone; and whatever has a ceiling exactly
--- for each association is a standing. The record of a command is read as
--- the command, and refused where that is. The snapshot comes first and then each record after it, in their order; the
--- ceilings of a snapshot are those of its records, in whatever order. A content means what its records do under its
--- head, whatever its area and generation, in format one for each edition, and in format two for those that read it. A
--- command is taken, or refused, as a configuration takes it, and moves no ceiling but those of what it installs or
--- removes. A new journal is in area 0, in format two and in generation 1, under its identity, with one record, which
--- has the settings of a new configuration.
+-- for each association is a standing. The record of a command is read as the command, and refused where that is. The
+-- snapshot comes first and then each record after it, in their order; the ceilings of a snapshot are those of its
+-- records, in whatever order. A content means what its records do under its head, whatever its area and generation, in
+-- format one for each edition, and in format two for those that read it. A command is taken, or refused, as a
+-- configuration takes it, and moves no ceiling but those of what it installs or removes. A new journal is in area 0, in
+-- format two and in generation 1, under its identity, with one record, which has the settings of a new configuration.
 pub record ReplayedWords : Type 0 where
   pub tx_ceiling : (s : Standing) (an ceiling : ℕ) → standing_with_tx_ceiling s an ceiling
       ≡ record s { ceilings = record s.ceilings { tx = put s.ceilings.tx an (Some ceiling) } }

@@ -25,9 +25,9 @@ use Rattle.macs_store.specs.declared.change.Change.TheVariants as change
 -- in the next generation, in the slot after the snapshot, with four device calls more. One change more takes 4 device
 -- calls at most, or where all slots are used 523 and one for each record of the snapshot.
 --
--- An append writes a body and syncs, then a gate and syncs. A journal that starts over reads the 257 gates of the other
--- area, the head's first, closes each that is open, and syncs; it writes the head's body and those of its records from
--- the first slot on, and syncs; and it opens the head gate and syncs. So many device calls are left from each on.
+-- An append writes a body and syncs, then a gate and syncs. A journal that starts over reads gates by ascending
+-- numbers, 0 to 256, closes each that is open, and syncs. It writes the head's body and those of its records from slot
+-- 0 on, and syncs. It opens the head gate and syncs. So many device calls are left from each on.
 pub record StoreWords (D : Type 0) : Type 0 where
   pub kept : (s : StoreValue D)
       → (device_in s ≡ s.journal.disk) × (is_stopped s ≡ s.journal.stopped)
