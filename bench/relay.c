@@ -4,11 +4,13 @@
 //     relay rest OWN1 PEER1 OWN2 PEER2          the same, and sleeps until a datagram is there (epoll)
 //     relay load OWN1 PEER1 OWN2 OCTETS COUNT   sends frames to PEER1 and counts those that come to OWN2
 //     relay trips OWN1 PEER1 OWN2 OCTETS COUNT  the same one at a time, a millisecond apart
+//     relay play OWN1 PEER1 OWN2 CAPTURE        as load, with the frames of a capture, each once
 //
 // Addresses are ports on loopback. The load has at most 32 frames under way, so that no socket's buffer overflows; a frame that does not
-// come within a tenth of a second is lost. It prints the frames that came, the seconds, and the frames a second. `trips` prints the frames that
-// came, and the median and the 99th of a hundred of the microseconds from a send until the frame is there.
+// come within a tenth of a second, of `play` within two seconds, is lost. It prints the frames that came, the seconds, and the frames a second.
+// `trips` prints the frames that came, and the median and the 99th of a hundred of the microseconds from a send until the frame is there.
 #include <arpa/inet.h>
+#include <stdint.h>
 #include <stdio.h>
 #include <stdlib.h>
 #include <string.h>
@@ -107,21 +109,22 @@ static int trips(char **words) {
     return 0;
 }
 
-static int load(char **words) {
-    int from = bound(words[0]), to = bound(words[2]);
-    struct sockaddr_in peer = at(words[1]);
-    size_t octets = atoi(words[3]);
-    long count = atol(words[4]), sent = 0, came = 0, lost = 0;
-    static char frame[ROOM], room[ROOM];
-    struct timeval wait = {.tv_usec = 100000};
+struct frame {
+    const char *octets;
+    size_t count;
+};
+
+// Sends frames to a port, and prints how many of them came to another one and how fast.
+static int send_all(char **ports, const struct frame *frames, long count, struct timeval wait) {
+    int from = bound(ports[0]), to = bound(ports[2]);
+    struct sockaddr_in peer = at(ports[1]);
+    long sent = 0, came = 0, lost = 0;
+    static char room[ROOM];
     setsockopt(to, SOL_SOCKET, SO_RCVTIMEO, &wait, sizeof wait);
-    memset(frame, 0x5a, octets);
     double begin = now();
     while (came + lost < count) {
-        while (sent < count && sent - came - lost < WINDOW) {
-            sendto(from, frame, octets, 0, (struct sockaddr *)&peer, sizeof peer);
-            sent++;
-        }
+        for (; sent < count && sent - came - lost < WINDOW; sent++)
+            sendto(from, frames[sent].octets, frames[sent].count, 0, (struct sockaddr *)&peer, sizeof peer);
         if (recv(to, room, ROOM, 0) >= 0) came++;
         else lost = sent - came;
     }
@@ -130,10 +133,43 @@ static int load(char **words) {
     return 0;
 }
 
+static int load(char **words) {
+    long count = atol(words[4]);
+    static char octets[ROOM];
+    struct frame *frames = calloc(count, sizeof *frames);
+    memset(octets, 0x5a, sizeof octets);
+    for (long i = 0; i < count; i++) frames[i] = (struct frame){octets, atoi(words[3])};
+    return send_all(words, frames, count, (struct timeval){.tv_usec = 100000});
+}
+
+// The file is read whole: a classic capture in the order of octets of this machine, as `protect` writes it from one of that order.
+static int play(char **words) {
+    FILE *file = fopen(words[3], "rb");
+    if (!file || fseek(file, 0, SEEK_END)) {
+        perror(words[3]);
+        return 1;
+    }
+    size_t size = ftell(file);
+    char *octets = malloc(size);
+    rewind(file);
+    if (fread(octets, 1, size, file) != size) return 1;
+    // 24 octets before the first frame, 16 before each one; the third number of these is its length.
+    struct frame *frames = calloc(size / 16, sizeof *frames);
+    long count = 0;
+    for (size_t place = 24; place + 16 <= size; count++) {
+        uint32_t length;
+        memcpy(&length, octets + place + 8, sizeof length);
+        frames[count] = (struct frame){octets + place + 16, length};
+        place += 16 + length;
+    }
+    return send_all(words, frames, count, (struct timeval){.tv_sec = 2});
+}
+
 int main(int words, char **word) {
     if (words == 6 && !strcmp(word[1], "copy")) copy(word + 2);
     if (words == 6 && !strcmp(word[1], "rest")) rest(word + 2);
     if (words == 7 && !strcmp(word[1], "load")) return load(word + 2);
     if (words == 7 && !strcmp(word[1], "trips")) return trips(word + 2);
+    if (words == 6 && !strcmp(word[1], "play")) return play(word + 2);
     return 2;
 }

@@ -2,16 +2,23 @@
 """Measures `macsecd relay` over loopback beside a relay that only copies datagrams (bench/relay.c).
 
     python3 bench/relay.py [--wait] [FRAMES]
+    python3 bench/relay.py --receive [FRAMES]
 
 FRAMES is 20,000 for each of the two sizes, 64 and 1,400 octets; blocks are 65,536. The two relays run in turn, five times; the figures
 are those of the most frames a second. What a frame takes longer in macsecd is the endpoint's part. With `--wait` both relays sleep while nothing
 comes (`relay --wait 1000`, and a copier over epoll); then each also takes 2,000 frames of 64 octets one at a time, a millisecond apart, and
 idles for a minute: printed is how long a frame takes and which share of a processor it idles at.
 
+With `--receive` it measures the other direction: protected frames of 60 and 1,400 plain octets come in on the common side of `relay --wait 1000`, as
+fast as they are delivered, 32 under way, with RX of 4, 16, 64 and 1,024 (each round with a new disk file in the folder for temporary files, TMPDIR,
+which has to be on a disk: the syncs are what is measured). Printed are the frames and the Mbit/s of plain frames that are delivered, the most of
+three rounds, and the octets a frame that the relay wrote into its disk file (`write_bytes` of /proc/PID/io: whole pages, as the device gets them).
+
 macsecd is built for x86-64-v3 unless MACSECD_CPU names another level; MACSECD_PROGRAM=PATH takes the program that is there. It needs a C compiler, cc.
 """
 
 import os
+import struct
 import subprocess
 import sys
 import tempfile
@@ -26,13 +33,17 @@ ROUNDS = 5
 TRIPS = 2_000
 IDLE = 60
 SIZES = (64, 1400)
+# Of `--receive`: plain octets, numbers reserved at a time, rounds, and frames unless said.
+RECEIVED, BLOCKS, RECEIVING_ROUNDS, RECEIVING_FRAMES = (60, 1400), (4, 16, 64, 1024), 3, 20_000
+SCI = "0200000000010001"
+KEY = "000102030405060708090a0b0c0d0e0f"
 # The host's port and the relay's on the controlled side, then the relay's and the host's on the common side.
 INSIDE, OWN1, OWN2, OUTSIDE = "4100", "4101", "4102", "4103"
-COMMANDS = """
+COMMANDS = f"""
 [[command]]
 do = "tx-install"
 an = 0
-key = "000102030405060708090a0b0c0d0e0f"
+key = "{KEY}"
 start = 1
 confidential = true
 offset = 0
@@ -40,6 +51,19 @@ offset = 0
 [[command]]
 do = "tx-use"
 an = 0
+"""
+PEER_COMMANDS = f"""
+[[command]]
+do = "rx-add"
+sci = "{SCI}"
+
+[[command]]
+do = "rx-install"
+sci = "{SCI}"
+an = 0
+key = "{KEY}"
+start = 1
+offset = 0
 """
 
 
@@ -61,6 +85,11 @@ class Relay:
         """The processor seconds that it has taken."""
         with open(f"/proc/{self.process.pid}/schedstat", encoding="utf-8") as file:
             return int(file.read().split()[0]) / 1e9
+
+    def written(self):
+        """The octets that it had the system write to devices: whole pages of its disk file."""
+        with open(f"/proc/{self.process.pid}/io", encoding="ascii") as file:
+            return next(int(it.split()[1]) for it in file if it.startswith("write_bytes:"))
 
 
 def said(tool, what, octets, frames):
@@ -109,34 +138,105 @@ def measure_idling(relays):
             print(f"idle for {IDLE} s, {name}: {(relay.seconds() - before) / IDLE * 100:.4f} % of a processor")
 
 
-def prepared(folder):
-    """The tool, and the words of an endpoint's relay but for its pace."""
-    tool, disk, commands = (os.path.join(folder, it) for it in ("relay", "disk", "commands"))
+def built_tool(folder):
+    tool = os.path.join(folder, "relay")
     subprocess.run(["cc", "-O2", "-o", tool, os.path.join(TOP, "bench/relay.c")], check=True)
-    with open(commands, "w", encoding="utf-8") as file:
-        file.write(COMMANDS)
+    return tool
+
+
+def new_disk(disk, sci, rx, text):
+    """Makes a disk file for an endpoint, with these commands applied."""
+    if os.path.exists(disk):
+        os.unlink(disk)
     quiet = {"check": True, "stdout": subprocess.DEVNULL}
-    subprocess.run([PROGRAM, "format", disk, "0200000000010001", "65536", "65536"], **quiet)
-    subprocess.run([PROGRAM, "apply", disk, commands], **quiet)
-    return tool, [PROGRAM, "relay", disk, *(f"127.0.0.1:{port}" for port in (OWN1, INSIDE, OWN2, OUTSIDE))]
+    subprocess.run([PROGRAM, "format", disk, sci, "65536", str(rx)], **quiet)
+    with open(disk + ".commands", "w", encoding="utf-8") as file:
+        file.write(text)
+    subprocess.run([PROGRAM, "apply", disk, disk + ".commands"], **quiet)
+
+
+def relaying(disk):
+    """The words of an endpoint's relay but for its pace."""
+    return [PROGRAM, "relay", disk, *(f"127.0.0.1:{port}" for port in (OWN1, INSIDE, OWN2, OUTSIDE))]
+
+
+# The receiving direction.
+
+def write_plain(path, octets, frames):
+    """A capture of plain frames of so many octets, each with its number."""
+    with open(path, "wb") as file:
+        file.write(struct.pack("<IHHIIII", 0xA1B2C3D4, 2, 4, 0, 0, 262144, 1))
+        for number in range(frames):
+            frame = bytes.fromhex("02000000000202000000000188b5") + number.to_bytes(8, "big")
+            file.write(struct.pack("<IIII", 0, 0, octets, octets) + frame.ljust(octets, b"\0"))
+
+
+def until_bound(port):
+    """Waits until a socket of this machine has a port."""
+    while True:
+        with open("/proc/net/udp", encoding="ascii") as sockets:
+            if any(f":{int(port):04X} " in it.split(":", 1)[1] for it in sockets if ":" in it):
+                return
+        time.sleep(0.01)
+
+
+def receive(tool, disk, capture, rx):
+    """Frames a second that a relay with a new disk file delivers, how many came, and the octets that it wrote for each."""
+    new_disk(disk, "0200000000020001", rx, PEER_COMMANDS)
+    with Relay([*relaying(disk), "--wait", "1000"]) as relay:
+        until_bound(OWN2)
+        before = relay.written()
+        played = subprocess.run([tool, "play", OUTSIDE, OWN2, INSIDE, capture], check=True, capture_output=True, text=True)
+        came, _seconds, rate = played.stdout.split()
+        return float(rate), int(came), (relay.written() - before) / int(came)
+
+
+def measure_receiving(folder, frames):
+    tool, disk, sender = built_tool(folder), os.path.join(folder, "disk"), os.path.join(folder, "sender")
+    plain, protected = os.path.join(folder, "plain"), os.path.join(folder, "protected")
+    place = subprocess.run(["findmnt", "-n", "-o", "FSTYPE,SOURCE", "-T", folder], check=True, capture_output=True, text=True).stdout.split()
+    print(f"disk files on {' of '.join(place)}; load {os.getloadavg()[0]:.2f}")
+    for octets in RECEIVED:
+        new_disk(sender, SCI, 1, COMMANDS)
+        write_plain(plain, octets, frames)
+        subprocess.run([PROGRAM, "protect", sender, plain, protected], check=True, stdout=subprocess.DEVNULL)
+        for rx in BLOCKS:
+            rounds = [receive(tool, disk, protected, rx) for _ in range(RECEIVING_ROUNDS)]
+            rate, came, written = max(rounds)
+            print(
+                f"{octets} octets, RX {rx}: {rate:.0f} frames a second, {rate * octets * 8 / 1e6:.1f} Mbit/s, {written:.0f} octets written a frame;"
+                f" {came} of {frames} came; all rounds: {' '.join(f'{it[0]:.0f}' for it in rounds)}",
+                flush=True,
+            )
+
+
+# The sending direction.
+
+def measure_sending(folder, frames, waits):
+    tool, disk = built_tool(folder), os.path.join(folder, "disk")
+    new_disk(disk, SCI, 65536, COMMANDS)
+    pace = ["--wait", "1000"] if waits else ["--turns", str(2**63)]
+    copying = [tool, "rest" if waits else "copy", OWN1, INSIDE, OWN2, OUTSIDE]
+    relays = {"copy": copying, "macsecd": [*relaying(disk), *pace]}
+    for octets in SIZES:
+        compare_rates(relays, tool, octets, frames)
+    if waits:
+        compare_trips(relays, tool)
+        measure_idling(relays)
 
 
 def main():
-    waits = "--wait" in sys.argv[1:]
-    counts = [it for it in sys.argv[1:] if it != "--wait"]
-    frames = int(counts[0]) if counts else 20_000
+    options = {"--wait", "--receive"} & set(sys.argv[1:])
+    counts = [it for it in sys.argv[1:] if it not in options]
+    if len(counts) > 1 or len(options) > 1 or not all(it.isdigit() for it in counts):
+        sys.exit(__doc__)
     if "MACSECD_PROGRAM" not in os.environ:
         subprocess.run([PROVE, CPU], check=True, stdout=subprocess.DEVNULL)
     with tempfile.TemporaryDirectory() as folder:
-        tool, relaying = prepared(folder)
-        pace = ["--wait", "1000"] if waits else ["--turns", str(2**63)]
-        copying = [tool, "rest" if waits else "copy", OWN1, INSIDE, OWN2, OUTSIDE]
-        relays = {"copy": copying, "macsecd": [*relaying, *pace]}
-        for octets in SIZES:
-            compare_rates(relays, tool, octets, frames)
-        if waits:
-            compare_trips(relays, tool)
-            measure_idling(relays)
+        if "--receive" in options:
+            measure_receiving(folder, int(counts[0]) if counts else RECEIVING_FRAMES)
+        else:
+            measure_sending(folder, int(counts[0]) if counts else 20_000, "--wait" in options)
 
 
 main()
