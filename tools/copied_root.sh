@@ -15,10 +15,21 @@ copy_root() { # FOLDER PACKAGE
     ip link set lo up
 }
 
-# The commands of the manual page that start an end of a link.
+# A block of commands of the manual page on a link as a service, from 1 on.
+block_of_page() { # NUMBER
+    sed -n '/^## A link as a service/,/^## /p' "$top/docs/PACKAGE.md" |
+        awk -v wanted="$1" '/^```/ { inside = /^```sh/; count += inside; next } inside && count == wanted'
+}
+
+# Its commands that make fresh keys, and the files of both ends with them in /run, where the page has them carried.
+key_commands() {
+    echo 'cd /run; umask 077'
+    block_of_page 1
+}
+
+# Its commands that start an end of a link, once its file is there.
 commands_of() { # left|right
-    sed -n '/^## A link as a service/,/^## /p' "$top/docs/PACKAGE.md" | sed -n '/^```sh/,/^```/{/^```/d;p;}' |
-        case $1 in right) sed 's/left/right/g; s/0200000000010001/0200000000020001/' ;; *) cat ;; esac
+    block_of_page 2 | case $1 in right) sed 's/left/right/g; s/0200000000010001/0200000000020001/' ;; *) cat ;; esac
 }
 
 # What a step showed: its name, and one line.

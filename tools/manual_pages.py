@@ -35,6 +35,20 @@ def document(name):
         return text.read().replace("./macsecd ", "macsecd ")
 
 
+# The key in an example that is installed: no command takes it.
+NO_KEY = "PUT-A-KEY-OF-macsecd-key-HERE"
+KEYS_ARE_EXAMPLES = "The keys are examples: take random ones, and another one for each direction."
+KEYS_ARE_MISSING = "Its keys are missing: each direction has one of `macsecd key`. `macsecd plan` writes such files."
+
+
+def example(end):
+    """The command file of an end, as it is installed: without its keys, which all can read."""
+    text, count = re.subn(r'(?m)^key = "[0-9a-f]*"$', f'key = "{NO_KEY}"', document(f"examples/{end}.toml"))
+    if count != 2:
+        sys.exit(f"manual_pages.py: examples/{end}.toml has {count} keys")
+    return text.replace(KEYS_ARE_EXAMPLES, KEYS_ARE_MISSING)
+
+
 def section(name, heading):
     """What is below a heading of a document, up to the next one of its level or above."""
     level = heading.split()[0]
@@ -219,7 +233,7 @@ def page_of_program(given):
 
 def page_of_link(given):
     apply = next(it for it in given.subcommands if it.word == "apply")
-    examples = [[f".SS {end} end", *verbatim(document(f"examples/{end.lower()}.toml").splitlines())] for end in ("Left", "Right")]
+    examples = [[f".SS {end} end", *verbatim(example(end.lower()).splitlines())] for end in ("Left", "Right")]
     parts = [
         head("MACSECD-LINK", 5, "File Formats", given.version),
         [".SH NAME", r"macsecd\-link \- command files and the settings of a link of macsecd"],

@@ -164,6 +164,8 @@ class Network:
         said = subprocess.run(self.hosts[side].words(*words), capture_output=True, text=True, check=False).stdout
         server.kill()
         server.wait()
+        # What is queued still arrives.
+        time.sleep(1)
         end = json.loads(said).get("end", {})
         if "sum_received" not in end:
             return 0.0, 0
