@@ -10,6 +10,7 @@ import json
 import os
 import re
 import shutil
+import signal
 import subprocess
 import sys
 import tempfile
@@ -30,7 +31,7 @@ TX = RX = "1024"
 # Octets that sockets are asked to keep, up to net.core.rmem_max.
 BUFFER = "4000000"
 # The least speed of a direction, in Mbit/s, unless said.
-LEAST = 20
+LEAST = 10
 SECONDS = 5
 # Pings: how many, and of which octets of data, those of 1,500 octets with their headers last.
 PINGS, DATA = 100, (0, 18, 56, 1000, 1471, 1472)
@@ -95,6 +96,8 @@ class Network:
         self.macsecd = program_of(os.path.join(TOP, "macsecd"))
 
     def __enter__(self):
+        # Whoever ends this program ends what it began.
+        signal.signal(signal.SIGTERM, lambda *_: sys.exit(143))
         self.folder = tempfile.mkdtemp()
         self.hosts = {side: self.machine(f"{side}-host") for side in SIDES}
         self.ends = {side: self.machine(f"{side}-end") for side in SIDES}
@@ -160,13 +163,14 @@ class Network:
         server = subprocess.Popen(self.hosts[OTHER[side]].words("iperf3", "-s", "-1"), stdout=subprocess.DEVNULL)
         listens = self.hosts[OTHER[side]].words("ss", "-Hltn", "sport = 5201")
         until(lambda: subprocess.run(listens, capture_output=True, check=False).stdout, "iperf3")
-        words = ["iperf3", "-J", "-c", HOSTS[OTHER[side]], "-t", str(SECONDS)]
+        # Where nothing comes through it would wait for minutes: then it is ended, and has no sums.
+        words = ["timeout", str(3 * SECONDS), "iperf3", "-J", "-c", HOSTS[OTHER[side]], "-t", str(SECONDS)]
         said = subprocess.run(self.hosts[side].words(*words), capture_output=True, text=True, check=False).stdout
         server.kill()
         server.wait()
         # What is queued still arrives.
         time.sleep(1)
-        end = json.loads(said).get("end", {})
+        end = json.loads(said or "{}").get("end", {})
         if "sum_received" not in end:
             return 0.0, 0
         return end["sum_received"]["bits_per_second"] / 1e6, end["sum_sent"].get("retransmits", 0)
@@ -185,7 +189,7 @@ class Network:
             counted = self.counters(side)
             found = {it: counted[it] for it in ("tx protected", "rx ok", "rx late", "rx not-valid", "wire 1 failed-sends", "wire 2 failed-sends")}
             print(f"{side} relay: {', '.join(f'{name} {count}' for name, count in found.items())}")
-        print("all as it should be" if is_right else f"NOT as it should be: a ping was lost, or TCP is below {least} Mbit/s")
+        print("all as it should be" if is_right else f"NOT as it should be: a ping was lost, or TCP carried less than {least} Mbit/s")
         return is_right
 
     def check_pings(self):
