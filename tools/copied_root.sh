@@ -23,7 +23,7 @@ block_of_page() { # NUMBER
 
 # Its commands that make fresh keys, and the files of both ends with them in /run, where the page has them carried.
 key_commands() {
-    echo 'cd /run; umask 077'
+    echo 'cd /run'
     block_of_page 1
 }
 
