@@ -16,10 +16,10 @@ A case, for disk files of blocks of 512 and of 4,096 octets, is a row of runs of
     one while none are held: in each second case it is left out
     a power loss, and one run more
 
-It is bad if a packet number comes twice. If a run after the first one sends nothing, since what was held made a bad
-journal, a line says so, and the line before the last counts these cases. With --cut other cases come too: after each of the four syncs from that of the
-first slot of the new area on, the second run, with pages held, ends before each of its calls on the disk file and its folder, with a power loss or
-not; then come a run, a power loss and one run more. Such a case is bad if a number comes twice or one of these runs sends nothing.
+It is bad if a packet number comes twice. If a later run sends nothing, since what was held made a bad journal, a line says so, and the line before the
+last counts these cases. With --cut other cases come too: after four of the syncs (of a compaction those of the bodies and of the head's gate, then those
+of the next record's body and gate), the second run, with pages held, ends before each of its calls on the disk file and its folder, with a power loss
+or not; then come a run, a power loss and one run more. Such a case is bad if a number comes twice or one of these runs sends nothing.
 
 Each bad case is a line; the last line is `N cases, numbers twice or none: M`. The status is 0 if both counts are 0, else 1; 2 after wrong words. Needs
 gcc. It takes half a minute, with --cut some three.
@@ -41,7 +41,7 @@ TX, RX = "1", "16"
 FILL, FEW = 247, 12
 # The status of a run that was ended before a call, and of one that made a call that is not modelled (tools/held_pages.c).
 ENDED, NOT_MODELLED = 77, 78
-# The syncs that --cut is about, counted from the first one after the opening.
+# The syncs that --cut is about, counted from the opening's last one: twelve are of records before the compaction, and one is of its closed gates.
 CUT_SYNCS = range(14, 18)
 COMMANDS = """
 [[command]]
