@@ -3,7 +3,8 @@
     left host -- left end == the common network == right end -- right host
 
 Each host has an MTU of 1,500 octets and knows nothing of the link. Each end is a machine with a bridge, to which its host's cable goes, and a relay.
-What joins the bridge and the relay is made by the caller. Needs root, ip, ethtool, ping, iperf3.
+What joins the bridge and the relay is made by the caller. `./macsecd` says how the program is built first, if there is none (MACSECD_UNPROVED=1: in two
+minutes). Needs root, ip, ss, ethtool, ping, iperf3.
 """
 
 import json
@@ -42,7 +43,7 @@ def run(*words, **options):
 
 
 def needs(*programs):
-    missing = [it for it in ("ip", "ethtool", "ping", "iperf3", *programs) if not shutil.which(it)]
+    missing = [it for it in ("ip", "ss", "ethtool", "ping", "iperf3", *programs) if not shutil.which(it)]
     if missing:
         sys.exit(f"{os.path.basename(sys.argv[0])}: {', '.join(missing)} is missing")
 
