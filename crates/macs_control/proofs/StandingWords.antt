@@ -1,11 +1,18 @@
 -- All that is to be drawn of the words on how a client stands with its relay.
-use Rattle.std.proofs.Common.{◌≡◌, ◌∙◌, ◌≤◌, ◌<◌, ◌+◌, ◌-◌, ℕ, Bool, true, false, not, cond, ◌∷◌, length}
+use Rattle.std.proofs.Common.{◌≡◌, ◌∙◌, ◌≤◌, ◌<◌, ◌+◌, ◌-◌, ℕ, Bool, true, false, not, cond, ◌∷◌, ◌++◌, List, []}
+use Rattle.std.proofs.Common.{length}
 use Rattle.std.proofs.Common.{arith, refl, ap}
 use Rattle.std.proofs.lemmas.Bool.Decides.{nat_tests}
-use Rattle.std.specs.Prelude.{◌==◌, ◌&&◌, ◌||◌, is_some, nat_le, nat_lt, position}
+use Rattle.std.specs.Fmt.{digits}
+use Rattle.std.specs.List.{starts_with}
+use Rattle.std.specs.Prelude.{◌==◌, ◌&&◌, ◌||◌, codes, drop, if◌then◌else◌, is_some, nat_eq, nat_le, nat_lt, position}
+use Rattle.std.proofs.Math.Seq.{drop-append_seam}
 use Rattle.std.proofs.lemmas.Bool.{ne_eqb}
+use Rattle.std.proofs.lemmas.List.{length-append}
+use Rattle.macs_requests.specs.Requests.{end_line}
 use Rattle.macs_control.specs.Places.{gives_way, kept}
-use Rattle.macs_control.specs.StandingWords.{PlaceWords, StandingWords}
+use Rattle.macs_control.specs.StandingWords.{Ends, PlaceWords, StandingWords}
+use Rattle.macs_control.specs.Standings.{after_answer, ends_answer}
 
 and-false : (a b : Bool) → b ≡ false → (a && b) ≡ false
 and-false true b is = is
@@ -27,6 +34,40 @@ is_few n few = grind (arith, nat_tests)
 is_four : (n : ℕ) → 4 ≤ n → nat_lt n 4 ≡ false
 is_four n four = grind (arith, nat_tests)
 
+-- a text whose last six octets are these
+ends_with : (front last : List ℕ) → length last ≡ 6 → starts_with nat_eq last (codes "end ") ≡ true
+    → ends_answer (front ++ last) ≡ true
+ends_with front last six is =
+    let whole = length-append front last in
+    let all : length (front ++ last) - 6 ≡ length front = omega (arith, whole, six) in
+    ap (λ (n : ℕ). starts_with nat_eq (drop n (front ++ last)) (codes "end ")) all
+    ∙ ap (λ (l : List ℕ). starts_with nat_eq l (codes "end ")) (drop-append_seam front last) ∙ is
+
+ends_as : (front : List ℕ) (status : ℕ) (text : List ℕ) → end_line status ++ 10 ∷ [] ≡ text → length text ≡ 6
+    → starts_with nat_eq text (codes "end ") ≡ true → Ends front status
+ends_as front status text is six begins =
+    ap (λ (l : List ℕ). ends_answer (front ++ l)) is ∙ ends_with front text six begins
+
+end-0 : end_line 0 ++ 10 ∷ [] ≡ codes "end 0\n"
+unfolding digits
+end-0 = refl
+
+end-2 : end_line 2 ++ 10 ∷ [] ≡ codes "end 2\n"
+unfolding digits
+end-2 = refl
+
+end-3 : end_line 3 ++ 10 ∷ [] ≡ codes "end 3\n"
+unfolding digits
+end-3 = refl
+
+end-4 : end_line 4 ++ 10 ∷ [] ≡ codes "end 4\n"
+unfolding digits
+end-4 = refl
+
+end-5 : end_line 5 ++ 10 ∷ [] ≡ codes "end 5\n"
+unfolding digits
+end-5 = refl
+
 pub standing-words : StandingWords
 standing-words = record {
   came = λ now. refl;
@@ -34,6 +75,15 @@ standing-words = record {
   ended = λ now s. refl;
   other = λ now s. (refl, refl);
   answered = λ now s. refl;
+  ends = λ front. (
+    ends_as front 0 (codes "end 0\n") end-0 refl refl,
+    ends_as front 2 (codes "end 2\n") end-2 refl refl,
+    ends_as front 3 (codes "end 3\n") end-3 refl refl,
+    ends_as front 4 (codes "end 4\n") end-4 refl refl,
+    ends_as front 5 (codes "end 5\n") end-5 refl refl,
+  );
+  told = λ now text s is. ap (λ (b : Bool). if b then after_answer now s else s) is;
+  told_part = λ now text s is. ap (λ (b : Bool). if b then after_answer now s else s) is;
   sends_no_more = λ s. refl;
   gone = λ s. refl;
   said = λ line s. refl;

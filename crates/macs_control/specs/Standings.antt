@@ -1,5 +1,7 @@
 -- How a client stands with its relay.
-use Rattle.std.specs.Prelude.{◌+◌, ◌-◌, ◌==◌, ◌&&◌, ◌^◌, ℕ, Bool, true, false, min, nat_le}
+use Rattle.std.specs.List.{starts_with}
+use Rattle.std.specs.Prelude.{◌+◌, ◌-◌, ◌==◌, ◌&&◌, ◌^◌, if◌then◌else◌, ℕ, Bool, true, false, min, nat_eq, nat_le}
+use Rattle.std.specs.Prelude.{List, codes, drop, length}
 use Rattle.macs_control.specs.declared.seat.Hearing.{Hearing}
 use Rattle.macs_control.specs.declared.seat.Hearing.TheVariants as hears
 use Rattle.macs_control.specs.declared.standing.Standing.{Standing}
@@ -19,6 +21,14 @@ after_hearing now hears.Gone standing = standing
 -- an answer less is due
 abbrev pub after_answer : ℕ → Standing → Standing
 after_answer now standing = record standing { due = standing.due - 1; since = now }
+
+-- the last line of a text is `end` and a status of one digit
+abbrev pub ends_answer : List ℕ → Bool
+ends_answer text = starts_with nat_eq (drop (length text - 6) text) (codes "end ")
+
+-- an answer less is due once it has ended
+abbrev pub after_saying : ℕ → List ℕ → Standing → Standing
+after_saying now text standing = if ends_answer text then after_answer now standing else standing
 
 -- it sends no more
 abbrev pub has_ended : Standing → Bool

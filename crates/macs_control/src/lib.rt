@@ -6,6 +6,7 @@ mod binding;
 mod buffers;
 mod connection;
 mod control_socket;
+mod ending;
 mod finding;
 pub mod laws;
 mod local_address;

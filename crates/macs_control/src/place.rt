@@ -3,6 +3,7 @@
 ghost use Rattle.std.specs.Prelude.{◌≡◌};
 
 use crate::connection::Connection;
+use crate::ending::ends_answer;
 use crate::seat::{Hearing, Seat};
 use crate::standing::Standing;
 use macs_requests::Client;
@@ -19,7 +20,7 @@ impl<S: Connection> Place<S> {
     ghost use Rattle.macs_control.specs.Links.{GivesOctets, Hears};
     ghost use Rattle.macs_control.specs.Places.{seat_in, standing_in};
     ghost use Rattle.macs_control.specs.Seats.{client_of, connection_of, held_by};
-    ghost use Rattle.macs_control.specs.Standings.{after_answer, after_hearing, is_over};
+    ghost use Rattle.macs_control.specs.Standings.{after_hearing, after_saying, is_over};
     ghost use Rattle.macs_control.specs.Standings.{new_standing};
 
     /// A client of which nothing was heard yet, and that came in this second.
@@ -69,19 +70,22 @@ impl<S: Connection> Place<S> {
         heard
     }
 
-    /// Answers a line of the client, in this second, and answers whether the client keeps its
-    /// place: where it took all of it at once, unless nothing more is to be heard of it or said to
-    /// it.
-    pub fn answer(&mut self, text: &[u8], now: u64) -> bool
+    /// Says a text to the client, in this second, and answers whether the client keeps its place:
+    /// where it took all of it at once, unless nothing more is to be heard of it or said to it. A
+    /// text that ends an answer is the answer to a line, or the last part of one.
+    pub fn say(&mut self, text: &[u8], now: u64) -> bool
         ensures client { client_of (seat_in self.new) ≡ client_of (seat_in self.old) }
-        ensures standing { standing_in self.new ≡ after_answer now (standing_in self.old) }
+        ensures standing { standing_in self.new
+            ≡ after_saying now text.now (standing_in self.old) }
         ensures given { (whole : Bool)
             × GivesOctets (S.link (connection_of (seat_in self.old)))
             (S.link (connection_of (seat_in self.new))) text.now whole
             × (result ≡ (whole && not (is_over (standing_in self.new)))) }
     {
         let is_whole = self.seat.give(text);
-        self.standing = self.standing.after_answer(now);
+        if ends_answer(text) {
+            self.standing = self.standing.after_answer(now);
+        }
         is_whole && !self.standing.is_over()
     }
 }

@@ -173,12 +173,12 @@ impl<S: Connection> Seats<S> {
         None
     }
 
-    /// Answers a line of a client. One that does not take all of it at once loses its place, and so
+    /// Says a text to a client. One that does not take all of it at once loses its place, and so
     /// does one that sends no more and that no other answer is due to. To one that has none nothing
     /// is sent.
     pub fn say(&mut self, client: Client, text: &[u8]) {
         if let Some(at) = at_client(self.places.as_slice(), client) {
-            if !self.places[at].answer(text, self.second) {
+            if !self.places[at].say(text, self.second) {
                 self.places.remove(at);
             }
         }
