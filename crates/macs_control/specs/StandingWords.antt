@@ -15,9 +15,9 @@ Ends front status = ends_answer (front ++ (end_line status ++ 10 ∷ [])) ≡ tr
 
 -- Of a client that came no answer is due. For each line of it that is heard one is, until it is given. Where it sends
 -- no more that is kept, and whatever else is heard changes nothing. An answer ends with its last line, whatever is said
--- before that. A client that is gone is let go; one that said a
--- line is not; any other once it sends no more and no answer is due. While an answer is due, no client gives way; where
--- none is, it does after two seconds. A newcomer finds a place where there are fewer than four, or one gives way.
+-- before that. A client that is gone is let go; one that said a line is not; any other once it sends no more and no
+-- answer is due. While an answer is due, no client gives way; where none is, it does once two seconds ended. A newcomer
+-- finds a place where there are fewer than four, or one gives way.
 pub record StandingWords : Type 0 where
   pub came : (now : ℕ) → new_standing now ≡ record { due = 0; has_ended = false; since = now }
   pub line : (now : ℕ) (line : _) (s : Standing) → after_hearing now (hears.Line line) s

@@ -45,6 +45,7 @@ is_let_go (hears.Line line) standing = false
 is_let_go hears.Silence standing = is_over standing
 is_let_go hears.Ended standing = is_over standing
 
--- a newcomer may have its place: no answer is due, and it was silent for two seconds
+-- A newcomer may have its place: no answer is due, and two seconds ended since it came, or a line of it was heard or
+-- answered last
 abbrev pub is_idle : ℕ → Standing → Bool
 is_idle now standing = standing.due == 0 && nat_le 2 (now - standing.since)

@@ -15,12 +15,12 @@ pub const MAX_CLIENTS: usize = 4;
 
 /// The clients of a control socket, four at most, that which was silent longest first. A further
 /// one takes the place of the first that gives way: of which every line is answered, and that said
-/// nothing for two seconds. Where none does, it finds no place.
+/// nothing while two seconds ended. Where none does, it finds no place.
 #[derive(Drop)]
 pub struct Seats<S> {
     places: Vec<Place<S>>,
     last: u64,
-    /// How many seconds passed.
+    /// How many seconds ended.
     second: u64,
     ghost few: { length places.items ≤ 4 },
     ghost room: { 4 ≤ vec_capacity places },
@@ -68,7 +68,7 @@ impl<S: Connection> Seats<S> {
         self.places[at].standing().has_ended()
     }
 
-    /// A second passed.
+    /// A second ended.
     pub fn pass_second(&mut self)
         ensures second { second_of self.new ≡ min (second_of self.old + 1) (2 ^ 64 - 1) }
         ensures places { places_of self.new ≡ places_of self.old }

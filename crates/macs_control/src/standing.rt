@@ -5,7 +5,8 @@ ghost use Rattle.macs_control.specs.Standings.{new_standing};
 
 use crate::seat::Hearing;
 
-/// For so many seconds a client that says nothing keeps its place before a newcomer.
+/// Once so many seconds ended, a client that says nothing may lose its place to a newcomer: after
+/// more than one second.
 const QUIET_SECONDS: u64 = 2;
 
 /// How a client stands with its relay.
@@ -91,8 +92,8 @@ impl Standing {
         }
     }
 
-    /// Whether the client may lose its place to a newcomer: every line of it is answered, and it
-    /// said nothing for two seconds.
+    /// Whether the client may lose its place to a newcomer: every line of it is answered, and two
+    /// seconds ended since it came, or a line of it was heard or answered last.
     pub fn is_idle(self, now: u64) -> bool
         ensures { result ≡ is_idle now self }
     {
