@@ -282,6 +282,112 @@ def the_one_that_was_silent_longest_makes_room():
 
 
 @a_try
+def clients_that_end_and_say_nothing():
+    with link() as it:
+        clients = [it.connect() for _ in range(4)]
+        for client in clients:
+            client.shutdown(socket.SHUT_WR)
+            assert read_all(client) == (b"", True)
+        began = time.monotonic()
+        assert it.ask("show").returncode == 0
+        assert time.monotonic() - began < 1, "they kept their places"
+        it.stop()
+
+
+def window_of(disk):
+    return next(int(line.split()[-1]) for line in run("show", disk).stdout.splitlines() if line.startswith("replay "))
+
+
+@a_try
+def a_client_that_shuts_its_side_at_once():
+    with link() as it:
+        for window in range(1, 60):
+            client = it.connect()
+            client.sendall(f"set-replay on {window}\n".encode())
+            client.shutdown(socket.SHUT_WR)
+            assert read_all(client) == (b"ok\nend 0\n", True), window
+        assert it.passes() < 1
+        it.stop()
+        assert window_of(it.disk) == 59
+
+
+@a_try
+def several_lines_and_an_end():
+    with link() as it:
+        client, wanted = it.connect(), sixteen(0x500)
+        send_channels(client, wanted)
+        client.sendall(b"counters\nshow")
+        client.shutdown(socket.SHUT_WR)
+        got, ended = read_all(client)
+        assert ended and got.count(b"ok\nend 0\n") == 16 and got.count(b"end 0\n") == 17 and b"\nsci " not in got, got
+        it.stop()
+        assert channels_of(it.disk) == wanted
+
+
+@a_try
+def one_with_a_command_under_way_keeps_its_place():
+    with link() as it:
+        clients = [it.connect() for _ in range(4)]
+        others = []
+        for window, client in enumerate(clients, 1):
+            client.sendall(f"set-replay on {window}\n".encode())
+            others += [it.connect() for _ in range(2)]
+        for client in clients:
+            assert until_end(client) == b"ok\nend 0\n"
+        assert it.ask("show").returncode == 0
+        it.stop()
+
+
+@a_try
+def sixteen_that_ask_at_once():
+    with link() as it:
+        channels = sixteen(0x600)[:8]
+        files = [os.path.join(it.folder, sci) for sci in channels]
+        for file, sci in zip(files, channels):
+            with open(file, "w", encoding="ascii") as commands:
+                for do in ("add", "drop", "add"):
+                    commands.write(f'[[command]]\ndo = "rx-{do}"\nsci = "{sci}"\n')
+        asked = [["apply", file] for file in files] + [["show"], ["counters"]] * 4
+        began = time.monotonic()
+        relays = [subprocess.Popen([PROGRAM, "ask", it.control, *words], stdout=subprocess.PIPE, stderr=subprocess.PIPE, text=True) for words in asked]
+        assert it.passes() < 1
+        for words, asker in zip(asked, relays):
+            out, err = asker.communicate(timeout=60)
+            assert (asker.returncode, err) == (0, ""), (words, asker.returncode, out, err)
+            assert out == "1 ok\n2 ok\n3 ok\n" if words[0] == "apply" else out.count("\n") > 5, (words, out)
+        assert time.monotonic() - began < 30
+        it.stop()
+        assert sorted(channels_of(it.disk)) == channels
+
+
+@a_try
+def a_relay_that_stands_still():
+    with link() as it:
+        it.left.send_signal(signal.SIGSTOP)
+        waiting = []
+        for _ in range(64):
+            client = socket.socket(socket.AF_UNIX, socket.SOCK_STREAM)
+            client.setblocking(False)
+            waiting.append(client)
+            try:
+                client.connect(it.control)
+            except BlockingIOError:
+                break
+        else:
+            raise AssertionError("64 wait, and there is room for more")
+        began = time.monotonic()
+        asked = subprocess.run([PROGRAM, "ask", it.control, "show"], capture_output=True, text=True, timeout=90, check=False)
+        assert (asked.returncode, asked.stdout, asked.stderr) == (5, "", "macsecd: control\n"), asked
+        assert 55 < time.monotonic() - began < 70
+        it.left.send_signal(signal.SIGCONT)
+        for client in waiting:
+            client.close()
+        it.passes()
+        assert it.ask("show").returncode == 0
+        it.stop()
+
+
+@a_try
 def half_a_line():
     with link() as it:
         half = it.connect()
@@ -613,6 +719,76 @@ def metrics_are_whole_and_come_once_a_second():
             assert "macsec" in text
             it.stop()
             assert not os.path.exists(file + ".new")
+
+
+@a_try
+def metrics_go_to_no_other_file():
+    with tempfile.TemporaryDirectory() as folder:
+        file, other = os.path.join(folder, "macsecd.prom"), os.path.join(folder, "other")
+        with open(other, "w", encoding="ascii") as kept:
+            kept.write("kept")
+        with link(["--metrics", file], wait="5") as it:
+            until(lambda: os.path.exists(file))
+
+            def written():
+                os.unlink(file)
+                until(lambda: os.path.exists(file))
+                with open(file, encoding="ascii") as metrics:
+                    text = metrics.read()
+                assert text.startswith("# HELP macsec_"), text[:80]
+
+            def put(make, name=file + ".new"):
+                """Puts something at a name: again where the relay just had its own file there."""
+                while True:
+                    with contextlib.suppress(FileExistsError):
+                        return make(name)
+
+            written()
+            for target in (other, it.disk, os.path.join(folder, "none")):
+                put(lambda name, to=target: os.symlink(to, name))
+                written()
+                assert not os.path.islink(file) and not os.path.exists(os.path.join(folder, "none")), target
+            with open(other, encoding="ascii") as kept:
+                assert kept.read() == "kept"
+            put(os.mkfifo)
+            written()
+            assert it.passes() < 2, "a pipe holds frames"
+            put(os.mkdir)
+            os.unlink(file)
+            time.sleep(2.5)
+            assert it.passes() < 2, "a folder holds frames"
+            assert not os.path.exists(file), "a folder was removed"
+            os.rmdir(file + ".new")
+            until(lambda: os.path.exists(file))
+
+            def replace(name):
+                os.unlink(name)
+                os.mkdir(name)
+
+            put(replace, file)
+            time.sleep(2.5)
+            assert it.passes() < 2, "a folder in the place of the file holds frames"
+            assert os.path.isdir(file), "a folder was replaced"
+            os.rmdir(file)
+            until(lambda: os.path.isfile(file))
+            it.stop()
+            assert run("show", it.disk).returncode == 0
+
+
+@a_try
+def what_a_file_of_metrics_may_not_replace():
+    with tempfile.TemporaryDirectory() as folder:
+        disk, file, other = (os.path.join(folder, name) for name in ("disk", "metrics", "other"))
+        assert run("format", disk, "0200000000030001", 16, 16).returncode == 0
+        with open(other, "w", encoding="ascii") as kept:
+            kept.write("# HELP macsec_")
+        for name in (file, file + ".new"):
+            for make in (lambda it: os.symlink(other, it), lambda it: os.symlink(disk, it), os.mkfifo, os.mkdir):
+                make(name)
+                ports = ["127.0.0.1:%d" % port for port in free_ports(4)]
+                relay = run("relay", disk, *ports, "--turns", "1", "--metrics", file)
+                assert (relay.returncode, relay.stdout, relay.stderr) == (5, "", "macsecd: control\n"), (name, relay)
+                (os.rmdir if os.path.isdir(name) and not os.path.islink(name) else os.unlink)(name)
 
 
 @a_try

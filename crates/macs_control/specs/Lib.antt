@@ -1,5 +1,7 @@
 pub mod Links
 pub mod Seats
+pub mod Standings
+pub mod Places
 pub mod Watching
 pub mod Binding
 pub mod Notices
@@ -10,3 +12,4 @@ pub mod Buffers
 pub mod Asking
 pub mod SocketWords
 pub mod SystemWords
+pub mod StandingWords

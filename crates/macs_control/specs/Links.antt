@@ -1,7 +1,7 @@
 -- Octets that come over a connection and go over it, and lines of them.
 use Rattle.std.specs.Prelude.{◌≡◌, ◌≤◌, ◌++◌, ⊤, ℕ, Bool, true, false, List, [], ◌∷◌, take, Option, Some, None}
 use Rattle.macs_control.specs.declared.connection.Taken.{Taken}
-use Rattle.macs_control.specs.declared.connection.Taken.TheVariants.{Octets, Nothing, Gone}
+use Rattle.macs_control.specs.declared.connection.Taken.TheVariants.{Octets, Nothing, Ended, Gone}
 use Rattle.macs_control.specs.declared.seat.Hearing.{Hearing}
 use Rattle.macs_control.specs.declared.seat.Hearing.TheVariants as hears
 use Rattle.macs_requests.specs.Inboxes.{HasNoFeed}
@@ -17,12 +17,13 @@ abbrev pub IsAtMost : Taken → ℕ → Type 0
 IsAtMost (Octets count) room = count ≤ room
 IsAtMost other room = ⊤
 
--- The first octets that came are taken; or none, and nothing is lost
+-- The first octets that came are taken; or none, and nothing is lost. At the end no more come
 abbrev pub TakesOctets : Option Link → Option Link → List ℕ → Taken → Type 0
 TakesOctets None new into answer = ⊤
 TakesOctets (Some old) new into (Octets count) =
     (rest : List ℕ) × (old.coming ≡ take count into ++ rest) × (new ≡ Some (record old { coming = rest }))
 TakesOctets (Some old) new into Nothing = new ≡ Some old
+TakesOctets (Some old) new into Ended = (old.coming ≡ []) × (new ≡ Some old)
 TakesOctets (Some old) new into Gone = new ≡ Some old
 
 -- octets are sent whole; else some of them, or none
@@ -32,19 +33,21 @@ GivesOctets (Some old) new octets true = new ≡ Some (record old { given = old.
 GivesOctets (Some old) new octets false =
     (some rest : List ℕ) × (octets ≡ some ++ rest) × (new ≡ Some (record old { given = old.given ++ some }))
 
--- Octets that came are put after those that are held; or none, and nothing changes
+-- Octets that came are put after those that are held; or none, and nothing changes. At the end no more come
 abbrev pub Fills : List ℕ → Option Link → Taken → List ℕ → Option Link → Type 0
 Fills held None taken kept new = ⊤
 Fills held (Some old) (Octets count) kept new =
     (came rest : List ℕ) × (old.coming ≡ came ++ rest) × (kept ≡ held ++ came)
     × (new ≡ Some (record old { coming = rest }))
+Fills held (Some old) Ended kept new = (old.coming ≡ []) × (kept ≡ held) × (new ≡ Some old)
 Fills held (Some old) other kept new = (kept ≡ held) × (new ≡ Some old)
 
 -- What is heard of a client that sent `text` more than was heard: its first line, and then what comes after that; or
--- no line is whole, and nothing is lost; or it is gone
+-- no line is whole, and nothing is lost; or it sends no more, and no whole line is left; or it is gone
 abbrev pub HearsOf : List ℕ → Hearing → List ℕ → Type 0
 HearsOf text (hears.Line line) left = (text ≡ line.items ++ 10 ∷ left) × HasNoFeed line.items
 HearsOf text hears.Silence left = left ≡ text
+HearsOf text hears.Ended left = (left ≡ text) × HasNoFeed text
 HearsOf text hears.Gone left = left ≡ text
 
 -- so it is of octets that are at hand and a connection of which it is known what comes; and nothing is sent

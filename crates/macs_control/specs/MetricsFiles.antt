@@ -2,17 +2,22 @@
 use Rattle.std.specs.Prelude.{◌≡◌, ◌⊎◌, ◌++◌, ℕ, Bool, true, false, List, [], ◌∷◌, Option}
 use Rattle.std.specs.Option.{option_map}
 
--- a text is written to a file, or a file gets the name of another one: and whether that was done
+-- a name is freed; a file is made with a text, of a name that nothing has; or a file gets the name of another one: and
+-- whether that was done
 pub data FileCall : Type 0 where
-  Writes : (path : List ℕ) → (text : List ℕ) → (done : Bool) → FileCall
+  Removes : (path : List ℕ) → (done : Bool) → FileCall
+  Makes : (path : List ℕ) → (text : List ℕ) → (done : Bool) → FileCall
   Renames : (from : List ℕ) → (to : List ℕ) → (done : Bool) → FileCall
 
 -- the calls that are known, where they are, and these
 abbrev pub with_calls : Option (List FileCall) → List FileCall → Option (List FileCall)
 with_calls known more = option_map (λ before. before ++ more) known
 
--- The text is written to a new file, and that gets the name; where it could not be written whole, it does not
+-- The name of the new file is freed, that is made with the text, and gets the name of the other one. A call that fails
+-- is the last one
 abbrev pub Replaces : List ℕ → List ℕ → List ℕ → Option (List FileCall) → Option (List FileCall) → Type 0
 Replaces new path text before after =
-    (after ≡ with_calls before (Writes new text false ∷ []))
-    ⊎ ((renamed : Bool) × (after ≡ with_calls before (Writes new text true ∷ Renames new path renamed ∷ [])))
+    (after ≡ with_calls before (Removes new false ∷ []))
+    ⊎ (after ≡ with_calls before (Removes new true ∷ Makes new text false ∷ []))
+    ⊎ ((renamed : Bool)
+    × (after ≡ with_calls before (Removes new true ∷ Makes new text true ∷ Renames new path renamed ∷ [])))

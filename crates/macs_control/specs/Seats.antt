@@ -19,4 +19,4 @@ held_by seat = octets_in seat.inbox
 
 -- how many clients there are
 abbrev pub seat_count : {S : Type 0} → Seats S → ℕ
-seat_count seats = length seats.seats.items
+seat_count seats = length seats.places.items

@@ -7,7 +7,7 @@ use Rattle.macs_control.specs.Binding.{Binds, Clears, CutCalls, IsBound, IsClear
 use Rattle.macs_control.specs.Binding.{Reaches, Removes, SetsMode, SocketCall, named_calls, with_calls}
 use Rattle.macs_control.specs.Links.{Fills, GivesOctets, Hears, HearsOf, IsAtMost, Link, TakesOctets}
 use Rattle.macs_control.specs.declared.binding.Reach.TheVariants as found
-use Rattle.macs_control.specs.declared.connection.Taken.TheVariants.{Octets, Nothing, Gone}
+use Rattle.macs_control.specs.declared.connection.Taken.TheVariants.{Octets, Nothing, Ended, Gone}
 use Rattle.macs_control.specs.declared.seat.Hearing.{Hearing}
 use Rattle.macs_control.specs.declared.seat.Hearing.TheVariants as hears
 
@@ -47,6 +47,7 @@ pub record LinkWords : Type 0 where
   pub line : (text left : List ℕ) (line : _) → HearsOf text (hears.Line line) left
       → (text ≡ line.items ++ 10 ∷ left) × HasNoFeed line.items
   pub silence : (text left : List ℕ) → HearsOf text hears.Silence left → left ≡ text
+  pub ended : (text left : List ℕ) → HearsOf text hears.Ended left → (left ≡ text) × HasNoFeed text
   pub gone : (text left : List ℕ) → HearsOf text hears.Gone left → left ≡ text
   pub heard : (held kept : List ℕ) (old : Link) (hearing : Hearing) (new : Option Link)
       → Hears held (Some old) hearing kept new → (left : Link) × (new ≡ Some left) × (left.given ≡ old.given)
@@ -57,6 +58,7 @@ pub record LinkWords : Type 0 where
       × (new ≡ Some (record { coming = rest; given = old.given }))
   pub took_none : (old : Link) (new : Option Link) (into : List ℕ)
       → (TakesOctets (Some old) new into Nothing → new ≡ Some old)
+      × (TakesOctets (Some old) new into Ended → (old.coming ≡ []) × (new ≡ Some old))
       × (TakesOctets (Some old) new into Gone → new ≡ Some old)
   pub given : (old : Link) (new : Option Link) (octets : List ℕ) → GivesOctets (Some old) new octets true
       → new ≡ Some (record { coming = old.coming; given = old.given ++ octets })
@@ -68,6 +70,7 @@ pub record LinkWords : Type 0 where
       × (kept ≡ held ++ came) × (new ≡ Some (record { coming = rest; given = old.given }))
   pub not_filled : (held kept : List ℕ) (old : Link) (new : Option Link)
       → (Fills held (Some old) Nothing kept new → (kept ≡ held) × (new ≡ Some old))
+      × (Fills held (Some old) Ended kept new → (old.coming ≡ []) × (kept ≡ held) × (new ≡ Some old))
       × (Fills held (Some old) Gone kept new → (kept ≡ held) × (new ≡ Some old))
   pub answer : (all text : List ℕ) (status : ℕ) (rest : Option (List ℕ))
       → BeginsWithAnswer (Some all) text status rest → (left : List ℕ) × (rest ≡ Some left)

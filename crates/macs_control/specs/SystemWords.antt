@@ -7,7 +7,7 @@ use Rattle.std.specs.Int.{to_le_bytes, w32}
 use Rattle.std.specs.Str.Parse.{digits_value, without_leading_plus}
 use Rattle.std.specs.declared.time.Duration.{Duration}
 use Rattle.macs_control.specs.Buffers.{option_value}
-use Rattle.macs_control.specs.MetricsFiles.{FileCall, Renames, Replaces, Writes}
+use Rattle.macs_control.specs.MetricsFiles.{FileCall, Makes, Removes, Renames, Replaces}
 use Rattle.macs_control.specs.Notices.{HasAddress, name_octets}
 use Rattle.macs_control.specs.Seconds.{is_over}
 use Rattle.macs_control.specs.Signals.{IsTermPending, is_term_set}
@@ -34,9 +34,12 @@ pub record SystemWords : Type 0 where
       ∷ watch.first ∷ watch.second ∷ watch.third ∷ watch.fourth ∷ []
   pub asked : (socket : ℤ) → asks socket ≡ record { fd = socket; events = pos 1; revents = pos 0 }
 
--- A text is written to a new file, which gets the name where it was written whole, and only there.
+-- A new file is made where nothing has its name, and gets the name of the other one where it was written whole, and
+-- only there.
 pub record FileWords : Type 0 where
   pub replaced : (new path text : List ℕ) (before : List FileCall) (after : Option (List FileCall))
       → Replaces new path text (Some before) after
-      → (after ≡ Some (before ++ Writes new text false ∷ []))
-      ⊎ ((renamed : Bool) × (after ≡ Some (before ++ Writes new text true ∷ Renames new path renamed ∷ [])))
+      → (after ≡ Some (before ++ Removes new false ∷ []))
+      ⊎ (after ≡ Some (before ++ Removes new true ∷ Makes new text false ∷ []))
+      ⊎ ((renamed : Bool)
+      × (after ≡ Some (before ++ Removes new true ∷ Makes new text true ∷ Renames new path renamed ∷ [])))

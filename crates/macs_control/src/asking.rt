@@ -106,7 +106,7 @@ impl<S: Connection> Asker<S> {
             match self.relay.hear() {
                 Hearing::Line(line) => return Some(line),
                 Hearing::Silence => {}
-                Hearing::Gone => return None,
+                Hearing::Ended | Hearing::Gone => return None,
             }
         }
         None
@@ -129,7 +129,7 @@ impl<S: Connection> Asker<S> {
     pub fn outlast(&mut self) {
         for _look in 0..MAX_LINES {
             match self.relay.hear() {
-                Hearing::Gone => return,
+                Hearing::Ended | Hearing::Gone => return,
                 Hearing::Line(_) | Hearing::Silence => {}
             }
         }

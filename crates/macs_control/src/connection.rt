@@ -13,7 +13,9 @@ pub enum Taken {
     Octets(usize),
     /// None is there yet.
     Nothing,
-    /// The other side closed it, or it failed.
+    /// All that the other side sends was taken.
+    Ended,
+    /// It failed.
     Gone,
 }
 
@@ -39,7 +41,7 @@ pub trait Connection: Drop {
 impl Connection for UnixStream {
     fn take_into(&mut self, into: &mut [u8]) -> Taken {
         match self.read(into) {
-            Ok(0) => Taken::Gone,
+            Ok(0) => Taken::Ended,
             Ok(count) => Taken::Octets(count),
             Err(error) if error.kind() == ErrorKind::WouldBlock => Taken::Nothing,
             Err(error) if error.kind() == ErrorKind::Interrupted => Taken::Nothing,

@@ -52,21 +52,40 @@ pub struct ControlSocket<'a, T> {
     is_still: bool,
 }
 
-/// Takes in clients that connected.
+/// Takes in a client that connected, and answers whether there was one.
+fn greet_one(listener: &UnixListener, seats: &mut Seats<UnixStream>) -> bool {
+    let Ok((stream, _)) = listener.accept() else {
+        return false;
+    };
+    if stream.set_nonblocking(true).is_ok() {
+        seats.take_in(stream);
+    }
+    true
+}
+
+/// Takes in clients that connected, as long as a place is free.
 fn greet(listener: &UnixListener, seats: &mut Seats<UnixStream>) {
-    for _client in 0..MAX_CLIENTS {
-        let Ok((stream, _)) = listener.accept() else {
+    for _place in seats.len()..MAX_CLIENTS {
+        if !greet_one(listener, seats) {
             return;
-        };
-        if stream.set_nonblocking(true).is_ok() {
-            seats.take_in(stream);
         }
     }
 }
 
-/// The socket of the client at a place, or none.
+/// Hears the clients. Where none of them says a line, and one of them gives way, the next client
+/// that connected has its place.
+fn hear(listener: &UnixListener, seats: &mut Seats<UnixStream>) -> Option<Heard> {
+    greet(listener, seats);
+    let heard = seats.hear();
+    if heard.is_none() && seats.len() >= MAX_CLIENTS && seats.has_room() {
+        greet_one(listener, seats);
+    }
+    heard
+}
+
+/// The socket of the client at a place, or none: nothing more comes from one that sends no more.
 fn socket_at(seats: &Seats<UnixStream>, at: usize) -> RawFd {
-    if at < seats.len() {
+    if at < seats.len() && !seats.has_ended(at) {
         seats.connection(at).as_raw_fd()
     } else {
         NO_SOCKET
@@ -115,16 +134,20 @@ impl<'a, T: Files + Clock> ControlSocket<'a, T> {
         })
     }
 
+    /// The socket that clients connect to, or none: whoever finds no place waits there.
+    fn greeting(&self) -> RawFd {
+        match &self.listener {
+            Some(listener) if self.seats.has_room() => listener.as_raw_fd(),
+            Some(_) | None => NO_SOCKET,
+        }
+    }
+
     /// What is watched.
     fn watch(&self) -> Watch {
-        let listener = match &self.listener {
-            Some(listener) => listener.as_raw_fd(),
-            None => NO_SOCKET,
-        };
         let seats = &self.seats;
         Watch {
             wires: self.wires,
-            listener,
+            listener: self.greeting(),
             first: socket_at(seats, 0),
             second: socket_at(seats, 1),
             third: socket_at(seats, 2),
@@ -140,10 +163,10 @@ impl<T: Files + Clock> Clients for ControlSocket<'_, T> {
             self.is_still = false;
             return None;
         }
-        if let Some(listener) = &self.listener {
-            greet(listener, &mut self.seats);
-        }
-        let heard = self.seats.hear();
+        let heard = match &self.listener {
+            Some(listener) => hear(listener, &mut self.seats),
+            None => None,
+        };
         self.has_heard = heard.is_some();
         heard
     }
@@ -152,16 +175,23 @@ impl<T: Files + Clock> Clients for ControlSocket<'_, T> {
         self.seats.say(client, text);
     }
 
-    /// Where a line was heard last, more of them may be at hand, and there is no sleep.
+    /// Where a line was heard last, more of them may be at hand, and there is no sleep. While a
+    /// newcomer would find no place, it is not known whether one is there: clients are looked at
+    /// after each sleep.
     fn sleep(&mut self) {
         if self.has_heard {
             return;
         }
-        self.is_still = !self.watch().sleep(self.limit.min(LONGEST_SLEEP));
+        let is_found = self.watch().sleep(self.limit.min(LONGEST_SLEEP));
+        self.is_still = !is_found && self.seats.has_room();
     }
 
     fn is_ended(&mut self) -> bool {
-        self.second.is_over(self.rt) && is_told_to_end(self.rt, self.alloc)
+        if !self.second.is_over(self.rt) {
+            return false;
+        }
+        self.seats.pass_second();
+        is_told_to_end(self.rt, self.alloc)
     }
 }
 

@@ -6,22 +6,28 @@ ghost use Rattle.macs_control.specs.MetricsFiles.{Replaces};
 use crate::second::EachSecond;
 use macs_requests::Metrics;
 use std::alloc::{AllocError, Global};
-use std::fs;
+use std::fs::File;
+use std::io::{ErrorKind, Write};
 use std::rt::{Clock, Files};
 
 /// What is asked of files. Tests put others in its place.
 pub trait FileCalls {
     ghost use Rattle.std.specs.Prelude.{◌≡◌, [], ◌∷◌, List, Option, None};
-    ghost use Rattle.macs_control.specs.MetricsFiles.{FileCall, Renames, Writes, with_calls};
+    ghost use Rattle.macs_control.specs.MetricsFiles.{FileCall, Makes, Removes, Renames};
+    ghost use Rattle.macs_control.specs.MetricsFiles.{with_calls};
 
     /// The calls so far, in their order, and whether each was done, where that is known.
     ghost asked: { Self → Option (List FileCall) } = { λ _. None };
 
-    /// Writes a text to a file of this name, which is made where there is none: all of it, or the
-    /// call has failed.
-    fn write(&mut self, path: &str, text: &[u8]) -> bool
+    /// Removes the file or the link of this name, and answers whether nothing has that now.
+    fn remove(&mut self, path: &str) -> bool
+        ensures { asked self.new ≡ with_calls (asked self.old) (Removes path.now result ∷ []) };
+
+    /// Makes a file of this name, which nothing may have, and writes a text to it: all of it, or
+    /// the call has failed.
+    fn make(&mut self, path: &str, text: &[u8]) -> bool
         ensures { asked self.new
-            ≡ with_calls (asked self.old) (Writes path.now text.now result ∷ []) };
+            ≡ with_calls (asked self.old) (Makes path.now text.now result ∷ []) };
 
     /// Gives a file the name of another one, in place of that.
     fn rename(&mut self, from: &str, to: &str) -> bool
@@ -36,8 +42,19 @@ pub struct SystemFiles<'a, T> {
 }
 
 impl<T: Files> FileCalls for SystemFiles<'_, T> {
-    fn write(&mut self, path: &str, text: &[u8]) -> bool {
-        fs::write(self.rt, path, text).is_ok()
+    fn remove(&mut self, path: &str) -> bool {
+        match self.rt.remove_file(path) {
+            Ok(()) => true,
+            Err(error) => error.kind() == ErrorKind::NotFound,
+        }
+    }
+
+    /// No link is followed, and nothing that has the name already is opened (`O_EXCL`, open(2)).
+    fn make(&mut self, path: &str, text: &[u8]) -> bool {
+        match File::create_new(self.rt, path) {
+            Ok(mut file) => file.write_all(text).is_ok(),
+            Err(_) => false,
+        }
     }
 
     fn rename(&mut self, from: &str, to: &str) -> bool {
@@ -45,11 +62,12 @@ impl<T: Files> FileCalls for SystemFiles<'_, T> {
     }
 }
 
-/// Puts a text in place of a file: whoever reads that finds the old text or the new one, whole.
+/// Puts a text in place of a file: whoever reads that finds the old text or the new one, whole. The
+/// new file is made anew each time, so that the text goes to no other file.
 pub fn replace<F: FileCalls>(files: &mut F, new: &str, path: &str, text: &[u8])
     ensures { Replaces new.now path.now text.now (F.asked files.old) (F.asked files.new) }
 {
-    if files.write(new, text) {
+    if files.remove(new) && files.make(new, text) {
         files.rename(new, path);
     }
 }

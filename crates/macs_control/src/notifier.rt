@@ -3,6 +3,7 @@
 ghost use Rattle.std.specs.Prelude.{◌≡◌, ◌≤◌, ◌+◌, ◌∷◌, length, take, IfSome};
 ghost use Rattle.macs_control.specs.Notices.{HasAddress, name_octets};
 
+use crate::local_address::{LocalAddress, MAX_NAME, address_with};
 use arrayvec::ArrayVec;
 use libc::net as c;
 use std::alloc::Global;
@@ -10,24 +11,14 @@ use std::env;
 use std::net::Net;
 use std::rt::Env;
 
-/// The longest name of a local socket, in octets (unix(7)).
-const MAX_NAME: usize = 107;
-
 /// A name as it is in an address.
 type Name = ArrayVec<u8, MAX_NAME>;
-
-/// The address of a local socket, as the system takes it: so many of these octets count.
-#[derive(Clone, Copy)]
-pub(crate) struct LocalAddress {
-    octets: [u8; 128],
-    count: u32,
-    ghost short: { count ≤ 109 },
-}
 
 /// A name as it is in an address: of an abstract one, which begins with `@`, the first octet is 0.
 fn name_octets(name: &[u8]) -> Name
     requires { length name.now ≤ 107 }
-    ensures { result.items ≡ name_octets name.now }
+    ensures octets { result.items ≡ name_octets name.now }
+    ensures count { length result.items ≡ length name.now }
 {
     let mut octets = Name::new();
     if let Some((first, rest)) = name.split_first() {
@@ -37,30 +28,15 @@ fn name_octets(name: &[u8]) -> Name
     octets
 }
 
-/// Puts the family of local sockets (`AF_UNIX`, a number of 16 bits, the low octet first) and a
-/// name at the front.
-fn put_name(octets: &mut [u8], name: &[u8])
-    requires { 2 + length name.now ≤ length octets.old }
-    ensures { take (2 + length name.now) octets.new ≡ 1 ∷ 0 ∷ name.now }
-{
-    octets[..2].copy_from_slice(&[1, 0]);
-    octets[2..2 + name.len()].copy_from_slice(name);
-}
-
 /// The address of a name, where it is one: 1 to 107 octets, a path or an abstract name.
-pub(crate) fn address_of(name: &[u8]) -> Option<LocalAddress>
+fn address_of(name: &[u8]) -> Option<LocalAddress>
     ensures count { IfSome result (λ address. address.count ≡ 2 + length name.now) }
     ensures address { IfSome result (λ address. HasAddress name.now address.octets) }
 {
-    if name.is_empty() || name.len() > MAX_NAME {
+    if name.len() > MAX_NAME {
         return None;
     }
-    let mut octets = [0u8; 128];
-    put_name(&mut octets, name_octets(name).as_slice());
-    Some(LocalAddress {
-        octets,
-        count: (2 + name.len()) as u32,
-    })
+    address_with(name_octets(name).as_slice())
 }
 
 /// Where it is reported how far the program is: the socket that `NOTIFY_SOCKET` names, if there is

@@ -1,12 +1,15 @@
 //! A connection to a relay that is asked.
 
 use crate::connection::{Connection, Taken};
+use crate::local_address::address_with;
+use libc::net::connect;
 use std::io::{ErrorKind, Read, Write};
 use std::net::Net;
+use std::os::fd::AsRawFd;
 use std::os::unix::net::UnixStream;
 use std::time::Duration;
 
-/// How long a read or a write waits, in seconds: longer than any command takes.
+/// How long a call waits, in seconds: longer than any command takes.
 const PATIENCE: u64 = 60;
 
 /// A connection to a relay, each call of which waits for a minute at most: what then has not come
@@ -17,12 +20,18 @@ pub struct PatientStream {
 }
 
 impl PatientStream {
-    /// A connection to the relay that listens at a name, if one does.
+    /// A connection to the relay that listens at a name, if one does. Where as many wait for that
+    /// relay as may, it waits too: the limit of a write is that of a connection (socket(7)).
     pub fn connect<N: Net>(net: &N, path: &str) -> Option<PatientStream> {
-        let stream = UnixStream::connect(net, path).ok()?;
+        let address = address_with(path.as_bytes())?;
+        let stream = UnixStream::from(net.unix_socket().ok()?);
         let patience = Some(Duration::from_secs(PATIENCE));
         stream.set_read_timeout(patience).ok()?;
         stream.set_write_timeout(patience).ok()?;
+        let found = unsafe { connect(stream.as_raw_fd(), &address.octets, address.count) };
+        if found < 0 {
+            return None;
+        }
         Some(PatientStream { stream })
     }
 }
@@ -30,7 +39,7 @@ impl PatientStream {
 impl Connection for PatientStream {
     fn take_into(&mut self, into: &mut [u8]) -> Taken {
         match self.stream.read(into) {
-            Ok(0) => Taken::Gone,
+            Ok(0) => Taken::Ended,
             Ok(count) => Taken::Octets(count),
             Err(error) if error.kind() == ErrorKind::Interrupted => Taken::Nothing,
             Err(_) => Taken::Gone,

@@ -12,7 +12,9 @@ pub enum Hearing {
     Line(Line),
     /// No line is whole yet.
     Silence,
-    /// It closed its connection, or that failed, or it sent 256 octets without the end of a line.
+    /// It sends no more, and each whole line of it was heard.
+    Ended,
+    /// Its connection failed, or it sent 256 octets without the end of a line.
     Gone,
 }
 
@@ -91,6 +93,7 @@ impl<S: Connection> Seat<S> {
                 None => Hearing::Silence,
             },
             Taken::Nothing => Hearing::Silence,
+            Taken::Ended => Hearing::Ended,
             Taken::Gone => Hearing::Gone,
         }
     }

@@ -1,9 +1,12 @@
 //! The clients of a control socket.
 
-ghost use Rattle.std.specs.Prelude.{◌≡◌, ◌≤◌, ◌<◌, length, IfSome};
+ghost use Rattle.std.specs.Prelude.{◌≡◌, ◌≤◌, ◌<◌, length};
+ghost use Rattle.std.specs.Vec.{vec_capacity};
 
 use crate::connection::Connection;
-use crate::seat::{Hearing, Seat};
+use crate::finding::{at_client, at_idle};
+use crate::place::Place;
+use crate::seat::Hearing;
 use macs_requests::{Client, Heard};
 use std::alloc::{AllocError, Global};
 
@@ -11,71 +14,141 @@ use std::alloc::{AllocError, Global};
 pub const MAX_CLIENTS: usize = 4;
 
 /// The clients of a control socket, four at most, that which was silent longest first. A further
-/// one takes the place of the first.
+/// one takes the place of the first that gives way: of which every line is answered, and that said
+/// nothing while two seconds ended. Where none does, it finds no place.
 #[derive(Drop)]
 pub struct Seats<S> {
-    seats: Vec<Seat<S>>,
+    places: Vec<Place<S>>,
     last: u64,
-    ghost few: { length seats.items ≤ 4 },
-}
-
-/// The place of a client, where it has one.
-fn at_client<S: Connection>(seats: &[Seat<S>], client: Client) -> Option<usize>
-    ensures { IfSome result (λ at. at < length seats.now) }
-{
-    seats.iter().position(|seat| seat.client() == client)
+    /// How many seconds ended.
+    second: u64,
+    ghost few: { length places.items ≤ 4 },
+    ghost room: { 4 ≤ vec_capacity places },
 }
 
 impl<S: Connection> Seats<S> {
-    ghost use Rattle.std.specs.Prelude.{◌≡◌, ◌<◌, ◌+◌, IfOk, IfSome};
-    ghost use Rattle.macs_control.specs.Seats.{seat_count};
+    ghost use Rattle.std.specs.Prelude.{◌≡◌, ◌<◌, ◌≤◌, ◌+◌, ◌-◌, ◌++◌, ◌∷◌, [], IfOk, IfSome};
+    ghost use Rattle.std.specs.Prelude.{IsTrue, length, min, true, false, ◌^◌};
+    ghost use Rattle.macs_control.specs.Places.{has_room, kept, places_of, seat_in, second_of};
+    ghost use Rattle.macs_control.specs.Places.{standing_in};
+    ghost use Rattle.macs_control.specs.Seats.{connection_of, seat_count};
+    ghost use Rattle.macs_control.specs.Standings.{has_ended, new_standing};
+    ghost use Rattle.macs_control.specs.declared.place.Place.{Place};
 
     /// No clients yet.
     pub fn new(alloc: Global) -> Result<Seats<S>, AllocError>
-        ensures { IfOk result (λ seats. seat_count seats ≡ 0) }
+        ensures { IfOk result (λ seats. places_of seats ≡ []) }
     {
-        let seats = Vec::with_capacity(alloc, MAX_CLIENTS)?;
-        Ok(Seats { seats, last: 0 })
+        let places = Vec::with_capacity(alloc, MAX_CLIENTS)?;
+        Ok(Seats {
+            places,
+            last: 0,
+            second: 0,
+        })
     }
 
     /// How many clients there are.
     pub fn len(&self) -> usize
         ensures { result ≡ seat_count self.now }
     {
-        self.seats.len()
+        self.places.len()
     }
 
     /// The connection of a client, by its place.
     pub fn connection(&self, at: usize) -> &S
         requires { at < seat_count self.now }
     {
-        self.seats[at].connection()
+        self.places[at].connection()
     }
 
-    /// Takes in one client more, in the last place. Where four have one, the first loses it.
-    pub fn take_in(&mut self, connection: S) {
-        if self.seats.len() >= MAX_CLIENTS {
-            self.seats.remove(0);
+    /// Whether the client at a place sends no more.
+    pub fn has_ended(&self, at: usize) -> bool
+        requires { at < seat_count self.now }
+    {
+        self.places[at].standing().has_ended()
+    }
+
+    /// A second ended.
+    pub fn pass_second(&mut self)
+        ensures second { second_of self.new ≡ min (second_of self.old + 1) (2 ^ 64 - 1) }
+        ensures places { places_of self.new ≡ places_of self.old }
+    {
+        self.second = self.second.saturating_add(1);
+    }
+
+    /// Whether a newcomer finds a place.
+    pub fn has_room(&self) -> bool
+        ensures { result ≡ has_room (second_of self.now) (places_of self.now) }
+    {
+        self.places.len() < MAX_CLIENTS || at_idle(self.places.as_slice(), self.second).is_some()
+    }
+
+    /// Sees that there is a place, and answers whether there is one. Where four have one, the first
+    /// that gives way loses it.
+    fn make_room(&mut self) -> bool
+        ensures room { result ≡ has_room (second_of self.old) (places_of self.old) }
+        ensures free { IsTrue result → length (places_of self.new) < 4 }
+        ensures kept { kept (second_of self.old) (places_of self.new)
+            ≡ kept (second_of self.old) (places_of self.old) }
+        ensures second { second_of self.new ≡ second_of self.old }
+    {
+        if self.places.len() < MAX_CLIENTS {
+            return true;
+        }
+        match at_idle(self.places.as_slice(), self.second) {
+            Some(at) => {
+                self.places.remove(at);
+                true
+            }
+            None => false,
+        }
+    }
+
+    /// Takes in one client more, in the last place, where it finds one. Nobody loses a place but
+    /// the first that gives way.
+    pub fn take_in(&mut self, connection: S)
+        ensures taken { IsTrue (has_room (second_of self.old) (places_of self.old))
+            → (place : Place S) × (connection_of (seat_in place) ≡ connection)
+            × (standing_in place ≡ new_standing (second_of self.old))
+            × (kept (second_of self.old) (places_of self.new)
+            ≡ kept (second_of self.old) (places_of self.old) ++ place ∷ []) }
+        ensures full { has_room (second_of self.old) (places_of self.old) ≡ false
+            → kept (second_of self.old) (places_of self.new)
+            ≡ kept (second_of self.old) (places_of self.old) }
+    {
+        if !self.make_room() {
+            return;
         }
         self.last = self.last.saturating_add(1);
-        let _ = self.seats.push(Seat::new(Client(self.last), connection));
+        let place = Place::new(Client(self.last), connection, self.second);
+        let _ = self.places.push(place);
+    }
+
+    /// Has the client at a place go to the last one.
+    fn move_last(&mut self, at: usize)
+        requires { at < seat_count self.old }
+    {
+        let place = self.places.remove(at);
+        let _ = self.places.push(place);
     }
 
     /// Hears the client at a place. One that said a line goes to the last place, and one that is
-    /// gone loses its own.
+    /// let go loses its own.
     fn hear_at(&mut self, at: usize) -> Option<Heard>
         requires { at < seat_count self.old }
     {
-        match self.seats[at].hear() {
+        let heard = self.places[at].hear(self.second);
+        let client = self.places[at].client();
+        let is_let_go = self.places[at].standing().is_let_go(&heard);
+        match heard {
             Hearing::Line(line) => {
-                let seat = self.seats.remove(at);
-                let client = seat.client();
-                let _ = self.seats.push(seat);
+                self.move_last(at);
                 Some(Heard { client, line })
             }
-            Hearing::Silence => None,
-            Hearing::Gone => {
-                self.seats.remove(at);
+            Hearing::Silence | Hearing::Ended | Hearing::Gone => {
+                if is_let_go {
+                    self.places.remove(at);
+                }
                 None
             }
         }
@@ -85,7 +158,7 @@ impl<S: Connection> Seats<S> {
     pub fn hear(&mut self) -> Option<Heard> {
         let mut at = 0;
         for _place in 0..MAX_CLIENTS {
-            let before = self.seats.len();
+            let before = self.places.len();
             if at >= before {
                 return None;
             }
@@ -93,19 +166,20 @@ impl<S: Connection> Seats<S> {
             if heard.is_some() {
                 return heard;
             }
-            if self.seats.len() == before {
+            if self.places.len() == before {
                 at += 1;
             }
         }
         None
     }
 
-    /// Sends a text to a client. One that does not take all of it at once loses its place, and to
-    /// one that has none nothing is sent.
+    /// Says a text to a client. One that does not take all of it at once loses its place, and so
+    /// does one that sends no more and that no other answer is due to. To one that has none nothing
+    /// is sent.
     pub fn say(&mut self, client: Client, text: &[u8]) {
-        if let Some(at) = at_client(self.seats.as_slice(), client) {
-            if !self.seats[at].give(text) {
-                self.seats.remove(at);
+        if let Some(at) = at_client(self.places.as_slice(), client) {
+            if !self.places[at].say(text, self.second) {
+                self.places.remove(at);
             }
         }
     }

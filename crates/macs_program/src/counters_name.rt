@@ -23,10 +23,10 @@ fn are_counters<R: Read>(file: &mut R) -> bool {
     }
 }
 
-/// Whether no file but one of counters has this name. One that a killed relay left half written is
-/// such a file.
+/// Whether nothing but a file of counters has this name. One that a killed relay left half written
+/// is such a file; a link is none, whatever it leads to.
 fn is_free<T: Files>(rt: &T, path: &str) -> bool {
-    match rt.metadata(path) {
+    match rt.symlink_metadata(path) {
         Ok(about) if about.is_file() => match fs::open(rt, path) {
             Ok(mut file) => are_counters(&mut file),
             Err(_) => false,

@@ -29,8 +29,10 @@ pub trait Clients {
     fn hear(&mut self) -> Option<Heard>
         ensures { talk self.new ≡ with_talk (talk self.old) (WasHeard result ∷ []) };
 
-    /// Sends a text to a client. Nothing is sent to one that went away; one that does not take all
-    /// of it at once is let go, and nothing more is sent to it.
+    /// Sends a text to a client. Each line that was heard is answered once: by texts, the last of
+    /// which ends in the line `end STATUS`. Nothing is sent to a client that went away; one that
+    /// does not take all of a text at once is let go, and nothing more is sent to it. One that
+    /// sends no more is let go after its last answer.
     fn say(&mut self, client: Client, text: &[u8])
         ensures { talk self.new ≡ with_talk (talk self.old) (Said client text.now ∷ []) };
 

@@ -1,0 +1,35 @@
+-- Clients that have places.
+use Rattle.std.specs.Prelude.{◌||◌, ℕ, Bool, List, length, not, filter, is_some}
+use Rattle.std.specs.Prelude.{position, nat_lt}
+use Rattle.macs_control.specs.Standings.{is_idle}
+use Rattle.macs_control.specs.declared.place.Place.{Place}
+use Rattle.macs_control.specs.declared.seat.Seat.{Seat}
+use Rattle.macs_control.specs.declared.seats.Seats.{Seats}
+use Rattle.macs_control.specs.declared.standing.Standing.{Standing}
+
+-- the client and its connection
+abbrev pub seat_in : {S : Type 0} → Place S → Seat S
+seat_in place = place.seat
+
+-- how it stands with the relay
+abbrev pub standing_in : {S : Type 0} → Place S → Standing
+standing_in place = place.standing
+
+-- those that have a place, and the second it is
+abbrev pub places_of : {S : Type 0} → Seats S → List (Place S)
+places_of seats = seats.places.items
+
+abbrev pub second_of : {S : Type 0} → Seats S → ℕ
+second_of seats = seats.second
+
+-- a newcomer may have its place
+abbrev pub gives_way : {S : Type 0} → ℕ → Place S → Bool
+gives_way now place = is_idle now (standing_in place)
+
+-- those that keep their places before each newcomer
+abbrev pub kept : {S : Type 0} → ℕ → List (Place S) → List (Place S)
+kept now places = filter (λ place. not (gives_way now place)) places
+
+-- there is a place to be had: there are four places, or one gives way
+abbrev pub has_room : {S : Type 0} → ℕ → List (Place S) → Bool
+has_room now places = nat_lt (length places) 4 || is_some (position (gives_way now) places)

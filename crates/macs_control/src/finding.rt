@@ -1,0 +1,24 @@
+//! Places, found by who has them.
+
+ghost use Rattle.std.specs.Prelude.{◌≡◌, ◌<◌, length, position, IfSome};
+ghost use Rattle.macs_control.specs.Places.{gives_way};
+
+use crate::connection::Connection;
+use crate::place::Place;
+use macs_requests::Client;
+
+/// The place of a client, where it has one.
+pub(crate) fn at_client<S: Connection>(places: &[Place<S>], client: Client) -> Option<usize>
+    ensures { IfSome result (λ at. at < length places.now) }
+{
+    places.iter().position(|place| place.client() == client)
+}
+
+/// The first place that gives way in this second.
+pub(crate) fn at_idle<S: Connection>(places: &[Place<S>], now: u64) -> Option<usize>
+    ensures { result ≡ position (gives_way now) places.now }
+{
+    places
+        .iter()
+        .position(|place| place.standing().is_idle(now))
+}
