@@ -43,4 +43,11 @@ examine-texts = record {
 }
 
 pub about-texts : AboutTexts
-about-texts = record { about = refl; word = λ name word. refl; writes = (refl, refl); reads = (refl, refl) }
+about-texts = record {
+  about = refl;
+  version = refl;
+  build = λ build is. is;
+  word = λ name word. refl;
+  writes = (refl, refl);
+  reads = (refl, refl);
+}

@@ -18,15 +18,16 @@ use Rattle.macs_record.specs.declared.format.Format.TheVariants.{One, Two}
 use Rattle.macs_record.specs.declared.record.Record.{Record}
 use Rattle.macs_store.specs.Replay.{migrates, reads}
 use Rattle.macs_store.specs.Standing.{Standing}
+use Rattle.macs_texts.specs.declared.build.Build.{Build}
 use Rattle.macs_words.specs.Help.{topic_text}
 use Rattle.macs_words.specs.declared.help.Topic.TheVariants.{Version}
-use Rattle.macs_program.specs.About.{about_text, word_line}
+use Rattle.macs_program.specs.About.{IsThisBuild, about_text, word_line}
 use Rattle.macs_offline.specs.Examining.{block_of, channel_ceilings_text, end_text, examined_text, fault_line}
 use Rattle.macs_offline.specs.Examining.{figures_of, figures_text, number_line, part_line}
 use Rattle.macs_offline.specs.Examining.{rx_ceiling_text, tx_ceiling_text}
 use Rattle.macs_offline.specs.FirstFault.{IsFirstFault}
 use Rattle.macs_offline.specs.RecordLines.{record_line, record_word, record_words, records_text, records_with}
-use Rattle.macs_program.specs.declared.build.TheConstants.{COMMIT, LEVEL, TOOLCHAIN}
+use Rattle.macs_program.specs.declared.build.TheConstants.{COMMIT, LEVEL, PROVED, TOOLCHAIN, VERSION}
 use Rattle.macs_offline.specs.declared.examined_text.Figures.{Figures}
 
 -- First five lines of the journal: its format, the block of its layout, which area is current, in which generation, and
@@ -94,12 +95,16 @@ pub record ExamineTexts : Type 0 where
       ++ (part_line (codes "spent rx") (length config.spent_rx) 512 ++ (codes "whole" ++ 10 ∷ []))
 
 -- `about` says the version, the commit of the sources, the toolchain and the processors as the build has them, and as
--- the formats that are written and read just those that this edition keeps, and reads.
+-- the formats that are written and read just those that this edition keeps, and reads. Metrics name the same version
+-- and commit, and whether the build is proved.
 pub record AboutTexts : Type 0 where
   pub about : about_text ≡ topic_text Version ++ (word_line (codes "commit") COMMIT.now
       ++ (word_line (codes "toolchain") TOOLCHAIN.now ++ (word_line (codes "built for") LEVEL.now
       ++ (word_line (codes "journal writes format") (codes "2")
       ++ word_line (codes "journal reads formats") (codes "1, 2")))))
+  pub version : topic_text Version ≡ codes "macsecd " ++ (VERSION.now ++ 10 ∷ [])
+  pub build : (build : Build) → IsThisBuild build → (build.version.now ≡ VERSION.now) × (build.commit.now ≡ COMMIT.now)
+      × (build.proved.now ≡ PROVED.now)
   pub word : (name word : List ℕ) → word_line name word ≡ (name ++ (codes " " ++ word)) ++ 10 ∷ []
   pub writes : (migrates this_edition One ≡ true) × (migrates this_edition Two ≡ false)
   pub reads : (reads this_edition One ≡ true) × (reads this_edition Two ≡ true)

@@ -4,13 +4,14 @@
 use crate::desks::Orders;
 use crate::endpoint::Played;
 use crate::talks::Talks;
-use macs_desk::ControlDesk;
+use macs_desk::{ControlDesk, NoOverruns};
 use macs_edge::{
     FaultWire, Got, Idle, MemWire, RelaySummary, Wire, WireFault, attend, relay, relay_resting,
 };
 use macs_endpoint::RefillFault;
 use macs_frame::FrameBuf;
 use macs_requests::NoMetrics;
+use macs_texts::Build;
 use macs_story_text::{Answer, Words, filled, frame_at, octets_of, tell_frame, tell_sent, whole};
 use std::alloc::Global;
 use std::mem::replace;
@@ -365,6 +366,13 @@ fn attended(
     )
 }
 
+/// A build of no program: no story asks for metrics.
+const BUILD: Build = Build {
+    version: "",
+    commit: "",
+    proved: "",
+};
+
 /// The same with a desk that serves these clients.
 fn served(
     endpoint: &mut Played,
@@ -374,7 +382,7 @@ fn served(
     alloc: Global,
 ) -> Result<RelaySummary, RefillFault> {
     let clients = replace(talks, Talks::new(alloc));
-    let mut desk = ControlDesk::new(alloc, clients, NoMetrics);
+    let mut desk = ControlDesk::new(alloc, BUILD, clients, NoMetrics, NoOverruns);
     let told = attend(
         endpoint,
         &mut wires.controlled.front,
