@@ -15,11 +15,9 @@ use std::alloc::Global;
 use std::process::Abort;
 
 /// A build of no program.
-const BUILD: Build = Build {
-    version: "7.8.9",
-    commit: "abc",
-    proved: "no",
-};
+fn build(rt: &impl Abort, alloc: Global) -> Build {
+    Build::new(alloc, "7.8.9", "abc", "no").expect(rt, "memory")
+}
 
 /// The disk of a new endpoint.
 fn formatted(rt: &impl Abort, alloc: Global) -> MemDisk {

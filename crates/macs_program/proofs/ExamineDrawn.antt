@@ -46,7 +46,6 @@ pub about-texts : AboutTexts
 about-texts = record {
   about = refl;
   version = refl;
-  build = λ build is. is;
   word = λ name word. refl;
   writes = (refl, refl);
   reads = (refl, refl);

@@ -1,5 +1,5 @@
 -- What `about` says of the program.
-use Rattle.std.specs.Prelude.{◌≡◌, ◌++◌, ℕ, List, codes}
+use Rattle.std.specs.Prelude.{◌≡◌, ◌++◌, ℕ, List, codes, string_bytes}
 use Rattle.macs_texts.specs.Lines.{line}
 use Rattle.macs_texts.specs.declared.build.Build.{Build}
 use Rattle.macs_words.specs.Help.{topic_text}
@@ -25,4 +25,5 @@ about_text =
 -- a build is this one, which its metrics name
 abbrev pub IsThisBuild : Build → Type 0
 IsThisBuild build =
-    (build.version.now ≡ VERSION.now) × (build.commit.now ≡ COMMIT.now) × (build.proved.now ≡ PROVED.now)
+    (string_bytes build.version ≡ VERSION.now) × (string_bytes build.commit ≡ COMMIT.now)
+    × (string_bytes build.proved ≡ PROVED.now)

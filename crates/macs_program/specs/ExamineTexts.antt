@@ -18,10 +18,9 @@ use Rattle.macs_record.specs.declared.format.Format.TheVariants.{One, Two}
 use Rattle.macs_record.specs.declared.record.Record.{Record}
 use Rattle.macs_store.specs.Replay.{migrates, reads}
 use Rattle.macs_store.specs.Standing.{Standing}
-use Rattle.macs_texts.specs.declared.build.Build.{Build}
 use Rattle.macs_words.specs.Help.{topic_text}
 use Rattle.macs_words.specs.declared.help.Topic.TheVariants.{Version}
-use Rattle.macs_program.specs.About.{IsThisBuild, about_text, word_line}
+use Rattle.macs_program.specs.About.{about_text, word_line}
 use Rattle.macs_offline.specs.Examining.{block_of, channel_ceilings_text, end_text, examined_text, fault_line}
 use Rattle.macs_offline.specs.Examining.{figures_of, figures_text, number_line, part_line}
 use Rattle.macs_offline.specs.Examining.{rx_ceiling_text, tx_ceiling_text}
@@ -103,8 +102,6 @@ pub record AboutTexts : Type 0 where
       ++ (word_line (codes "journal writes format") (codes "2")
       ++ word_line (codes "journal reads formats") (codes "1, 2")))))
   pub version : topic_text Version ≡ codes "macsecd " ++ (VERSION.now ++ 10 ∷ [])
-  pub build : (build : Build) → IsThisBuild build → (build.version.now ≡ VERSION.now) × (build.commit.now ≡ COMMIT.now)
-      × (build.proved.now ≡ PROVED.now)
   pub word : (name word : List ℕ) → word_line name word ≡ (name ++ (codes " " ++ word)) ++ 10 ∷ []
   pub writes : (migrates this_edition One ≡ true) × (migrates this_edition Two ≡ false)
   pub reads : (reads this_edition One ≡ true) × (reads this_edition Two ≡ true)

@@ -56,8 +56,9 @@ fn desk_over<'a, T: Files + Net + Clock>(
     ensures { IfErr result (λ failure. (failure ≡ Failure.Memory) ⊎ (failure ≡ Failure.Control)) }
 {
     let clients = clients_for(rt, alloc, running, wires)?;
+    let build = this_build(alloc)?;
     let overruns = SystemOverruns { rt, alloc, wires };
-    Ok(ControlDesk::new(alloc, this_build(), clients, metrics, overruns))
+    Ok(ControlDesk::new(alloc, build, clients, metrics, overruns))
 }
 
 /// Where the counters are written to, if they are. It fails as `Memory`; and as `Control`, where

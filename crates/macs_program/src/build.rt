@@ -2,9 +2,11 @@
 //! sources are, where that was asked for, by which toolchain it is built, whether it is proved, and
 //! for which processors the program is. In the repository it is what is written here.
 
+ghost use Rattle.std.specs.Prelude.{IfOk};
 ghost use Rattle.macs_program.specs.About.{IsThisBuild};
 
 use macs_texts::Build;
+use std::alloc::{AllocError, Global};
 
 /// The version, as `--version` has it.
 pub const VERSION: &str = "0.1.0";
@@ -22,12 +24,8 @@ pub const PROVED: &str = "unknown";
 pub const LEVEL: &str = "x86-64-v2";
 
 /// This build.
-pub fn this_build() -> Build
-    ensures { IsThisBuild result }
+pub fn this_build(alloc: Global) -> Result<Build, AllocError>
+    ensures { IfOk result IsThisBuild }
 {
-    Build {
-        version: VERSION,
-        commit: COMMIT,
-        proved: PROVED,
-    }
+    Build::new(alloc, VERSION, COMMIT, PROVED)
 }

@@ -366,13 +366,6 @@ fn attended(
     )
 }
 
-/// A build of no program: no story asks for metrics.
-const BUILD: Build = Build {
-    version: "",
-    commit: "",
-    proved: "",
-};
-
 /// The same with a desk that serves these clients.
 fn served(
     endpoint: &mut Played,
@@ -382,7 +375,7 @@ fn served(
     alloc: Global,
 ) -> Result<RelaySummary, RefillFault> {
     let clients = replace(talks, Talks::new(alloc));
-    let mut desk = ControlDesk::new(alloc, BUILD, clients, NoMetrics, NoOverruns);
+    let mut desk = ControlDesk::new(alloc, Build::none(alloc), clients, NoMetrics, NoOverruns);
     let told = attend(
         endpoint,
         &mut wires.controlled.front,

@@ -1,6 +1,6 @@
 -- The counters of an endpoint and of its wires, as a collector of metrics reads them: the text format of Prometheus,
 -- version 0.0.4.
-use Rattle.std.specs.Prelude.{ℕ, ◌-◌, ◌^◌, List, [], ◌∷◌, ◌++◌, length, map, codes, Option, Some, None}
+use Rattle.std.specs.Prelude.{ℕ, ◌-◌, ◌^◌, List, [], ◌∷◌, ◌++◌, length, map, codes, string_bytes, Option, Some, None}
 use Rattle.std.specs.Fmt.{decimal}
 use Rattle.std.specs.List.{concat}
 use Rattle.std.specs.Option.{option_map}
@@ -209,8 +209,9 @@ build_name = codes "macsecd_build_info"
 
 -- its labels
 abbrev pub build_labels : Build → List ℕ
-build_labels build = label (codes "version") build.version.now ++ (codes ","
-    ++ (label (codes "commit") build.commit.now ++ (codes "," ++ label (codes "proved") build.proved.now)))
+build_labels build = label (codes "version") (string_bytes build.version) ++ (codes ","
+    ++ (label (codes "commit") (string_bytes build.commit)
+    ++ (codes "," ++ label (codes "proved") (string_bytes build.proved))))
 
 -- it reports
 abbrev pub build_sample : List ℕ → Build → List ℕ

@@ -1,5 +1,5 @@
 -- What is to be drawn of the words on metrics: which number is under which name and labels, and in which order.
-use Rattle.std.specs.Prelude.{◌≡◌, ℕ, ◌-◌, ◌^◌, ◌++◌, List, [], ◌∷◌, length, map, codes, Option, Some, None}
+use Rattle.std.specs.Prelude.{◌≡◌, ℕ, ◌-◌, ◌^◌, ◌++◌, List, [], ◌∷◌, length, map, codes, Option, Some, None, string_bytes}
 use Rattle.std.specs.Fmt.{decimal}
 use Rattle.std.specs.List.{concat}
 use Rattle.hex.specs.Hex.{encode_lower}
@@ -114,8 +114,8 @@ pub record MetricWords : Type 0 where
       ++ sample own (codes "macsec_keys_left") (label (codes "side") (codes "rx")) (512 - length config.spent_rx)
   pub build : (own : List ℕ) (b : Build) → build_metric own b ≡ metric_head (codes "macsecd_build_info") (codes "gauge")
       (codes "The program that reports, always 1.") ++ sample own (codes "macsecd_build_info")
-      (label (codes "version") b.version.now ++ (codes "," ++ (label (codes "commit") b.commit.now
-      ++ (codes "," ++ label (codes "proved") b.proved.now)))) 1
+      (label (codes "version") (string_bytes b.version) ++ (codes "," ++ (label (codes "commit") (string_bytes b.commit)
+      ++ (codes "," ++ label (codes "proved") (string_bytes b.proved))))) 1
   pub order : (b : Build) (s : State) (sent : TxCounters) (received : RxCounters)
       (table : List ℕ → Option ChannelCounters) (controlled common : WireReport)
       → metrics_text b s sent received table controlled common

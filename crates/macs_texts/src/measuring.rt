@@ -455,9 +455,9 @@ fn keys_metric(alloc: Global, own: Sci, config: &Config) -> Result<String, Alloc
 fn build_labels(alloc: Global, build: &Build) -> Result<String, AllocError>
     ensures { IfOk result (λ text. string_bytes text ≡ build_labels build.now) }
 {
-    let version = label(alloc, "version", build.version)?;
-    let commit = label(alloc, "commit", build.commit)?;
-    let proved = label(alloc, "proved", build.proved)?;
+    let version = label(alloc, "version", build.version.as_str())?;
+    let commit = label(alloc, "commit", build.commit.as_str())?;
+    let proved = label(alloc, "proved", build.proved.as_str())?;
     let text = format!(in alloc; "{version},{commit},{proved}")?;
     Ok(text)
 }

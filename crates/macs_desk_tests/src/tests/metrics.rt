@@ -1,7 +1,7 @@
 //! Metrics that are due each time, and keep what is written.
 
 use super::clients::Asker;
-use super::{BUILD, attended};
+use super::{attended, build};
 use macs_desk::{ControlDesk, Dropped, Overruns};
 use macs_requests::Metrics;
 use std::process::Abort;
@@ -126,7 +126,7 @@ fn metrics_are_written_where_they_are_due(rt: HostRuntime) {
     };
     let mut desk = ControlDesk::new(
         rt.alloc(),
-        BUILD,
+        build(&rt, rt.alloc()),
         Asker::new(&rt, rt.alloc(), "show"),
         metrics,
         FirstLost,

@@ -1,6 +1,6 @@
 //! A command that is not taken.
 
-use super::BUILD;
+use super::build;
 use super::clients::{Asker, expect_told};
 use macs_desk::{ControlDesk, NoOverruns};
 use macs_disk::MemDisk;
@@ -23,7 +23,7 @@ fn refuse<K: Desk<MemDisk, MemWire<Global>, MemWire<Global>>>(desk: &mut K, faul
 fn is_told(rt: &impl Abort, alloc: Global, fault: SubmitFault, told: &str) {
     let mut desk = ControlDesk::new(
         alloc,
-        BUILD,
+        build(rt, alloc),
         Asker::new(rt, alloc, "show"),
         NoMetrics,
         NoOverruns,

@@ -1,7 +1,7 @@
 //! What is reported of a new endpoint, by hand.
 
 use super::clients::{Asker, expect_told};
-use super::{BUILD, attended};
+use super::{attended, build};
 use macs_desk::{ControlDesk, NoOverruns};
 use macs_requests::NoMetrics;
 use std::alloc::Global;
@@ -25,7 +25,7 @@ sci-mode explicit\nencoding none\nspent tx 0 rx 0\n5 end 0\n",
 fn answers(rt: &impl Abort, alloc: Global, line: &'static str, told: &str) {
     let mut desk = ControlDesk::new(
         alloc,
-        BUILD,
+        build(rt, alloc),
         Asker::new(rt, alloc, line),
         NoMetrics,
         NoOverruns,
