@@ -99,14 +99,16 @@ listen-words = record {
   sleeps = (refl, refl);
   looks = λ was_quiet is_full reports old new talk order is. is;
   rests = λ was_quiet is_full reports old new talk order is. is;
-  measures = λ text notes is. is;
-  measured = λ text notes is. is;
-  unmeasured = λ text notes is. is;
+  known = λ is dropped same. same;
+  measures = λ known text notes is. is;
+  measured = λ known text notes is. is;
+  unmeasured = λ known text notes is. is;
 }
 
 pub report-words : {D : Type 0} (disk_of : D → Disk) → ReportWords disk_of
 report-words disk_of = record {
-  shown = λ endpoint controlled common. refl;
-  counted = λ endpoint controlled common. refl;
-  measured = λ endpoint controlled common. refl;
+  shown = λ known endpoint controlled common. refl;
+  counted = λ known endpoint controlled common dropped. refl;
+  dropped = λ known endpoint controlled common. refl;
+  measured = λ build endpoint controlled common dropped. refl;
 }

@@ -1,18 +1,29 @@
 -- What a desk does where it is time to look after its clients.
-use Rattle.std.proofs.Common.{◌≡◌, ◌∙◌, ◌++◌, Bool, true, List, Option, ap, refl, subst}
+use Rattle.std.proofs.Common.{◌≡◌, ◌∙◌, ◌++◌, ℕ, Bool, true, List, Option, ap, refl, subst}
 use Rattle.macs_edge.specs.declared.attending.Order.{Order}
 use Rattle.macs_edge.specs.declared.counts.WireCounts.{WireCounts}
 use Rattle.macs_endpoint.specs.Value.{EndpointValue}
 use Rattle.macs_edge.proofs.Flowing.{gained-more}
 use Rattle.macs_requests.specs.Talks.{Note, Talk, with_notes, with_talk}
 use Rattle.macs_requests.specs.declared.clients.Client.{Client}
-use Rattle.macs_desk.specs.Listening.{Looks, LooksIf, Measures, MeasuresIf, Reports, reports_of, sleep_after}
+use Rattle.macs_texts.specs.declared.build.Build.{Build}
+use Rattle.macs_desk.specs.declared.overruns.Dropped.{Dropped}
+use Rattle.macs_desk.specs.Listening.{Looks, LooksIf, Measures, MeasuresIf, Reports, measured_of, reports_of}
+use Rattle.macs_desk.specs.Listening.{sleep_after}
 
 -- reports of the same counts
-pub same-reports : {D : Type 0} (endpoint : EndpointValue D) (a b c d : WireCounts) → a ≡ b → c ≡ d
-    → reports_of endpoint a c ≡ reports_of endpoint b d
-same-reports endpoint a b c d first second =
-    ap (λ (w : WireCounts). reports_of endpoint w c) first ∙ ap (λ (w : WireCounts). reports_of endpoint b w) second
+pub same-reports : {D : Type 0} (known : Option Dropped) (endpoint : EndpointValue D) (a b c d : WireCounts) → a ≡ b
+    → c ≡ d → reports_of known endpoint a c ≡ reports_of known endpoint b d
+same-reports known endpoint a b c d first second =
+    ap (λ (w : WireCounts). reports_of known endpoint w c) first
+    ∙ ap (λ (w : WireCounts). reports_of known endpoint b w) second
+
+-- and what is measured of them
+pub same-measured : {D : Type 0} (build : Build) (endpoint : EndpointValue D) (a b c d : WireCounts) → a ≡ b → c ≡ d
+    → measured_of build endpoint a c ≡ measured_of build endpoint b d
+same-measured build endpoint a b c d first second =
+    ap (λ (w : WireCounts). measured_of build endpoint w c) first
+    ∙ ap (λ (w : WireCounts). measured_of build endpoint b w) second
 
 -- it sleeps after a quiet turn, and looks
 pub looks-in-time : (is was_quiet full known_full : Bool) (reports known : Reports) (old new : Client) (order : Order)
@@ -33,12 +44,12 @@ looks-in-time is was_quiet full known_full reports known old new order before be
     )
 
 -- the metrics are written where they are due
-pub measures-in-time : (is : Bool) (reports known : Reports) (before after : Option (List Note))
-    → is ≡ true → known ≡ reports
-    → (notes : List Note) × Measures known.measured notes × (after ≡ with_notes before notes)
-    → (notes : List Note) × MeasuresIf is reports.measured notes × (after ≡ with_notes before notes)
-measures-in-time is reports known before after time same measured = (
+pub measures-in-time : (is : Bool) (dropped : Option Dropped) (text known : Dropped → List ℕ)
+    (before after : Option (List Note)) → is ≡ true → known ≡ text
+    → (notes : List Note) × Measures dropped known notes × (after ≡ with_notes before notes)
+    → (notes : List Note) × MeasuresIf is dropped text notes × (after ≡ with_notes before notes)
+measures-in-time is dropped text known before after time same measured = (
   measured.0,
-  rw time (subst (λ (r : Reports). Measures r.measured measured.0) same measured.1),
+  rw time (subst (λ (t : Dropped → List ℕ). Measures dropped t measured.0) same measured.1),
   measured.2,
 )

@@ -42,7 +42,7 @@ tells-asks client asked text talk (inr is) = ap (asking_after asked) is
 answers-asks : (reports : Reports) (client asked : Client) (request : Request) (talk : List Talk) (order : Order)
     → Answers reports client request talk order → asking_after asked talk ≡ asked
 answers-asks reports client asked Show talk order is = tells-asks client asked reports.shown talk is.0
-answers-asks reports client asked Counters talk order is = tells-asks client asked reports.counted talk is.0
+answers-asks reports client asked Counters talk order is = tells-asks client asked (reports.counted is.0) talk is.2
 answers-asks reports client asked Stop talk order is = ap (asking_after asked) is.0
 answers-asks reports client asked (Apply command) talk order is = ap (asking_after asked) is.0
 

@@ -1,6 +1,6 @@
 -- What is to be drawn of the words on a desk: what its clients are answered, and when it listens to them.
 use Rattle.std.specs.Prelude.{◌≡◌, ◌≢◌, ◌⊎◌, ◌==◌, ◌-◌, ◌++◌, ◌||◌, ℕ, Bool, true, false, List, [], ◌∷◌, length, map}
-use Rattle.std.specs.Prelude.{codes, replicate, Some, None, Result, Ok, Err}
+use Rattle.std.specs.Prelude.{codes, replicate, Option, Some, None, Result, Ok, Err}
 use Rattle.std.specs.Fmt.{decimal}
 use Rattle.std.specs.Str.{IsUtf8}
 use Rattle.macs_config.specs.declared.command.Command.{Command}
@@ -27,13 +27,16 @@ use Rattle.macs_rxsc.specs.Value as rxsc
 use Rattle.macs_txsc.specs.Value as txsc
 use Rattle.macs_texts.specs.Counting.{counters_text}
 use Rattle.macs_texts.specs.Measuring.{metrics_text}
+use Rattle.macs_texts.specs.declared.build.Build.{Build}
 use Rattle.macs_texts.specs.Refusals.{refusal_name}
 use Rattle.macs_texts.specs.Showing.{show_text}
 use Rattle.macs_desk.specs.Listening.{Answers, IsNoRequest, ListensUnless, Looks, LooksIf, Measures, MeasuresIf, Reads}
-use Rattle.macs_desk.specs.Listening.{Reports, is_time, reports_of, said_of_ending, said_of_taking, sleep_after}
+use Rattle.macs_desk.specs.Listening.{IsKnown, Reports, is_time, measured_of, reports_of, said_of_ending}
+use Rattle.macs_desk.specs.Listening.{said_of_taking, sleep_after}
 use Rattle.macs_desk.specs.Listening.{turns_between, turns_left}
 use Rattle.macs_desk.specs.Replies.{done_text, end_text, ended_text, submit_fault_name}
 use Rattle.macs_desk.specs.UnderWay.{client_of, is_full, joined, without}
+use Rattle.macs_desk.specs.declared.overruns.Dropped.{Dropped}
 use Rattle.macs_desk.specs.declared.under_way.UnderWay.{UnderWay as Entry}
 
 -- The last line of an answer has a status. `ok` is said of a command that is kept, and of no other; of one that is
@@ -109,8 +112,10 @@ pub record ListenWords : Type 0 where
       × (order ≡ Go)
   pub counters : (reports : Reports) (client : Client) (talk : List Talk) (order : Order)
       → Answers reports client Counters talk order
-      → ((talk ≡ Said client reports.counted ∷ Said client (end_text 0) ∷ []) ⊎ (talk ≡ Said client (end_text 5) ∷ []))
-      × (order ≡ Go)
+      → (dropped : Dropped) × IsKnown reports.known dropped
+      × ((talk ≡ Said client (reports.counted dropped) ∷ Said client (end_text 0) ∷ [])
+      ⊎ (talk ≡ Said client (end_text 5) ∷ [])) × (order ≡ Go)
+  pub known : (is dropped : Dropped) → IsKnown (Some is) dropped → dropped ≡ is
   pub stop : (reports : Reports) (client : Client) (talk : List Talk) (order : Order)
       → Answers reports client Stop talk order → (talk ≡ Said client (end_text 0) ∷ []) × (order ≡ End)
   pub apply : (reports : Reports) (client : Client) (command : Command) (talk : List Talk) (order : Order)
@@ -126,20 +131,28 @@ pub record ListenWords : Type 0 where
       × (talk ≡ sleep_after was_quiet ++ more) × Looks is_full reports old more order new
   pub rests : (was_quiet is_full : Bool) (reports : Reports) (old new : Client) (talk : List Talk) (order : Order)
       → LooksIf false was_quiet is_full reports old talk order new → (talk ≡ []) × (order ≡ Go) × (new ≡ old)
-  pub measures : (text : List ℕ) (notes : List Note) → Measures text notes
-      → (notes ≡ Asked false ∷ []) ⊎ (notes ≡ Asked true ∷ []) ⊎ (notes ≡ Asked true ∷ Put text ∷ [])
-  pub measured : (text : List ℕ) (notes : List Note) → MeasuresIf true text notes → Measures text notes
-  pub unmeasured : (text : List ℕ) (notes : List Note) → MeasuresIf false text notes → notes ≡ []
+  pub measures : (is : Option Dropped) (text : Dropped → List ℕ) (notes : List Note) → Measures is text notes
+      → (notes ≡ Asked false ∷ []) ⊎ (notes ≡ Asked true ∷ [])
+      ⊎ ((dropped : Dropped) × IsKnown is dropped × (notes ≡ Asked true ∷ Put (text dropped) ∷ []))
+  pub measured : (is : Option Dropped) (text : Dropped → List ℕ) (notes : List Note)
+      → MeasuresIf true is text notes → Measures is text notes
+  pub unmeasured : (is : Option Dropped) (text : Dropped → List ℕ) (notes : List Note)
+      → MeasuresIf false is text notes → notes ≡ []
 
--- A report is that of the endpoint's state, of its counters, and of both wires, the controlled one first.
+-- A report is that of the endpoint's state, of its counters, and of both wires with what was dropped of each, the
+-- controlled one first.
 pub record ReportWords {D : Type 0} (disk_of : D → Disk) : Type 0 where
-  pub shown : (endpoint : EndpointValue D) (controlled common : WireCounts)
-      → (reports_of endpoint controlled common).shown ≡ show_text (state_of endpoint no_logs)
-  pub counted : (endpoint : EndpointValue D) (controlled common : WireCounts)
-      → (reports_of endpoint controlled common).counted
+  pub shown : (known : Option Dropped) (endpoint : EndpointValue D) (controlled common : WireCounts)
+      → (reports_of known endpoint controlled common).shown ≡ show_text (state_of endpoint no_logs)
+  pub counted : (known : Option Dropped) (endpoint : EndpointValue D) (controlled common : WireCounts)
+      (dropped : Dropped) → (reports_of known endpoint controlled common).counted dropped
       ≡ counters_text (state_of endpoint no_logs) (txsc.counters_of endpoint.tx) (rxsc.counters_of endpoint.rx)
-      (rxsc.channel_counters_of endpoint.rx) controlled common
-  pub measured : (endpoint : EndpointValue D) (controlled common : WireCounts)
-      → (reports_of endpoint controlled common).measured
-      ≡ metrics_text (state_of endpoint no_logs) (txsc.counters_of endpoint.tx) (rxsc.counters_of endpoint.rx)
-      (rxsc.channel_counters_of endpoint.rx) controlled common
+      (rxsc.channel_counters_of endpoint.rx) (record { counts = controlled; overrun = dropped.controlled })
+      (record { counts = common; overrun = dropped.common })
+  pub dropped : (known : Option Dropped) (endpoint : EndpointValue D) (controlled common : WireCounts)
+      → (reports_of known endpoint controlled common).known ≡ known
+  pub measured : (build : Build) (endpoint : EndpointValue D) (controlled common : WireCounts) (dropped : Dropped)
+      → measured_of build endpoint controlled common dropped
+      ≡ metrics_text build (state_of endpoint no_logs) (txsc.counters_of endpoint.tx) (rxsc.counters_of endpoint.rx)
+      (rxsc.channel_counters_of endpoint.rx) (record { counts = controlled; overrun = dropped.controlled })
+      (record { counts = common; overrun = dropped.common })

@@ -1,5 +1,5 @@
 -- When a desk listens to its clients, and what it says to them.
-use Rattle.std.specs.Prelude.{◌≡◌, ◌≢◌, ◌⊎◌, ◌==◌, ◌-◌, ◌++◌, ◌||◌, ℕ, Bool, true, false, List, [], ◌∷◌}
+use Rattle.std.specs.Prelude.{◌≡◌, ◌≢◌, ◌⊎◌, ◌==◌, ◌-◌, ◌++◌, ◌||◌, ⊤, ℕ, Bool, true, false, List, [], ◌∷◌}
 use Rattle.std.specs.Prelude.{Option, Some, None, Result, Ok, Err}
 use Rattle.std.specs.Str.{IsUtf8}
 use Rattle.macs_edge.specs.declared.attending.CommandEnd.{CommandEnd}
@@ -17,31 +17,45 @@ use Rattle.macs_requests.specs.declared.requests.Request.{Request}
 use Rattle.macs_requests.specs.declared.requests.Request.TheVariants.{Apply, Counters, Show, Stop}
 use Rattle.macs_rxsc.specs.Value as rxsc
 use Rattle.macs_txsc.specs.Value as txsc
-use Rattle.macs_texts.specs.Counting.{counters_text}
+use Rattle.macs_texts.specs.Counting.{counters_text, reported}
 use Rattle.macs_texts.specs.Measuring.{metrics_text}
 use Rattle.macs_texts.specs.Showing.{show_text}
+use Rattle.macs_texts.specs.declared.build.Build.{Build}
 use Rattle.macs_desk.specs.Replies.{end_text, ended_text, not_taken_text}
 use Rattle.macs_desk.specs.UnderWay.{client_of, joined}
+use Rattle.macs_desk.specs.declared.overruns.Dropped.{Dropped}
 use Rattle.macs_desk.specs.declared.under_way.UnderWay.{UnderWay as Entry}
 
 -- ---- reports
 
--- what an endpoint and its wires report: the configuration and the numbers, the counters, and the same for a
--- collector of metrics
+-- an answer to what was dropped, where it is known what is answered
+abbrev pub IsKnown : Option Dropped → Dropped → Type 0
+IsKnown None dropped = ⊤
+IsKnown (Some known) dropped = dropped ≡ known
+
+-- what clients are told of an endpoint and its wires: the configuration and the numbers, and the counters with what was
+-- dropped, of which may be known what it is
 pub record Reports : Type 0 where
   pub shown : List ℕ
-  pub counted : List ℕ
-  pub measured : List ℕ
+  pub counted : Dropped → List ℕ
+  pub known : Option Dropped
 
 -- what they report now
-abbrev pub reports_of : {D : Type 0} → EndpointValue D → WireCounts → WireCounts → Reports
-reports_of endpoint controlled common = record {
+abbrev pub reports_of : {D : Type 0} → Option Dropped → EndpointValue D → WireCounts → WireCounts → Reports
+reports_of known endpoint controlled common = record {
   shown = show_text (state_of endpoint no_logs);
-  counted = counters_text (state_of endpoint no_logs) (txsc.counters_of endpoint.tx) (rxsc.counters_of endpoint.rx)
-      (rxsc.channel_counters_of endpoint.rx) controlled common;
-  measured = metrics_text (state_of endpoint no_logs) (txsc.counters_of endpoint.tx) (rxsc.counters_of endpoint.rx)
-      (rxsc.channel_counters_of endpoint.rx) controlled common;
+  counted = λ dropped.
+      counters_text (state_of endpoint no_logs) (txsc.counters_of endpoint.tx) (rxsc.counters_of endpoint.rx)
+      (rxsc.channel_counters_of endpoint.rx) (reported controlled dropped.controlled)
+      (reported common dropped.common);
+  known = known;
 }
+
+-- and what a collector of metrics is told by this program
+abbrev pub measured_of : {D : Type 0} → Build → EndpointValue D → WireCounts → WireCounts → Dropped → List ℕ
+measured_of build endpoint controlled common dropped =
+    metrics_text build (state_of endpoint no_logs) (txsc.counters_of endpoint.tx) (rxsc.counters_of endpoint.rx)
+    (rxsc.channel_counters_of endpoint.rx) (reported controlled dropped.controlled) (reported common dropped.common)
 
 -- ---- a line
 
@@ -62,7 +76,8 @@ Tells client text talk = (talk ≡ Said client text ∷ Said client (end_text 0)
 -- What a request is answered at once, and what the desk wants then. A command is answered when it is done
 abbrev pub Answers : Reports → Client → Request → List Talk → Order → Type 0
 Answers reports client Show talk order = Tells client reports.shown talk × (order ≡ Go)
-Answers reports client Counters talk order = Tells client reports.counted talk × (order ≡ Go)
+Answers reports client Counters talk order = (dropped : Dropped) × IsKnown reports.known dropped
+    × Tells client (reports.counted dropped) talk × (order ≡ Go)
 Answers reports client Stop talk order = (talk ≡ Said client (end_text 0) ∷ []) × (order ≡ End)
 Answers reports client (Apply command) talk order = (talk ≡ []) × (order ≡ Submit command)
 
@@ -120,14 +135,15 @@ LooksIf false was_quiet is_full reports old talk order new = (talk ≡ []) × (o
 
 -- ---- metrics
 
--- the metrics are written where that is due, unless memory is refused
-abbrev pub Measures : List ℕ → List Note → Type 0
-Measures text notes = (notes ≡ Asked false ∷ []) ⊎ (notes ≡ Asked true ∷ []) ⊎ (notes ≡ Asked true ∷ Put text ∷ [])
+-- the metrics are written, with what was dropped, where that is due, unless memory is refused
+abbrev pub Measures : Option Dropped → (Dropped → List ℕ) → List Note → Type 0
+Measures known text notes = (notes ≡ Asked false ∷ []) ⊎ (notes ≡ Asked true ∷ [])
+    ⊎ ((dropped : Dropped) × IsKnown known dropped × (notes ≡ Asked true ∷ Put (text dropped) ∷ []))
 
 -- the same where it is time to look
-abbrev pub MeasuresIf : Bool → List ℕ → List Note → Type 0
-MeasuresIf true text notes = Measures text notes
-MeasuresIf false text notes = notes ≡ []
+abbrev pub MeasuresIf : Bool → Option Dropped → (Dropped → List ℕ) → List Note → Type 0
+MeasuresIf true known text notes = Measures known text notes
+MeasuresIf false known text notes = notes ≡ []
 
 -- ---- answers
 

@@ -5,14 +5,16 @@ ghost use Rattle.std.specs.Str.{IsUtf8};
 ghost use Rattle.macs_requests.specs.Requests.{IsAsked, request_line};
 ghost use Rattle.macs_requests.specs.Talks.{Talk, with_talk};
 ghost use Rattle.macs_requests.specs.declared.requests.Request.{Request};
-ghost use Rattle.macs_desk.specs.Listening.{Answers, IsRead, Reads, Tells, reports_of};
+ghost use Rattle.macs_desk.specs.Listening.{Answers, IsKnown, IsRead, Reads, Tells, reports_of};
+ghost use Rattle.macs_desk.specs.declared.overruns.Dropped.{Dropped};
 
+use crate::overruns::{Dropped, Overruns};
 use crate::replies::{DONE, NO_MEMORY, NO_REQUEST};
 use macs_disk::SectorDisk;
 use macs_edge::{Order, WireCounts};
 use macs_endpoint::Endpoint;
 use macs_requests::{Client, Clients, Heard, Request, request_of_line};
-use macs_texts::{counter_lines, show_lines};
+use macs_texts::{counter_lines, reported, show_lines};
 use std::alloc::{AllocError, Global};
 
 /// The request of a line, `None` where it is no text, or the line of no request. It fails only
@@ -41,18 +43,42 @@ fn tell<C: Clients>(clients: &mut C, client: Client, report: Result<String, Allo
     }
 }
 
-/// Answers a request, where it is answered at once, and says what the desk wants then.
-fn answer<D: SectorDisk, C: Clients>(
+/// The counters, with what the system dropped.
+fn counted<D: SectorDisk, O: Overruns>(
     alloc: Global,
     endpoint: &Endpoint<D>,
     controlled: &WireCounts,
     common: &WireCounts,
+    overruns: &O,
+) -> Result<String, AllocError>
+    ensures { (dropped : Dropped) × IsKnown (O.known overruns.now) dropped
+        × IfOk result (λ text. string_bytes text
+        ≡ (reports_of (O.known overruns.now) endpoint.now controlled.now common.now).counted
+        dropped) }
+{
+    let Dropped {
+        controlled: first,
+        common: second,
+    } = overruns.dropped();
+    let controlled = reported(*controlled, first);
+    let common = reported(*common, second);
+    counter_lines(alloc, endpoint, &controlled, &common)
+}
+
+/// Answers a request, where it is answered at once, and says what the desk wants then.
+fn answer<D: SectorDisk, O: Overruns, C: Clients>(
+    alloc: Global,
+    endpoint: &Endpoint<D>,
+    controlled: &WireCounts,
+    common: &WireCounts,
+    overruns: &O,
     client: Client,
     request: Request,
     clients: &mut C,
 ) -> Order
     ensures { (talk : List Talk)
-        × Answers (reports_of endpoint.now controlled.now common.now) client request talk result
+        × Answers (reports_of (O.known overruns.now) endpoint.now controlled.now common.now)
+        client request talk result
         × (C.talk clients.new ≡ with_talk (C.talk clients.old) talk) }
 {
     match request {
@@ -61,7 +87,7 @@ fn answer<D: SectorDisk, C: Clients>(
             Order::Go
         }
         Request::Counters => {
-            let report = counter_lines(alloc, endpoint, controlled, common);
+            let report = counted(alloc, endpoint, controlled, common, overruns);
             tell(clients, client, report);
             Order::Go
         }
@@ -74,22 +100,24 @@ fn answer<D: SectorDisk, C: Clients>(
 }
 
 /// Reads a line, and says what the desk wants then.
-pub fn read<D: SectorDisk, C: Clients>(
+pub fn read<D: SectorDisk, O: Overruns, C: Clients>(
     alloc: Global,
     endpoint: &Endpoint<D>,
     controlled: &WireCounts,
     common: &WireCounts,
+    overruns: &O,
     heard: &Heard,
     clients: &mut C,
 ) -> Order
     ensures { (talk : List Talk)
-        × Reads (reports_of endpoint.now controlled.now common.now) heard.now talk result
+        × Reads (reports_of (O.known overruns.now) endpoint.now controlled.now common.now)
+        heard.now talk result
         × (C.talk clients.new ≡ with_talk (C.talk clients.old) talk) }
 {
     let client = heard.client;
     match request_of(alloc, heard.line.as_slice()) {
         Ok(Some(request)) => answer(
-            alloc, endpoint, controlled, common, client, request, clients,
+            alloc, endpoint, controlled, common, overruns, client, request, clients,
         ),
         Ok(None) => {
             clients.say(client, NO_REQUEST.as_bytes());

@@ -2,19 +2,21 @@
 
 ghost use Rattle.std.specs.Prelude.{◌≡◌, [], List};
 ghost use Rattle.macs_requests.specs.Talks.{Note, Talk, with_notes, with_talk};
-ghost use Rattle.macs_desk.specs.Listening.{LooksIf, MeasuresIf, is_time, reports_of};
+ghost use Rattle.macs_desk.specs.Listening.{LooksIf, MeasuresIf, is_time, measured_of, reports_of};
 ghost use Rattle.macs_desk.specs.Listening.{said_of_ending, said_of_taking, turns_left};
 ghost use Rattle.macs_desk.specs.Listening.{under_way_after};
 ghost use Rattle.macs_desk.specs.UnderWay.{entries_of, is_full, without};
 
 use crate::listening::{TURNS_BETWEEN, is_time, look, rest, turns_between};
 use crate::metrics::measure;
+use crate::overruns::Overruns;
 use crate::replies::{ended, not_taken};
 use crate::under_way::{Queue, UnderWay};
 use macs_disk::SectorDisk;
 use macs_edge::{CommandEnd, Counted, Desk, Order, Wire};
 use macs_endpoint::{Endpoint, SubmitFault, Ticket};
 use macs_requests::{Client, Clients, Metrics};
+use macs_texts::Build;
 use std::alloc::Global;
 
 /// A desk that serves clients. It listens to them after a quiet turn, before which it sleeps, and
@@ -27,10 +29,12 @@ use std::alloc::Global;
 /// What clients do never holds a frame: no call waits for one of them. A client that goes away
 /// loses its answers, and none of its commands that were taken.
 #[derive(Drop)]
-pub struct ControlDesk<C, M> {
+pub struct ControlDesk<C, M, O> {
     alloc: Global,
+    build: Build,
     clients: C,
     metrics: M,
+    overruns: O,
     under_way: Queue,
     /// The client whose line was taken last.
     asking: Client,
@@ -38,18 +42,28 @@ pub struct ControlDesk<C, M> {
     turns_left: u8,
 }
 
-impl<C: Clients, M: Metrics> ControlDesk<C, M> {
-    /// A desk with no command under way.
-    pub fn new(alloc: Global, clients: C, metrics: M) -> ControlDesk<C, M>
+impl<C: Clients, M: Metrics, O: Overruns> ControlDesk<C, M, O> {
+    /// A desk of this build of the program, with no command under way.
+    pub fn new(
+        alloc: Global,
+        build: Build,
+        clients: C,
+        metrics: M,
+        overruns: O,
+    ) -> ControlDesk<C, M, O>
+        ensures build { result.build ≡ build }
         ensures clients { result.clients ≡ clients }
         ensures metrics { result.metrics ≡ metrics }
+        ensures overruns { result.overruns ≡ overruns }
         ensures none { entries_of result.under_way ≡ [] }
         ensures turns { result.turns_left ≡ 63 }
     {
         ControlDesk {
             alloc,
+            build,
             clients,
             metrics,
+            overruns,
             under_way: Queue::new(),
             asking: Client::default(),
             turns_left: TURNS_BETWEEN,
@@ -57,7 +71,7 @@ impl<C: Clients, M: Metrics> ControlDesk<C, M> {
     }
 }
 
-impl<C, M> ControlDesk<C, M> {
+impl<C, M, O: Drop> ControlDesk<C, M, O> {
     /// The clients, and where the metrics are written.
     pub fn into_parts(self) -> (C, M)
         ensures clients { result.0 ≡ self.clients }
@@ -72,21 +86,27 @@ impl<C, M> ControlDesk<C, M> {
     }
 }
 
-impl<D: SectorDisk, P: Wire + Counted, W: Wire + Counted, C: Clients, M: Metrics> Desk<D, P, W>
-    for ControlDesk<C, M> {
+impl<D: SectorDisk, P: Wire + Counted, W: Wire + Counted, C: Clients, M: Metrics, O: Overruns> Desk<
+    D,
+    P,
+    W,
+> for ControlDesk<C, M, O> {
     fn next(&mut self, endpoint: &Endpoint<D>, controlled: &P, common: &W, was_quiet: bool) -> Order
         ensures talk { (talk : List Talk)
             × LooksIf (is_time was_quiet self.old.turns_left) was_quiet
             (is_full (entries_of self.old.under_way))
-            (reports_of endpoint.now (P.wire_counts controlled.now) (W.wire_counts common.now))
+            (reports_of (O.known self.old.overruns) endpoint.now (P.wire_counts controlled.now)
+            (W.wire_counts common.now))
             self.old.asking talk result self.new.asking
             × (C.talk self.new.clients ≡ with_talk (C.talk self.old.clients) talk) }
         ensures notes { (notes : List Note)
-            × MeasuresIf (is_time was_quiet self.old.turns_left)
-            (reports_of endpoint.now (P.wire_counts controlled.now)
-            (W.wire_counts common.now)).measured
+            × MeasuresIf (is_time was_quiet self.old.turns_left) (O.known self.old.overruns)
+            (measured_of self.old.build endpoint.now (P.wire_counts controlled.now)
+            (W.wire_counts common.now))
             notes
             × (M.notes self.new.metrics ≡ with_notes (M.notes self.old.metrics) notes) }
+        ensures build { self.new.build ≡ self.old.build }
+        ensures overruns { self.new.overruns ≡ self.old.overruns }
         ensures under_way { entries_of self.new.under_way ≡ entries_of self.old.under_way }
         ensures turns { self.new.turns_left
             ≡ turns_left (is_time was_quiet self.old.turns_left) self.old.turns_left result }
@@ -100,9 +120,11 @@ impl<D: SectorDisk, P: Wire + Counted, W: Wire + Counted, C: Clients, M: Metrics
         rest(was_quiet, &mut self.clients);
         measure(
             self.alloc,
+            &self.build,
             endpoint,
             &controlled,
             &common,
+            &self.overruns,
             &mut self.metrics,
         );
         let order = look(
@@ -110,6 +132,7 @@ impl<D: SectorDisk, P: Wire + Counted, W: Wire + Counted, C: Clients, M: Metrics
             endpoint,
             &controlled,
             &common,
+            &self.overruns,
             self.under_way.is_full(),
             &mut self.clients,
             &mut self.asking,
@@ -121,6 +144,8 @@ impl<D: SectorDisk, P: Wire + Counted, W: Wire + Counted, C: Clients, M: Metrics
     fn took(&mut self, answer: Result<Ticket, SubmitFault>)
         ensures talk { C.talk self.new.clients
             ≡ with_talk (C.talk self.old.clients) (said_of_taking self.old.asking answer) }
+        ensures build { self.new.build ≡ self.old.build }
+        ensures overruns { self.new.overruns ≡ self.old.overruns }
         ensures metrics { self.new.metrics ≡ self.old.metrics }
         ensures under_way { entries_of self.new.under_way
             ≡ under_way_after (entries_of self.old.under_way) self.old.asking answer }
@@ -139,6 +164,8 @@ impl<D: SectorDisk, P: Wire + Counted, W: Wire + Counted, C: Clients, M: Metrics
         ensures talk { C.talk self.new.clients
             ≡ with_talk (C.talk self.old.clients)
             (said_of_ending (entries_of self.old.under_way) ticket end) }
+        ensures build { self.new.build ≡ self.old.build }
+        ensures overruns { self.new.overruns ≡ self.old.overruns }
         ensures metrics { self.new.metrics ≡ self.old.metrics }
         ensures under_way { entries_of self.new.under_way
             ≡ without (entries_of self.old.under_way) ticket }

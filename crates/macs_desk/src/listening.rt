@@ -6,6 +6,7 @@ ghost use Rattle.macs_desk.specs.Listening.{Listens, Looks, is_time, reports_of,
 ghost use Rattle.macs_desk.specs.Listening.{turns_between};
 
 use crate::answering::read;
+use crate::overruns::Overruns;
 use macs_disk::SectorDisk;
 use macs_edge::{Order, WireCounts};
 use macs_endpoint::Endpoint;
@@ -43,40 +44,44 @@ pub fn rest<C: Clients>(was_quiet: bool, clients: &mut C)
 }
 
 /// Takes the next line of a client, where there is one, and reads it. Who asks is its client then.
-fn listen<D: SectorDisk, C: Clients>(
+fn listen<D: SectorDisk, O: Overruns, C: Clients>(
     alloc: Global,
     endpoint: &Endpoint<D>,
     controlled: &WireCounts,
     common: &WireCounts,
+    overruns: &O,
     clients: &mut C,
     asking: &mut Client,
 ) -> Order
     ensures { (talk : List Talk)
-        × Listens (reports_of endpoint.now controlled.now common.now)
+        × Listens (reports_of (O.known overruns.now) endpoint.now controlled.now common.now)
         asking.old talk result asking.new
         × (C.talk clients.new ≡ with_talk (C.talk clients.old) talk) }
 {
     match clients.hear() {
         Some(heard) => {
             *asking = heard.client;
-            read(alloc, endpoint, controlled, common, &heard, clients)
+            read(
+                alloc, endpoint, controlled, common, overruns, &heard, clients,
+            )
         }
         None => Order::Go,
     }
 }
 
 /// Looks whether the process was asked to end, and listens, unless 16 commands are under way.
-pub fn look<D: SectorDisk, C: Clients>(
+pub fn look<D: SectorDisk, O: Overruns, C: Clients>(
     alloc: Global,
     endpoint: &Endpoint<D>,
     controlled: &WireCounts,
     common: &WireCounts,
+    overruns: &O,
     is_full: bool,
     clients: &mut C,
     asking: &mut Client,
 ) -> Order
     ensures { (talk : List Talk)
-        × Looks is_full (reports_of endpoint.now controlled.now common.now)
+        × Looks is_full (reports_of (O.known overruns.now) endpoint.now controlled.now common.now)
         asking.old talk result asking.new
         × (C.talk clients.new ≡ with_talk (C.talk clients.old) talk) }
 {
@@ -86,5 +91,7 @@ pub fn look<D: SectorDisk, C: Clients>(
     if is_full {
         return Order::Go;
     }
-    listen(alloc, endpoint, controlled, common, clients, asking)
+    listen(
+        alloc, endpoint, controlled, common, overruns, clients, asking,
+    )
 }

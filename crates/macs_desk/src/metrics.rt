@@ -1,32 +1,59 @@
 //! The counters for a collector of metrics.
 
-ghost use Rattle.std.specs.Prelude.{◌≡◌, List};
+ghost use Rattle.std.specs.Prelude.{◌≡◌, List, IfOk, string_bytes};
 ghost use Rattle.macs_requests.specs.Talks.{Note, with_notes};
-ghost use Rattle.macs_desk.specs.Listening.{Measures, reports_of};
+ghost use Rattle.macs_desk.specs.Listening.{IsKnown, Measures, measured_of};
+ghost use Rattle.macs_desk.specs.declared.overruns.Dropped.{Dropped};
 
+use crate::overruns::{Dropped, Overruns};
 use macs_disk::SectorDisk;
 use macs_edge::WireCounts;
 use macs_endpoint::Endpoint;
 use macs_requests::Metrics;
-use macs_texts::metric_lines;
-use std::alloc::Global;
+use macs_texts::{Build, metric_lines, reported};
+use std::alloc::{AllocError, Global};
 
-/// Writes the metrics, where that is due and there is memory for them.
-pub fn measure<D: SectorDisk, M: Metrics>(
+/// The metrics, with what the system dropped.
+fn measured<D: SectorDisk, O: Overruns>(
     alloc: Global,
+    build: &Build,
     endpoint: &Endpoint<D>,
     controlled: &WireCounts,
     common: &WireCounts,
+    overruns: &O,
+) -> Result<String, AllocError>
+    ensures { (dropped : Dropped) × IsKnown (O.known overruns.now) dropped
+        × IfOk result (λ text. string_bytes text
+        ≡ measured_of build.now endpoint.now controlled.now common.now dropped) }
+{
+    let Dropped {
+        controlled: first,
+        common: second,
+    } = overruns.dropped();
+    let controlled = reported(*controlled, first);
+    let common = reported(*common, second);
+    metric_lines(alloc, build, endpoint, &controlled, &common)
+}
+
+/// Writes the metrics, where that is due and there is memory for them.
+pub fn measure<D: SectorDisk, O: Overruns, M: Metrics>(
+    alloc: Global,
+    build: &Build,
+    endpoint: &Endpoint<D>,
+    controlled: &WireCounts,
+    common: &WireCounts,
+    overruns: &O,
     metrics: &mut M,
 )
     ensures { (notes : List Note)
-        × Measures (reports_of endpoint.now controlled.now common.now).measured notes
+        × Measures (O.known overruns.now)
+        (measured_of build.now endpoint.now controlled.now common.now) notes
         × (M.notes metrics.new ≡ with_notes (M.notes metrics.old) notes) }
 {
     if !metrics.is_due() {
         return;
     }
-    match metric_lines(alloc, endpoint, controlled, common) {
+    match measured(alloc, build, endpoint, controlled, common, overruns) {
         Ok(text) => metrics.put(text.as_bytes()),
         Err(_) => {}
     }

@@ -10,8 +10,14 @@ use macs_disk::{MemDisk, SectorDisk};
 use macs_edge::{Desk, MemWire, attend};
 use macs_endpoint::{Endpoint, format};
 use macs_frame::Sci;
+use macs_texts::Build;
 use std::alloc::Global;
 use std::process::Abort;
+
+/// A build of no program.
+fn build(rt: &impl Abort, alloc: Global) -> Build {
+    Build::new(alloc, "7.8.9", "abc", "no").expect(rt, "memory")
+}
 
 /// The disk of a new endpoint.
 fn formatted(rt: &impl Abort, alloc: Global) -> MemDisk {

@@ -43,4 +43,10 @@ examine-texts = record {
 }
 
 pub about-texts : AboutTexts
-about-texts = record { about = refl; word = λ name word. refl; writes = (refl, refl); reads = (refl, refl) }
+about-texts = record {
+  about = refl;
+  version = refl;
+  word = λ name word. refl;
+  writes = (refl, refl);
+  reads = (refl, refl);
+}

@@ -1,9 +1,10 @@
 -- What `about` says of the program.
-use Rattle.std.specs.Prelude.{◌++◌, ℕ, List, codes}
+use Rattle.std.specs.Prelude.{◌≡◌, ◌++◌, ℕ, List, codes, string_bytes}
 use Rattle.macs_texts.specs.Lines.{line}
+use Rattle.macs_texts.specs.declared.build.Build.{Build}
 use Rattle.macs_words.specs.Help.{topic_text}
 use Rattle.macs_words.specs.declared.help.Topic.TheVariants.{Version}
-use Rattle.macs_program.specs.declared.build.TheConstants.{COMMIT, LEVEL, TOOLCHAIN}
+use Rattle.macs_program.specs.declared.build.TheConstants.{COMMIT, LEVEL, PROVED, TOOLCHAIN, VERSION}
 
 -- the line of a word: what it is, and which
 abbrev pub word_line : List ℕ → List ℕ → List ℕ
@@ -20,3 +21,9 @@ abbrev pub about_text : List ℕ
 about_text =
     topic_text Version ++ (word_line (codes "commit") COMMIT.now ++ (word_line (codes "toolchain") TOOLCHAIN.now
     ++ (word_line (codes "built for") LEVEL.now ++ formats_text)))
+
+-- a build is this one, which its metrics name
+abbrev pub IsThisBuild : Build → Type 0
+IsThisBuild build =
+    (string_bytes build.version ≡ VERSION.now) × (string_bytes build.commit ≡ COMMIT.now)
+    × (string_bytes build.proved ≡ PROVED.now)

@@ -26,7 +26,7 @@ use Rattle.macs_offline.specs.Examining.{figures_of, figures_text, number_line, 
 use Rattle.macs_offline.specs.Examining.{rx_ceiling_text, tx_ceiling_text}
 use Rattle.macs_offline.specs.FirstFault.{IsFirstFault}
 use Rattle.macs_offline.specs.RecordLines.{record_line, record_word, record_words, records_text, records_with}
-use Rattle.macs_program.specs.declared.build.TheConstants.{COMMIT, LEVEL, TOOLCHAIN}
+use Rattle.macs_program.specs.declared.build.TheConstants.{COMMIT, LEVEL, PROVED, TOOLCHAIN, VERSION}
 use Rattle.macs_offline.specs.declared.examined_text.Figures.{Figures}
 
 -- First five lines of the journal: its format, the block of its layout, which area is current, in which generation, and
@@ -94,12 +94,14 @@ pub record ExamineTexts : Type 0 where
       ++ (part_line (codes "spent rx") (length config.spent_rx) 512 ++ (codes "whole" ++ 10 ∷ []))
 
 -- `about` says the version, the commit of the sources, the toolchain and the processors as the build has them, and as
--- the formats that are written and read just those that this edition keeps, and reads.
+-- the formats that are written and read just those that this edition keeps, and reads. Metrics name the same version
+-- and commit, and whether the build is proved.
 pub record AboutTexts : Type 0 where
   pub about : about_text ≡ topic_text Version ++ (word_line (codes "commit") COMMIT.now
       ++ (word_line (codes "toolchain") TOOLCHAIN.now ++ (word_line (codes "built for") LEVEL.now
       ++ (word_line (codes "journal writes format") (codes "2")
       ++ word_line (codes "journal reads formats") (codes "1, 2")))))
+  pub version : topic_text Version ≡ codes "macsecd " ++ (VERSION.now ++ 10 ∷ [])
   pub word : (name word : List ℕ) → word_line name word ≡ (name ++ (codes " " ++ word)) ++ 10 ∷ []
   pub writes : (migrates this_edition One ≡ true) × (migrates this_edition Two ≡ false)
   pub reads : (reads this_edition One ≡ true) × (reads this_edition Two ≡ true)

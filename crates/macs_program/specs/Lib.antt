@@ -11,6 +11,7 @@ pub mod Watching
 pub mod Tasks
 pub mod Asking
 pub mod About
+pub mod Overruns
 pub mod Run
 pub mod Drawn
 pub mod RelayDrawn

@@ -2,7 +2,9 @@
 
 ghost use Rattle.std.specs.Prelude.{◌≡◌, ◌⊎◌, IfErr};
 
+use crate::build::this_build;
 use crate::counters_name::refuse_other_file;
+use crate::overruns::SystemOverruns;
 use macs_control::{ControlSocket, MetricsPlace, Wires, remove_name};
 use macs_desk::ControlDesk;
 use macs_offline::Failure;
@@ -12,7 +14,11 @@ use std::net::Net;
 use std::rt::{Clock, Files};
 
 /// The desk of a relay of the program.
-pub type SystemDesk<'a, T> = ControlDesk<ControlSocket<'a, T>, MetricsPlace<'a, T>>;
+pub type SystemDesk<'a, T> = ControlDesk<
+    ControlSocket<'a, T>,
+    MetricsPlace<'a, T>,
+    SystemOverruns<'a, T>,
+>;
 
 /// How long a sleep of a relay is at most, in milliseconds: 0 where it does not sleep.
 fn limit_of(pace: Pace) -> u16 {
@@ -50,7 +56,9 @@ fn desk_over<'a, T: Files + Net + Clock>(
     ensures { IfErr result (λ failure. (failure ≡ Failure.Memory) ⊎ (failure ≡ Failure.Control)) }
 {
     let clients = clients_for(rt, alloc, running, wires)?;
-    Ok(ControlDesk::new(alloc, clients, metrics))
+    let build = this_build(alloc)?;
+    let overruns = SystemOverruns { rt, alloc, wires };
+    Ok(ControlDesk::new(alloc, build, clients, metrics, overruns))
 }
 
 /// Where the counters are written to, if they are. It fails as `Memory`; and as `Control`, where

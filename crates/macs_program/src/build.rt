@@ -1,6 +1,15 @@
 //! What `tools/tree_for` writes of the build into its copies of this file: of which commit the
-//! sources are, where that was asked for, by which toolchain it is built, and for which
-//! processors the program is. In the repository it is what is written here.
+//! sources are, where that was asked for, by which toolchain it is built, whether it is proved, and
+//! for which processors the program is. In the repository it is what is written here.
+
+ghost use Rattle.std.specs.Prelude.{IfOk};
+ghost use Rattle.macs_program.specs.About.{IsThisBuild};
+
+use macs_texts::Build;
+use std::alloc::{AllocError, Global};
+
+/// The version, as `--version` has it.
+pub const VERSION: &str = "0.1.0";
 
 /// The commit of the sources.
 pub const COMMIT: &str = "unknown";
@@ -8,5 +17,15 @@ pub const COMMIT: &str = "unknown";
 /// The toolchain that builds it, with its logic, as `rt version` has them.
 pub const TOOLCHAIN: &str = "unknown";
 
+/// Whether each function was proved before it was built: `yes` or `no`.
+pub const PROVED: &str = "unknown";
+
 /// The level of processors.
 pub const LEVEL: &str = "x86-64-v2";
+
+/// This build.
+pub fn this_build(alloc: Global) -> Result<Build, AllocError>
+    ensures { IfOk result IsThisBuild }
+{
+    Build::new(alloc, VERSION, COMMIT, PROVED)
+}

@@ -13,6 +13,7 @@ mod judging;
 pub mod laws;
 mod new_disk;
 mod on_disk;
+pub mod overruns;
 mod relaying;
 pub mod run;
 mod watch;

@@ -22,6 +22,8 @@ counter-words = record {
       count_line_of (codes "channel " ++ encode_lower sci) (verdict_words v) (option_map (channel_count_of v) o)) is;
   channels = λ table sci. refl;
   wire = λ side c. refl;
+  report = λ side c dropped. refl;
+  no_overrun = λ side c. refl;
   buffer = λ side octets. refl;
   no_buffer = λ side. refl;
   left = λ s an next is. ap (λ (o : Option ℕ).

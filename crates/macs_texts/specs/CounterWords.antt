@@ -16,14 +16,15 @@ use Rattle.macs_rxsc.specs.declared.verdict.Verdict.TheVariants.{Delivered, Disc
 use Rattle.macs_endpoint.specs.State.{State}
 use Rattle.macs_edge.specs.declared.counts.WireCounts.{WireCounts}
 use Rattle.macs_texts.specs.Counting.{channel_line, counters_text, fault_words, keys_text, left_line, rx_text, tx_text}
-use Rattle.macs_texts.specs.Counting.{channel_text, left_text, rx_line, verdict_words, wire_text}
+use Rattle.macs_texts.specs.Counting.{channel_text, left_text, report_text, reported, rx_line, verdict_words, wire_text}
+use Rattle.macs_texts.specs.declared.wire_report.WireReport.{WireReport}
 use Rattle.macs_texts.specs.Lines.{count_line, count_line_of}
 
 -- A line says of what it is, which count, and the number, in decimal. Each fault and each verdict has its own word, and
 -- its own number on the line of that word, of each channel for those that name it; a wire, what it took, sent, took
--- from strangers, how often it failed, and what is kept for it, where that is known. What is left are the packet
--- numbers below 2^32 of each association that has a next one, and the keys of each side. Frames that were sent come
--- first, then those received, by channels next, then the wires, and last what is left.
+-- from strangers, how often it failed, and what is kept for it and was dropped before it, where that is known. What is
+-- left are the packet numbers below 2^32 of each association that has a next one, and the keys of each side. Frames
+-- that were sent come first, then those received, by channels next, then the wires, and last what is left.
 pub record CounterWords : Type 0 where
   pub faults : map fault_words (tx.Runt ∷ tx.TooLong ∷ tx.ForeignSource ∷ tx.NoEncodingSa ∷ tx.Exhausted ∷ tx.NoNumber
       ∷ [])
@@ -58,9 +59,13 @@ pub record CounterWords : Type 0 where
       ∷ Delivered kind.Invalid ∷ Delivered kind.UnusedSa ∷ Discarded reason.NotUsingSa ∷ Discarded reason.Late
       ∷ Discarded reason.NotValid ∷ []))
   pub wire : (side : List ℕ) (c : WireCounts) → wire_text side c ≡ count_line side (codes "taken") c.taken
-      ++ (count_line side (codes "sent") c.sent ++ (count_line side (codes "strangers") c.strangers
+      ++ (count_line side (codes "sent") c.sent
+      ++ (count_line side (codes "strangers") c.strangers
       ++ (count_line side (codes "failed-receives") c.failed_receives
       ++ (count_line side (codes "failed-sends") c.failed_sends ++ count_line_of side (codes "buffer") c.buffer))))
+  pub report : (side : List ℕ) (c : WireCounts) (dropped : ℕ)
+      → report_text side (reported c (Some dropped)) ≡ wire_text side c ++ count_line side (codes "overrun") dropped
+  pub no_overrun : (side : List ℕ) (c : WireCounts) → report_text side (reported c None) ≡ wire_text side c ++ []
   pub buffer : (side : List ℕ) (octets : ℕ) → count_line_of side (codes "buffer") (Some octets)
       ≡ count_line side (codes "buffer") octets
   pub no_buffer : (side : List ℕ) → count_line_of side (codes "buffer") None ≡ []
@@ -72,7 +77,7 @@ pub record CounterWords : Type 0 where
       ≡ count_line (codes "left keys") (codes "tx") (512 - length config.spent_tx)
       ++ count_line (codes "left keys") (codes "rx") (512 - length config.spent_rx)
   pub order : (s : State) (sent : TxCounters) (received : RxCounters) (table : List ℕ → Option ChannelCounters)
-      (controlled common : WireCounts) → counters_text s sent received table controlled common
+      (controlled common : WireReport) → counters_text s sent received table controlled common
       ≡ tx_text sent ++ (rx_text received ++ (concat (map (channel_text table) s.config.channels)
-      ++ (wire_text (codes "wire 1") controlled ++ (wire_text (codes "wire 2") common
+      ++ (report_text (codes "wire 1") controlled ++ (report_text (codes "wire 2") common
       ++ (left_text s ++ keys_text s.config)))))

@@ -18,6 +18,7 @@ use Rattle.macs_rxsc.specs.declared.verdict.Verdict.{Verdict}
 use Rattle.macs_rxsc.specs.declared.verdict.Verdict.TheVariants.{Delivered, Discarded, HeldBack}
 use Rattle.macs_endpoint.specs.State.{State}
 use Rattle.macs_edge.specs.declared.counts.WireCounts.{WireCounts}
+use Rattle.macs_texts.specs.declared.wire_report.WireReport.{WireReport}
 use Rattle.macs_texts.specs.Lines.{count_line, count_line_of}
 use Rattle.macs_texts.specs.Showing.{association_numbers}
 
@@ -110,6 +111,14 @@ wire_text side c =
     ++ (count_line side (codes "failed-sends") c.failed_sends
     ++ count_line_of side (codes "buffer") c.buffer))))
 
+-- the report of a wire that counted this, of which so many datagrams were dropped, where that is known
+abbrev pub reported : WireCounts → Option ℕ → WireReport
+reported counts overrun = record { counts = counts; overrun = overrun }
+
+-- what is reported of a wire: what it counted, and how many datagrams the system dropped before it could take them
+abbrev pub report_text : List ℕ → WireReport → List ℕ
+report_text side wire = wire_text side wire.counts ++ count_line_of side (codes "overrun") wire.overrun
+
 -- ---- what is left
 
 -- how many packet numbers are left under a transmit association, where there is one
@@ -128,9 +137,9 @@ keys_text config = count_line (codes "left keys") (codes "tx") (max_spent - leng
 -- ---- the whole
 
 -- the counters of an endpoint in this state and of its wires, a line for each
-abbrev pub counters_text : State → TxCounters → RxCounters → (List ℕ → Option ChannelCounters) → WireCounts
-    → WireCounts → List ℕ
+abbrev pub counters_text : State → TxCounters → RxCounters → (List ℕ → Option ChannelCounters) → WireReport
+    → WireReport → List ℕ
 counters_text s sent received table controlled common =
     tx_text sent ++ (rx_text received ++ (concat (map (channel_text table) s.config.channels)
-    ++ (wire_text (codes "wire 1") controlled
-    ++ (wire_text (codes "wire 2") common ++ (left_text s ++ keys_text s.config)))))
+    ++ (report_text (codes "wire 1") controlled
+    ++ (report_text (codes "wire 2") common ++ (left_text s ++ keys_text s.config)))))

@@ -1,6 +1,6 @@
 -- The counters of an endpoint and of its wires, as a collector of metrics reads them: the text format of Prometheus,
 -- version 0.0.4.
-use Rattle.std.specs.Prelude.{ℕ, ◌-◌, ◌^◌, List, [], ◌∷◌, ◌++◌, length, map, codes, Option, Some, None}
+use Rattle.std.specs.Prelude.{ℕ, ◌-◌, ◌^◌, List, [], ◌∷◌, ◌++◌, length, map, codes, string_bytes, Option, Some, None}
 use Rattle.std.specs.Fmt.{decimal}
 use Rattle.std.specs.List.{concat}
 use Rattle.std.specs.Option.{option_map}
@@ -15,6 +15,8 @@ use Rattle.macs_rxsc.specs.declared.counters.RxCounters.{RxCounters}
 use Rattle.macs_rxsc.specs.declared.verdict.Verdict.{Verdict}
 use Rattle.macs_endpoint.specs.State.{State}
 use Rattle.macs_edge.specs.declared.counts.WireCounts.{WireCounts}
+use Rattle.macs_texts.specs.declared.build.Build.{Build}
+use Rattle.macs_texts.specs.declared.wire_report.WireReport.{WireReport}
 use Rattle.macs_texts.specs.Counting.{channel_verdicts, fault_words, rx_verdicts, tx_faults, verdict_words}
 use Rattle.macs_texts.specs.Lines.{line}
 use Rattle.macs_texts.specs.Showing.{association_numbers}
@@ -25,14 +27,15 @@ use Rattle.macs_texts.specs.Showing.{association_numbers}
 abbrev pub label : List ℕ → List ℕ → List ℕ
 label name value = name ++ (codes "=\"" ++ (value ++ codes "\""))
 
--- a number of a metric, under these labels
-abbrev pub sample : List ℕ → List ℕ → ℕ → List ℕ
-sample name labels number = line (name ++ (codes "{" ++ (labels ++ (codes "} " ++ decimal number))))
+-- a number of a metric of the endpoint with this SCI, under that and these labels
+abbrev pub sample : List ℕ → List ℕ → List ℕ → ℕ → List ℕ
+sample own name labels number = line (name ++ (codes "{" ++ (label (codes "sci") (encode_lower own)
+    ++ (codes "," ++ (labels ++ (codes "} " ++ decimal number))))))
 
 -- the same of a number that may be absent
-abbrev pub sample_of : List ℕ → List ℕ → Option ℕ → List ℕ
-sample_of name labels None = []
-sample_of name labels (Some number) = sample name labels number
+abbrev pub sample_of : List ℕ → List ℕ → List ℕ → Option ℕ → List ℕ
+sample_of own name labels None = []
+sample_of own name labels (Some number) = sample own name labels number
 
 -- what a metric is
 abbrev pub help_line : List ℕ → List ℕ → List ℕ
@@ -53,36 +56,37 @@ abbrev pub tx_name : List ℕ
 tx_name = codes "macsec_tx_frames_total"
 
 -- how many met a fault
-abbrev pub tx_sample : TxCounters → TxFault → List ℕ
-tx_sample c fault = sample tx_name (label (codes "answer") (fault_words fault)) (fault_count fault c)
+abbrev pub tx_sample : List ℕ → TxCounters → TxFault → List ℕ
+tx_sample own c fault = sample own tx_name (label (codes "answer") (fault_words fault)) (fault_count fault c)
 
 -- how many went out
-abbrev pub protected_sample : TxCounters → List ℕ
-protected_sample c = sample tx_name (label (codes "answer") (codes "protected")) c.protected
+abbrev pub protected_sample : List ℕ → TxCounters → List ℕ
+protected_sample own c = sample own tx_name (label (codes "answer") (codes "protected")) c.protected
 
 -- what comes before the faults
-abbrev pub tx_front : TxCounters → List ℕ
-tx_front c = metric_head tx_name (codes "counter") (codes "Plain frames by what was answered.") ++ protected_sample c
+abbrev pub tx_front : List ℕ → TxCounters → List ℕ
+tx_front own c =
+    metric_head tx_name (codes "counter") (codes "Plain frames by what was answered.") ++ protected_sample own c
 
 -- all of them
-abbrev pub tx_metric : TxCounters → List ℕ
-tx_metric c = tx_front c ++ concat (map (tx_sample c) tx_faults)
+abbrev pub tx_metric : List ℕ → TxCounters → List ℕ
+tx_metric own c = tx_front own c ++ concat (map (tx_sample own c) tx_faults)
 
 -- received frames, by their verdict
 abbrev pub rx_name : List ℕ
 rx_name = codes "macsec_rx_frames_total"
 
 -- how often a verdict was given
-abbrev pub rx_sample : RxCounters → Verdict → List ℕ
-rx_sample c verdict = sample rx_name (label (codes "verdict") (verdict_words verdict)) (count_of verdict c)
+abbrev pub rx_sample : List ℕ → RxCounters → Verdict → List ℕ
+rx_sample own c verdict = sample own rx_name (label (codes "verdict") (verdict_words verdict)) (count_of verdict c)
 
 -- what comes before these
 abbrev pub rx_head : List ℕ
 rx_head = metric_head rx_name (codes "counter") (codes "Received frames by verdict.")
 
 -- all of them
-abbrev pub rx_metric : RxCounters → List ℕ
-rx_metric c = rx_head ++ concat (map (rx_sample c) rx_verdicts)
+abbrev pub rx_metric : List ℕ → RxCounters → List ℕ
+rx_metric own c = rx_head ++ concat (map (rx_sample own c) rx_verdicts)
 
 -- received frames of a channel, by their verdict
 abbrev pub channel_name : List ℕ
@@ -91,62 +95,78 @@ channel_name = codes "macsec_rx_channel_frames_total"
 -- the labels of a verdict on frames of a channel
 abbrev pub channel_labels : List ℕ → Verdict → List ℕ
 channel_labels sci verdict =
-    label (codes "sci") (encode_lower sci) ++ (codes "," ++ label (codes "verdict") (verdict_words verdict))
+    label (codes "channel") (encode_lower sci) ++ (codes "," ++ label (codes "verdict") (verdict_words verdict))
 
 -- how often a verdict was given on frames of a channel, where there is such a channel
-abbrev pub channel_sample : (List ℕ → Option ChannelCounters) → List ℕ → Verdict → List ℕ
-channel_sample table sci verdict = sample_of channel_name (channel_labels sci verdict)
+abbrev pub channel_sample : List ℕ → (List ℕ → Option ChannelCounters) → List ℕ → Verdict → List ℕ
+channel_sample own table sci verdict = sample_of own channel_name (channel_labels sci verdict)
     (option_map (channel_count_of verdict) (table sci))
 
 -- and each of them
-abbrev pub channel_samples : (List ℕ → Option ChannelCounters) → List ℕ → List ℕ
-channel_samples table sci = concat (map (channel_sample table sci) channel_verdicts)
+abbrev pub channel_samples : List ℕ → (List ℕ → Option ChannelCounters) → List ℕ → List ℕ
+channel_samples own table sci = concat (map (channel_sample own table sci) channel_verdicts)
 
 -- what comes before these
 abbrev pub channel_head : List ℕ
 channel_head = metric_head channel_name (codes "counter") (codes "Received frames of a channel by verdict.")
 
 -- of all channels
-abbrev pub channel_metric : State → (List ℕ → Option ChannelCounters) → List ℕ
-channel_metric s table = channel_head ++ concat (map (channel_samples table) s.config.channels)
+abbrev pub channel_metric : List ℕ → State → (List ℕ → Option ChannelCounters) → List ℕ
+channel_metric own s table = channel_head ++ concat (map (channel_samples own table) s.config.channels)
 
 -- ---- wires
 
 -- a number of either wire: the controlled one is the first
-abbrev pub wire_numbers : List ℕ → ℕ → ℕ → List ℕ
-wire_numbers name controlled common =
-    sample name (label (codes "wire") (codes "1")) controlled ++ sample name (label (codes "wire") (codes "2")) common
+abbrev pub wire_numbers : List ℕ → List ℕ → ℕ → ℕ → List ℕ
+wire_numbers own name controlled common =
+    sample own name (label (codes "wire") (codes "1")) controlled
+    ++ sample own name (label (codes "wire") (codes "2")) common
 
 -- what was counted of either
-abbrev pub wire_metric : List ℕ → List ℕ → ℕ → ℕ → List ℕ
-wire_metric name help controlled common = metric_head name (codes "counter") help ++ wire_numbers name controlled common
+abbrev pub wire_metric : List ℕ → List ℕ → List ℕ → ℕ → ℕ → List ℕ
+wire_metric own name help controlled common =
+    metric_head name (codes "counter") help ++ wire_numbers own name controlled common
 
--- what is kept for a wire
-abbrev pub buffer_name : List ℕ
-buffer_name = codes "macsec_wire_buffer_octets"
+-- a number of a wire, where that is known
+abbrev pub known_sample : List ℕ → List ℕ → List ℕ → Option ℕ → List ℕ
+known_sample own name wire number = sample_of own name (label (codes "wire") wire) number
 
--- so many octets, where that is known
-abbrev pub buffer_sample : List ℕ → Option ℕ → List ℕ
-buffer_sample wire octets = sample_of buffer_name (label (codes "wire") wire) octets
+-- and of either
+abbrev pub known_numbers : List ℕ → List ℕ → Option ℕ → Option ℕ → List ℕ
+known_numbers own name controlled common =
+    known_sample own name (codes "1") controlled ++ known_sample own name (codes "2") common
 
--- and for either
-abbrev pub buffer_metric : Option ℕ → Option ℕ → List ℕ
-buffer_metric controlled common =
-    metric_head buffer_name (codes "gauge") (codes "Octets of waiting datagrams that the system keeps for a wire.")
-    ++ (buffer_sample (codes "1") controlled ++ buffer_sample (codes "2") common)
+-- what is kept for either wire
+abbrev pub buffer_metric : List ℕ → Option ℕ → Option ℕ → List ℕ
+buffer_metric own controlled common =
+    metric_head (codes "macsec_wire_buffer_octets") (codes "gauge")
+    (codes "Octets of waiting datagrams that the system keeps for a wire.")
+    ++ known_numbers own (codes "macsec_wire_buffer_octets") controlled common
+
+-- what was dropped of either before it could be taken
+abbrev pub overrun_metric : List ℕ → Option ℕ → Option ℕ → List ℕ
+overrun_metric own controlled common =
+    metric_head (codes "macsec_wire_overrun_total") (codes "counter")
+    (codes "Datagrams that the system dropped, since a wire had no room for them.")
+    ++ known_numbers own (codes "macsec_wire_overrun_total") controlled common
 
 -- what they counted, and what is kept for them
-abbrev pub wires_metrics : WireCounts → WireCounts → List ℕ
-wires_metrics controlled common =
-    wire_metric (codes "macsec_wire_taken_total") (codes "Frames taken off a wire.") controlled.taken common.taken
-    ++ (wire_metric (codes "macsec_wire_sent_total") (codes "Frames sent on a wire.") controlled.sent common.sent
-    ++ (wire_metric (codes "macsec_wire_strangers_total") (codes "Datagrams of another address than the peer's.")
+abbrev pub wires_metrics : List ℕ → WireCounts → WireCounts → List ℕ
+wires_metrics own controlled common =
+    wire_metric own (codes "macsec_wire_taken_total") (codes "Frames taken off a wire.") controlled.taken common.taken
+    ++ (wire_metric own (codes "macsec_wire_sent_total") (codes "Frames sent on a wire.") controlled.sent common.sent
+    ++ (wire_metric own (codes "macsec_wire_strangers_total") (codes "Datagrams of another address than the peer's.")
     controlled.strangers common.strangers
-    ++ (wire_metric (codes "macsec_wire_failed_receives_total") (codes "Receives that failed.")
+    ++ (wire_metric own (codes "macsec_wire_failed_receives_total") (codes "Receives that failed.")
     controlled.failed_receives common.failed_receives
-    ++ (wire_metric (codes "macsec_wire_failed_sends_total") (codes "Sends that failed.")
+    ++ (wire_metric own (codes "macsec_wire_failed_sends_total") (codes "Sends that failed.")
     controlled.failed_sends common.failed_sends
-    ++ buffer_metric controlled.buffer common.buffer))))
+    ++ buffer_metric own controlled.buffer common.buffer))))
+
+-- and what was dropped of them
+abbrev pub report_metrics : List ℕ → WireReport → WireReport → List ℕ
+report_metrics own controlled common =
+    wires_metrics own controlled.counts common.counts ++ overrun_metric own controlled.overrun common.overrun
 
 -- ---- what is left
 
@@ -155,37 +175,64 @@ abbrev pub left_name : List ℕ
 left_name = codes "macsec_tx_numbers_left"
 
 -- how many there are, where there is such an association
-abbrev pub left_sample : State → ℕ → List ℕ
-left_sample s an =
-    sample_of left_name (label (codes "an") (decimal an)) (option_map (λ next. 2 ^ 32 - next) (s.next an))
+abbrev pub left_sample : List ℕ → State → ℕ → List ℕ
+left_sample own s an =
+    sample_of own left_name (label (codes "an") (decimal an)) (option_map (λ next. 2 ^ 32 - next) (s.next an))
 
 -- what comes before these
 abbrev pub left_head : List ℕ
 left_head = metric_head left_name (codes "gauge") (codes "Packet numbers left under a transmit key.")
 
 -- and under each
-abbrev pub left_metric : State → List ℕ
-left_metric s = left_head ++ concat (map (left_sample s) association_numbers)
+abbrev pub left_metric : List ℕ → State → List ℕ
+left_metric own s = left_head ++ concat (map (left_sample own s) association_numbers)
 
 -- keys that may still be installed
 abbrev pub keys_name : List ℕ
 keys_name = codes "macsec_keys_left"
 
 -- so many on either side
-abbrev pub key_numbers : ℕ → ℕ → List ℕ
-key_numbers tx rx = metric_head keys_name (codes "gauge") (codes "Keys that may still be installed.")
-    ++ sample keys_name (label (codes "side") (codes "tx")) tx
-    ++ sample keys_name (label (codes "side") (codes "rx")) rx
+abbrev pub key_numbers : List ℕ → ℕ → ℕ → List ℕ
+key_numbers own tx rx = metric_head keys_name (codes "gauge") (codes "Keys that may still be installed.")
+    ++ sample own keys_name (label (codes "side") (codes "tx")) tx
+    ++ sample own keys_name (label (codes "side") (codes "rx")) rx
 
 -- as many as are left
-abbrev pub keys_metric : Config → List ℕ
-keys_metric config = key_numbers (max_spent - length config.spent_tx) (max_spent - length config.spent_rx)
+abbrev pub keys_metric : List ℕ → Config → List ℕ
+keys_metric own config = key_numbers own (max_spent - length config.spent_tx) (max_spent - length config.spent_rx)
+
+-- ---- the program
+
+-- which program reports
+abbrev pub build_name : List ℕ
+build_name = codes "macsecd_build_info"
+
+-- its labels
+abbrev pub build_labels : Build → List ℕ
+build_labels build = label (codes "version") (string_bytes build.version) ++ (codes ","
+    ++ (label (codes "commit") (string_bytes build.commit)
+    ++ (codes "," ++ label (codes "proved") (string_bytes build.proved))))
+
+-- it reports
+abbrev pub build_sample : List ℕ → Build → List ℕ
+build_sample own build = sample own build_name (build_labels build) 1
+
+-- what it is, and that
+abbrev pub build_metric : List ℕ → Build → List ℕ
+build_metric own build =
+    metric_head build_name (codes "gauge") (codes "The program that reports, always 1.") ++ build_sample own build
 
 -- ---- the whole
 
--- the metrics of an endpoint in this state and of its wires
-abbrev pub metrics_text : State → TxCounters → RxCounters → (List ℕ → Option ChannelCounters) → WireCounts
-    → WireCounts → List ℕ
-metrics_text s sent received table controlled common =
-    tx_metric sent ++ (rx_metric received ++ (channel_metric s table ++ (wires_metrics controlled common
-    ++ (left_metric s ++ keys_metric s.config))))
+-- the metrics of the endpoint with this SCI in this state and of its wires, by this program
+abbrev pub metrics_of : List ℕ → Build → State → TxCounters → RxCounters → (List ℕ → Option ChannelCounters)
+    → WireReport → WireReport → List ℕ
+metrics_of own build s sent received table controlled common =
+    tx_metric own sent ++ (rx_metric own received ++ (channel_metric own s table
+    ++ (report_metrics own controlled common ++ (left_metric own s ++ (keys_metric own s.config
+    ++ build_metric own build)))))
+
+-- its SCI is that of the endpoint's state
+abbrev pub metrics_text : Build → State → TxCounters → RxCounters → (List ℕ → Option ChannelCounters) → WireReport
+    → WireReport → List ℕ
+metrics_text build s = metrics_of s.identity.sci build s

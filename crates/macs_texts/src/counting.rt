@@ -9,10 +9,11 @@ ghost use Rattle.macs_endpoint.specs.Value.{state_of};
 ghost use Rattle.macs_rxsc.specs.Value as rxsc;
 ghost use Rattle.macs_txsc.specs.Value as txsc;
 ghost use Rattle.macs_texts.specs.Counting.{channel_line, channel_text, counters_text, keys_text};
-ghost use Rattle.macs_texts.specs.Counting.{left_line, left_text, rx_line, rx_text};
+ghost use Rattle.macs_texts.specs.Counting.{left_line, left_text, report_text, rx_line, rx_text};
 ghost use Rattle.macs_texts.specs.Counting.{tx_line, tx_text, wire_text};
 
 use crate::lines::{count_line, count_line_of, joined};
+use crate::wire_report::WireReport;
 use crate::words::{fault_words, verdict_words};
 use macs_config::{Config, MAX_SPENT};
 use macs_disk::SectorDisk;
@@ -177,6 +178,16 @@ fn wire_lines(alloc: Global, side: &str, counts: &WireCounts) -> Result<String, 
     joined(count_line(alloc, side, "taken", counts.taken), text)
 }
 
+/// The same, with what the system dropped of it, where that is known.
+fn report_lines(alloc: Global, side: &str, wire: &WireReport) -> Result<String, AllocError>
+    ensures { IfOk result (λ text. string_bytes text ≡ report_text side.now wire.now) }
+{
+    joined(
+        wire_lines(alloc, side, &wire.counts),
+        count_line_of(alloc, side, "overrun", wire.overrun),
+    )
+}
+
 /// How many packet numbers are left, by the next one.
 pub(crate) fn left_of(next: Option<u64>) -> Option<u64>
     ensures { result ≡ option_map (λ n. 2 ^ 32 - n) next }
@@ -227,8 +238,8 @@ fn key_lines(alloc: Global, config: &Config) -> Result<String, AllocError>
 pub fn counter_lines<D: SectorDisk>(
     alloc: Global,
     endpoint: &Endpoint<D>,
-    controlled: &WireCounts,
-    common: &WireCounts,
+    controlled: &WireReport,
+    common: &WireReport,
 ) -> Result<String, AllocError>
     ensures { IfOk result (λ text. string_bytes text ≡ counters_text (state_of endpoint.now no_logs)
         (txsc.counters_of endpoint.now.tx) (rxsc.counters_of endpoint.now.rx)
@@ -236,8 +247,8 @@ pub fn counter_lines<D: SectorDisk>(
 {
     let text = key_lines(alloc, endpoint.config());
     let text = joined(left_lines(alloc, endpoint), text);
-    let text = joined(wire_lines(alloc, "wire 2", common), text);
-    let text = joined(wire_lines(alloc, "wire 1", controlled), text);
+    let text = joined(report_lines(alloc, "wire 2", common), text);
+    let text = joined(report_lines(alloc, "wire 1", controlled), text);
     let text = joined(channels_lines(alloc, endpoint), text);
     let text = joined(rx_lines(alloc, endpoint), text);
     joined(tx_lines(alloc, endpoint), text)

@@ -1,6 +1,7 @@
 //! What an endpoint and its wires report, as text.
 #![tactic(auto)]
 
+mod build;
 mod counting;
 pub mod laws;
 mod lines;
@@ -8,11 +9,14 @@ mod measuring;
 mod refusals;
 mod samples;
 mod showing;
+mod wire_report;
 mod words;
 
+pub use build::Build;
 pub use counting::{RX_VERDICTS, counter_lines};
 pub use lines::{ended, joined};
 pub use measuring::metric_lines;
 pub use refusals::refusal_name;
 pub use showing::show_lines;
+pub use wire_report::{WireReport, reported};
 pub use words::verdict_words;

@@ -7,7 +7,9 @@ ghost use Rattle.macs_endpoint.specs.State.{no_logs};
 ghost use Rattle.macs_endpoint.specs.Value.{state_of};
 ghost use Rattle.macs_rxsc.specs.Value as rxsc;
 ghost use Rattle.macs_txsc.specs.Value as txsc;
-ghost use Rattle.macs_texts.specs.Measuring.{buffer_metric, buffer_sample};
+ghost use Rattle.macs_texts.specs.Measuring.{buffer_metric, build_labels, known_numbers};
+ghost use Rattle.macs_texts.specs.Measuring.{known_sample, overrun_metric, report_metrics};
+ghost use Rattle.macs_texts.specs.Measuring.{build_metric, build_sample, metrics_of};
 ghost use Rattle.macs_texts.specs.Measuring.{channel_labels, channel_metric, channel_sample};
 ghost use Rattle.macs_texts.specs.Measuring.{channel_samples, key_numbers, keys_metric};
 ghost use Rattle.macs_texts.specs.Measuring.{left_metric, left_sample};
@@ -15,9 +17,11 @@ ghost use Rattle.macs_texts.specs.Measuring.{metrics_text, protected_sample, rx_
 ghost use Rattle.macs_texts.specs.Measuring.{tx_front, tx_metric, tx_sample, wire_metric};
 ghost use Rattle.macs_texts.specs.Measuring.{wire_numbers, wires_metrics};
 
+use crate::build::Build;
 use crate::counting::{CHANNEL_VERDICTS, RX_VERDICTS, TX_FAULTS, left_of};
 use crate::lines::joined;
-use crate::samples::{label, labelled, metric_head, sample_of};
+use crate::samples::{label, labelled, metric_head, sample, sample_of};
+use crate::wire_report::WireReport;
 use crate::words::{fault_words, verdict_words};
 use macs_config::{Config, MAX_SPENT};
 use macs_disk::SectorDisk;
@@ -31,15 +35,17 @@ use std::alloc::{AllocError, Global};
 /// How many plain frames met a fault.
 fn tx_sample<D: SectorDisk>(
     alloc: Global,
+    own: Sci,
     endpoint: &Endpoint<D>,
     fault: TxFault,
 ) -> Result<String, AllocError>
     ensures { IfOk result (λ text. string_bytes text
-        ≡ tx_sample (txsc.counters_of endpoint.now.tx) fault) }
+        ≡ tx_sample own (txsc.counters_of endpoint.now.tx) fault) }
 {
     let count = endpoint.counters().tx_fault(fault);
     labelled(
         alloc,
+        own,
         "macsec_tx_frames_total",
         "answer",
         fault_words(fault),
@@ -50,14 +56,16 @@ fn tx_sample<D: SectorDisk>(
 /// How many plain frames went out.
 fn protected_sample<D: SectorDisk>(
     alloc: Global,
+    own: Sci,
     endpoint: &Endpoint<D>,
 ) -> Result<String, AllocError>
     ensures { IfOk result (λ text. string_bytes text
-        ≡ protected_sample (txsc.counters_of endpoint.now.tx)) }
+        ≡ protected_sample own (txsc.counters_of endpoint.now.tx)) }
 {
     let count = endpoint.counters().protected();
     labelled(
         alloc,
+        own,
         "macsec_tx_frames_total",
         "answer",
         "protected",
@@ -66,9 +74,13 @@ fn protected_sample<D: SectorDisk>(
 }
 
 /// What comes before the faults: how many went out.
-fn tx_front<D: SectorDisk>(alloc: Global, endpoint: &Endpoint<D>) -> Result<String, AllocError>
+fn tx_front<D: SectorDisk>(
+    alloc: Global,
+    own: Sci,
+    endpoint: &Endpoint<D>,
+) -> Result<String, AllocError>
     ensures { IfOk result (λ text. string_bytes text
-        ≡ tx_front (txsc.counters_of endpoint.now.tx)) }
+        ≡ tx_front own (txsc.counters_of endpoint.now.tx)) }
 {
     let head = metric_head(
         alloc,
@@ -76,17 +88,21 @@ fn tx_front<D: SectorDisk>(alloc: Global, endpoint: &Endpoint<D>) -> Result<Stri
         "counter",
         "Plain frames by what was answered.",
     );
-    joined(head, protected_sample(alloc, endpoint))
+    joined(head, protected_sample(alloc, own, endpoint))
 }
 
 /// Plain frames, by what was answered.
-fn tx_metric<D: SectorDisk>(alloc: Global, endpoint: &Endpoint<D>) -> Result<String, AllocError>
+fn tx_metric<D: SectorDisk>(
+    alloc: Global,
+    own: Sci,
+    endpoint: &Endpoint<D>,
+) -> Result<String, AllocError>
     ensures { IfOk result (λ text. string_bytes text
-        ≡ tx_metric (txsc.counters_of endpoint.now.tx)) }
+        ≡ tx_metric own (txsc.counters_of endpoint.now.tx)) }
 {
-    let mut text = tx_front(alloc, endpoint)?;
+    let mut text = tx_front(alloc, own, endpoint)?;
     for &fault in &TX_FAULTS {
-        text.push_str(tx_sample(alloc, endpoint, fault)?.as_str())?;
+        text.push_str(tx_sample(alloc, own, endpoint, fault)?.as_str())?;
     }
     Ok(text)
 }
@@ -94,15 +110,17 @@ fn tx_metric<D: SectorDisk>(alloc: Global, endpoint: &Endpoint<D>) -> Result<Str
 /// How often a verdict was given.
 fn rx_sample<D: SectorDisk>(
     alloc: Global,
+    own: Sci,
     endpoint: &Endpoint<D>,
     verdict: Verdict,
 ) -> Result<String, AllocError>
     ensures { IfOk result (λ text. string_bytes text
-        ≡ rx_sample (rxsc.counters_of endpoint.now.rx) verdict) }
+        ≡ rx_sample own (rxsc.counters_of endpoint.now.rx) verdict) }
 {
     let count = endpoint.counters().verdict(verdict);
     labelled(
         alloc,
+        own,
         "macsec_rx_frames_total",
         "verdict",
         verdict_words(verdict),
@@ -111,9 +129,13 @@ fn rx_sample<D: SectorDisk>(
 }
 
 /// Received frames, by their verdict.
-fn rx_metric<D: SectorDisk>(alloc: Global, endpoint: &Endpoint<D>) -> Result<String, AllocError>
+fn rx_metric<D: SectorDisk>(
+    alloc: Global,
+    own: Sci,
+    endpoint: &Endpoint<D>,
+) -> Result<String, AllocError>
     ensures { IfOk result (λ text. string_bytes text
-        ≡ rx_metric (rxsc.counters_of endpoint.now.rx)) }
+        ≡ rx_metric own (rxsc.counters_of endpoint.now.rx)) }
 {
     let mut text = metric_head(
         alloc,
@@ -122,7 +144,7 @@ fn rx_metric<D: SectorDisk>(alloc: Global, endpoint: &Endpoint<D>) -> Result<Str
         "Received frames by verdict.",
     )?;
     for &verdict in &RX_VERDICTS {
-        text.push_str(rx_sample(alloc, endpoint, verdict)?.as_str())?;
+        text.push_str(rx_sample(alloc, own, endpoint, verdict)?.as_str())?;
     }
     Ok(text)
 }
@@ -132,7 +154,7 @@ fn channel_labels(alloc: Global, sci: Sci, verdict: Verdict) -> Result<String, A
     ensures { IfOk result (λ text. string_bytes text ≡ channel_labels sci verdict) }
 {
     let digits = hex::encode(alloc, sci.get())?;
-    let channel = label(alloc, "sci", digits.as_str())?;
+    let channel = label(alloc, "channel", digits.as_str())?;
     let words = label(alloc, "verdict", verdict_words(verdict))?;
     let text = format!(in alloc; "{channel},{words}")?;
     Ok(text)
@@ -141,17 +163,19 @@ fn channel_labels(alloc: Global, sci: Sci, verdict: Verdict) -> Result<String, A
 /// How often a verdict was given on frames of a channel.
 fn channel_sample<D: SectorDisk>(
     alloc: Global,
+    own: Sci,
     endpoint: &Endpoint<D>,
     sci: Sci,
     verdict: Verdict,
 ) -> Result<String, AllocError>
     ensures { IfOk result (λ text. string_bytes text
-        ≡ channel_sample (rxsc.channel_counters_of endpoint.now.rx) sci verdict) }
+        ≡ channel_sample own (rxsc.channel_counters_of endpoint.now.rx) sci verdict) }
 {
     let labels = channel_labels(alloc, sci, verdict)?;
     let count = endpoint.counters().channel(sci, verdict);
     sample_of(
         alloc,
+        own,
         "macsec_rx_channel_frames_total",
         labels.as_str(),
         count,
@@ -161,15 +185,16 @@ fn channel_sample<D: SectorDisk>(
 /// How often each verdict was given on frames of a channel.
 fn channel_samples<D: SectorDisk>(
     alloc: Global,
+    own: Sci,
     endpoint: &Endpoint<D>,
     sci: Sci,
 ) -> Result<String, AllocError>
     ensures { IfOk result (λ text. string_bytes text
-        ≡ channel_samples (rxsc.channel_counters_of endpoint.now.rx) sci) }
+        ≡ channel_samples own (rxsc.channel_counters_of endpoint.now.rx) sci) }
 {
     let mut text = String::new(alloc);
     for &verdict in &CHANNEL_VERDICTS {
-        text.push_str(channel_sample(alloc, endpoint, sci, verdict)?.as_str())?;
+        text.push_str(channel_sample(alloc, own, endpoint, sci, verdict)?.as_str())?;
     }
     Ok(text)
 }
@@ -177,9 +202,10 @@ fn channel_samples<D: SectorDisk>(
 /// Received frames of channels, by their verdict.
 fn channel_metric<D: SectorDisk>(
     alloc: Global,
+    own: Sci,
     endpoint: &Endpoint<D>,
 ) -> Result<String, AllocError>
-    ensures { IfOk result (λ text. string_bytes text ≡ channel_metric
+    ensures { IfOk result (λ text. string_bytes text ≡ channel_metric own
         (state_of endpoint.now no_logs) (rxsc.channel_counters_of endpoint.now.rx)) }
 {
     let mut text = metric_head(
@@ -190,7 +216,7 @@ fn channel_metric<D: SectorDisk>(
     )?;
     let channels = endpoint.config().channels();
     for sci in channels.iter() {
-        text.push_str(channel_samples(alloc, endpoint, *sci)?.as_str())?;
+        text.push_str(channel_samples(alloc, own, endpoint, *sci)?.as_str())?;
     }
     Ok(text)
 }
@@ -198,75 +224,117 @@ fn channel_metric<D: SectorDisk>(
 /// A number of either wire.
 fn wire_numbers(
     alloc: Global,
+    own: Sci,
     name: &str,
     controlled: u64,
     common: u64,
 ) -> Result<String, AllocError>
-    ensures { IfOk result (λ text. string_bytes text ≡ wire_numbers name.now controlled common) }
+    ensures { IfOk result
+        (λ text. string_bytes text ≡ wire_numbers own name.now controlled common) }
 {
     joined(
-        labelled(alloc, name, "wire", "1", controlled),
-        labelled(alloc, name, "wire", "2", common),
+        labelled(alloc, own, name, "wire", "1", controlled),
+        labelled(alloc, own, name, "wire", "2", common),
     )
 }
 
 /// What was counted of either wire.
 fn wire_metric(
     alloc: Global,
+    own: Sci,
     name: &str,
     help: &str,
     controlled: u64,
     common: u64,
 ) -> Result<String, AllocError>
     ensures { IfOk result (λ text. string_bytes text
-        ≡ wire_metric name.now help.now controlled common) }
+        ≡ wire_metric own name.now help.now controlled common) }
 {
     joined(
         metric_head(alloc, name, "counter", help),
-        wire_numbers(alloc, name, controlled, common),
+        wire_numbers(alloc, own, name, controlled, common),
     )
 }
 
-/// How many octets are kept for a wire, where that is known.
-fn buffer_sample(alloc: Global, wire: &str, octets: Option<u64>) -> Result<String, AllocError>
-    ensures { IfOk result (λ text. string_bytes text ≡ buffer_sample wire.now octets) }
+/// A number of a wire, where that is known.
+fn known_sample(
+    alloc: Global,
+    own: Sci,
+    name: &str,
+    wire: &str,
+    number: Option<u64>,
+) -> Result<String, AllocError>
+    ensures { IfOk result (λ text. string_bytes text ≡ known_sample own name.now wire.now number) }
 {
     let labels = label(alloc, "wire", wire)?;
-    sample_of(alloc, "macsec_wire_buffer_octets", labels.as_str(), octets)
+    sample_of(alloc, own, name, labels.as_str(), number)
+}
+
+/// A number of either wire, where that is known.
+fn known_numbers(
+    alloc: Global,
+    own: Sci,
+    name: &str,
+    controlled: Option<u64>,
+    common: Option<u64>,
+) -> Result<String, AllocError>
+    ensures { IfOk result (λ text. string_bytes text
+        ≡ known_numbers own name.now controlled common) }
+{
+    joined(
+        known_sample(alloc, own, name, "1", controlled),
+        known_sample(alloc, own, name, "2", common),
+    )
 }
 
 /// How many octets are kept for either wire.
 fn buffer_metric(
     alloc: Global,
+    own: Sci,
     controlled: Option<u64>,
     common: Option<u64>,
 ) -> Result<String, AllocError>
-    ensures { IfOk result (λ text. string_bytes text ≡ buffer_metric controlled common) }
+    ensures { IfOk result (λ text. string_bytes text ≡ buffer_metric own controlled common) }
 {
-    let head = metric_head(
-        alloc,
-        "macsec_wire_buffer_octets",
-        "gauge",
-        "Octets of waiting datagrams that the system keeps for a wire.",
-    );
-    let text = joined(
-        buffer_sample(alloc, "1", controlled),
-        buffer_sample(alloc, "2", common),
-    );
-    joined(head, text)
+    let name = "macsec_wire_buffer_octets";
+    let help = "Octets of waiting datagrams that the system keeps for a wire.";
+    joined(
+        metric_head(alloc, name, "gauge", help),
+        known_numbers(alloc, own, name, controlled, common),
+    )
+}
+
+/// How many datagrams the system dropped of either wire.
+fn overrun_metric(
+    alloc: Global,
+    own: Sci,
+    controlled: Option<u64>,
+    common: Option<u64>,
+) -> Result<String, AllocError>
+    ensures { IfOk result (λ text. string_bytes text ≡ overrun_metric own controlled common) }
+{
+    let name = "macsec_wire_overrun_total";
+    let help = "Datagrams that the system dropped, since a wire had no room for them.";
+    joined(
+        metric_head(alloc, name, "counter", help),
+        known_numbers(alloc, own, name, controlled, common),
+    )
 }
 
 /// What the wires counted, and what is kept for them.
 fn wires_metrics(
     alloc: Global,
+    own: Sci,
     controlled: &WireCounts,
     common: &WireCounts,
 ) -> Result<String, AllocError>
-    ensures { IfOk result (λ text. string_bytes text ≡ wires_metrics controlled.now common.now) }
+    ensures { IfOk result
+        (λ text. string_bytes text ≡ wires_metrics own controlled.now common.now) }
 {
-    let text = buffer_metric(alloc, controlled.buffer, common.buffer);
+    let text = buffer_metric(alloc, own, controlled.buffer, common.buffer);
     let more = wire_metric(
         alloc,
+        own,
         "macsec_wire_failed_sends_total",
         "Sends that failed.",
         controlled.failed_sends,
@@ -275,6 +343,7 @@ fn wires_metrics(
     let text = joined(more, text);
     let more = wire_metric(
         alloc,
+        own,
         "macsec_wire_failed_receives_total",
         "Receives that failed.",
         controlled.failed_receives,
@@ -283,6 +352,7 @@ fn wires_metrics(
     let text = joined(more, text);
     let more = wire_metric(
         alloc,
+        own,
         "macsec_wire_strangers_total",
         "Datagrams of another address than the peer's.",
         controlled.strangers,
@@ -291,6 +361,7 @@ fn wires_metrics(
     let text = joined(more, text);
     let more = wire_metric(
         alloc,
+        own,
         "macsec_wire_sent_total",
         "Frames sent on a wire.",
         controlled.sent,
@@ -299,6 +370,7 @@ fn wires_metrics(
     let text = joined(more, text);
     let more = wire_metric(
         alloc,
+        own,
         "macsec_wire_taken_total",
         "Frames taken off a wire.",
         controlled.taken,
@@ -307,25 +379,46 @@ fn wires_metrics(
     joined(more, text)
 }
 
+/// The same, with what the system dropped of them.
+fn report_metrics(
+    alloc: Global,
+    own: Sci,
+    controlled: &WireReport,
+    common: &WireReport,
+) -> Result<String, AllocError>
+    ensures { IfOk result (λ text. string_bytes text
+        ≡ report_metrics own controlled.now common.now) }
+{
+    joined(
+        wires_metrics(alloc, own, &controlled.counts, &common.counts),
+        overrun_metric(alloc, own, controlled.overrun, common.overrun),
+    )
+}
+
 /// How many packet numbers are left under a transmit association.
 fn left_sample<D: SectorDisk>(
     alloc: Global,
+    own: Sci,
     endpoint: &Endpoint<D>,
     an: An,
 ) -> Result<String, AllocError>
     ensures { IfOk result (λ text. string_bytes text
-        ≡ left_sample (state_of endpoint.now no_logs) an) }
+        ≡ left_sample own (state_of endpoint.now no_logs) an) }
 {
     let number = an.get().to_string(alloc)?;
     let labels = label(alloc, "an", number.as_str())?;
     let left = left_of(endpoint.next_number(an));
-    sample_of(alloc, "macsec_tx_numbers_left", labels.as_str(), left)
+    sample_of(alloc, own, "macsec_tx_numbers_left", labels.as_str(), left)
 }
 
 /// How many packet numbers are left under each transmit association.
-fn left_metric<D: SectorDisk>(alloc: Global, endpoint: &Endpoint<D>) -> Result<String, AllocError>
+fn left_metric<D: SectorDisk>(
+    alloc: Global,
+    own: Sci,
+    endpoint: &Endpoint<D>,
+) -> Result<String, AllocError>
     ensures { IfOk result (λ text. string_bytes text
-        ≡ left_metric (state_of endpoint.now no_logs)) }
+        ≡ left_metric own (state_of endpoint.now no_logs)) }
 {
     let mut text = metric_head(
         alloc,
@@ -334,46 +427,100 @@ fn left_metric<D: SectorDisk>(alloc: Global, endpoint: &Endpoint<D>) -> Result<S
         "Packet numbers left under a transmit key.",
     )?;
     for an in An::all() {
-        text.push_str(left_sample(alloc, endpoint, an)?.as_str())?;
+        text.push_str(left_sample(alloc, own, endpoint, an)?.as_str())?;
     }
     Ok(text)
 }
 
 /// How many keys may still be installed, of so many each.
-fn key_numbers(alloc: Global, tx: u64, rx: u64) -> Result<String, AllocError>
-    ensures { IfOk result (λ text. string_bytes text ≡ key_numbers tx rx) }
+fn key_numbers(alloc: Global, own: Sci, tx: u64, rx: u64) -> Result<String, AllocError>
+    ensures { IfOk result (λ text. string_bytes text ≡ key_numbers own tx rx) }
 {
     let name = "macsec_keys_left";
     let text = metric_head(alloc, name, "gauge", "Keys that may still be installed.");
-    let text = joined(text, labelled(alloc, name, "side", "tx", tx));
-    joined(text, labelled(alloc, name, "side", "rx", rx))
+    let text = joined(text, labelled(alloc, own, name, "side", "tx", tx));
+    joined(text, labelled(alloc, own, name, "side", "rx", rx))
 }
 
 /// How many keys may still be installed on either side.
-fn keys_metric(alloc: Global, config: &Config) -> Result<String, AllocError>
-    ensures { IfOk result (λ text. string_bytes text ≡ keys_metric (config_of config.now)) }
+fn keys_metric(alloc: Global, own: Sci, config: &Config) -> Result<String, AllocError>
+    ensures { IfOk result (λ text. string_bytes text ≡ keys_metric own (config_of config.now)) }
 {
     let tx = MAX_SPENT.saturating_sub(config.spent_tx()) as u64;
     let rx = MAX_SPENT.saturating_sub(config.spent_rx()) as u64;
-    key_numbers(alloc, tx, rx)
+    key_numbers(alloc, own, tx, rx)
 }
 
-/// The counters of an endpoint and of its wires in the text format of Prometheus, version 0.0.4. It
-/// fails only where memory is refused.
-pub fn metric_lines<D: SectorDisk>(
+/// The labels of a build.
+fn build_labels(alloc: Global, build: &Build) -> Result<String, AllocError>
+    ensures { IfOk result (λ text. string_bytes text ≡ build_labels build.now) }
+{
+    let version = label(alloc, "version", build.version.as_str())?;
+    let commit = label(alloc, "commit", build.commit.as_str())?;
+    let proved = label(alloc, "proved", build.proved.as_str())?;
+    let text = format!(in alloc; "{version},{commit},{proved}")?;
+    Ok(text)
+}
+
+/// Which program reports.
+fn build_sample(alloc: Global, own: Sci, build: &Build) -> Result<String, AllocError>
+    ensures { IfOk result (λ text. string_bytes text ≡ build_sample own build.now) }
+{
+    let labels = build_labels(alloc, build)?;
+    sample(alloc, own, "macsecd_build_info", labels.as_str(), 1)
+}
+
+/// The same, with what it is.
+fn build_metric(alloc: Global, own: Sci, build: &Build) -> Result<String, AllocError>
+    ensures { IfOk result (λ text. string_bytes text ≡ build_metric own build.now) }
+{
+    let head = metric_head(
+        alloc,
+        "macsecd_build_info",
+        "gauge",
+        "The program that reports, always 1.",
+    );
+    joined(head, build_sample(alloc, own, build))
+}
+
+/// All metrics of the endpoint with this SCI.
+fn metrics_of<D: SectorDisk>(
     alloc: Global,
+    own: Sci,
+    build: &Build,
     endpoint: &Endpoint<D>,
-    controlled: &WireCounts,
-    common: &WireCounts,
+    controlled: &WireReport,
+    common: &WireReport,
 ) -> Result<String, AllocError>
-    ensures { IfOk result (λ text. string_bytes text ≡ metrics_text (state_of endpoint.now no_logs)
+    ensures { IfOk result (λ text. string_bytes text
+        ≡ metrics_of own build.now (state_of endpoint.now no_logs)
         (txsc.counters_of endpoint.now.tx) (rxsc.counters_of endpoint.now.rx)
         (rxsc.channel_counters_of endpoint.now.rx) controlled.now common.now) }
 {
-    let text = keys_metric(alloc, endpoint.config());
-    let text = joined(left_metric(alloc, endpoint), text);
-    let text = joined(wires_metrics(alloc, controlled, common), text);
-    let text = joined(channel_metric(alloc, endpoint), text);
-    let text = joined(rx_metric(alloc, endpoint), text);
-    joined(tx_metric(alloc, endpoint), text)
+    let text = build_metric(alloc, own, build);
+    let text = joined(keys_metric(alloc, own, endpoint.config()), text);
+    let text = joined(left_metric(alloc, own, endpoint), text);
+    let text = joined(report_metrics(alloc, own, controlled, common), text);
+    let text = joined(channel_metric(alloc, own, endpoint), text);
+    let text = joined(rx_metric(alloc, own, endpoint), text);
+    joined(tx_metric(alloc, own, endpoint), text)
+}
+
+/// The counters of an endpoint and of its wires in the text format of Prometheus, version 0.0.4,
+/// each under the label `sci` of the endpoint, and which program reports them. It fails only where
+/// memory is refused.
+pub fn metric_lines<D: SectorDisk>(
+    alloc: Global,
+    build: &Build,
+    endpoint: &Endpoint<D>,
+    controlled: &WireReport,
+    common: &WireReport,
+) -> Result<String, AllocError>
+    ensures { IfOk result (λ text. string_bytes text
+        ≡ metrics_text build.now (state_of endpoint.now no_logs)
+        (txsc.counters_of endpoint.now.tx) (rxsc.counters_of endpoint.now.rx)
+        (rxsc.channel_counters_of endpoint.now.rx) controlled.now common.now) }
+{
+    let own = endpoint.identity().sci();
+    metrics_of(alloc, own, build, endpoint, controlled, common)
 }

@@ -5,6 +5,7 @@ ghost use Rattle.macs_texts.specs.Measuring.{help_line, label, metric_head, samp
 ghost use Rattle.macs_texts.specs.Measuring.{type_line};
 
 use crate::lines::{ended, joined};
+use macs_frame::Sci;
 use std::alloc::{AllocError, Global};
 
 /// A label and its value, which has no quote and no backslash in it.
@@ -15,39 +16,49 @@ pub fn label(alloc: Global, name: &str, value: &str) -> Result<String, AllocErro
     Ok(text)
 }
 
-/// A number of a metric, under these labels.
-pub fn sample(alloc: Global, name: &str, labels: &str, number: u64) -> Result<String, AllocError>
-    ensures { IfOk result (λ text. string_bytes text ≡ sample name.now labels.now number) }
+/// A number of a metric of the endpoint with this SCI, under that and these labels.
+pub fn sample(
+    alloc: Global,
+    own: Sci,
+    name: &str,
+    labels: &str,
+    number: u64,
+) -> Result<String, AllocError>
+    ensures { IfOk result (λ text. string_bytes text ≡ sample own name.now labels.now number) }
 {
-    ended(format!(in alloc; "{name}{{{labels}}} {number}")?)
+    let digits = hex::encode(alloc, own.get())?;
+    let sci = label(alloc, "sci", digits.as_str())?;
+    ended(format!(in alloc; "{name}{{{sci},{labels}}} {number}")?)
 }
 
 /// The same under one label.
 pub fn labelled(
     alloc: Global,
+    own: Sci,
     name: &str,
     of: &str,
     value: &str,
     number: u64,
 ) -> Result<String, AllocError>
     ensures { IfOk result (λ text. string_bytes text
-        ≡ sample name.now (label of.now value.now) number) }
+        ≡ sample own name.now (label of.now value.now) number) }
 {
     let labels = label(alloc, of, value)?;
-    sample(alloc, name, labels.as_str(), number)
+    sample(alloc, own, name, labels.as_str(), number)
 }
 
 /// The same of a number that may be absent: no text where it is.
 pub fn sample_of(
     alloc: Global,
+    own: Sci,
     name: &str,
     labels: &str,
     number: Option<u64>,
 ) -> Result<String, AllocError>
-    ensures { IfOk result (λ text. string_bytes text ≡ sample_of name.now labels.now number) }
+    ensures { IfOk result (λ text. string_bytes text ≡ sample_of own name.now labels.now number) }
 {
     match number {
-        Some(number) => sample(alloc, name, labels, number),
+        Some(number) => sample(alloc, own, name, labels, number),
         None => Ok(String::new(alloc)),
     }
 }

@@ -14,6 +14,7 @@ mod judging;
 mod link;
 mod link_files;
 mod older_files;
+mod overruns;
 mod peers;
 mod planning;
 mod relaying;

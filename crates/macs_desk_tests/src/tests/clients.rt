@@ -1,6 +1,6 @@
 //! A client that asks, and keeps what is said to it.
 
-use macs_desk::ControlDesk;
+use macs_desk::{ControlDesk, NoOverruns};
 use macs_requests::{Client, Clients, Heard, Line, NoMetrics};
 use std::alloc::Global;
 use std::process::Abort;
@@ -58,7 +58,7 @@ impl<R: Abort> Clients for Asker<'_, R> {
 /// What a desk has said to its client is this text.
 pub(super) fn expect_told<R: Abort>(
     rt: &R,
-    desk: ControlDesk<Asker<'_, R>, NoMetrics>,
+    desk: ControlDesk<Asker<'_, R>, NoMetrics, NoOverruns>,
     told: &str,
 ) {
     let (asker, _metrics) = desk.into_parts();

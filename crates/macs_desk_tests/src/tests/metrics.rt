@@ -1,8 +1,8 @@
 //! Metrics that are due each time, and keep what is written.
 
-use super::attended;
 use super::clients::Asker;
-use macs_desk::ControlDesk;
+use super::{attended, build};
+use macs_desk::{ControlDesk, Dropped, Overruns};
 use macs_requests::Metrics;
 use std::process::Abort;
 
@@ -27,68 +27,91 @@ impl<R: Abort> Metrics for Written<'_, R> {
     }
 }
 
+/// 17 datagrams were dropped of wire 1, and of wire 2 it is not known.
+#[derive(Drop)]
+struct FirstLost;
+
+impl Overruns for FirstLost {
+    fn dropped(&self) -> Dropped {
+        Dropped {
+            controlled: Some(17),
+            common: None,
+        }
+    }
+}
+
 /// What is written of a new endpoint, by hand.
 const NEW: &str = "\
 # HELP macsec_tx_frames_total Plain frames by what was answered.
 # TYPE macsec_tx_frames_total counter
-macsec_tx_frames_total{answer=\"protected\"} 0
-macsec_tx_frames_total{answer=\"runt\"} 0
-macsec_tx_frames_total{answer=\"too-long\"} 0
-macsec_tx_frames_total{answer=\"foreign-source\"} 0
-macsec_tx_frames_total{answer=\"no-encoding\"} 0
-macsec_tx_frames_total{answer=\"exhausted\"} 0
-macsec_tx_frames_total{answer=\"no-number\"} 0
+macsec_tx_frames_total{sci=\"0200000000010001\",answer=\"protected\"} 0
+macsec_tx_frames_total{sci=\"0200000000010001\",answer=\"runt\"} 0
+macsec_tx_frames_total{sci=\"0200000000010001\",answer=\"too-long\"} 0
+macsec_tx_frames_total{sci=\"0200000000010001\",answer=\"foreign-source\"} 0
+macsec_tx_frames_total{sci=\"0200000000010001\",answer=\"no-encoding\"} 0
+macsec_tx_frames_total{sci=\"0200000000010001\",answer=\"exhausted\"} 0
+macsec_tx_frames_total{sci=\"0200000000010001\",answer=\"no-number\"} 0
 # HELP macsec_rx_frames_total Received frames by verdict.
 # TYPE macsec_rx_frames_total counter
-macsec_rx_frames_total{verdict=\"ok\"} 0
-macsec_rx_frames_total{verdict=\"delayed\"} 0
-macsec_rx_frames_total{verdict=\"invalid\"} 0
-macsec_rx_frames_total{verdict=\"untagged\"} 0
-macsec_rx_frames_total{verdict=\"unknown-sci\"} 0
-macsec_rx_frames_total{verdict=\"unused-sa\"} 0
-macsec_rx_frames_total{verdict=\"runt\"} 0
-macsec_rx_frames_total{verdict=\"oversize\"} 0
-macsec_rx_frames_total{verdict=\"no-tag\"} 0
-macsec_rx_frames_total{verdict=\"bad-tag\"} 0
-macsec_rx_frames_total{verdict=\"for-kay\"} 0
-macsec_rx_frames_total{verdict=\"no-sci\"} 0
-macsec_rx_frames_total{verdict=\"not-using-sa\"} 0
-macsec_rx_frames_total{verdict=\"late\"} 0
-macsec_rx_frames_total{verdict=\"not-valid\"} 0
+macsec_rx_frames_total{sci=\"0200000000010001\",verdict=\"ok\"} 0
+macsec_rx_frames_total{sci=\"0200000000010001\",verdict=\"delayed\"} 0
+macsec_rx_frames_total{sci=\"0200000000010001\",verdict=\"invalid\"} 0
+macsec_rx_frames_total{sci=\"0200000000010001\",verdict=\"untagged\"} 0
+macsec_rx_frames_total{sci=\"0200000000010001\",verdict=\"unknown-sci\"} 0
+macsec_rx_frames_total{sci=\"0200000000010001\",verdict=\"unused-sa\"} 0
+macsec_rx_frames_total{sci=\"0200000000010001\",verdict=\"runt\"} 0
+macsec_rx_frames_total{sci=\"0200000000010001\",verdict=\"oversize\"} 0
+macsec_rx_frames_total{sci=\"0200000000010001\",verdict=\"no-tag\"} 0
+macsec_rx_frames_total{sci=\"0200000000010001\",verdict=\"bad-tag\"} 0
+macsec_rx_frames_total{sci=\"0200000000010001\",verdict=\"for-kay\"} 0
+macsec_rx_frames_total{sci=\"0200000000010001\",verdict=\"no-sci\"} 0
+macsec_rx_frames_total{sci=\"0200000000010001\",verdict=\"not-using-sa\"} 0
+macsec_rx_frames_total{sci=\"0200000000010001\",verdict=\"late\"} 0
+macsec_rx_frames_total{sci=\"0200000000010001\",verdict=\"not-valid\"} 0
 # HELP macsec_rx_channel_frames_total Received frames of a channel by verdict.
 # TYPE macsec_rx_channel_frames_total counter
 # HELP macsec_wire_taken_total Frames taken off a wire.
 # TYPE macsec_wire_taken_total counter
-macsec_wire_taken_total{wire=\"1\"} 0
-macsec_wire_taken_total{wire=\"2\"} 0
+macsec_wire_taken_total{sci=\"0200000000010001\",wire=\"1\"} 0
+macsec_wire_taken_total{sci=\"0200000000010001\",wire=\"2\"} 0
 # HELP macsec_wire_sent_total Frames sent on a wire.
 # TYPE macsec_wire_sent_total counter
-macsec_wire_sent_total{wire=\"1\"} 0
-macsec_wire_sent_total{wire=\"2\"} 0
+macsec_wire_sent_total{sci=\"0200000000010001\",wire=\"1\"} 0
+macsec_wire_sent_total{sci=\"0200000000010001\",wire=\"2\"} 0
 # HELP macsec_wire_strangers_total Datagrams of another address than the peer's.
 # TYPE macsec_wire_strangers_total counter
-macsec_wire_strangers_total{wire=\"1\"} 0
-macsec_wire_strangers_total{wire=\"2\"} 0
+macsec_wire_strangers_total{sci=\"0200000000010001\",wire=\"1\"} 0
+macsec_wire_strangers_total{sci=\"0200000000010001\",wire=\"2\"} 0
 # HELP macsec_wire_failed_receives_total Receives that failed.
 # TYPE macsec_wire_failed_receives_total counter
-macsec_wire_failed_receives_total{wire=\"1\"} 0
-macsec_wire_failed_receives_total{wire=\"2\"} 0
+macsec_wire_failed_receives_total{sci=\"0200000000010001\",wire=\"1\"} 0
+macsec_wire_failed_receives_total{sci=\"0200000000010001\",wire=\"2\"} 0
 # HELP macsec_wire_failed_sends_total Sends that failed.
 # TYPE macsec_wire_failed_sends_total counter
-macsec_wire_failed_sends_total{wire=\"1\"} 0
-macsec_wire_failed_sends_total{wire=\"2\"} 0
+macsec_wire_failed_sends_total{sci=\"0200000000010001\",wire=\"1\"} 0
+macsec_wire_failed_sends_total{sci=\"0200000000010001\",wire=\"2\"} 0
 # HELP macsec_wire_buffer_octets Octets of waiting datagrams that the system keeps for a wire.
 # TYPE macsec_wire_buffer_octets gauge
+# HELP macsec_wire_overrun_total Datagrams that the system dropped, since a wire had no room for them.
+# TYPE macsec_wire_overrun_total counter
+macsec_wire_overrun_total{sci=\"0200000000010001\",wire=\"1\"} 17
 # HELP macsec_tx_numbers_left Packet numbers left under a transmit key.
 # TYPE macsec_tx_numbers_left gauge
 # HELP macsec_keys_left Keys that may still be installed.
 # TYPE macsec_keys_left gauge
-macsec_keys_left{side=\"tx\"} 512
-macsec_keys_left{side=\"rx\"} 512
+macsec_keys_left{sci=\"0200000000010001\",side=\"tx\"} 512
+macsec_keys_left{sci=\"0200000000010001\",side=\"rx\"} 512
+# HELP macsecd_build_info The program that reports, always 1.
+# TYPE macsecd_build_info gauge
+macsecd_build_info{sci=\"0200000000010001\",version=\"7.8.9\",commit=\"abc\",proved=\"no\"} 1
 ";
 
 /// What a desk has written is this text.
-fn expect_written<R: Abort>(rt: &R, desk: ControlDesk<Asker<'_, R>, Written<'_, R>>, text: &str) {
+fn expect_written<R: Abort>(
+    rt: &R,
+    desk: ControlDesk<Asker<'_, R>, Written<'_, R>, FirstLost>,
+    text: &str,
+) {
     let (_asker, metrics) = desk.into_parts();
     assert!(rt; metrics.text.as_str() == text);
 }
@@ -101,7 +124,13 @@ fn metrics_are_written_where_they_are_due(rt: HostRuntime) {
         left: 1,
         text: String::new(rt.alloc()),
     };
-    let mut desk = ControlDesk::new(rt.alloc(), Asker::new(&rt, rt.alloc(), "show"), metrics);
+    let mut desk = ControlDesk::new(
+        rt.alloc(),
+        build(&rt, rt.alloc()),
+        Asker::new(&rt, rt.alloc(), "show"),
+        metrics,
+        FirstLost,
+    );
     attended(&rt, rt.alloc(), &mut desk, 4);
     expect_written(&rt, desk, NEW);
 }

@@ -1,7 +1,8 @@
 //! A command that is not taken.
 
+use super::build;
 use super::clients::{Asker, expect_told};
-use macs_desk::ControlDesk;
+use macs_desk::{ControlDesk, NoOverruns};
 use macs_disk::MemDisk;
 use macs_edge::{Desk, MemWire};
 use macs_endpoint::SubmitFault;
@@ -20,7 +21,13 @@ fn refuse<K: Desk<MemDisk, MemWire<Global>, MemWire<Global>>>(desk: &mut K, faul
 }
 
 fn is_told(rt: &impl Abort, alloc: Global, fault: SubmitFault, told: &str) {
-    let mut desk = ControlDesk::new(alloc, Asker::new(rt, alloc, "show"), NoMetrics);
+    let mut desk = ControlDesk::new(
+        alloc,
+        build(rt, alloc),
+        Asker::new(rt, alloc, "show"),
+        NoMetrics,
+        NoOverruns,
+    );
     refuse(&mut desk, fault);
     expect_told(rt, desk, told);
 }

@@ -1,8 +1,8 @@
 //! What is reported of a new endpoint, by hand.
 
-use super::attended;
 use super::clients::{Asker, expect_told};
-use macs_desk::ControlDesk;
+use super::{attended, build};
+use macs_desk::{ControlDesk, NoOverruns};
 use macs_requests::NoMetrics;
 use std::alloc::Global;
 use std::process::Abort;
@@ -23,7 +23,13 @@ sci-mode explicit\nencoding none\nspent tx 0 rx 0\n5 end 0\n",
 ];
 
 fn answers(rt: &impl Abort, alloc: Global, line: &'static str, told: &str) {
-    let mut desk = ControlDesk::new(alloc, Asker::new(rt, alloc, line), NoMetrics);
+    let mut desk = ControlDesk::new(
+        alloc,
+        build(rt, alloc),
+        Asker::new(rt, alloc, line),
+        NoMetrics,
+        NoOverruns,
+    );
     attended(rt, alloc, &mut desk, 8);
     expect_told(rt, desk, told);
 }

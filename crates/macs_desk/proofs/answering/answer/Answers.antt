@@ -12,8 +12,9 @@ returns-in-Show g c =
 
 pub returns-in-Counters : goal.returns-in-Counters
 returns-in-Counters g c =
-    let told = c.tell-in-Counters.ensures _ c.counter_lines-report.ensures in
-    rw c.in-Counters.is (told.0, (told.1, refl), told.2)
+    let report = c.counted-report.ensures in
+    let told = c.tell-in-Counters.ensures _ report.2 in
+    rw c.in-Counters.is (told.0, (report.0, report.1, told.1, refl), told.2)
 
 pub returns-in-Stop : goal.returns-in-Stop
 returns-in-Stop g c = rw c.in-Stop.is (

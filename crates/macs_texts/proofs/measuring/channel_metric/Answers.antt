@@ -6,7 +6,7 @@ use Rattle.macs_texts.proofs.measuring.channel_metric.Goals as goal
 
 pub loop-sci-preserved : goal.loop-sci-preserved
 loop-sci-preserved g c =
-    shown-more (channel_samples (channel_counters_of c.args.endpoint.now.rx)) c.deref-sci-items.result.now _
+    shown-more (channel_samples c.args.own (channel_counters_of c.args.endpoint.now.rx)) c.deref-sci-items.result.now _
     c.loop-sci.sci-index _ _ channel_head
     (string_bytes c.loop-sci.text) (string_bytes c.push_str.new.self) c.as_str.result.now
     (string_bytes c.in_ok-channel_samples.field-0)

@@ -6,4 +6,5 @@ use Rattle.macs_texts.proofs.measuring.channel_metric.Given as goal
 
 abbrev pub invariant-loop-sci : goal.invariant-loop-sci
 invariant-loop-sci g l = string_bytes l.text
-    ≡ channel_head ++ concat (map (channel_samples (channel_counters_of l.endpoint.rx)) (take l.sci-index l.sci-items))
+    ≡ channel_head
+    ++ concat (map (channel_samples l.own (channel_counters_of l.endpoint.rx)) (take l.sci-index l.sci-items))

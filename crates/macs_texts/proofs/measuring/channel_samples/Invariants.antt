@@ -7,4 +7,4 @@ use Rattle.macs_texts.proofs.measuring.channel_samples.Given as goal
 abbrev pub invariant-loop-verdict : goal.invariant-loop-verdict
 invariant-loop-verdict g l = string_bytes l.text
     ≡ [] ++ concat
-    (map (channel_sample (channel_counters_of l.endpoint.rx) l.sci) (take l.verdict-index l.verdict-items))
+    (map (channel_sample l.own (channel_counters_of l.endpoint.rx) l.sci) (take l.verdict-index l.verdict-items))

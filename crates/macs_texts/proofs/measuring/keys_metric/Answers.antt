@@ -11,6 +11,7 @@ returns c =
     c.saturating_sub-tx.ensures ∙ ap (λ (n : ℕ). max_spent - n) c.spent_tx.ensures in
     let rx : c.saturating_sub-rx.result ≡ max_spent - length (config_of c.args.config.now).spent_rx =
     c.saturating_sub-rx.ensures ∙ ap (λ (n : ℕ). max_spent - n) c.spent_rx.ensures in
-    IfOk-weaker c.key_numbers.result _ _ (λ text is. is ∙ ap (λ (n : ℕ). key_numbers n c.saturating_sub-rx.result) tx
-    ∙ ap (λ (n : ℕ). key_numbers (max_spent - length (config_of c.args.config.now).spent_tx) n) rx)
+    IfOk-weaker c.key_numbers.result _ _
+    (λ text is. is ∙ ap (λ (n : ℕ). key_numbers c.args.own n c.saturating_sub-rx.result) tx
+    ∙ ap (λ (n : ℕ). key_numbers c.args.own (max_spent - length (config_of c.args.config.now).spent_tx) n) rx)
     c.key_numbers.ensures

@@ -7,7 +7,8 @@ use Rattle.macs_texts.proofs.measuring.left_metric.Goals as goal
 
 pub loop-an-preserved : goal.loop-an-preserved
 loop-an-preserved g c =
-    shown-more (left_sample (state_of c.args.endpoint.now no_logs)) c.all-an-items.result 4 c.loop-an.an-index
+    shown-more (left_sample c.args.own (state_of c.args.endpoint.now no_logs)) c.all-an-items.result 4
+    c.loop-an.an-index
     _ _ left_head
     (string_bytes c.loop-an.text) (string_bytes c.push_str.new.self) c.as_str.result.now
     (string_bytes c.in_ok-left_sample.field-0)

@@ -7,4 +7,4 @@ use Rattle.macs_texts.proofs.measuring.left_metric.Given as goal
 
 abbrev pub invariant-loop-an : goal.invariant-loop-an
 invariant-loop-an g l = string_bytes l.text
-    ≡ left_head ++ concat (map (left_sample (state_of l.endpoint no_logs)) (take l.an-index l.an-items))
+    ≡ left_head ++ concat (map (left_sample l.own (state_of l.endpoint no_logs)) (take l.an-index l.an-items))

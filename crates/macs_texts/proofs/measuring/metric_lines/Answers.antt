@@ -1,15 +1,18 @@
-use Rattle.std.proofs.Common.{ap, ◌∙◌}
+use Rattle.std.proofs.Common.{◌≡◌, ◌∙◌, List, ℕ, ap}
 use Rattle.std.proofs.lemmas.Result.{IfOk-weaker}
-use Rattle.macs_config.specs.Config.{Config}
-use Rattle.macs_texts.specs.Measuring.{keys_metric}
+use Rattle.macs_config.specs.Identity.{Identity}
+use Rattle.macs_endpoint.specs.State.{no_logs}
+use Rattle.macs_endpoint.specs.Value.{state_of}
+use Rattle.macs_rxsc.specs.Value as rxsc
+use Rattle.macs_txsc.specs.Value as txsc
+use Rattle.macs_texts.specs.Measuring.{metrics_of}
 use Rattle.macs_texts.proofs.measuring.metric_lines.Goals as goal
 
 pub returns : goal.returns
 returns g c =
-    let keys = IfOk-weaker c.keys_metric-text.result _ _
-    (λ text is. is ∙ ap (λ (k : Config). keys_metric k) c.config.ensures.config) c.keys_metric-text.ensures in
-    let with_left = c.joined-text.ensures _ _ c.left_metric.ensures keys in
-    let with_wires = c.joined-text-2.ensures _ _ c.wires_metrics.ensures with_left in
-    let with_channels = c.joined-text-3.ensures _ _ c.channel_metric.ensures with_wires in
-    let with_received = c.joined-text-4.ensures _ _ c.rx_metric.ensures with_channels in
-    c.joined.ensures _ _ c.tx_metric.ensures with_received
+    let own : c.sci-own.result ≡ (state_of c.args.endpoint.now no_logs).identity.sci =
+    c.sci-own.ensures ∙ ap (λ (i : Identity). i.sci) c.identity.ensures in
+    IfOk-weaker c.metrics_of.result _ _ (λ text is. is ∙ ap (λ (sci : List ℕ). metrics_of sci c.args.build.now
+    (state_of c.args.endpoint.now no_logs) (txsc.counters_of c.args.endpoint.now.tx)
+    (rxsc.counters_of c.args.endpoint.now.rx) (rxsc.channel_counters_of c.args.endpoint.now.rx)
+    c.args.controlled.now c.args.common.now) own) c.metrics_of.ensures

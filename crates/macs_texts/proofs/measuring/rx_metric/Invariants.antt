@@ -6,4 +6,4 @@ use Rattle.macs_texts.proofs.measuring.rx_metric.Given as goal
 
 abbrev pub invariant-loop-verdict : goal.invariant-loop-verdict
 invariant-loop-verdict g l = string_bytes l.text
-    ≡ rx_head ++ concat (map (rx_sample (counters_of l.endpoint.rx)) (take l.verdict-index l.verdict-items))
+    ≡ rx_head ++ concat (map (rx_sample l.own (counters_of l.endpoint.rx)) (take l.verdict-index l.verdict-items))

@@ -1,0 +1,128 @@
+//! What the system dropped of datagrams before a wire could take them.
+
+ghost use Rattle.std.specs.Prelude.{◌≡◌, IfOk, IfSome, string_bytes};
+ghost use Rattle.macs_program.specs.Overruns.{HasDigits, IsBehind, IsLastColumn, SaysDropped};
+ghost use Rattle.macs_program.specs.Overruns.{mark_of};
+
+use macs_control::Wires;
+use macs_desk::{Dropped, Overruns};
+use std::alloc::{AllocError, Global};
+use std::fs;
+use std::os::fd::RawFd;
+use std::os::unix::fs::MetadataExt;
+use std::rt::Files;
+
+/// Where Linux lists the sockets of UDP over IPv4, of the network that this process is in
+/// (proc(5)).
+const SOCKETS: &str = "/proc/self/net/udp";
+
+/// The same over IPv6.
+const SOCKETS_OF_SIX: &str = "/proc/self/net/udp6";
+
+/// What is before the last three columns of a socket's line: its timeout, which is 0, and its
+/// inode.
+fn mark_of(alloc: Global, inode: u64) -> Result<String, AllocError>
+    ensures { IfOk result (λ text. string_bytes text ≡ mark_of inode) }
+{
+    let text = format!(in alloc; " 0 {inode} ")?;
+    Ok(text)
+}
+
+/// What is behind a mark, where it is first.
+fn behind<'a>(text: &'a str, mark: &str) -> Option<&'a str>
+    ensures { IfSome result (λ rest. IsBehind mark.now text.now rest.now) }
+{
+    match text.split_once(mark) {
+        Some((_, rest)) => Some(rest),
+        None => None,
+    }
+}
+
+/// The last column of a line: blanks may follow.
+fn last_column(text: &str) -> Option<&str>
+    ensures { IfSome result (λ column. IsLastColumn text.now column.now) }
+{
+    let Some((line, _)) = text.split_once('\n') else {
+        return None;
+    };
+    match line.split_once(' ') {
+        Some((column, _)) => Some(column),
+        None => Some(line),
+    }
+}
+
+/// The digits of the last column of the line with this mark: behind it are the references, the
+/// pointer, and these.
+fn digits_in<'a>(sockets: &'a str, mark: &str) -> Option<&'a str>
+    ensures { IfSome result (λ digits. HasDigits mark.now sockets.now digits.now) }
+{
+    let Some(references) = behind(sockets, mark) else {
+        return None;
+    };
+    let Some(pointer) = behind(references, " ") else {
+        return None;
+    };
+    match behind(pointer, " ") {
+        Some(dropped) => last_column(dropped),
+        None => None,
+    }
+}
+
+/// How many datagrams were dropped at the socket with this mark, by a text as that of
+/// `/proc/net/udp`; `None` where it has no such line.
+pub fn dropped_in(sockets: &str, mark: &str) -> Option<u64>
+    ensures { IfSome result (λ count. SaysDropped mark.now sockets.now count) }
+{
+    match digits_in(sockets, mark) {
+        Some(digits) => u64::from_str_radix(digits, 10).ok(),
+        None => None,
+    }
+}
+
+/// The same by a list of sockets of the system.
+fn dropped_by<T: Files>(rt: &T, alloc: Global, path: &str, mark: &str) -> Option<u64> {
+    match fs::read_to_string(&(rt, alloc), path) {
+        Ok(sockets) => dropped_in(sockets.as_str(), mark),
+        Err(_) => None,
+    }
+}
+
+/// The mark of a socket of this process.
+fn mark_for<T: Files>(rt: &T, alloc: Global, socket: RawFd) -> Option<String> {
+    let Ok(path) = format!(in alloc; "/proc/self/fd/{socket}") else {
+        return None;
+    };
+    match rt.metadata(path.as_str()) {
+        Ok(about) => mark_of(alloc, about.ino()).ok(),
+        Err(_) => None,
+    }
+}
+
+/// How many datagrams the system dropped at a socket of UDP, since there was no room for them. It
+/// is not known where that cannot be read, or where memory is refused.
+fn dropped_at<T: Files>(rt: &T, alloc: Global, socket: RawFd) -> Option<u64> {
+    let Some(mark) = mark_for(rt, alloc, socket) else {
+        return None;
+    };
+    match dropped_by(rt, alloc, SOCKETS, mark.as_str()) {
+        Some(count) => Some(count),
+        None => dropped_by(rt, alloc, SOCKETS_OF_SIX, mark.as_str()),
+    }
+}
+
+/// Linux, of the sockets of both wires.
+#[derive(Drop)]
+pub struct SystemOverruns<'a, T> {
+    pub rt: &'a T,
+    pub alloc: Global,
+    pub wires: Wires,
+}
+
+impl<T: Files> Overruns for SystemOverruns<'_, T> {
+    fn dropped(&self) -> Dropped {
+        Dropped {
+            controlled: dropped_at(self.rt, self.alloc, self.wires.controlled),
+            common: dropped_at(self.rt, self.alloc, self.wires.common),
+        }
+    }
+}

@@ -1,0 +1,58 @@
+//! Which program reports.
+
+ghost use Rattle.std.specs.Prelude.{◌≡◌, IfOk, string_bytes};
+
+use std::alloc::{AllocError, Global};
+
+/// A build of the program. No text of it has a quote, a backslash or a line feed in it.
+#[derive(Drop)]
+pub struct Build {
+    /// Its version.
+    pub version: String,
+    /// The commit of its sources, or `unknown`.
+    pub commit: String,
+    /// Whether each of its functions was proved: `yes`, `no`, or `unknown`.
+    pub proved: String,
+}
+
+/// A text of its own.
+fn owned(alloc: Global, text: &str) -> Result<String, AllocError>
+    ensures { IfOk result (λ copy. string_bytes copy ≡ text.now) }
+{
+    let copy = format!(in alloc; "{text}")?;
+    Ok(copy)
+}
+
+impl Build {
+    ghost use Rattle.std.specs.Prelude.{◌≡◌, IfOk, string_bytes};
+
+    /// A build of this version and of this commit, that was proved or not.
+    pub fn new(
+        alloc: Global,
+        version: &str,
+        commit: &str,
+        proved: &str,
+    ) -> Result<Build, AllocError>
+        ensures version { IfOk result (λ build. string_bytes build.version ≡ version.now) }
+        ensures commit { IfOk result (λ build. string_bytes build.commit ≡ commit.now) }
+        ensures proved { IfOk result (λ build. string_bytes build.proved ≡ proved.now) }
+    {
+        let version = owned(alloc, version)?;
+        let commit = owned(alloc, commit)?;
+        let proved = owned(alloc, proved)?;
+        Ok(Build {
+            version,
+            commit,
+            proved,
+        })
+    }
+
+    /// A build of no program: its texts are empty.
+    pub fn none(alloc: Global) -> Build {
+        Build {
+            version: String::new(alloc),
+            commit: String::new(alloc),
+            proved: String::new(alloc),
+        }
+    }
+}
