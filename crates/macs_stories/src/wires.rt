@@ -11,8 +11,8 @@ use macs_edge::{
 use macs_endpoint::RefillFault;
 use macs_frame::FrameBuf;
 use macs_requests::NoMetrics;
-use macs_texts::Build;
 use macs_story_text::{Answer, Words, filled, frame_at, octets_of, tell_frame, tell_sent, whole};
+use macs_texts::Build;
 use std::alloc::Global;
 use std::mem::replace;
 
