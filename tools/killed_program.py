@@ -35,7 +35,7 @@ SECTOR = 512
 MARK = b"MSECOPEN"
 OPEN = MARK + bytes(SECTOR - len(MARK))
 HEAD = b"MSECHEAD"
-CALLS = ["openat", "pread64", "pwrite64", "fsync", "fdatasync", "fadvise64", "ftruncate", "fallocate", "flock", "fcntl", "close"]
+CALLS = ["openat", "pread64", "pwrite64", "fsync", "fdatasync", "ftruncate", "fallocate", "flock", "fcntl", "rename", "unlink", "close"]
 SCI = "0200000000010001"
 FRAMES = 400
 BLOCK = "32"
@@ -73,9 +73,10 @@ def program():
 
 
 def traced(disk, words, extra=()):
-    """Runs the program under strace: its output, and its system calls on the disk file."""
+    """Runs the program under strace: its output, and its system calls on the disk file, the new one beside it, and their folder."""
     trace = disk + ".trace"
-    command = ["strace", "-o", trace, "-xx", "-s", "5000", "-e", "trace=" + ",".join(CALLS), "-P", disk, *extra, *words]
+    paths = [word for path in (disk, disk + ".new", os.path.dirname(disk)) for word in ("-P", path)]
+    command = ["strace", "-o", trace, "-xx", "-s", "70000", "-e", "trace=" + ",".join(CALLS), *paths, *extra, *words]
     done = subprocess.run(command, capture_output=True)
     lines = [line for line in open(trace) if not line.startswith(("+++", "---"))]
     return done, lines
@@ -86,27 +87,20 @@ def octets_in(text):
 
 
 class Sectors:
-    """What a disk file has, by the calls that were made on it: what is durable, and what was written since. A power loss spoils as many octets at a time as a block has."""
+    """What a file has, by the calls that were made on it: what is durable, and what was written since. A power loss spoils as many octets at a time as a block has."""
 
-    def __init__(self, path, block=SECTOR):
-        self.durable = open(path, "rb").read() if os.path.exists(path) else b""
+    def __init__(self, octets, block=SECTOR):
+        self.durable = octets
         self.pending = {}
         self.block = block
 
-    def follow(self, line):
-        found = re.match(r"(\w+)\((.*)\) += (-?\d+)", line)
-        if not found:
-            return
-        name, inside, answer = found[1], found[2], int(found[3])
-        assert name != "ftruncate" and name != "fallocate", "the size of a disk file grows by what is written"
-        if name == "pwrite64":
-            octets = octets_in(re.search(r'"(.*)"', inside)[1])[:answer]
-            place = int(inside.split(",")[-1], 0)
-            assert place % SECTOR == 0 and answer % SECTOR == 0, line
-            for start in range(0, answer, SECTOR):
-                self.write(place + start, octets[start : start + SECTOR])
-        elif name in ("fsync", "fdatasync"):
-            self.durable, self.pending = self.with_blocks(self.pending), {}
+    def put(self, place, octets):
+        assert place % SECTOR == 0 and len(octets) % SECTOR == 0, place
+        for start in range(0, len(octets), SECTOR):
+            self.write(place + start, octets[start : start + SECTOR])
+
+    def sync(self):
+        self.durable, self.pending = self.with_blocks(self.pending), {}
 
     def write(self, place, octets):
         """The block that has these octets is pending."""
@@ -144,12 +138,59 @@ class Sectors:
         return [dict(zip(places, same)) for same in zip(*each)]
 
 
+class Folder:
+    """Which file has the name of the disk file, and which had it at the last sync of the folder; what each file has; and what each descriptor is of."""
+
+    def __init__(self, disk, block=SECTOR):
+        self.disk, self.block = disk, block
+        self.names = {disk: Sectors(open(disk, "rb").read(), block)} if os.path.exists(disk) else {}
+        self.durable = dict(self.names)
+        self.opened = {}
+
+    def follow(self, line):
+        found = re.match(r"(\w+)\((.*)\) += (-?\d+)", line)
+        if not found or int(found[3]) < 0:
+            return
+        name, inside, answer = found[1], found[2], int(found[3])
+        assert name != "ftruncate" and name != "fallocate", "the size of a disk file grows by what is written"
+        texts = [octets_in(text) for text in re.findall(r'"([^"]*)"', inside)]
+        if name == "openat":
+            path = os.path.abspath(texts[0].decode())
+            is_folder = path == os.path.dirname(self.disk)
+            self.opened[answer] = self if is_folder else self.names.setdefault(path, Sectors(b"", self.block))
+        elif name == "rename":
+            self.names[texts[1].decode()] = self.names.pop(texts[0].decode())
+        elif name == "unlink":
+            del self.names[texts[0].decode()]
+        elif name in ("pwrite64", "fsync", "fdatasync", "close"):
+            of = self.opened[int(inside.split(",")[0])]
+            if name == "pwrite64":
+                of.put(int(inside.split(",")[-1], 0), texts[0][:answer])
+            elif name == "close":
+                del self.opened[int(inside)]
+            else:
+                of.sync()
+
+    def sync(self):
+        self.durable = dict(self.names)
+
+    def left(self):
+        """What a power loss may leave of the disk file: the octets, or None where no file has its name, and those of each pending block."""
+        files = [self.durable.get(self.disk), self.names.get(self.disk)]
+        for at, of in enumerate(files):
+            if of is None:
+                yield None, {}
+            elif at == 0 or of is not files[0]:
+                for image in of.images():
+                    yield of.with_blocks(image), image
+
+
 def kill_at_each(folder, name, start, words, judge, block=SECTOR):
     """A run that begins with the disk file `start`, or none, is killed at each of its calls on the disk file. How many kills and power losses that were."""
     disk = os.path.join(folder, "disk")
 
     def begin():
-        for left in (disk, os.path.join(folder, "out")):
+        for left in (disk, disk + ".new", os.path.join(folder, "out")):
             if os.path.exists(left):
                 os.remove(left)
         if start:
@@ -163,15 +204,16 @@ def kill_at_each(folder, name, start, words, judge, block=SECTOR):
         call = re.match(r"\w+", line)[0]
         counts[call] = counts.get(call, 0) + 1
         begin()
-        sectors = Sectors(disk, block)
+        files = Folder(disk, block)
         killed, made = traced(disk, words(disk), ["-e", f"inject={call}:signal=KILL:when={counts[call]}"])
         assert killed.returncode == -9 or killed.returncode == 137, (line, killed)
         for each in made:
-            sectors.follow(each)
+            files.follow(each)
         kills += 1
-        for image in sectors.images():
-            octets = sectors.with_blocks(image)
-            if octets or os.path.exists(disk):
+        for octets, image in files.left():
+            if os.path.exists(disk):
+                os.remove(disk)
+            if octets is not None:
                 open(disk, "wb").write(octets)
             losses += 1
             judge(disk, killed.stdout.decode(), image)

@@ -3,8 +3,8 @@ use Rattle.std.proofs.Common.{◌≡◌, inl, inr, List, Option, Some, None, Res
 use Rattle.std.proofs.lemmas.Bool.{false≢true}
 use Rattle.std.specs.Prelude.{IsErr}
 use Rattle.std.specs.declared.io.ErrorKind.{ErrorKind}
-use Rattle.macs_disk.specs.FileFailures.{Claims, FailedCall, FileCall, FitFails, IsFaultOfKind, MeasureFails, Measures}
-use Rattle.macs_disk.specs.FileFailures.{NoneFailed, OneFailed, Rereads, SettleFails, Syncs, NotesFailure}
+use Rattle.macs_disk.specs.FileFailures.{Claims, FailedCall, FileCall, IsFaultOfKind, MeasureFails, Measures}
+use Rattle.macs_disk.specs.FileFailures.{NoneFailed, OneFailed, Syncs, NotesFailure}
 use Rattle.macs_disk.specs.declared.file_fault.FileFault.{FileFault}
 use Rattle.macs_disk.specs.declared.file_fault.FileFault.TheVariants.{Device}
 
@@ -48,47 +48,12 @@ pub not-measured : (before between after : Option (List FailedCall)) (kind : Err
 not-measured before between after kind fault first failed is =
     inr (Measures, kind, inr refl, one-after before between after Measures kind first failed, is)
 
--- a sync or a rereading that fails
-pub not-synced : {T E : Type 0} (before after : Option (List FailedCall)) (kind : E → ErrorKind) (answer : Result T E)
-    → IsErr answer
-    → NotesFailure {T = T} {E = E} before after Syncs kind answer → SettleFails before after
-not-synced {T} {E} before after kind (Ok value) is noted = absurd (false≢true is)
-not-synced {T} {E} before after kind (Err error) is noted =
-    (Syncs, kind error, inl refl, one-failed T before after Syncs kind error noted)
-
-pub not-reread : {T E : Type 0} (before between after : Option (List FailedCall)) (kind : E → ErrorKind)
-    (answer : Result T E) → NoneFailed before between
-    → IsErr answer → NotesFailure {T = T} {E = E} between after Rereads kind answer → SettleFails before after
-not-reread {T} {E} before between after kind (Ok value) first is noted = absurd (false≢true is)
-not-reread {T} {E} before between after kind (Err error) first is noted = (
-  Rereads,
-  kind error,
-  inr refl,
-  one-after before between after Rereads (kind error) first (one-failed T between after Rereads kind error noted),
-)
-
 -- a file that is not measured is let go
 pub measure-refused : {F T : Type 0} (failures : F → Option (List FailedCall)) (file left : F)
     (fault handed : FileFault) (result : Result T FileFault)
     → result ≡ Err handed → handed ≡ fault → MeasureFails (failures file) (failures left) fault
-    → IfErr result (λ fault. (left : F) × FitFails (failures file) (failures left) fault)
+    → IfErr result (λ fault. (left : F) × MeasureFails (failures file) (failures left) fault)
 measure-refused {F} {T} failures file left fault handed result is same fails =
     subst (λ (r : Result T FileFault).
-    IfErr r (λ fault. (left : F) × FitFails (failures file) (failures left) fault)) (sym is)
-    (left, inl (subst (λ (f : FileFault). MeasureFails (failures file) (failures left) f) (sym same) fails))
-
-settle-after : (before between after : Option (List FailedCall)) → NoneFailed before between → SettleFails between after
-    → SettleFails before after
-settle-after before between after first (call, kind, which, failed) =
-    (call, kind, which, one-after before between after call kind first failed)
-
--- so is one that is not settled
-pub settle-refused : {F T : Type 0} (failures : F → Option (List FailedCall)) (file measured left : F)
-    (handed : FileFault) (result : Result T FileFault)
-    → result ≡ Err handed → handed ≡ Device → NoneFailed (failures file) (failures measured)
-    → SettleFails (failures measured) (failures left)
-    → IfErr result (λ fault. (left : F) × FitFails (failures file) (failures left) fault)
-settle-refused {F} {T} failures file measured left handed result is same first fails =
-    subst (λ (r : Result T FileFault).
-    IfErr r (λ fault. (left : F) × FitFails (failures file) (failures left) fault)) (sym is)
-    (left, inr (same, settle-after (failures file) (failures measured) (failures left) first fails))
+    IfErr r (λ fault. (left : F) × MeasureFails (failures file) (failures left) fault)) (sym is)
+    (left, subst (λ (f : FileFault). MeasureFails (failures file) (failures left) f) (sym same) fails)

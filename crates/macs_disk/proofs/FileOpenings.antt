@@ -1,12 +1,13 @@
--- A file is settled, its layout found, and made ready for a disk.
+-- A file is copied, its layout found, and made ready for a disk; or an empty one is made that of a new disk.
 use Rattle.std.proofs.Common.{◌≡◌, ◌≤◌, ◌<◌, ◌+◌, ◌-◌, ◌/◌, ◌%◌, ◌&&◌, ◌⊎◌, inl, inr, ℕ, if◌then◌else◌, max, Bool, true}
 use Rattle.std.proofs.Common.{false, List, [], length, replicate, refl, ap, ◌∙◌, arith, subst, sym}
 use Rattle.std.proofs.lemmas.Bool.{cases_lt, le-leb, lt-leb}
 use Rattle.std.proofs.lemmas.List.{get_or-replicate, length-replicate}
 use Rattle.std.specs.declared.snapshot.Snapshot.{Snapshot}
-use Rattle.macs_disk.specs.Files.{FileState, IsSure, Settles, file_after_sync, file_after_write, put_from, values_from}
+use Rattle.macs_disk.specs.Files.{FileState, IsCopy, IsEmpty, IsSure, file_after_sync, file_after_write, put_from}
+use Rattle.macs_disk.specs.Files.{values_from}
 use Rattle.macs_disk.specs.FileDisks.{HasMark, IsBlank, IsCleared, IsExtent, IsMarkedAs, IsOpened, IsStill}
-use Rattle.macs_disk.specs.FileDisks.{file_lengthened, is_ready, keeps_disk, state_in_file}
+use Rattle.macs_disk.specs.FileDisks.{file_lengthened, is_ready, keeps_disk, mark_end, state_in_file}
 use Rattle.macs_disk.specs.FileEvidence.{values-same}
 use Rattle.macs_disk.specs.Layouts.{is_marked, layout_in, mark, place, sectors_in, suits}
 use Rattle.macs_disk.specs.States.{zero_sector}
@@ -75,45 +76,31 @@ pub sure-written : (old new : FileState) (at : ℕ) (xs : List ℕ) → new ≡ 
     → IsSure new
 sure-written old new at xs is sure = ap (λ (f : FileState). f.is_sure) is ∙ write-sure old at xs ∙ sure
 
-pub erased : (old new : FileState) → IsSure old → place Spaced 1028 < old.size
-    → new ≡ file_after_write old (place Spaced 1028) (replicate 512 0) → IsMarkedAs old new Packed
-erased old new sure reaches is =
-    let some : length (replicate {A = ℕ} 512 0) ≡ 512 = length-replicate {A = ℕ} 512 0 in
-    let size = size-written old new (place Spaced 1028) (replicate 512 0) is (omega (arith, some)) in
-    record {
-      block = block-written old new (place Spaced 1028) (replicate 512 0) is;
-      longer = omega (arith, size);
-      size = λ whole. omega (arith, size, some, reaches, whole);
-      is_sure = sure-written old new (place Spaced 1028) (replicate 512 0) is sure;
-      has = inr (read-written old new (place Spaced 1028) (replicate 512 0) is some ∙ sym zeros-are);
-    }
-
-pub not-reached : (old new : FileState) → IsSure old → new ≡ old → old.size ≤ place Spaced 1028
-    → IsMarkedAs old new Packed
-not-reached old new sure same short =
-    let size : new.size ≡ old.size = ap (λ (f : FileState). f.size) same in
+-- an empty file as it is has the mark of a packed one
+pub marked-none : (old new : FileState) → IsEmpty old → new ≡ old → IsMarkedAs old new Packed
+marked-none old new empty same =
+    let size : new.size ≡ 0 = ap (λ (f : FileState). f.size) same ∙ empty.size in
     record {
       block = ap (λ (f : FileState). f.block) same;
-      longer = omega (arith, size);
-      size = λ _. omega (arith, size);
-      is_sure = ap (λ (f : FileState). f.is_sure) same ∙ sure;
-      has = inl (omega (arith, size, short));
+      size = size;
+      is_sure = ap (λ (f : FileState). f.is_sure) same ∙ empty.is_sure;
+      has = inl (omega (arith, size));
     }
 
-pub marked : (old mid new : FileState) → IsSure old → mid ≡ file_after_write old (place Spaced 1028) mark
+pub marked : (old mid new : FileState) → IsEmpty old → mid ≡ file_after_write old (place Spaced 1028) mark
     → new ≡ file_after_write mid (place Spaced 1028 + 512) (replicate 3584 0) → IsMarkedAs old new Spaced
-marked old mid new sure first second =
+marked old mid new empty first second =
     let long : length mark ≡ 512 = refl in
     let some : length (replicate {A = ℕ} 3584 0) ≡ 3584 = length-replicate {A = ℕ} 3584 0 in
     let size = size-written old mid (place Spaced 1028) mark first (omega (arith, long)) in
     let more = size-written mid new (place Spaced 1028 + 512) (replicate 3584 0) second (omega (arith, some)) in
+    let none = empty.size in
     record {
       block = block-written mid new (place Spaced 1028 + 512) (replicate 3584 0) second
           ∙ block-written old mid (place Spaced 1028) mark first;
-      longer = omega (arith, size, more);
-      size = λ _. omega (arith, size, more, some, long);
+      size = omega (arith, size, more, some, long, none);
       is_sure = sure-written mid new (place Spaced 1028 + 512) (replicate 3584 0) second
-          (sure-written old mid (place Spaced 1028) mark first sure);
+          (sure-written old mid (place Spaced 1028) mark first empty.is_sure);
       has = (
         omega (arith, more, some),
         read-elsewhere mid new (place Spaced 1028) (place Spaced 1028 + 512) (replicate 3584 0) second
@@ -172,31 +159,35 @@ mark-synced : (layout : Layout) (file : FileState) → HasMark layout file → H
 mark-synced Packed file has = has
 mark-synced Spaced file has = has
 
-pub cleared : (old before synced over new : FileState) (layout : Layout) (count : ℕ) → IsMarkedAs old before layout
-    → synced ≡ file_after_sync before
-    → over ≡ file_after_write synced 0 (replicate count 0) → count ≡ place layout 1028 → new ≡ file_after_sync over
+-- how long it is then
+cleared-size : (layout : Layout) (new : ℕ) → new ≡ max (mark_end layout) (0 + place layout 1028)
+    → (place layout 1028 ≤ new) × (new % 512 ≡ 0) × (sectors_in layout new ≡ 1028)
+cleared-size Packed new is = (omega (arith, is), omega (arith, is), omega (arith, is))
+cleared-size Spaced new is = (omega (arith, is), omega (arith, is), refl)
+
+pub cleared : (old before over new : FileState) (layout : Layout) (count : ℕ) → IsMarkedAs old before layout
+    → over ≡ file_after_write before 0 (replicate count 0) → count ≡ place layout 1028 → new ≡ file_after_sync over
     → IsCleared old new layout
-cleared old before synced over new layout count was first second many third =
+cleared old before over new layout count was second many third =
     let long : length (replicate {A = ℕ} count 0) ≡ count = length-replicate {A = ℕ} count 0 in
     let room = some-room layout in
-    let size : over.size ≡ max synced.size (0 + length (replicate {A = ℕ} count 0)) =
-    size-written synced over 0 (replicate count 0) second (omega (arith, long, many, room)) in
-    let old_size : synced.size ≡ before.size = ap (λ (f : FileState). f.size) first in
+    let size : over.size ≡ max before.size (0 + length (replicate {A = ℕ} count 0)) =
+    size-written before over 0 (replicate count 0) second (omega (arith, long, many, room)) in
+    let old_size = was.size in
     let new_size : new.size ≡ over.size = ap (λ (f : FileState). f.size) third in
-    let longer = was.longer in
-    let exact = was.size in
-    let has : HasMark layout synced = subst (HasMark layout) (sym first) (mark-synced layout before was.has) in
+    let all : new.size ≡ max (mark_end layout) (0 + place layout 1028) =
+    omega (arith, new_size, size, old_size, long, many) in
+    let sizes = cleared-size layout new.size all in
     record {
-      block = ap (λ (f : FileState). f.block) third ∙ block-written synced over 0 (replicate count 0) second
-          ∙ ap (λ (f : FileState). f.block) first ∙ was.block;
-      long = omega (arith, new_size, size, long, many);
-      longer = omega (arith, new_size, size, old_size, longer);
-      size = λ whole. (let is = exact whole in omega (arith, new_size, size, old_size, is, long, many));
+      block = ap (λ (f : FileState). f.block) third ∙ block-written before over 0 (replicate count 0) second
+          ∙ was.block;
+      long = sizes.0;
+      whole = sizes.1;
+      count = sizes.2;
       is_size_durable = ap (λ (f : FileState). f.is_size_durable) third;
       is_clean = ap (λ (f : FileState). f.is_clean) third;
       is_sure = ap (λ (f : FileState). f.is_sure) third
-          ∙ sure-written synced over 0 (replicate count 0) second
-          (ap (λ (f : FileState). f.is_sure) first ∙ was.is_sure);
+          ∙ sure-written before over 0 (replicate count 0) second was.is_sure;
       durable = ap (λ (f : FileState). f.durable) third ∙ sym (ap (λ (f : FileState). f.seen) third);
       clean = λ n. ap (λ (f : FileState). f.pending n) third;
       zeros = λ i lt.
@@ -204,11 +195,11 @@ cleared old before synced over new layout count was first second many third =
           ap (λ (f : FileState). values_from f.seen (place layout i) 512) third
           ∙ zeros-read over.seen (place layout i) (λ k small.
           ap (λ (f : FileState). f.seen (place layout i + k)) second
-          ∙ write-seen synced 0 (replicate count 0) (place layout i + k)
-          ∙ zero-at synced.seen 0 count (place layout i + k) (omega arith) (omega (arith, within, many, small)));
+          ∙ write-seen before 0 (replicate count 0) (place layout i + k)
+          ∙ zero-at before.seen 0 count (place layout i + k) (omega arith) (omega (arith, within, many, small)));
       has = subst (HasMark layout) (sym third)
           (mark-synced layout over
-          (mark-kept layout synced over (replicate count 0) has second (long ∙ many) size));
+          (mark-kept layout before over (replicate count 0) was.has second (long ∙ many) size));
     }
 
 -- ---- a disk over a file that was made ready
@@ -292,15 +283,25 @@ found-longer layout file size whole found = elim (cases_lt file.size (place Spac
       (read-elsewhere file (file_after_write file file.size zeros) (place Spaced 1028) file.size zeros refl (inl long)))
 ]
 
-all-there : (layout : Layout) (sectors old new : ℕ) → sectors ≡ max (sectors_in layout old) 1028
-    → place layout 1028 ≤ new → old ≤ new → place layout sectors ≤ new
-all-there Packed sectors old new all long longer = omega (arith, all, long, longer)
-all-there Spaced sectors old new all long longer = omega (arith, all, long)
+-- a copy is still, and one that is long enough stays as it is
+copied-still : (new : FileState) → new.durable ≡ new.seen → ((n : ℕ) → new.pending n ≡ false)
+    → new.is_size_durable ≡ true → new.is_clean ≡ true → file_after_sync new ≡ new
+copied-still new durable pending size clean = λ j. record {
+  behaves = new.behaves;
+  block = new.block;
+  size = new.size;
+  is_size_durable = sym size j;
+  seen = new.seen;
+  durable = sym durable j;
+  pending = λ n. sym (pending n) j;
+  is_clean = sym clean j;
+  is_sure = new.is_sure;
+  is_claimed = new.is_claimed;
+}
 
--- a settled file is still, and one that is long enough stays as it is
-pub still : (old new : FileState) → Settles old new → IsStill new
-still old new (image, is_image, shown, is) =
-    (ap (λ (f : FileState). f.is_sure) is, subst (λ (f : FileState). file_after_sync f ≡ f) (sym is) refl)
+pub still : (old new : FileState) → IsCopy old new → IsStill new
+still old new copy =
+    (copy.is_sure, copied-still new copy.durable copy.pending copy.is_size_durable copy.is_clean)
 
 pub enough : (file new : FileState) (least octets count : ℕ) (layout : Layout) → IsStill file → octets ≡ file.size
     → new ≡ file → layout ≡ layout_in file
@@ -316,36 +317,31 @@ enough file new least octets count layout still size same found is le =
     }
 
 module _ {F : Type 0} (file : F → FileState) where
-  -- a disk over a file that was settled and made longer
-  pub opened : (given ready : F) (settled : FileState) (layout : Layout) (past : List (Snapshot F)) (shown : Snapshot F)
+  -- a disk over a copy that was made longer
+  pub opened : (given ready : F) (copy : FileState) (layout : Layout) (past : List (Snapshot F)) (shown : Snapshot F)
       (least count sectors clock failures : ℕ)
-      → IsExtent settled (file ready) least layout count → Settles (file given) settled → settled.size % 512 ≡ 0
-      → settled.behaves ≡ true
+      → IsExtent copy (file ready) least layout count → IsCopy (file given) copy → copy.size % 512 ≡ 0
       → shown.value ≡ ready → past ≡ [] → sectors ≡ count
       → IsOpened (file given) least layout (disk_by file layout past shown sectors clock failures)
-  opened given ready settled layout past shown least count sectors clock failures extent settles whole behaves
-      is none all =
-      let made : file shown.value ≡ file_lengthened settled (place layout least) = ap file is ∙ extent.file in
-      let how = settles.3 in
-      let zeros : List ℕ = replicate (place layout least - settled.size) 0 in
+  opened given ready copy layout past shown least count sectors clock failures extent copies whole is none all =
+      let made : file shown.value ≡ file_lengthened copy (place layout least) = ap file is ∙ extent.file in
+      let zeros : List ℕ = replicate (place layout least - copy.size) 0 in
       let block : (file shown.value).block ≡ (file given).block =
-      ap (λ (f : FileState). f.block) made ∙ write-block settled settled.size zeros
-      ∙ ap (λ (f : FileState). f.block) how in
+      ap (λ (f : FileState). f.block) made ∙ write-block copy copy.size zeros ∙ copies.block in
       let long : place layout sectors ≤ (file shown.value).size =
       subst (λ (n : ℕ). place layout n ≤ (file shown.value).size) (sym (all ∙ extent.count))
-      (subst (λ (f : FileState). place layout (max (sectors_in layout settled.size) least) ≤ f.size) (sym made)
-      (long-enough layout settled least extent.found)) in
+      (subst (λ (f : FileState). place layout (max (sectors_in layout copy.size) least) ≤ f.size) (sym made)
+      (long-enough layout copy least extent.found)) in
       record {
-        whole = ap (λ (f : FileState). f.size % 512) (sym how) ∙ whole;
-        settled = settled;
-        settles = settles;
+        whole = ap (λ (n : ℕ). n % 512) (sym copies.size) ∙ whole;
+        copy = copy;
+        copies = copies;
         found = extent.found;
-        again = found-longer layout settled (place layout least) whole extent.found;
+        again = found-longer layout copy (place layout least) whole extent.found;
         sectors = all ∙ extent.count;
         honest = λ suited. rw none (honest-when layout sectors (file shown.value) (file shown.value)
-            (ap (λ (f : FileState). f.behaves) made ∙ write-behaves settled settled.size zeros ∙ behaves)
-            (ap (λ (f : FileState). f.is_sure) made ∙ write-sure settled settled.size zeros
-            ∙ ap (λ (f : FileState). f.is_sure) how)
+            (ap (λ (f : FileState). f.behaves) made ∙ write-behaves copy copy.size zeros ∙ copies.behaves)
+            (ap (λ (f : FileState). f.is_sure) made ∙ write-sure copy copy.size zeros ∙ copies.is_sure)
             (ap (suits layout) block ∙ suited)
             (ap (λ (f : FileState). f.is_clean) made)
             (ap (λ (f : FileState). f.is_size_durable) made)
@@ -354,26 +350,22 @@ module _ {F : Type 0} (file : F → FileState) where
       }
 
   -- a new disk over a file that was cleared
-  pub blank : (old : FileState) (settled ready : F) (layout : Layout) (past : List (Snapshot F)) (shown : Snapshot F)
+  pub blank : (old : FileState) (ready : F) (layout : Layout) (past : List (Snapshot F)) (shown : Snapshot F)
       (sectors clock failures : ℕ)
-      → Settles old (file settled) → IsCleared (file settled) (file ready) layout → (file ready).behaves ≡ true
-      → sectors ≡ max (sectors_in layout (file settled).size) 1028
-      → shown.value ≡ ready → past ≡ []
+      → IsCleared old (file ready) layout → (file ready).behaves ≡ true
+      → sectors ≡ 1028 → shown.value ≡ ready → past ≡ []
       → IsBlank old (file ready) layout (disk_by file layout past shown sectors clock failures)
   unfolding state_in_file
-  blank old settled ready layout past shown sectors clock failures settles was behaves all is none =
-      let long = was.long in
-      let longer = was.longer in
-      let how = settles.3 in
-      let block : (file ready).block ≡ old.block = was.block ∙ ap (λ (f : FileState). f.block) how in
+  blank old ready layout past shown sectors clock failures was behaves all is none =
+      let long : place layout sectors ≤ (file ready).size =
+      subst (λ (n : ℕ). place layout n ≤ (file ready).size) (sym all) was.long in
       let shows : file shown.value ≡ file ready = ap file is in
       record {
-        block = block;
+        block = was.block;
         honest = λ suited. rw (none, shows)
-            (honest-when layout sectors (file ready) (file ready) behaves was.is_sure (ap (suits layout) block ∙ suited)
-            was.is_clean was.is_size_durable
-            (all-there layout sectors (file settled).size (file ready).size all long longer));
-        sectors = all ∙ ap (λ (f : FileState). max (sectors_in layout f.size) 1028) how;
+            (honest-when layout sectors (file ready) (file ready) behaves was.is_sure
+            (ap (suits layout) was.block ∙ suited) was.is_clean was.is_size_durable long);
+        sectors = all;
         state = rw none (ap (state_in_file layout) shows);
         zeros = λ i lt. rw (none, shows) (was.zeros i lt);
         durable = λ i. rw (none, shows) (ap (λ (f : ℕ → ℕ). values_from f (place layout i) 512) was.durable);

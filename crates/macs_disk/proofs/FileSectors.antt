@@ -247,7 +247,7 @@ state-clean layout file suited sure sound clean = State-ext _ _ (λ i. refl)
     let long = stands.long in
     values-same file.durable file.seen (place layout i) 512
     (λ k lt. subst (λ (p : ℕ). file.durable (p + k) ≡ file.seen (p + k)) (sym stands.front)
-    (sym (sound.sure sure (place layout i / file.block) k (sound.clean clean (place layout i / file.block))
+    (sym (sound.shown (place layout i / file.block) k (sound.clean clean (place layout i / file.block))
     (omega (arith, lt, long))))))
     (λ i. sound.clean clean (place layout i / file.block))
 
@@ -300,8 +300,7 @@ module _ (layout : Layout) (old new : FileState) (steady : new.behaves ≡ old.b
       → keeps_disk layout new ≡ keeps_disk layout old
   keeps-after-sync x syncs =
       keeps-by (λ behaves. sure-by (λ sure. ap (keeps_disk layout) ((syncs behaves).ok sure))
-      (λ doubt. let some = (syncs behaves).doubt doubt in
-      ap (λ (f : FileState). f.is_sure) some.2 ∙ doubt) old.is_sure refl) old.behaves refl
+      (syncs behaves).doubt old.is_sure refl) old.behaves refl
 
 -- ---- what a power loss leaves
 

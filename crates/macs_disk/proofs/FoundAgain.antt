@@ -6,11 +6,9 @@ use Rattle.std.proofs.Common.{subst, sym, Result, Ok, Err}
 use Rattle.std.proofs.lemmas.Bool.{cases_eq, cases_lt, le-leb, le-ltb}
 use Rattle.std.proofs.lemmas.List.{length-replicate}
 use Rattle.macs_disk.specs.Disk.{Disk}
-use Rattle.macs_disk.specs.Files.{Behaves, FileState, HasNothingNew, IsFileImage, IsSure, Settles, WritesAll}
-use Rattle.macs_disk.specs.Files.{file_after_sync, file_after_write, file_claimed, file_in_doubt}
-use Rattle.macs_disk.specs.Files.{file_settled, values_from}
+use Rattle.macs_disk.specs.Files.{Behaves, FileState, HasNothingNew, IsCopy, IsFileImage, IsSoundFile, IsSure, WritesAll}
+use Rattle.macs_disk.specs.Files.{file_after_sync, file_after_write, file_in_doubt, values_from}
 use Rattle.macs_disk.specs.FileDisks.{IsCleared, IsExtent, IsFoundAs, IsOpened, KeepsLayout, file_lengthened}
-use Rattle.macs_disk.specs.FileDisks.{mark_end}
 use Rattle.macs_disk.specs.FileEvidence.{StandsAt, is_same, stands-at, values-same}
 use Rattle.macs_disk.specs.Layouts.{layout_in, mark_place, place, sectors_in, suits}
 use Rattle.macs_disk.specs.declared.layout.Layout.{Layout}
@@ -123,28 +121,6 @@ pub kept-synced : (layout : Layout) (old new : FileState) → layout_in old ≡ 
 kept-synced layout old new found is =
     subst (KeepsLayout layout) (sym is)
     (record { found = layout-synced old ∙ found; durable = refl; still = λ _. refl; sized = inl refl })
-
--- zeros over the sectors, as many as were written of them
-pub kept-zeros : {T E : Type 0} (layout : Layout) (old new : FileState) (count : ℕ) (result : Result T E)
-    → KeepsLayout layout old → IsSure old → count ≤ mark_place
-    → WritesAll old new 0 (replicate count 0) result → KeepsLayout layout new
-kept-zeros layout old new count (Ok x) kept sure fits writes =
-    let long : length (replicate {A = ℕ} count 0) ≡ count = length-replicate {A = ℕ} count 0 in
-    subst (KeepsLayout layout) (sym (writes.ok sure))
-    (kept-write layout old 0 (replicate count 0) kept (inl (omega (arith, long, fits)))
-    (λ _. inl (omega (arith, long, fits))))
-kept-zeros layout old new count (Err e) kept sure fits writes =
-    let long : length (replicate {A = ℕ} count 0) ≡ count = length-replicate {A = ℕ} count 0 in
-    let some = writes.err sure in
-    let most = some.1 in
-    subst (KeepsLayout layout) (sym some.3)
-    (kept-write layout old 0 some.0 kept (inl (omega (arith, long, fits, most)))
-    (λ _. inl (omega (arith, long, fits, most))))
-
--- the sectors of a new disk end in front of the mark
-pub ends-in-front : (layout : Layout) → place layout 1028 ≤ mark_place
-ends-in-front Packed = omega arith
-ends-in-front Spaced = omega arith
 
 -- a failed one leaves it as it was
 layout-doubted : (file : FileState) → layout_in (file_in_doubt file) ≡ layout_in file
@@ -268,50 +244,47 @@ found-doubted layout sectors old new found is = record {
 
 -- ---- what a power loss and an opening leave
 
-layout-settled : (file : FileState) (image : ℕ → ℕ)
-    → layout_in (file_claimed (file_settled file image)) ≡ layout_in (file_settled file image)
-unfolding layout_in
-layout-settled file image = refl
+-- what a file shows is one of its images
+pub shown-image : (file : FileState) → IsSoundFile file → IsFileImage file file.seen
+shown-image file sound = record { kept = sound.shown; octets = sound.seen }
 
--- a file of which a power loss left nothing new, once it is settled
-pub found-settled : (layout : Layout) (sectors : ℕ) (old new settled : FileState) → IsFoundAs layout sectors old
-    → suits layout old.block ≡ true → HasNothingNew old new
-    → Settles new settled → IsFoundAs layout sectors settled
-found-settled layout sectors old new settled found suited nothing (image, left, shown, is) =
-    subst (IsFoundAs layout sectors) (sym is) (record {
-      whole = ap (λ (n : ℕ). n % 512) size ∙ found.whole;
-      count = ap (sectors_in layout) size ∙ found.count;
-      is_size_durable = refl;
-      keeps = record {
-        found = layout-settled new image ∙ layout-same old (file_settled new image) mark (omega (arith, size)) reached
-            ∙ found.keeps.found;
-        durable = refl;
-        still = λ _. refl;
-        sized = inl refl;
-      };
-    })
-  where
-    size : new.size ≡ old.size
-    size = (nothing.size found.is_size_durable).0
+-- a copy of a file of which a power loss left nothing new
+pub found-copied : (layout : Layout) (sectors : ℕ) (old new copy : FileState) → IsFoundAs layout sectors old
+    → suits layout old.block ≡ true → HasNothingNew old new → IsSoundFile new
+    → IsCopy new copy → IsFoundAs layout sectors copy
+found-copied layout sectors old new copy found suited nothing sound copies = record {
+  whole = ap (λ (n : ℕ). n % 512) size ∙ found.whole;
+  count = ap (sectors_in layout) size ∙ found.count;
+  is_size_durable = copies.is_size_durable;
+  keeps = record {
+    found = layout-same old copy mark (omega (arith, size)) reached ∙ found.keeps.found;
+    durable = ap (λ (f : ℕ → ℕ). values_from f mark_place 512) copies.durable;
+    still = λ _. copies.pending (mark_place / copy.block);
+    sized = inl copies.is_size_durable;
+  };
+} where
+  size : copy.size ≡ old.size
+  size = copies.size ∙ (nothing.size found.is_size_durable).0
 
-    mark : values_from image mark_place 512 ≡ values_from old.seen mark_place 512
-    mark = mark-left layout old image found.keeps suited (nothing.images image left)
+  mark : values_from copy.seen mark_place 512 ≡ values_from old.seen mark_place 512
+  mark = values-same copy.seen new.seen mark_place 512 (λ k _. copies.shown (mark_place + k))
+      ∙ mark-left layout old new.seen found.keeps suited (nothing.images new.seen (shown-image new sound))
 
-    reached : (new.size < mark_place + 512) ⊎ (mark_place + 512 ≤ old.size)
-    reached = elim (cases_lt old.size (mark_place + 512)) [
-      | inl short ↦ inl (omega (arith, short, size))
-      | inr long ↦ inr long
-    ]
+  reached : (copy.size < mark_place + 512) ⊎ (mark_place + 512 ≤ old.size)
+  reached = elim (cases_lt old.size (mark_place + 512)) [
+    | inl short ↦ inl (omega (arith, short, size))
+    | inr long ↦ inr long
+  ]
 
 -- and once a disk was opened in it
 pub found-opened : (layout again : Layout) (sectors : ℕ) (old new : FileState) (disk : Disk)
     → IsFoundAs layout sectors old → suits layout old.block ≡ true
-    → HasNothingNew old new → IsOpened new 0 again disk → (again ≡ layout) × (disk.sectors ≡ sectors)
-found-opened layout again sectors old new disk found suited nothing opened =
-    let is = found-settled layout sectors old new opened.settled found suited nothing opened.settles in
+    → HasNothingNew old new → IsSoundFile new → IsOpened new 0 again disk → (again ≡ layout) × (disk.sectors ≡ sectors)
+found-opened layout again sectors old new disk found suited nothing sound opened =
+    let is = found-copied layout sectors old new opened.copy found suited nothing sound opened.copies in
     let same : again ≡ layout = opened.found ∙ is.keeps.found in
-    let count : sectors_in again opened.settled.size ≡ sectors =
-    ap (λ (l : Layout). sectors_in l opened.settled.size) same ∙ is.count in
+    let count : sectors_in again opened.copy.size ≡ sectors =
+    ap (λ (l : Layout). sectors_in l opened.copy.size) same ∙ is.count in
     let all = opened.sectors in
     (same, omega (arith, count, all))
 
@@ -352,28 +325,18 @@ extent-sure settled new least sectors layout extent sure =
     ∙ write-sure settled settled.size (replicate (place layout least - settled.size) 0) ∙ sure
 
 -- a file that was cleared
-cleared-size : (layout : Layout) (old new sectors : ℕ) → new ≡ max (max old (mark_end layout)) (place layout 1028)
-    → sectors ≡ max (sectors_in layout old) 1028 → old % 512 ≡ 0
-    → (new % 512 ≡ 0) × (sectors_in layout new ≡ sectors)
-cleared-size Packed old new sectors is count whole = (omega (arith, is, whole), omega (arith, is, count))
-cleared-size Spaced old new sectors is count whole = (omega (arith, is, whole), omega (arith, count))
-
-pub found-cleared : (old new : FileState) (layout : Layout) (sectors : ℕ) → IsCleared old new layout
-    → old.size % 512 ≡ 0 → sectors ≡ max (sectors_in layout old.size) 1028
-    → IsFoundAs layout sectors new
-found-cleared old new layout sectors cleared whole count =
-    let sizes = cleared-size layout old.size new.size sectors (cleared.size whole) count whole in
-    record {
-      whole = sizes.0;
-      count = sizes.1;
-      is_size_durable = cleared.is_size_durable;
-      keeps = record {
-        found = found-mark layout new cleared.has;
-        durable = ap (λ (f : ℕ → ℕ). values_from f mark_place 512) cleared.durable;
-        still = λ _. cleared.clean (mark_place / new.block);
-        sized = inl cleared.is_size_durable;
-      };
-    }
+pub found-cleared : (old new : FileState) (layout : Layout) → IsCleared old new layout → IsFoundAs layout 1028 new
+found-cleared old new layout cleared = record {
+  whole = cleared.whole;
+  count = cleared.count;
+  is_size_durable = cleared.is_size_durable;
+  keeps = record {
+    found = found-mark layout new cleared.has;
+    durable = ap (λ (f : ℕ → ℕ). values_from f mark_place 512) cleared.durable;
+    still = λ _. cleared.clean (mark_place / new.block);
+    sized = inl cleared.is_size_durable;
+  };
+}
 
 -- ---- the disk's calls
 

@@ -7,10 +7,11 @@ use Rattle.std.specs.Prelude.{IsErr}
 use Rattle.std.specs.declared.io.ErrorKind.{ErrorKind}
 use Rattle.std.specs.declared.io.ErrorKind.TheVariants.{Interrupted, OutOfMemory, TimedOut, UnexpectedEof, WriteZero}
 use Rattle.macs_disk.specs.FileFailures.{ExtendFails, FailedCall, FailsLast, FileCall, IsFaultOfKind, IsInterrupted}
-use Rattle.macs_disk.specs.FileFailures.{MoveFails, NoneFailed, OneFailed, OnlyInterrupted, Reads, Syncs, WriteFails}
-use Rattle.macs_disk.specs.FileFailures.{Writes}
+use Rattle.macs_disk.specs.FileFailures.{CopyFails, MoveFails, NoneFailed, NotesFailure, OneFailed, OnlyInterrupted}
+use Rattle.macs_disk.specs.FileFailures.{Reads, Syncs, WriteFails, Writes}
 use Rattle.macs_disk.specs.declared.file_fault.FileFault.{FileFault}
 use Rattle.macs_disk.specs.declared.file_fault.FileFault.TheVariants as fault
+use Rattle.macs_disk.proofs.FailedCalls.{one-failed}
 
 -- ---- interrupted calls
 
@@ -94,6 +95,17 @@ later-not-moved before between after call kind first (other, inl last) =
 later-not-moved before between after call kind first (other, inr (much, second)) =
     (other, inr (much, interrupted-then before between after first second))
 
+-- a read that failed and was not interrupted
+pub not-read : {T E : Type 0} (before after : Option (List FailedCall)) (kind : E → ErrorKind) (answer : Result T E)
+    → IsErr answer → IfErr answer (λ error. kind error ≢ Interrupted)
+    → NotesFailure {T = T} {E = E} before after Reads kind answer → (k : ErrorKind) × MoveFails before after Reads k
+not-read before after kind (Ok value) is other noted = absurd (false≢true is)
+not-read {T} {E} before after kind (Err error) is other noted = (
+  kind error,
+  not-moved before before after Reads (kind error) (none-yet before)
+      (one-failed T before after Reads kind error noted) other,
+)
+
 -- octets that are not moved, by the answer
 pub fails-of : {T E : Type 0} (before after : Option (List FailedCall)) (call : FileCall) (kind : E → ErrorKind)
     (answer : Result T E) → IsErr answer
@@ -133,6 +145,29 @@ pub mark-not-read : (before after : Option (List FailedCall)) (kind : ErrorKind)
     → MoveFails before after Reads kind
     → ExtendFails before after it
 mark-not-read before after kind it is fails = inl (is, kind, fails)
+
+-- a copy that fails after other parts were copied
+pub later-copy-fails : (before between after new_before new_between new_after : Option (List FailedCall))
+    (it : FileFault) → OnlyInterrupted before between → OnlyInterrupted new_before new_between
+    → CopyFails between after new_between new_after it → CopyFails before after new_before new_after it
+later-copy-fails before between after new_before new_between new_after it first second (inl (is, kind, fails)) =
+    inl (is, kind, later-not-moved before between after Reads kind first fails)
+later-copy-fails before between after new_before new_between new_after it first second (inr (inl (is, kind, fails))) =
+    inr (inl (is, kind, later-fails-last new_before new_between new_after Syncs kind second fails))
+later-copy-fails before between after new_before new_between new_after it first second (inr (inr fails)) =
+    inr (inr (later-write-fails new_before new_between new_after it second fails))
+
+-- a copy that is not synced
+pub not-synced : {T E : Type 0} (before between after : Option (List FailedCall)) (kind : E → ErrorKind)
+    (answer : Result T E) → OnlyInterrupted before between → IsErr answer
+    → NotesFailure {T = T} {E = E} between after Syncs kind answer
+    → (k : ErrorKind) × FailsLast before after Syncs k
+not-synced before between after kind (Ok value) first is noted = absurd (false≢true is)
+not-synced {T} {E} before between after kind (Err error) first is noted = (
+  kind error,
+  fails-last before between after Syncs (kind error) first
+      (one-failed T between after Syncs kind error noted),
+)
 
 -- a file that becomes no disk is let go
 pub extend-refused : {F T : Type 0} (failures : F → Option (List FailedCall)) (file left : F) (fails handed : FileFault)

@@ -14,7 +14,8 @@ mod FileSyncs
 pub mod FileSectors
 mod FileOpenings
 pub mod FoundAgain
-pub mod FrontKept
+pub mod NothingNew
+mod Copies
 pub mod FailedCalls
 pub mod InterruptedCalls
 mod FileWords

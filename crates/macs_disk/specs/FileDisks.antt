@@ -3,11 +3,12 @@ use Rattle.std.specs.Prelude.{◌≡◌, ◌≤◌, ◌<◌, ◌-◌, ◌/◌, �
 use Rattle.std.specs.Prelude.{get_or, replicate, Result, IsErr}
 use Rattle.macs_disk.specs.States.{DiskState, Image, zero_sector}
 use Rattle.macs_disk.specs.Disk.{Disk, IsDeviceCall, IsHonest, now}
-use Rattle.macs_disk.specs.Files.{Behaves, FileState, IsSure, Settles, file_after_sync, file_after_write, file_in_doubt}
-use Rattle.macs_disk.specs.Files.{values_from}
+use Rattle.macs_disk.specs.Files.{Behaves, FileState, IsCopy, IsMadeBeside, IsSure, file_after_sync, file_after_write}
+use Rattle.macs_disk.specs.Files.{file_in_doubt, values_from}
 use Rattle.macs_disk.specs.Layouts.{layout_in, mark, mark_place, place, sectors_in, suits}
 use Rattle.macs_disk.specs.declared.disk.DeviceFault.{DeviceFault}
 use Rattle.macs_disk.specs.declared.file.FileDisk.{FileDisk}
+use Rattle.macs_disk.specs.declared.claimed_file.ClaimedFile.{ClaimedFile}
 use Rattle.macs_disk.specs.declared.settled_file.SettledFile.{SettledFile}
 use Rattle.macs_disk.specs.declared.layout.Layout.{Layout}
 use Rattle.macs_disk.specs.declared.layout.Layout.TheVariants.{Packed, Spaced}
@@ -50,9 +51,13 @@ disk_in_file file it =
       worn = it.clock == 2 ^ 64 - 1;
     }
 
--- the file that a disk was handed
+-- the file whose octets a disk began with, as it was claimed
 abbrev pub file_given : {F : Type 0} → FileDisk F → F
 file_given it = it.given.value
+
+-- the file of the disk, as it was made
+abbrev pub file_made : {F : Type 0} → FileDisk F → F
+file_made it = it.made.value
 
 -- its file as it is now
 abbrev pub file_left : {F : Type 0} → FileDisk F → F
@@ -114,31 +119,56 @@ IsFoundAgain file it = Behaves (file (file_left it))
 abbrev pub file_lengthened : FileState → ℕ → FileState
 file_lengthened file size = file_after_sync (file_after_write file file.size (replicate (size - file.size) 0))
 
--- the file that was settled, as it was handed over
+-- an empty file got the first so many octets of another one, which behaves
+pub record HasFront (from : FileState) (done : ℕ) (into : FileState) : Type 0 where
+  pub behaves : Behaves into
+  pub block : into.block ≡ from.block
+  pub size : into.size ≡ done
+  pub is_sure : IsSure into
+  pub shown : (p : ℕ) → p < done → into.seen p ≡ from.seen p
+
+-- how many octets of a claimed file were measured
+abbrev pub octets_measured : {F : Type 0} → ClaimedFile F → ℕ
+octets_measured it = it.octets
+
+-- a claimed file was measured, to be whole sectors
+pub record IsMeasured {F : Type 0} (file : F → FileState) (it : ClaimedFile F) : Type 0 where
+  pub size : octets_measured it ≡ (file it.file).size
+  pub whole : octets_measured it % 512 ≡ 0
+
+-- the file that was copied, as it was claimed
 abbrev pub file_before : {F : Type 0} → SettledFile F → F
 file_before it = it.given.value
 
--- how many octets were measured
+-- the file that it was copied into, as it was made
+abbrev pub file_beside : {F : Type 0} → SettledFile F → F
+file_beside it = it.made.value
+
+-- how many octets it has
 abbrev pub octets_of : {F : Type 0} → SettledFile F → ℕ
 octets_of it = it.octets
 
--- a file is claimed and settled, and was measured to be whole sectors
+-- a file is a copy, and has whole sectors
 abbrev pub IsSettled : {F : Type 0} → (F → FileState) → SettledFile F → Type 0
-IsSettled file it = Settles (file (file_before it)) (file it.file) × (octets_of it ≡ (file it.file).size)
+IsSettled file it = IsCopy (file (file_before it)) (file it.file) × (octets_of it ≡ (file it.file).size)
     × (octets_of it % 512 ≡ 0)
 
--- a disk that was opened over a file which behaves. The file was settled first, and then made longer where it had fewer
--- sectors than were asked for: the disk's are those of the file then, all of them durable. It is honest where the
+-- a file is made beside the one whose octets its disk begins with, which behaves
+abbrev pub IsMadeWell : {F : Type 0} → (F → FileState) → F → F → Type 0
+IsMadeWell file given made = Behaves (file given) × IsMadeBeside (file given) (file made)
+
+-- A disk that was opened over a file which behaves. The file was copied, and the copy made longer where it had fewer
+-- sectors than were asked for: the disk's are those of the copy then, all of them durable. It is honest where the
 -- device's blocks suit the layout, which is found again.
 pub record IsOpened (file : FileState) (least : ℕ) (layout : Layout) (disk : Disk) : Type 0 where
   pub whole : file.size % 512 ≡ 0
-  pub settled : FileState
-  pub settles : Settles file settled
-  pub found : layout ≡ layout_in settled
-  pub again : layout ≡ layout_in (file_lengthened settled (place layout least))
-  pub sectors : disk.sectors ≡ max (sectors_in layout settled.size) least
+  pub copy : FileState
+  pub copies : IsCopy file copy
+  pub found : layout ≡ layout_in copy
+  pub again : layout ≡ layout_in (file_lengthened copy (place layout least))
+  pub sectors : disk.sectors ≡ max (sectors_in layout copy.size) least
   pub honest : suits layout file.block ≡ true → IsHonest disk
-  pub state : now disk ≡ state_in_file layout (file_lengthened settled (place layout least))
+  pub state : now disk ≡ state_in_file layout (file_lengthened copy (place layout least))
 
 -- a sync would change nothing of the file, which shows what is durable
 abbrev pub IsStill : FileState → Type 0
@@ -157,25 +187,25 @@ abbrev pub HasMark : Layout → FileState → Type 0
 HasMark Packed file = (file.size ≤ place Spaced 1028) ⊎ (values_from file.seen (place Spaced 1028) 512 ≡ zero_sector)
 HasMark Spaced file = (place Spaced 1029 ≤ file.size) × (values_from file.seen (place Spaced 1028) 512 ≡ mark)
 
--- how long a file is at least that has the mark of this layout
+-- how long a file is that has the mark of this layout and nothing else
 abbrev pub mark_end : Layout → ℕ
 mark_end Packed = 0
 mark_end Spaced = place Spaced 1029
 
--- a file after the mark of this layout was written
+-- a file that was empty after the mark of this layout was written
 pub record IsMarkedAs (old new : FileState) (layout : Layout) : Type 0 where
   pub block : new.block ≡ old.block
-  pub longer : old.size ≤ new.size
-  pub size : old.size % 512 ≡ 0 → new.size ≡ max old.size (mark_end layout)
+  pub size : new.size ≡ mark_end layout
   pub is_sure : IsSure new
   pub has : HasMark layout new
 
--- a file after the mark of this layout and zeros in the place of 1,028 sectors were written, all of it durable
+-- a file after the mark of this layout and zeros in the place of 1,028 sectors were written to one that was empty, all
+-- of it durable
 pub record IsCleared (old new : FileState) (layout : Layout) : Type 0 where
   pub block : new.block ≡ old.block
   pub long : place layout 1028 ≤ new.size
-  pub longer : old.size ≤ new.size
-  pub size : old.size % 512 ≡ 0 → new.size ≡ max (max old.size (mark_end layout)) (place layout 1028)
+  pub whole : new.size % 512 ≡ 0
+  pub count : sectors_in layout new.size ≡ 1028
   pub is_size_durable : new.is_size_durable ≡ true
   pub is_clean : new.is_clean ≡ true
   pub is_sure : IsSure new
@@ -184,13 +214,13 @@ pub record IsCleared (old new : FileState) (layout : Layout) : Type 0 where
   pub zeros : (i : ℕ) → i < 1028 → values_from new.seen (place layout i) 512 ≡ zero_sector
   pub has : HasMark layout new
 
--- a new disk of this layout in a file that was `old` and is `new`: its first 1,028 sectors are zeros, all of them are
--- durable, and nothing is pending. It has the sectors that the file had, where these were more. It is honest where the
--- device's blocks suit the layout. The file has the mark of the layout, which is found when it is opened again.
+-- a new disk of this layout in a file that was empty, `old`, and is `new`: its 1,028 sectors are zeros, all of them are
+-- durable, and nothing is pending. It is honest where the device's blocks suit the layout. The file has the mark of the
+-- layout, which is found when it is opened again.
 pub record IsBlank (old new : FileState) (layout : Layout) (disk : Disk) : Type 0 where
   pub block : new.block ≡ old.block
   pub honest : suits layout old.block ≡ true → IsHonest disk
-  pub sectors : disk.sectors ≡ max (sectors_in layout old.size) 1028
+  pub sectors : disk.sectors ≡ 1028
   pub state : now disk ≡ state_in_file layout new
   pub zeros : (i : ℕ) → i < 1028 → (now disk).seen i ≡ zero_sector
   pub durable : (i : ℕ) → (now disk).durable i ≡ (now disk).seen i

@@ -81,17 +81,17 @@ stands-at Packed block i suited = subst (λ (b : ℕ). StandsAt b (512 * i / b) 
 stands-at Spaced block i suited = on_either block i (block == 512) refl suited
 
 -- the sectors of a sound file
-pub state-sound : (layout : Layout) (file : FileState) → suits layout file.block ≡ true → IsSure file → IsSoundFile file
+pub state-sound : (layout : Layout) (file : FileState) → suits layout file.block ≡ true → IsSoundFile file
     → IsSound (state_in_file layout file)
 unfolding state_in_file
-state-sound layout file suited sure sound = record {
+state-sound layout file suited sound = record {
   fit = record {
     kept = λ i clean.
         let stands = stands-at layout file.block i suited in
         let long = stands.long in
         values-same file.seen file.durable (place layout i) 512
         (λ k lt. subst (λ (p : ℕ). file.seen (p + k) ≡ file.durable (p + k)) (sym stands.front)
-        (sound.sure sure (place layout i / file.block) k clean (omega (arith, lt, long))));
+        (sound.shown (place layout i / file.block) k clean (omega (arith, lt, long))));
     whole = λ i _. values-sector file.seen (place layout i) sound.seen;
   };
   seen = λ i. values-sector file.seen (place layout i) sound.seen;
@@ -119,4 +119,4 @@ file-sound file sound layout shown past clock sectors kept honest =
     let same : get_or past clock shown ≡ shown = get_or_past past clock shown (omega (arith, kept)) in
     let k = keeps layout (file shown.value)
     (and_parts _ (is_ready layout sectors (file (get_or past 0 shown).value)) honest).0 in
-    rw same (state-sound layout (file shown.value) k.suited k.sure (sound shown.value k.behaves))
+    rw same (state-sound layout (file shown.value) k.suited (sound shown.value k.behaves))

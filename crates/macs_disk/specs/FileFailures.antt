@@ -13,7 +13,6 @@ pub data FileCall : Type 0 where
   Reads : FileCall
   Writes : FileCall
   Syncs : FileCall
-  Rereads : FileCall
 
 -- a call that failed, with the kind of its error
 pub record FailedCall : Type 0 where
@@ -51,15 +50,6 @@ MeasureFails before after it =
     ⊎ ((call : FileCall) × (kind : ErrorKind) × ((call ≡ Claims) ⊎ (call ≡ Measures))
     × OneFailed before after call kind × IsFaultOfKind kind it)
 
--- a file is not settled: the sync or the rereading failed
-abbrev pub SettleFails : Option (List FailedCall) → Option (List FailedCall) → Type 0
-SettleFails before after = (call : FileCall) × (kind : ErrorKind) × ((call ≡ Syncs) ⊎ (call ≡ Rereads))
-    × OneFailed before after call kind
-
--- why a file is not made fit for a disk
-abbrev pub FitFails : Option (List FailedCall) → Option (List FailedCall) → FileFault → Type 0
-FitFails before after it = MeasureFails before after it ⊎ ((it ≡ fault.Device) × SettleFails before after)
-
 -- ---- what is read or written after that
 
 -- a call that was interrupted
@@ -95,3 +85,11 @@ WriteFails before after it =
 abbrev pub ExtendFails : Option (List FailedCall) → Option (List FailedCall) → FileFault → Type 0
 ExtendFails before after it = ((it ≡ fault.Device) × (kind : ErrorKind) × MoveFails before after Reads kind)
     ⊎ WriteFails before after it
+
+-- why a file is not copied into a new one: it is not read; or the copy is not synced; or it is not written
+abbrev pub CopyFails : Option (List FailedCall) → Option (List FailedCall) → Option (List FailedCall)
+    → Option (List FailedCall) → FileFault → Type 0
+CopyFails before after new_before new_after it =
+    ((it ≡ fault.Device) × (kind : ErrorKind) × MoveFails before after Reads kind)
+    ⊎ ((it ≡ fault.Device) × (kind : ErrorKind) × FailsLast new_before new_after Syncs kind)
+    ⊎ WriteFails new_before new_after it

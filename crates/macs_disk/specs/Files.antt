@@ -1,7 +1,8 @@
 -- A file at one moment, and what each call of a file that behaves does to it. A file behaves as one of a kernel's does
--- that keeps its promises: octets are written to a cache and read from there; a sync makes them durable on the device;
--- where a sync fails, the cache may show octets that the device does not have, until a sync succeeds and the file is
--- read again.
+-- that keeps its promises: octets are written to a cache and read from there; a sync makes them durable on the device.
+-- Once a sync has failed, the cache may show octets that the device does not have, and no later sync makes that good:
+-- the kernel takes their pages to be written. So a file in doubt is read and no more, and what is read of it is copied
+-- into a new file.
 use Rattle.std.specs.Prelude.{◌≡◌, ◌≤◌, ◌<◌, ◌+◌, ◌-◌, ◌*◌, ◌^◌, ◌&&◌, ◌||◌, ℕ, if◌then◌else◌, max, nat_le, nat_lt}
 use Rattle.std.specs.Prelude.{Bool, true, false, List, [], ◌∷◌, length, map, take, get_or, Result, IfOk, OnOk, OnErr}
 use Rattle.std.specs.List.{range_with_len}
@@ -15,14 +16,14 @@ pub record FileState : Type 0 where
   -- how many octets the file has, and whether a power loss leaves so many
   pub size : ℕ
   pub is_size_durable : Bool
-  -- what the cache shows, which reads give
+  -- what the cache shows, which reads give: zeros after the end
   pub seen : ℕ → ℕ
   -- what the device durably has
   pub durable : ℕ → ℕ
-  -- the blocks that were written since the last sync that succeeded, and whether there are none
+  -- the blocks that were written since the last sync that succeeded before any failed, and whether there are none
   pub pending : ℕ → Bool
   pub is_clean : Bool
-  -- no sync failed since the file was last read again
+  -- no sync of it has failed
   pub is_sure : Bool
   -- this open of the file has claimed it: no other that asks for a claim has it
   pub is_claimed : Bool
@@ -55,15 +56,16 @@ unknown_file =
       is_claimed = false;
     }
 
--- a block has octets, octets are below 256, nothing is pending in a clean file, and a file that is sure shows what is
--- durable where nothing is pending
+-- a block has octets, octets are below 256, nothing is pending in a clean file, and a file shows what is
+-- durable where nothing is pending, and zeros after its end
 pub record IsSoundFile (file : FileState) : Type 0 where
   pub wide : 0 < file.block
   pub seen : (p : ℕ) → file.seen p < 2 ^ 8
   pub durable : (p : ℕ) → file.durable p < 2 ^ 8
   pub clean : file.is_clean ≡ true → (n : ℕ) → file.pending n ≡ false
-  pub sure : IsSure file → (n k : ℕ) → file.pending n ≡ false → k < file.block
+  pub shown : (n k : ℕ) → file.pending n ≡ false → k < file.block
       → file.seen (file.block * n + k) ≡ file.durable (file.block * n + k)
+  pub ended : (p : ℕ) → file.size ≤ p → file.seen p ≡ 0
 
 -- a power loss may leave these octets: the durable ones in a block that is not pending, and any others elsewhere. Where
 -- the size is not durable nothing is said of what it leaves.
@@ -79,6 +81,10 @@ put_from f at xs p = if nat_le at p then get_or xs (p - at) (f p) else f p
 -- so many values of f from one place on
 unfoldable pub values_from : (ℕ → ℕ) → ℕ → ℕ → List ℕ
 values_from f at count = map f (range_with_len at count)
+
+-- the file shows zeros from octet `from` up to before `to`
+abbrev pub HasZeros : FileState → ℕ → ℕ → Type 0
+HasZeros file from to = (i : ℕ) → from ≤ i → i < to → file.seen i ≡ 0
 
 -- block n, of so many octets, has one of the octets from `from` up to before `to`
 abbrev pub has_some : ℕ → ℕ → ℕ → ℕ → Bool
@@ -125,18 +131,6 @@ file_after_sync file = file_synced file file.seen
 abbrev pub file_in_doubt : FileState → FileState
 file_in_doubt file = record file { is_sure = false }
 
--- the file that shows these octets
-abbrev pub file_showing : FileState → (ℕ → ℕ) → FileState
-file_showing file octets = record file { seen = octets }
-
--- the file that shows what is durable
-abbrev pub file_reread : FileState → FileState
-file_reread file = record file { seen = file.durable; is_sure = true }
-
--- the file with these octets, which it shows and which are durable, and nothing pending
-abbrev pub file_settled : FileState → (ℕ → ℕ) → FileState
-file_settled file octets = file_reread (file_synced file octets)
-
 -- the file once it is claimed
 abbrev pub file_claimed : FileState → FileState
 file_claimed file = record file { is_claimed = true }
@@ -154,10 +148,12 @@ pub record ClaimsFile {T E : Type 0} (old new : FileState) (result : Result T E)
   pub ok : OnOk result (new ≡ file_claimed old)
   pub err : OnErr result (new ≡ old)
 
--- what a read does: it changes nothing, and gives the octets from its place on, as many as it answers
+-- What a read does: it changes nothing, and gives the octets from its place on, as many as it answers. Of a kernel's
+-- file in doubt a page may change, once, from what was written to what is durable, when the kernel lets it go: what
+-- this says of such a file is said of who reads each octet once.
 pub record ReadsFile {E : Type 0} (old new : FileState) (at : ℕ) (into : List ℕ) (result : Result ℕ E) : Type 0 where
   pub same : new ≡ old
-  pub octets : IsSure old → IfOk result (λ count. take count into ≡ values_from old.seen at count)
+  pub octets : IfOk result (λ count. take count into ≡ values_from old.seen at count)
 
 -- some octets were written from a place on, no more than so many
 abbrev pub WritesSome : FileState → FileState → ℕ → ℕ → Type 0
@@ -178,26 +174,36 @@ pub record WritesAll {T E : Type 0} (old new : FileState) (at : ℕ) (octets : L
   pub err : IsSure old → OnErr result (WritesSome old new at (length octets))
   pub doubt : old.is_sure ≡ false → new.is_sure ≡ false
 
--- what a sync does: what a file that is sure shows is durable then, and so is its size. Of one in doubt some image of
--- it is durable, and it stays in doubt. Where it fails nothing is durable that was not, and the file is in doubt.
+-- What a sync does: what a file that is sure shows is durable then, and so is its size. One in doubt stays so, whatever
+-- the sync answers. Where it fails nothing is durable that was not, and the file is in doubt.
 pub record SyncsFile {T E : Type 0} (old new : FileState) (result : Result T E) : Type 0 where
   pub ok : IsSure old → OnOk result (new ≡ file_after_sync old)
-  pub doubt : old.is_sure ≡ false
-      → OnOk result ((image : ℕ → ℕ) × IsFileImage old image × (new ≡ file_synced old image))
+  pub doubt : old.is_sure ≡ false → new.is_sure ≡ false
   pub err : OnErr result (new ≡ file_in_doubt old)
 
--- what reading again does: a clean file that is claimed shows what is durable, and is sure. Of a file with octets that
--- are pending nothing is said, since their pages stay in the cache, nor of one that is not claimed, since others may
--- write to it. Where it fails the file may show something else, and nothing else is changed.
-pub record RereadsFile {T E : Type 0} (old new : FileState) (result : Result T E) : Type 0 where
-  pub ok : old.is_clean ≡ true → IsClaimed old → OnOk result (new ≡ file_reread old)
-  pub err : OnErr result ((octets : ℕ → ℕ) × (new ≡ file_showing old octets))
+-- a file that was just made: it behaves, and is empty and sure
+pub record IsEmpty (file : FileState) : Type 0 where
+  pub behaves : Behaves file
+  pub size : file.size ≡ 0
+  pub is_sure : IsSure file
 
--- what is done to a file before it is used: it is claimed, shows one of its images, all of it is durable, and its size
--- is. Where the file was sure it is what was shown.
-abbrev pub Settles : FileState → FileState → Type 0
-Settles old new = (image : ℕ → ℕ) × IsFileImage old image × (IsSure old → image ≡ old.seen)
-    × (new ≡ file_claimed (file_settled old image))
+-- and one made in the folder of another, on its device
+pub record IsMadeBeside (old new : FileState) : Type 0 where
+  pub is_empty : IsEmpty new
+  pub block : new.block ≡ old.block
+
+-- A file is a copy of another one: it has as many octets and shows what that one shows, all of it is durable, and so is
+-- its size. What it shows is one of the images that a power loss could leave of the other.
+pub record IsCopy (old new : FileState) : Type 0 where
+  pub behaves : Behaves new
+  pub block : new.block ≡ old.block
+  pub size : new.size ≡ old.size
+  pub shown : (p : ℕ) → new.seen p ≡ old.seen p
+  pub durable : new.durable ≡ new.seen
+  pub pending : (n : ℕ) → new.pending n ≡ false
+  pub is_size_durable : new.is_size_durable ≡ true
+  pub is_clean : new.is_clean ≡ true
+  pub is_sure : IsSure new
 
 -- a power loss leaves nothing new of the file: no image that it could not leave before, and the same size where that
 -- was durable
@@ -205,11 +211,3 @@ pub record HasNothingNew (old new : FileState) : Type 0 where
   pub block : new.block ≡ old.block
   pub size : old.is_size_durable ≡ true → (new.size ≡ old.size) × (new.is_size_durable ≡ true)
   pub images : (image : ℕ → ℕ) → IsFileImage new image → IsFileImage old image
-
--- the octets in front of a place are kept: each image that a power loss may leave has there those of one that it could
--- leave before, and the file is no shorter
-pub record KeepsFront (front : ℕ) (old new : FileState) : Type 0 where
-  pub block : new.block ≡ old.block
-  pub longer : old.size ≤ new.size
-  pub images : (image : ℕ → ℕ) → IsFileImage new image
-      → (before : ℕ → ℕ) × IsFileImage old before × ((p : ℕ) → p < front → image p ≡ before p)

@@ -3,23 +3,23 @@
 ghost use Rattle.std.specs.Prelude.{◌≡◌, ◌≤◌, List, Option, None, length, IfErr, IfOk};
 ghost use Rattle.std.specs.IoError.{error_kind};
 ghost use Rattle.std.specs.declared.io.ErrorKind.TheVariants.{Interrupted};
-ghost use Rattle.macs_disk.specs.FileFailures.{Claims, FailedCall, Measures, Reads, Rereads, Syncs};
+ghost use Rattle.macs_disk.specs.FileFailures.{Claims, FailedCall, Measures, Reads, Syncs};
 ghost use Rattle.macs_disk.specs.FileFailures.{NotesFailure, Writes};
-ghost use Rattle.macs_disk.specs.Files.{Behaves, ClaimsFile, FileState, IsSoundFile, ReadsFile};
-ghost use Rattle.macs_disk.specs.Files.{RereadsFile, SyncsFile};
-ghost use Rattle.macs_disk.specs.Files.{WritesFile, unknown_file};
+ghost use Rattle.macs_disk.specs.Files.{Behaves, ClaimsFile, FileState, HasZeros, IsSoundFile};
+ghost use Rattle.macs_disk.specs.Files.{ReadsFile};
+ghost use Rattle.macs_disk.specs.Files.{SyncsFile, WritesFile, unknown_file};
 
-use libc::{POSIX_FADV_DONTNEED, POSIX_FADV_WILLNEED, posix_fadvise};
+use libc::lseek;
 use std::fs::File;
 use std::io;
-use std::os::fd::{AsRawFd, RawFd};
+use std::os::fd::AsRawFd;
 use std::os::unix::fs::FileExt;
 
-/// How many octets a journal's first area has in the file of a packed disk: 514 sectors.
-const PACKED_AREA: i64 = 263_168;
+/// What lseek(2) looks for: data, or a hole. It moves the position of the file, which nothing here
+/// uses.
+const SEEK_DATA: i32 = 3;
 
-/// The same of a spaced disk: 514 blocks of 4,096 octets.
-const SPACED_AREA: i64 = 2_105_344;
+const SEEK_HOLE: i32 = 4;
 
 /// An open file, as a disk uses it. Tests put files in its place whose calls fail.
 ///
@@ -60,6 +60,18 @@ pub trait DiskFile: Drop {
         ensures failure { NotesFailure (failures self.old) (failures self.new) Reads
             error_kind result };
 
+    /// Up to before which octet, from octet `at` on, the file has zeros alone, as far as that is
+    /// known without a read: where a hole of it ends, and `u64::MAX` in the last one.
+    fn zeros_end(&mut self, at: u64) -> u64
+        ensures after { at ≤ result }
+        ensures steady { (file self.new).behaves ≡ (file self.old).behaves }
+        ensures same { Behaves (file self.old) → file self.new ≡ file self.old }
+        ensures zeros { Behaves (file self.old) → HasZeros (file self.old) at result }
+        ensures quiet { failures self.new ≡ failures self.old }
+    {
+        at
+    }
+
     /// Writes octets from octet `at` on, maybe fewer than are given. It answers how many. Where the
     /// file ends before, it is made longer. A write that is interrupted wrote none.
     fn write_at(&mut self, at: u64, from: &[u8]) -> io::Result<usize>
@@ -81,16 +93,8 @@ pub trait DiskFile: Drop {
         ensures failure { NotesFailure (failures self.old) (failures self.new) Syncs
             error_kind result };
 
-    /// Forgets what the cache shows of a claimed file of which nothing is pending, so that later
-    /// reads come from the device.
-    fn reread(&mut self) -> io::Result<()>
-        ensures steady { (file self.new).behaves ≡ (file self.old).behaves }
-        ensures effect { Behaves (file self.old)
-            → RereadsFile (file self.old) (file self.new) result }
-        ensures failure { NotesFailure (failures self.old) (failures self.new) Rereads
-            error_kind result };
-
-    /// A file that behaves has octets, and shows what is durable where nothing is pending.
+    /// A file that behaves has octets, shows what is durable where nothing is pending, and zeros
+    /// after its end.
     ghost sound: { (it : Self) → Behaves (file it) → IsSoundFile (file it) };
 }
 
@@ -111,6 +115,19 @@ impl DiskFile for File {
         FileExt::read_at(self, into, at)
     }
 
+    fn zeros_end(&mut self, at: u64) -> u64 {
+        let from = at.cast_signed();
+        let data = lseek(self.as_raw_fd(), from, SEEK_DATA);
+        if data >= 0 {
+            return at.max(data.cast_unsigned());
+        }
+        // No data comes after it, or the system cannot say: then it knows of no hole either.
+        if lseek(self.as_raw_fd(), from, SEEK_HOLE) == from {
+            return u64::MAX;
+        }
+        at
+    }
+
     fn write_at(&mut self, at: u64, from: &[u8]) -> io::Result<usize> {
         FileExt::write_at(self, from, at)
     }
@@ -121,34 +138,5 @@ impl DiskFile for File {
         self.sync_data()
     }
 
-    // The kernel drops the file's pages that are neither dirty nor under way to the device, from
-    // octet 0 to the end.
-    fn reread(&mut self) -> io::Result<()> {
-        let file = self.as_raw_fd();
-        match posix_fadvise(file, 0, 0, POSIX_FADV_DONTNEED) {
-            0 => {
-                if let Ok(size) = self.size() {
-                    read_ahead(file, size);
-                }
-                Ok(())
-            }
-            error => Err(io::Error::from_raw_os_error(error)),
-        }
-    }
-
     ghost sound = { λ _ behaves. no-claim behaves };
-}
-
-/// Asks the kernel for what an opening of a journal reads first: the heads of the second area, and
-/// then the first area. Where the second is the current one the kernel reads it ahead by itself,
-/// which is slow where it is spaced, and then it is asked for as well. Where the kernel never reads
-/// ahead, the opening only takes longer.
-fn read_ahead(file: RawFd, size: u64) {
-    let (area, front) = if size < SPACED_AREA as u64 {
-        (PACKED_AREA, PACKED_AREA)
-    } else {
-        (SPACED_AREA, 2 * SPACED_AREA)
-    };
-    let _ = posix_fadvise(file, area, 2 * 4_096, POSIX_FADV_WILLNEED);
-    let _ = posix_fadvise(file, 0, front, POSIX_FADV_WILLNEED);
 }

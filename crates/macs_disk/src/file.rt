@@ -25,13 +25,16 @@ use std::snapshot::Snapshot;
 /// file no longer has. What a failed read leaves in `into` is no sector.
 ///
 /// After a sync that failed a file may show octets that the device does not have, and later syncs
-/// may leave them out. So a disk one of whose calls failed fails each later call, and `reopen`
-/// makes a new disk of its file.
+/// may leave them out. So a disk one of whose calls failed fails each later call, and the next
+/// opening makes the file anew.
 #[derive(Drop)]
 pub struct FileDisk<F = File> {
     file: F,
-    /// The file as it was handed over. It takes no memory: proofs alone read it.
+    /// The file whose octets the disk began with, as it was claimed. It takes no memory: proofs
+    /// alone read it.
     given: Snapshot<F>,
+    /// The file of the disk as it was made. Proofs alone read it.
+    made: Snapshot<F>,
     /// The file as the disk shows it at this moment: as it is, until a sync has failed. Proofs
     /// alone read it.
     shown: Snapshot<F>,
@@ -53,14 +56,22 @@ impl<F: DiskFile> FileDisk<F> {
     ghost use Rattle.macs_disk.specs.FileDisks.{IsFresh, IsRefused, disk_in_file};
     ghost use Rattle.macs_disk.specs.Files.{Behaves, SyncsFile};
 
-    // A disk in a file that was settled and has its sectors, and as what it was handed over.
-    pub(crate) fn new(file: F, given: Snapshot<F>, layout: Layout, sectors: u64) -> Self
+    // A disk in a file that is durable and has its sectors, with the file that it began with and
+    // itself as it was made.
+    pub(crate) fn new(
+        file: F,
+        given: Snapshot<F>,
+        made: Snapshot<F>,
+        layout: Layout,
+        sectors: u64,
+    ) -> Self
         requires { place layout sectors < 2 ^ 64 }
         ensures sectors { result.sectors ≡ sectors }
         ensures layout { result.layout ≡ layout }
         ensures file { result.file ≡ file }
         ensures shown { result.shown.value ≡ file }
         ensures given { result.given.value ≡ given.value }
+        ensures made { result.made.value ≡ made.value }
         ensures past { result.past.items ≡ [] }
         ensures clock { result.clock ≡ 0 }
         ensures failures { result.failures ≡ 0 }
@@ -70,6 +81,7 @@ impl<F: DiskFile> FileDisk<F> {
         FileDisk {
             file,
             given,
+            made,
             shown,
             past: Log::new(),
             layout,
@@ -78,13 +90,6 @@ impl<F: DiskFile> FileDisk<F> {
             failures: 0,
             is_failed: false,
         }
-    }
-
-    // The file of the disk, as it is.
-    pub(crate) fn into_file(self) -> F
-        ensures { result ≡ self.file }
-    {
-        self.file
     }
 
     // Lets a moment pass, and lets a call go on to the file. It does not where the disk is worn,

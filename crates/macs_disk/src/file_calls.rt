@@ -1,15 +1,11 @@
-//! Whole moves of octets to and from a file, and what makes it fit for a disk.
+//! Whole moves of octets to and from a file.
 
-ghost use Rattle.std.specs.Prelude.{◌≡◌, ◌<◌, ◌≤◌, ◌+◌, ◌-◌, ◌^◌, length, replicate, IfErr, OnErr};
-ghost use Rattle.std.specs.Prelude.{OnOk};
+ghost use Rattle.std.specs.Prelude.{◌≡◌, ◌<◌, ◌≤◌, ◌+◌, ◌-◌, ◌^◌, length, replicate, IfErr, OnOk};
 ghost use Rattle.std.specs.IoError.{error_kind};
-ghost use Rattle.macs_disk.specs.FileFailures.{MoveFails, OnlyInterrupted, Reads, SettleFails};
-ghost use Rattle.macs_disk.specs.FileFailures.{Writes};
-ghost use Rattle.macs_disk.specs.Files.{Behaves, HasNothingNew, IsClaimed, IsSure, Settles};
-ghost use Rattle.macs_disk.specs.Files.{WritesAll, values_from};
+ghost use Rattle.macs_disk.specs.FileFailures.{MoveFails, OnlyInterrupted, Reads, Writes};
+ghost use Rattle.macs_disk.specs.Files.{Behaves, WritesAll, values_from};
 ghost use Rattle.macs_disk.specs.Layouts.{place};
 
-use crate::disk::DeviceFault;
 use crate::disk_file::DiskFile;
 use crate::layout::Layout;
 use std::io;
@@ -22,7 +18,7 @@ fn read_whole<F: DiskFile>(file: &mut F, from: u64, into: &mut [u8; 512]) -> io:
     requires { from + 512 < 2 ^ 64 }
     ensures steady { (F.file file.new).behaves ≡ (F.file file.old).behaves }
     ensures same { Behaves (F.file file.old) → F.file file.new ≡ F.file file.old }
-    ensures octets { Behaves (F.file file.old) → IsSure (F.file file.old)
+    ensures octets { Behaves (F.file file.old)
         → OnOk result (into.new ≡ values_from (F.file file.old).seen from 512) }
     ensures quiet { OnOk result (OnlyInterrupted (F.failures file.old) (F.failures file.new)) }
     ensures cause { IfErr result
@@ -51,7 +47,7 @@ fn read_whole<F: DiskFile>(file: &mut F, from: u64, into: &mut [u8; 512]) -> io:
 pub fn read_exact_at<F: DiskFile>(file: &mut F, from: u64, into: &mut [u8; 512]) -> io::Result<()>
     ensures steady { (F.file file.new).behaves ≡ (F.file file.old).behaves }
     ensures same { Behaves (F.file file.old) → F.file file.new ≡ F.file file.old }
-    ensures octets { Behaves (F.file file.old) → IsSure (F.file file.old)
+    ensures octets { Behaves (F.file file.old)
         → OnOk result (into.new ≡ values_from (F.file file.old).seen from 512) }
     ensures quiet { OnOk result (OnlyInterrupted (F.failures file.old) (F.failures file.new)) }
     ensures cause { IfErr result
@@ -101,7 +97,7 @@ pub(crate) fn read_sector<F: DiskFile>(
     requires { place layout at + 512 < 2 ^ 64 }
     ensures steady { (F.file file.new).behaves ≡ (F.file file.old).behaves }
     ensures same { Behaves (F.file file.old) → F.file file.new ≡ F.file file.old }
-    ensures octets { Behaves (F.file file.old) → IsSure (F.file file.old)
+    ensures octets { Behaves (F.file file.old)
         → OnOk result (into.new ≡ values_from (F.file file.old).seen (place layout at) 512) }
     ensures quiet { OnOk result (OnlyInterrupted (F.failures file.old) (F.failures file.new)) }
     ensures cause { IfErr result
@@ -132,23 +128,4 @@ pub(crate) fn write_zeros<F: DiskFile>(file: &mut F, from: u64, to: u64) -> io::
         at += count as u64;
     }
     Err(io::Error::from(io::ErrorKind::TimedOut))
-}
-
-/// Has a claimed file show what the device has, and nothing pending: it is synced, and then read
-/// again. In this order, since what is not synced stays in the cache.
-pub(crate) fn settle<F: DiskFile>(file: &mut F) -> Result<(), DeviceFault>
-    ensures steady { (F.file file.new).behaves ≡ (F.file file.old).behaves }
-    ensures effect { Behaves (F.file file.old) → IsClaimed (F.file file.old)
-        → OnOk result (Settles (F.file file.old) (F.file file.new)) }
-    ensures nothing_new { Behaves (F.file file.old) → IsClaimed (F.file file.old)
-        → HasNothingNew (F.file file.old) (F.file file.new) }
-    ensures cause { OnErr result (SettleFails (F.failures file.old) (F.failures file.new)) }
-{
-    let Ok(()) = file.sync() else {
-        return Err(DeviceFault);
-    };
-    let Ok(()) = file.reread() else {
-        return Err(DeviceFault);
-    };
-    Ok(())
 }

@@ -1,21 +1,21 @@
 //! How a disk in a file is made and opened.
 
-ghost use Rattle.std.specs.Prelude.{◌≡◌, ◌≢◌, ◌≤◌, ◌%◌, false, true, IfOk, IsErrOf};
-ghost use Rattle.macs_disk.specs.Files.{Behaves};
+ghost use Rattle.std.specs.Prelude.{◌≡◌, ◌≤◌, false, true, IfErr, IfOk};
 
+use crate::claimed_file::ClaimedFile;
+use crate::clearing::clear;
 use crate::disk_file::DiskFile;
 use crate::file::FileDisk;
 use crate::file_fault::FileFault;
-use crate::layout::Layout;
-use crate::settled_file::SettledFile;
-use std::fs::{OpenFile, OpenOptions};
+use crate::layout::{Layout, SPACED_SECTORS};
+use crate::renewal::{OWNER_ALONE, Renewal};
+use std::alloc::Allocator;
+use std::fs::OpenOptions;
+use std::io;
 use std::os::unix::fs::OpenOptionsExt;
-use std::path::{AsPath, Path};
+use std::path::AsPath;
 use std::rt::Files;
-use std::{fs, io};
-
-/// A new file is for its owner alone to read and write, since a disk holds keys.
-const OWNER_ALONE: u32 = 0o600;
+use std::snapshot::Snapshot;
 
 /// How a file is opened: to read and write it. What it holds stays.
 fn how_to_open(is_made: bool) -> OpenOptions
@@ -41,112 +41,136 @@ pub fn make_file<R: Files, P: AsPath>(rt: &R, path: P) -> io::Result<R::File> {
     how_to_open(true).open(rt, path)
 }
 
-/// The folder of a path, by its text alone.
-fn folder_of(path: &str) -> &str {
-    match Path::new(path).parent() {
-        Some(folder) if !folder.as_str().is_empty() => folder.as_str(),
-        _ => ".",
-    }
-}
-
-/// Makes the name of a file durable, by a sync of the folder that its path names. Where the path
-/// leads to the file by a symbolic link, that is not the folder that holds it.
-pub fn sync_folder<R: Files, P: AsPath>(rt: &R, path: P) -> io::Result<()> {
-    let folder = fs::open(rt, folder_of(path.path_text()))?;
-    folder.sync_all()
-}
-
 impl<F: DiskFile> FileDisk<F> {
+    ghost use Rattle.macs_disk.specs.FileFailures.{WriteFails};
+    ghost use Rattle.macs_disk.specs.Files.{IsEmpty};
     ghost use Rattle.macs_disk.specs.FileDisks.{IsBlank, IsFoundAgain, IsFresh, IsLeftAsShown};
-    ghost use Rattle.macs_disk.specs.FileDisks.{IsOpened};
-    ghost use Rattle.macs_disk.specs.FileDisks.{disk_in_file, file_given, file_left, layout_of};
+    ghost use Rattle.macs_disk.specs.FileDisks.{IsMeasured, IsMadeWell, IsOpened};
+    ghost use Rattle.macs_disk.specs.FileDisks.{disk_in_file, file_given};
+    ghost use Rattle.macs_disk.specs.FileDisks.{file_left, file_made, layout_of};
 
     /// A disk of at least so many sectors in the file at `path`. Where there is no file it is made,
-    /// for its owner alone, and its name is made durable as by `sync_folder`. The file is synced
-    /// and read again, so that what it shows is what the device has. A file of fewer sectors is
-    /// lengthened with zeros, which are synced. A longer one stays as it is, and no octet of a file
-    /// is lost. A file that was made stays where a later step is a fault.
-    pub fn create<R: Files<File = F>, P: AsPath>(
+    /// for its owner alone. The file is made anew as by `open`, lengthened with zeros where it has
+    /// fewer sectors. A longer one stays as long as it is, and no octet of a file is lost. A file
+    /// that was made stays where a later step is a fault.
+    pub fn create<R: Files<File = F>, A: Allocator + Copy>(
         rt: &R,
-        path: P,
+        alloc: A,
+        path: &str,
         sectors: u64,
     ) -> Result<Self, FileFault>
         ensures least { IfOk result (λ it. sectors ≤ (disk_in_file F.file it).sectors) }
-        ensures known { IfOk result (λ it. Behaves (F.file (file_given it))
+        ensures known { IfOk result (λ it. IsMadeWell F.file (file_given it) (file_made it)
             → IsOpened (F.file (file_given it)) sectors (layout_of it) (disk_in_file F.file it)) }
         ensures spaced { IfOk result (λ it. layout_of it ≡ Layout.Spaced
             → (disk_in_file F.file it).sectors ≡ 1028) }
         ensures left { IfOk result (IsLeftAsShown F.file) }
-        ensures again { IfOk result (λ it. Behaves (F.file (file_given it))
+        ensures again { IfOk result (λ it. IsMadeWell F.file (file_given it) (file_made it)
             → IsFoundAgain F.file it) }
         ensures fresh { IfOk result (λ it. IsFresh (disk_in_file F.file it)) }
     {
-        let file = how_to_open(true).open(rt, path.path_text())?;
-        let disk = FileDisk::over(file, sectors)?;
-        sync_folder(rt, path)?;
-        Ok(disk)
+        let file = how_to_open(true).open(rt, path)?;
+        FileDisk::renewed(rt, alloc, path, file, sectors)
     }
 
-    /// A disk of all sectors of the file at `path`, which is synced and read again. Where there is
-    /// no file none is made, and that is `Open`.
-    pub fn open<R: Files<File = F>, P: AsPath>(rt: &R, path: P) -> Result<Self, FileFault>
-        ensures known { IfOk result (λ it. Behaves (F.file (file_given it))
+    /// A disk of all sectors of the file at `path`. Where there is no file none is made, and that
+    /// is `Open`.
+    ///
+    /// The file is made anew, so that all that the disk has is durable, whatever an earlier run
+    /// left of the file in the system's memory, and whoever else holds it there. It is claimed and
+    /// copied to NAME.new, which is synced and takes its name; the folder is synced. `Open` where
+    /// that cannot be done: the folder may not be written, the file has a second name, or is
+    /// mounted by itself. At each moment the name is that of a whole file with these octets.
+    pub fn open<R: Files<File = F>, A: Allocator + Copy>(
+        rt: &R,
+        alloc: A,
+        path: &str,
+    ) -> Result<Self, FileFault>
+        ensures known { IfOk result (λ it. IsMadeWell F.file (file_given it) (file_made it)
             → IsOpened (F.file (file_given it)) 0 (layout_of it) (disk_in_file F.file it)) }
         ensures spaced { IfOk result (λ it. layout_of it ≡ Layout.Spaced
             → (disk_in_file F.file it).sectors ≡ 1028) }
         ensures left { IfOk result (IsLeftAsShown F.file) }
-        ensures again { IfOk result (λ it. Behaves (F.file (file_given it))
+        ensures again { IfOk result (λ it. IsMadeWell F.file (file_given it) (file_made it)
             → IsFoundAgain F.file it) }
         ensures fresh { IfOk result (λ it. IsFresh (disk_in_file F.file it)) }
     {
         let file = how_to_open(false).open(rt, path)?;
-        FileDisk::over(file, 0)
+        FileDisk::renewed(rt, alloc, path, file, 0)
     }
 
-    /// A disk of at least so many sectors in a file that is open to read and write, as by `create`.
-    pub fn over(file: F, sectors: u64) -> Result<Self, FileFault>
+    /// A disk of at least so many sectors in the file at `path`, which was opened, made anew.
+    fn renewed<R: Files<File = F>, A: Allocator + Copy>(
+        rt: &R,
+        alloc: A,
+        path: &str,
+        file: F,
+        sectors: u64,
+    ) -> Result<Self, FileFault>
         ensures least { IfOk result (λ it. sectors ≤ (disk_in_file F.file it).sectors) }
-        ensures given { IfOk result (λ it. file_given it ≡ file) }
-        ensures known { Behaves (F.file file) → IfOk result (λ it.
-            IsOpened (F.file file) sectors (layout_of it) (disk_in_file F.file it)) }
-        ensures length { IsErrOf result FileFault.Length → Behaves (F.file file)
-            → (F.file file).size % 512 ≢ 0 }
+        ensures known { IfOk result (λ it. IsMadeWell F.file (file_given it) (file_made it)
+            → IsOpened (F.file (file_given it)) sectors (layout_of it) (disk_in_file F.file it)) }
         ensures spaced { IfOk result (λ it. layout_of it ≡ Layout.Spaced
             → (disk_in_file F.file it).sectors ≡ 1028) }
         ensures left { IfOk result (IsLeftAsShown F.file) }
-        ensures again { Behaves (F.file file) → IfOk result (IsFoundAgain F.file) }
+        ensures again { IfOk result (λ it. IsMadeWell F.file (file_given it) (file_made it)
+            → IsFoundAgain F.file it) }
         ensures fresh { IfOk result (λ it. IsFresh (disk_in_file F.file it)) }
     {
-        SettledFile::of(file)?.into_disk(sectors)
+        let mut old = ClaimedFile::of(file)?;
+        let mut renewal = Renewal::of(rt, alloc, path)?;
+        let about = renewal.check(rt, &old.file)?;
+        let new = renewal.make(rt, &about)?;
+        match FileDisk::over(&mut old, new, sectors) {
+            Ok(disk) => {
+                renewal.put(rt)?;
+                Ok(disk)
+            }
+            Err(fault) => {
+                renewal.give_up(rt);
+                Err(fault)
+            }
+        }
     }
 
-    /// A new disk of this layout in a file that is open to read and write, as by
-    /// `SettledFile::into_blank_disk`.
-    pub fn blank(file: F, layout: Layout) -> Result<Self, FileFault>
+    /// A disk of at least so many sectors in a copy of a claimed file, which is made in a file that
+    /// is new and empty.
+    pub fn over(old: &mut ClaimedFile<F>, new: F, sectors: u64) -> Result<Self, FileFault>
+        ensures least { IfOk result (λ it. sectors ≤ (disk_in_file F.file it).sectors) }
+        ensures given { IfOk result (λ it. file_given it ≡ old.old.file) }
+        ensures made { IfOk result (λ it. file_made it ≡ new) }
+        ensures known { IsMeasured F.file old.old
+            → IsMadeWell F.file old.old.file new → IfOk result (λ it.
+            IsOpened (F.file old.old.file) sectors (layout_of it)
+            (disk_in_file F.file it)) }
+        ensures spaced { IfOk result (λ it. layout_of it ≡ Layout.Spaced
+            → (disk_in_file F.file it).sectors ≡ 1028) }
+        ensures left { IfOk result (IsLeftAsShown F.file) }
+        ensures again { IsMeasured F.file old.old
+            → IsMadeWell F.file old.old.file new
+            → IfOk result (IsFoundAgain F.file) }
+        ensures fresh { IfOk result (λ it. IsFresh (disk_in_file F.file it)) }
+    {
+        old.copy_into(new)?.into_disk(sectors)
+    }
+
+    /// A new disk of this layout in a file that is new and empty: its 1,028 sectors are zeros,
+    /// which are written and synced, so that the file system has room for them.
+    pub fn blank(mut file: F, layout: Layout) -> Result<FileDisk<F>, FileFault>
         ensures given { IfOk result (λ it. file_given it ≡ file) }
         ensures layout { IfOk result (λ it. layout_of it ≡ layout) }
-        ensures known { Behaves (F.file file) → IfOk result (λ it.
+        ensures known { IsEmpty (F.file file) → IfOk result (λ it.
             IsBlank (F.file file) (F.file (file_left it)) layout (disk_in_file F.file it)) }
-        ensures length { IsErrOf result FileFault.Length → Behaves (F.file file)
-            → (F.file file).size % 512 ≢ 0 }
         ensures left { IfOk result (IsLeftAsShown F.file) }
-        ensures again { Behaves (F.file file) → IfOk result (IsFoundAgain F.file) }
+        ensures again { IsEmpty (F.file file) → IfOk result (IsFoundAgain F.file) }
         ensures fresh { IfOk result (λ it. IsFresh (disk_in_file F.file it)) }
+        // Each fault has its own cause, by the calls that failed of the file that was let go.
+        ensures refused { IfErr result (λ fault. (left : F)
+            × WriteFails (F.failures file) (F.failures left) fault) }
     {
-        SettledFile::of(file)?.into_blank_disk(layout)
-    }
-
-    /// A new disk of the same file, which stays claimed. Where a call of this one failed, each of
-    /// its later calls fails; the new one shows what the device has.
-    pub fn reopen(self) -> Result<Self, FileFault>
-        ensures known { Behaves (F.file (file_left self)) → IfOk result (λ it.
-            IsOpened (F.file (file_left self)) 0 (layout_of it) (disk_in_file F.file it)) }
-        ensures spaced { IfOk result (λ it. layout_of it ≡ Layout.Spaced
-            → (disk_in_file F.file it).sectors ≡ 1028) }
-        ensures left { IfOk result (IsLeftAsShown F.file) }
-        ensures again { Behaves (F.file (file_left self)) → IfOk result (IsFoundAgain F.file) }
-        ensures fresh { IfOk result (λ it. IsFresh (disk_in_file F.file it)) }
-    {
-        FileDisk::over(self.into_file(), 0)
+        let given = Snapshot::of(&file);
+        let made = Snapshot::of(&file);
+        clear(&mut file, layout)?;
+        Ok(FileDisk::new(file, given, made, layout, SPACED_SECTORS))
     }
 }

@@ -12,8 +12,8 @@ ghost use Rattle.macs_disk.specs.Runs.{Leaves, LeavesNothingNew};
 ghost use Rattle.macs_disk.specs.Fuses.{FuseValue, disk_of_fuse};
 ghost use Rattle.macs_disk.specs.MemDisks.{disk_of};
 ghost use Rattle.macs_disk.specs.declared.memory.MemDisk.{MemDisk};
-ghost use Rattle.macs_disk.specs.Files.{Behaves, FileState, HasNothingNew, IsFileImage, Settles};
-ghost use Rattle.macs_disk.specs.Files.{WritesSome, file_in_doubt};
+ghost use Rattle.macs_disk.specs.Files.{Behaves, FileState, HasNothingNew, IsCopy, IsFileImage};
+ghost use Rattle.macs_disk.specs.Files.{IsSoundFile, WritesSome, file_in_doubt};
 ghost use Rattle.macs_disk.specs.FileDisks.{IsFoundAs, IsLeftAsShown, IsOpened, disk_in_file};
 ghost use Rattle.macs_disk.specs.FileDisks.{file_left, image_in_file};
 ghost use Rattle.macs_disk.specs.FileDisks.{layout_of, state_in_file};
@@ -238,13 +238,14 @@ pub fn a_file_is_left_as_its_disk<F: DiskFile>()
 /// A disk is found again as it was, of its layout and with its sectors: in its file as it was left,
 /// or as a power loss left that, or after openings that failed.
 pub fn files_are_found_again()
-    ensures settled { (layout : Layout) (sectors : ℕ) (old new settled : FileState)
+    ensures copied { (layout : Layout) (sectors : ℕ) (old new copy : FileState)
         → IsFoundAs layout sectors old
-        → suits layout old.block ≡ true → HasNothingNew old new → Settles new settled
-        → IsFoundAs layout sectors settled }
+        → suits layout old.block ≡ true → HasNothingNew old new → IsSoundFile new
+        → IsCopy new copy → IsFoundAs layout sectors copy }
     ensures opened { (layout again : Layout) (sectors : ℕ) (old new : FileState) (disk : Disk)
         → IsFoundAs layout sectors old → suits layout old.block ≡ true → HasNothingNew old new
-        → IsOpened new 0 again disk → (again ≡ layout) × (disk.sectors ≡ sectors) }
+        → IsSoundFile new → IsOpened new 0 again disk
+        → (again ≡ layout) × (disk.sectors ≡ sectors) }
 {}
 
 /// What leaves nothing new of a file: no call, calls one after the other of which each leaves

@@ -2,6 +2,7 @@
 #![tactic(auto)]
 
 mod call_list;
+mod claimed_file;
 mod clearing;
 mod disk;
 mod disk_file;
@@ -14,15 +15,18 @@ pub mod laws;
 mod layout;
 mod log;
 mod memory;
+mod renewal;
 mod settled_file;
 
+pub use claimed_file::ClaimedFile;
 pub use disk::{DeviceFault, SectorDisk};
 pub use disk_file::DiskFile;
 pub use file::FileDisk;
 pub use file_calls::read_exact_at;
 pub use file_fault::FileFault;
-pub use file_opening::{make_file, sync_folder};
+pub use file_opening::make_file;
 pub use fuse::Fuse;
 pub use layout::{Layout, spaced_mark};
 pub use memory::{MemDisk, MemFault};
+pub use renewal::Renewal;
 pub use settled_file::SettledFile;

@@ -9,6 +9,8 @@ mod kernel_files;
 mod marks;
 mod memory;
 mod promises;
+mod renewals;
+mod renewed_files;
 mod shut_files;
 mod stories;
 mod tearing;

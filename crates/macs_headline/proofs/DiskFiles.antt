@@ -1,5 +1,5 @@
 -- Disks in files, as histories have them.
-use Rattle.std.proofs.Common.{◌≡◌, ◌≤◌, ◌<◌, ◌+◌, ◌*◌, ◌-◌, ◌⊎◌, inl, inr, ℕ, true, false, get_or, replicate, refl, ap}
+use Rattle.std.proofs.Common.{◌≡◌, ◌≤◌, ◌<◌, ◌+◌, ◌*◌, ◌-◌, ◌^◌, ◌⊎◌, inl, inr, ℕ, true, false, get_or, replicate, refl, ap}
 use Rattle.std.proofs.Common.{◌∙◌, arith, le_refl, subst, sym}
 use Rattle.std.proofs.lemmas.Bool.{and_parts}
 use Rattle.std.proofs.lemmas.List.{get_or-replicate}
@@ -7,8 +7,8 @@ use Rattle.macs_disk.specs.Disk.{Disk, IsHonest, MayLeave, now}
 use Rattle.macs_disk.specs.FileDisks.{IsBlank, IsFoundAs, IsLeftAsShown, IsOpened, disk_in_file, file_lengthened}
 use Rattle.macs_disk.specs.FileDisks.{image_in_file, is_ready, keeps_disk, state_in_file}
 use Rattle.macs_disk.specs.FileEvidence.{keeps, values-same}
-use Rattle.macs_disk.specs.Files.{Behaves, FileState, HasNothingNew, IsFileImage, file_after_sync, file_after_write}
-use Rattle.macs_disk.specs.Files.{IsSure, file_claimed, file_in_doubt, file_settled, values_from}
+use Rattle.macs_disk.specs.Files.{Behaves, FileState, HasNothingNew, IsCopy, IsFileImage, IsSoundFile, file_after_sync}
+use Rattle.macs_disk.specs.Files.{file_after_write, file_in_doubt, values_from}
 use Rattle.macs_disk.specs.Layouts.{place, suits}
 use Rattle.macs_disk.specs.States.{DiskState, Image, IsImage, settled_state, zero_sector}
 use Rattle.macs_disk.specs.declared.layout.Layout.{Layout}
@@ -39,15 +39,13 @@ no-place : (layout : Layout) → place layout 0 ≡ 0
 no-place Packed = refl
 no-place Spaced = refl
 
--- a settled file that is made no longer
-as-settled : (layout : Layout) (file settled : FileState) (octets : ℕ → ℕ)
-    → settled ≡ file_claimed (file_settled file octets)
-    → state_in_file layout (file_lengthened settled (place layout 0)) ≡ settled_state (image_in_file layout octets)
+-- a copy that is made no longer
+as-copied : (layout : Layout) (file copy : FileState) → IsCopy file copy
+    → state_in_file layout (file_lengthened copy (place layout 0)) ≡ settled_state (image_in_file layout copy.seen)
 unfolding state_in_file
-as-settled layout file settled octets is =
-    let none : place layout 0 - settled.size ≡ 0 = (let start = no-place layout in omega (arith, start)) in
-    ap (λ (n : ℕ). state_in_file layout (file_after_sync (file_after_write settled settled.size (replicate n 0)))) none
-    ∙ ap (λ (f : FileState). state_in_file layout (file_after_sync f)) is
+as-copied layout file copy copies =
+    let none : place layout 0 - copy.size ≡ 0 = (let start = no-place layout in omega (arith, start)) in
+    ap (λ (n : ℕ). state_in_file layout (file_after_sync (file_after_write copy copy.size (replicate n 0)))) none
 
 -- all sectors of one that is opened are durable
 pub opened-still : (file : FileState) (least : ℕ) (layout : Layout) (disk : Disk) (i : ℕ)
@@ -61,12 +59,12 @@ opened-still file least layout disk i opened = (
 
 -- what the disk shows of one that is opened, by what its file showed
 seen-opened : (file : FileState) (least : ℕ) (layout : Layout) (disk : Disk) (i : ℕ) → IsOpened file least layout disk
-    → (settled : FileState) → now disk ≡ state_in_file layout (file_lengthened settled (place layout least))
+    → (copy : FileState) → now disk ≡ state_in_file layout (file_lengthened copy (place layout least))
     → (now disk).seen i
-    ≡ values_from (file_after_write settled settled.size (replicate (place layout least - settled.size) 0)).seen
+    ≡ values_from (file_after_write copy copy.size (replicate (place layout least - copy.size) 0)).seen
     (place layout i) 512
 unfolding state_in_file
-seen-opened file least layout disk i opened settled is = ap (λ (s : DiskState). s.seen i) is
+seen-opened file least layout disk i opened copy is = ap (λ (s : DiskState). s.seen i) is
 
 all-zeros : (at : ℕ) → values_from (λ _. 0) at 512 ≡ zero_sector
 unfolding values_from zero_sector
@@ -90,32 +88,29 @@ read-longer file at count from within =
           ∙ get_or-replicate count (at + k - file.size) 0 (file.seen (at + k)) (omega (arith, from, within, lt))
 
 pub lengthened : (file : FileState) (least : ℕ) (layout : Layout) (disk : Disk) (i : ℕ)
-    → IsOpened file least layout disk → IsSure file
+    → IsOpened file least layout disk
     → (place layout i + 512 ≤ file.size → (now disk).seen i ≡ values_from file.seen (place layout i) 512)
     × (file.size ≤ place layout i → place layout i + 512 ≤ place layout least → (now disk).seen i ≡ zero_sector)
-lengthened file least layout disk i opened sure = (front, longer) where
-  settled : FileState
-  settled = opened.settled
+lengthened file least layout disk i opened = (front, longer) where
+  copy : FileState
+  copy = opened.copy
 
-  size : settled.size ≡ file.size
-  size = ap (λ (f : FileState). f.size) opened.settles.3
-
-  shown : settled.seen ≡ file.seen
-  shown = ap (λ (f : FileState). f.seen) opened.settles.3 ∙ opened.settles.2 sure
+  size : copy.size ≡ file.size
+  size = opened.copies.size
 
   seen : (now disk).seen i
-      ≡ values_from (file_after_write settled settled.size (replicate (place layout least - settled.size) 0)).seen
+      ≡ values_from (file_after_write copy copy.size (replicate (place layout least - copy.size) 0)).seen
       (place layout i) 512
-  seen = seen-opened file least layout disk i opened settled opened.state
+  seen = seen-opened file least layout disk i opened copy opened.state
 
   front : place layout i + 512 ≤ file.size → (now disk).seen i ≡ values_from file.seen (place layout i) 512
   front before = seen
-      ∙ read-front settled (place layout i) (place layout least - settled.size) (omega (arith, size, before))
-      ∙ ap (λ (f : ℕ → ℕ). values_from f (place layout i) 512) shown
+      ∙ read-front copy (place layout i) (place layout least - copy.size) (omega (arith, size, before))
+      ∙ values-same copy.seen file.seen (place layout i) 512 (λ k _. opened.copies.shown (place layout i + k))
 
   longer : file.size ≤ place layout i → place layout i + 512 ≤ place layout least → (now disk).seen i ≡ zero_sector
   longer from within = seen
-      ∙ read-longer settled (place layout i) (place layout least - settled.size) (omega (arith, size, from))
+      ∙ read-longer copy (place layout i) (place layout least - copy.size) (omega (arith, size, from))
       (omega (arith, size, from, within))
 
 -- the file of an honest disk is on a device whose blocks suit its layout
@@ -133,11 +128,19 @@ left-suited file it left behaves honest = same (left behaves) where
   same (inl is) = ap (λ (f : FileState). suits it.layout f.block) is ∙ suited
   same (inr is) = ap (λ (f : FileState). suits it.layout f.block) is ∙ suited
 
+-- what a copy shows is an image of the file that was copied
+copy-image : (file copy : FileState) → IsSoundFile file → IsCopy file copy → IsFileImage file copy.seen
+copy-image file copy sound copies = record {
+  kept = λ n k clean lt. copies.shown (file.block * n + k) ∙ sound.shown n k clean lt;
+  octets = λ p. subst (λ (v : ℕ). v < 2 ^ 8) (sym (copies.shown p)) (sound.seen p);
+}
+
 opened-as : (left file : FileState) (layout : Layout) (old new : Disk) → suits layout left.block ≡ true → IsHonest old
     → ((image : Image) → IsImage (state_in_file layout left) image → MayLeave old image)
-    → HasNothingNew left file → new.sectors ≡ old.sectors → IsOpened file 0 layout new → LosesPower old old.clock new
-opened-as left file layout old new suited honest may nothing sectors opened =
-    let octets = opened.settles.0 in
+    → HasNothingNew left file → IsSoundFile file → new.sectors ≡ old.sectors → IsOpened file 0 layout new
+    → LosesPower old old.clock new
+opened-as left file layout old new suited honest may nothing sound sectors opened =
+    let octets = opened.copy.seen in
     record {
       image = image_in_file layout octets;
       left = (
@@ -145,21 +148,23 @@ opened-as left file layout old new suited honest may nothing sectors opened =
         le_refl old.clock,
         le_refl old.clock,
         may (image_in_file layout octets)
-            (file-image layout left octets suited (nothing.images octets opened.settles.1)),
+            (file-image layout left octets suited
+            (nothing.images octets (copy-image file opened.copy sound opened.copies))),
       );
       alike =
           record { sectors = sectors; honest = opened.honest (ap (suits layout) nothing.block ∙ suited) ∙ sym honest };
-      settled = opened.state ∙ as-settled layout file opened.settled octets opened.settles.3;
+      settled = opened.state ∙ as-copied layout file opened.copy opened.copies;
     }
 
 pub opened-again : (left file : FileState) (layout again : Layout) (old new : Disk) → IsFoundAs layout old.sectors left
     → suits layout left.block ≡ true → IsHonest old
     → ((image : Image) → IsImage (state_in_file layout left) image → MayLeave old image)
-    → HasNothingNew left file → IsOpened file 0 again new → (again ≡ layout) × LosesPower old old.clock new
-opened-again left file layout again old new found suited honest may nothing opened =
-    let is = found-opened layout again old.sectors left file new found suited nothing opened in (
+    → HasNothingNew left file → IsSoundFile file → IsOpened file 0 again new
+    → (again ≡ layout) × LosesPower old old.clock new
+opened-again left file layout again old new found suited honest may nothing sound opened =
+    let is = found-opened layout again old.sectors left file new found suited nothing sound opened in (
       is.0,
-      opened-as left file layout old new suited honest may nothing is.1
+      opened-as left file layout old new suited honest may nothing sound is.1
           (subst (λ (l : Layout). IsOpened file 0 l new) is.0 opened),
     )
 

@@ -10,10 +10,9 @@ failure-words = record {
   interrupted = λ before after. (λ is. is, λ is. is);
   of_kind = λ kind it. (λ is. is, λ is. is);
   measured = λ before after it. (λ is. is, λ is. is);
-  settled = λ before after. (λ is. is, λ is. is);
-  fit = λ before after it. (λ is. is, λ is. is);
   last = λ before after call kind. (λ is. is, λ is. is);
   moved = λ before after call kind. (λ is. is, λ is. is);
   written = λ before after it. (λ is. is, λ is. is);
   extended = λ before after it. (λ is. is, λ is. is);
+  copied = λ before after new_before new_after it. (λ is. is, λ is. is);
 }

@@ -105,12 +105,10 @@ mod ExampleWords
 mod WorkedWords
 mod OnceWords
 mod RefusedWords
-mod FileCallWords
 mod LayerFaults
 mod LayerWords
 mod PartsFollow
 mod LayoutWords
-mod DiskWords
 mod OctetWords
 mod HistoryWords
 mod DiskCalls

@@ -58,10 +58,8 @@ pub mod ExampleLives
 pub mod ExampleMigration
 pub mod ExampleWords
 pub mod WorkedWords
-pub mod DiskWords
 pub mod OnceWords
 pub mod RefusedWords
-pub mod FileCallWords
 pub mod LayerFaults
 pub mod LayerWords
 pub mod PartsFollow

@@ -6,8 +6,8 @@ ghost use Rattle.macs_disk.specs.Disk.{Disk, IsHonest, LeftSince, MayLeave, disk
 ghost use Rattle.macs_disk.specs.FileDisks.{IsBlank, IsFoundAgain, IsFoundAs, IsLeftAsShown};
 ghost use Rattle.macs_disk.specs.FileDisks.{IsOpened, disk_in_file};
 ghost use Rattle.macs_disk.specs.FileDisks.{file_left, layout_of, state_in_file};
-ghost use Rattle.macs_disk.specs.Files.{Behaves, FileState, HasNothingNew, IsClaimed, IsSure};
-ghost use Rattle.macs_disk.specs.Files.{Settles, values_from};
+ghost use Rattle.macs_disk.specs.Files.{Behaves, FileState, HasNothingNew, IsSoundFile};
+ghost use Rattle.macs_disk.specs.Files.{values_from};
 ghost use Rattle.macs_disk.specs.Layouts.{place, sectors_in, suits};
 ghost use Rattle.macs_disk.specs.Memory.{blank_memory};
 ghost use Rattle.macs_disk.specs.States.{Image, IsImage, zero_sector};
@@ -52,11 +52,9 @@ ghost use Rattle.macs_headline.specs.EndpointWords.{OpeningsCount, ServedWords};
 ghost use Rattle.macs_headline.specs.CountWords.{CountsAreNamed, CountsRiseAlone};
 ghost use Rattle.macs_headline.specs.NeedWords.{NeedsAreInOrder, TurnsAreUsed};
 ghost use Rattle.macs_headline.specs.FailureWords.{FailureWords};
-ghost use Rattle.macs_headline.specs.FileCallWords.{FileCallWords};
 ghost use Rattle.macs_headline.specs.LayerFaults.{LayerFaults};
 ghost use Rattle.macs_headline.specs.LayerLeaves.{LayerLeaves};
 ghost use Rattle.macs_headline.specs.LayerWords.{LayerWords};
-ghost use Rattle.macs_headline.specs.DiskWords.{DiskWords};
 ghost use Rattle.macs_headline.specs.LayoutWords.{LayoutWords};
 ghost use Rattle.macs_headline.specs.OctetWords.{OctetWords};
 ghost use Rattle.macs_headline.specs.DiskCalls.{DiskCalls};
@@ -631,12 +629,6 @@ pub fn failed_calls()
     ensures { FailureWords }
 {}
 
-/// What a sync, a write, a read and a rereading of a file that behaves may leave: after a sync that
-/// failed the file is in doubt.
-pub fn file_calls()
-    ensures { FileCallWords }
-{}
-
 /// How a head, a gate and each kind of record are written on a disk, octet by octet, which sectors
 /// are read so, and what each record says.
 pub fn octets()
@@ -656,13 +648,13 @@ pub fn files<F: DiskFile>()
     ensures opened_again { (left file : FileState) (layout again : Layout) (old new : Disk)
         → IsFoundAs layout old.sectors left → suits layout left.block ≡ true → IsHonest old
         → ((image : Image) → IsImage (state_in_file layout left) image → MayLeave old image)
-        → HasNothingNew left file → IsOpened file 0 again new
+        → HasNothingNew left file → IsSoundFile file → IsOpened file 0 again new
         → (again ≡ layout) × LosesPower old old.clock new }
     // So it is where a disk in a file left it, be it after a call that failed.
     ensures reopened { (it : FileDisk F) (file : FileState) (again : Layout) (new : Disk)
         → IsLeftAsShown F.file it → IsFoundAgain F.file it → Behaves (F.file (file_left it))
         → IsHonest (disk_in_file F.file it) → HasNothingNew (F.file (file_left it)) file
-        → IsOpened file 0 again new
+        → IsSoundFile file → IsOpened file 0 again new
         → (again ≡ layout_of it)
         × LosesPower (disk_in_file F.file it) (disk_in_file F.file it).clock new }
     // A power loss leaves nothing new of a file that was let go of, whatever it shows then and
@@ -671,21 +663,7 @@ pub fn files<F: DiskFile>()
     ensures let_go { (left file : FileState) → file.block ≡ left.block → file.size ≡ left.size
         → file.is_size_durable ≡ left.is_size_durable → ((p : ℕ) → file.durable p ≡ left.durable p)
         → ((n : ℕ) → file.pending n ≡ left.pending n) → HasNothingNew left file }
-    // A file that is settled is claimed, and where it was sure of what it shows, it still shows
-    // that.
-    ensures settled { (old new : FileState) → Settles old new → IsClaimed new
-        × (IsSure old → new.seen ≡ old.seen) }
-    // It has the sectors that its file had, or 1,028, where these are more.
-    ensures sectors { (old new : FileState) (layout : Layout) (disk : Disk)
-        → IsBlank old new layout disk → disk.sectors ≡ max (sectors_in layout old.size) 1028 }
-    // Its first 1,028 are zeros.
-    ensures zeros { (old new : FileState) (layout : Layout) (disk : Disk) (i : ℕ)
-        → IsBlank old new layout disk → i < 1028 → (now disk).seen i ≡ zero_sector }
-    // All of them are durable, and none is pending.
-    ensures durable { (old new : FileState) (layout : Layout) (disk : Disk) (i : ℕ)
-        → IsBlank old new layout disk
-        → ((now disk).durable i ≡ (now disk).seen i) × ((now disk).pending i ≡ false) }
-    // So are those of a file that is opened, which has as many as were asked for.
+    // All sectors of one that is opened are durable, and it has as many as were asked for.
     ensures opened { (file : FileState) (least : ℕ) (layout : Layout) (disk : Disk) (i : ℕ)
         → IsOpened file least layout disk → (least ≤ disk.sectors)
         × ((now disk).durable i ≡ (now disk).seen i) × ((now disk).pending i ≡ false) }
@@ -694,10 +672,10 @@ pub fn files<F: DiskFile>()
         → IsOpened file least layout disk
         → (layout ≡ Packed → disk.sectors ≡ max (file.size / 512) least)
         × (layout ≡ Spaced → disk.sectors ≡ max 1028 least) }
-    // One that is made longer for them keeps its sectors, if it was sure of what it shows, and has
-    // zeros in the others.
+    // One that is made longer for them keeps its sectors, as it showed them, and has zeros in the
+    // others.
     ensures lengthened { (file : FileState) (least : ℕ) (layout : Layout) (disk : Disk) (i : ℕ)
-        → IsOpened file least layout disk → IsSure file
+        → IsOpened file least layout disk
         → (place layout i + 512 ≤ file.size
         → (now disk).seen i ≡ values_from file.seen (place layout i) 512)
         × (file.size ≤ place layout i → place layout i + 512 ≤ place layout least
@@ -708,9 +686,6 @@ pub fn files<F: DiskFile>()
     // Where its sectors are in the file, how that is found, and that no other blocks than those
     // below suit.
     ensures layouts { LayoutWords }
-    // Which octets of its file a disk shows, how a fuse fails a write, and what a read and a cut
-    // leave of a file.
-    ensures disks { DiskWords }
     // Blocks of 512 octets suit both layouts, and those of 4,096 the one in which sectors lie
     // apart.
     ensures blocks { (suits Packed 512 ≡ true) × (suits Spaced 512 ≡ true)

@@ -7,14 +7,14 @@ use Rattle.std.proofs.lemmas.Bool.{cases_Bool, cases_lt, le-leb, lt-leb, or_part
 use Rattle.std.proofs.lemmas.Bool.Decides.{nat_tests}
 use Rattle.std.proofs.lemmas.List.{get_or_past}
 use Rattle.macs_disk.specs.FileEvidence.{is_same}
-use Rattle.macs_disk.specs.Files.{FileState, HasNothingNew, IsFileImage, file_after_write, file_reread, has_some}
+use Rattle.macs_disk.specs.Files.{FileState, HasNothingNew, IsFileImage, file_after_write, has_some}
 use Rattle.macs_disk.specs.Files.{put_from}
-use Rattle.macs_mem_file.specs.Blocks.{IsKept, are_octets, file_in_memory, flag_in, is_in_first_half, left_of, octet_at}
+use Rattle.macs_mem_file.specs.Blocks.{EndsAt, IsKept, are_octets, file_in_memory, flag_in, is_in_first_half, left_of, octet_at}
 use Rattle.macs_mem_file.specs.Blocks.{octet_left, size_left}
 use Rattle.macs_mem_file.specs.declared.blocks.Left.{Left}
 use Rattle.macs_mem_file.specs.declared.blocks.Left.TheVariants.{Durable, Half, Written, Zeros}
 use Rattle.macs_mem_file.specs.Evidence.{block-of}
-use Rattle.macs_mem_file.specs.MemFiles.{file_after_loss, file_pressed}
+use Rattle.macs_mem_file.specs.MemFiles.{file_after_loss}
 use Rattle.macs_disk.specs.CallLists.{flag_at}
 
 -- octets outside what was put are as before
@@ -72,9 +72,9 @@ kept_put block cache device durable dirty pending is_clean is_sure
       fewer = λ n clear. marks n
           ∙ from (has_some block front behind n) (flag_at dirty n) (parts n clear).0 (kept.fewer n (parts n clear).1);
       clean = λ is. absurd (let no : false ≡ true = is in cc);
-      seen = λ sure p clear.
+      seen = λ p clear.
           put p ∙ has-none block p front behind (octet_at cache) at xs kept.some le fits (parts (p / block) clear).0
-          ∙ kept.seen sure p (parts (p / block) clear).1;
+          ∙ kept.seen p (parts (p / block) clear).1;
       all = λ sure n clear.
           let apart = or_parts (has_some block front behind n) (flag_at dirty n) (sym (marks n) ∙ clear) in
           marks-more n ∙ from (has_some block front behind n) (flag_at pending n) apart.0 (kept.all sure n apart.1);
@@ -85,6 +85,13 @@ kept_put block cache device durable dirty pending is_clean is_sure
       from : (a b : Bool) → a ≡ false → b ≡ false → (a || b) ≡ false
       from true b is other = is
       from false b is other = other
+
+-- what was put ends where the file does
+pub ends_put : (size at count longer : ℕ) (cache newer xs : List ℕ) → EndsAt size cache → length xs ≡ count
+    → longer ≡ max size (at + count)
+    → ((p : ℕ) → octet_at newer p ≡ put_from (octet_at cache) at xs p) → EndsAt longer newer
+ends_put size at count longer cache newer xs ends long is put p le =
+    put p ∙ put-behind (octet_at cache) at p xs (omega (arith, le, is, long)) ∙ ends p (omega (arith, le, is))
 
 -- what was put is what a write writes
 size-stays : (durable size end : ℕ) → durable ≤ size
@@ -170,6 +177,61 @@ size_lost Written size durable_size lost is durable = is
 size_lost Half size durable_size lost is durable = is
 size_lost Zeros size durable_size lost is durable = is ∙ is_same durable_size size durable
 
+-- blocks that were copied end where both did
+pub copied_ends : (block size : ℕ) (from to copy : List ℕ) (flags : List Bool) → EndsAt size from → EndsAt size to
+    → ((p : ℕ) → flag_in block flags p ≡ true → octet_at copy p ≡ octet_at from p)
+    → ((p : ℕ) → flag_in block flags p ≡ false → octet_at copy p ≡ octet_at to p) → EndsAt size copy
+copied_ends block size from to copy flags from_ends to_ends copied others p past =
+    elim (cases_Bool (flag_in block flags p)) [
+      | inl up ↦ copied p up ∙ from_ends p past
+      | inr down ↦ others p down ∙ to_ends p past
+    ]
+
+-- the size that a power loss leaves is no smaller than the durable one
+pub size_kept : (left : Left) (size durable_size lost : ℕ) → lost ≡ size_left left size durable_size
+    → durable_size ≤ size → durable_size ≤ lost
+size_kept Durable size durable_size lost is le = omega (arith, is)
+size_kept Written size durable_size lost is le = omega (arith, is, le)
+size_kept Half size durable_size lost is le = omega (arith, is, le)
+size_kept Zeros size durable_size lost is le = omega (arith, is)
+
+-- a cut leaves what is durable in blocks that are not pending, since it ends in front of there
+pub cut_kept : (block durable_size size : ℕ) (durable spoiled shorter : List ℕ) (pending : List Bool)
+    → durable_size ≤ size → EndsAt durable_size durable
+    → ((p : ℕ) → flag_in block pending p ≡ false → octet_at spoiled p ≡ octet_at durable p) → EndsAt size shorter
+    → ((p : ℕ) → p < size → octet_at shorter p ≡ octet_at spoiled p)
+    → (p : ℕ) → flag_in block pending p ≡ false → octet_at shorter p ≡ octet_at durable p
+cut_kept block durable_size size durable spoiled shorter pending le ends kept cut before p clear =
+    elim (cases_lt p size) [
+      | inl within ↦ before p within ∙ kept p clear
+      | inr past ↦ cut p past ∙ sym (ends p (omega (arith, le, past)))
+    ]
+
+-- so what is kept of the file is still
+pub kept_lost : (block : ℕ) (cache device durable : List ℕ) (dirty pending : List Bool) (is_clean is_sure : Bool)
+    → IsKept block cache device durable dirty pending is_clean is_sure
+    → (written shorter : List ℕ) → length written ≡ length device → length shorter ≡ length durable
+    → are_octets written → are_octets shorter
+    → ((p : ℕ) → flag_in block dirty p ≡ false → octet_at written p ≡ octet_at device p)
+    → ((p : ℕ) → flag_in block pending p ≡ false → octet_at shorter p ≡ octet_at durable p)
+    → IsKept block cache written shorter dirty pending is_clean is_sure
+kept_lost block cache device durable dirty pending is_clean is_sure kept written shorter long_written long_shorter
+    octets_written octets_shorter others same = record {
+      some = kept.some;
+      as_device = long_written ∙ kept.as_device;
+      as_durable = long_shorter ∙ kept.as_durable;
+      as_dirty = kept.as_dirty;
+      blocks = kept.blocks;
+      cache_octets = kept.cache_octets;
+      device_octets = octets_written;
+      durable_octets = octets_shorter;
+      shown = λ p clear. others p (kept.fewer (p / block) clear) ∙ kept.shown p clear ∙ sym (same p clear);
+      fewer = kept.fewer;
+      clean = kept.clean;
+      seen = λ p clear. kept.seen p clear ∙ sym (same p clear);
+      all = kept.all;
+    }
+
 -- a choice, by what it is in either case
 chosen : (b : Bool) (x this that : ℕ) → (b ≡ true → x ≡ this) → (b ≡ false → x ≡ that) → x ≡ (if b then this else that)
 chosen true x this that up down = up refl
@@ -222,50 +284,3 @@ left_of_seen block size durable_size cache device durable dirty pending is_clean
           ≡ (if b then left_of left (is_in_first_half block p) d s else d)
       same true d w s is = ap (λ (o : ℕ). left_of left (is_in_first_half block p) d o) (is refl)
       same false d w s is = refl
-
--- a clean file that shows what is durable is sure
-pub kept_reread : (block : ℕ) (cache device durable : List ℕ) (dirty pending : List Bool) (is_clean is_sure : Bool)
-    → IsKept block cache device durable dirty pending is_clean is_sure
-    → (is_clean ≡ true → (p : ℕ) → octet_at cache p ≡ octet_at durable p)
-    → IsKept block cache device durable dirty pending is_clean (is_sure || is_clean)
-kept_reread block cache device durable dirty pending true true kept shows = kept
-kept_reread block cache device durable dirty pending true false kept shows = record {
-  some = kept.some;
-  as_device = kept.as_device;
-  as_durable = kept.as_durable;
-  as_dirty = kept.as_dirty;
-  blocks = kept.blocks;
-  cache_octets = kept.cache_octets;
-  device_octets = kept.device_octets;
-  durable_octets = kept.durable_octets;
-  shown = kept.shown;
-  fewer = kept.fewer;
-  clean = kept.clean;
-  seen = λ _ p _. shows refl p;
-  all = λ _ n _. kept.clean refl n;
-}
-kept_reread block cache device durable dirty pending false true kept shows = kept
-kept_reread block cache device durable dirty pending false false kept shows = kept
-
--- a clean file whose clean pages were dropped was read again
-pub pressed_reread : (file pressed : FileState) → file.is_clean ≡ true → pressed ≡ file_pressed file pressed.seen
-    → ((p : ℕ) → pressed.seen p ≡ file.durable p)
-    → record pressed { is_sure = pressed.is_sure || pressed.is_clean } ≡ file_reread file
-pressed_reread file pressed is same shows = λ j. record {
-  behaves = ap (λ (f : FileState). f.behaves) same j;
-  block = ap (λ (f : FileState). f.block) same j;
-  size = ap (λ (f : FileState). f.size) same j;
-  is_size_durable = ap (λ (f : FileState). f.is_size_durable) same j;
-  seen = λ p. shows p j;
-  durable = ap (λ (f : FileState). f.durable) same j;
-  pending = ap (λ (f : FileState). f.pending) same j;
-  is_clean = ap (λ (f : FileState). f.is_clean) same j;
-  is_sure = sure j;
-  is_claimed = ap (λ (f : FileState). f.is_claimed) same j;
-} where
-  or-one : (b : Bool) → (b || true) ≡ true
-  or-one true = refl
-  or-one false = refl
-
-  sure : (pressed.is_sure || pressed.is_clean) ≡ true
-  sure = ap (λ (b : Bool). pressed.is_sure || b) (ap (λ (f : FileState). f.is_clean) same ∙ is) ∙ or-one pressed.is_sure

@@ -34,4 +34,5 @@ memory-words = record {
   not_dirty = λ it p is. ap (λ (b : Bool). if b then get_or it.cache.items p 0 else get_or it.device.items p 0) is;
   closed = λ file. refl;
   pressed = λ file octets. refl;
+  made = λ block. refl;
 }

@@ -1,5 +1,5 @@
 -- Octets in memory by their blocks, and what a file in memory keeps of them.
-use Rattle.std.specs.Prelude.{◌≡◌, ◌<◌, ◌*◌, ◌/◌, ◌%◌, ◌^◌, ◌==◌, ℕ, if◌then◌else◌, nat_lt, Bool, true, false, List}
+use Rattle.std.specs.Prelude.{◌≡◌, ◌<◌, ◌≤◌, ◌*◌, ◌/◌, ◌%◌, ◌^◌, ◌==◌, ℕ, if◌then◌else◌, nat_lt, Bool, true, false, List}
 use Rattle.std.specs.Prelude.{length, get_or}
 use Rattle.macs_disk.specs.Files.{FileState}
 use Rattle.macs_disk.specs.CallLists.{flag_at}
@@ -34,9 +34,13 @@ pub record IsKept (block : ℕ) (cache device durable : List ℕ) (dirty pending
   pub shown : (p : ℕ) → flag_in block pending p ≡ false → octet_at device p ≡ octet_at durable p
   pub fewer : (n : ℕ) → flag_at pending n ≡ false → flag_at dirty n ≡ false
   pub clean : is_clean ≡ true → (n : ℕ) → flag_at pending n ≡ false
-  -- while no sync has failed, reads give what is durable where nothing is pending, and all that is pending is dirty
-  pub seen : is_sure ≡ true → (p : ℕ) → flag_in block pending p ≡ false → octet_at cache p ≡ octet_at durable p
+  -- reads give what is durable where nothing is pending, and while no sync has failed all that is pending is dirty
+  pub seen : (p : ℕ) → flag_in block pending p ≡ false → octet_at cache p ≡ octet_at durable p
   pub all : is_sure ≡ true → (n : ℕ) → flag_at dirty n ≡ false → flag_at pending n ≡ false
+
+-- zeros from a place on
+abbrev pub EndsAt : ℕ → List ℕ → Type 0
+EndsAt size octets = (p : ℕ) → size ≤ p → octet_at octets p ≡ 0
 
 -- what a power loss leaves in the place of an octet of a pending block, where this one was durable and that one
 -- written. It lies in the first half of its block or not.

@@ -3,7 +3,7 @@
 use Rattle.std.proofs.Common.{◌≡◌, ◌<◌, ◌+◌, ◌*◌, ◌/◌, ℕ, Bool, List, ap, ◌∙◌, arith}
 use Rattle.std.proofs.Math.Nat.{div-eq_of_lt-le, mul_comm, add-mul}
 use Rattle.macs_disk.specs.Files.{IsSoundFile}
-use Rattle.macs_mem_file.specs.Blocks.{IsKept, file_in_memory}
+use Rattle.macs_mem_file.specs.Blocks.{EndsAt, IsKept, file_in_memory}
 use Rattle.macs_disk.specs.CallLists.{flag_at}
 
 -- the block of an octet
@@ -15,12 +15,13 @@ block-of block n k lt =
 
 pub memory-sound : (block size durable_size : ℕ) (cache device durable : List ℕ) (dirty pending : List Bool)
     (is_clean is_sure is_claimed : Bool)
-    → IsKept block cache device durable dirty pending is_clean is_sure
+    → IsKept block cache device durable dirty pending is_clean is_sure → EndsAt size cache
     → IsSoundFile (file_in_memory block size durable_size cache durable pending is_clean is_sure is_claimed)
-memory-sound block size durable_size cache device durable dirty pending is_clean is_sure is_claimed kept = record {
+memory-sound block size durable_size cache device durable dirty pending is_clean is_sure is_claimed kept ends = record {
   wide = kept.some;
   seen = kept.cache_octets;
   durable = kept.durable_octets;
   clean = kept.clean;
-  sure = λ sure n k clear lt. kept.seen sure (block * n + k) (ap (flag_at pending) (block-of block n k lt) ∙ clear);
+  shown = λ n k clear lt. kept.seen (block * n + k) (ap (flag_at pending) (block-of block n k lt) ∙ clear);
+  ended = ends;
 }

@@ -41,12 +41,27 @@ octets_in Octets4096 = 4096
 abbrev pub file_pressed : FileState → (ℕ → ℕ) → FileState
 file_pressed file octets = record file { seen = octets }
 
--- the file that its program let go of and opened again: it is not claimed, nor sure before it was synced and read again
+-- the file that its program let go of and opened again: it is not claimed, nor is it known whether a sync of it failed
 abbrev pub file_closed : FileState → FileState
 file_closed file = record file { is_sure = false; is_claimed = false }
 
--- the file that a power loss left with so many octets, and with these. It is not sure before it was synced and read
--- again.
+-- a file that was just made, on a device of such blocks: it is empty, and nothing of it is pending
+abbrev pub file_just_made : ℕ → FileState
+file_just_made block =
+    record {
+      behaves = true;
+      block = block;
+      size = 0;
+      is_size_durable = true;
+      seen = λ _. 0;
+      durable = λ _. 0;
+      pending = λ _. false;
+      is_clean = true;
+      is_sure = true;
+      is_claimed = false;
+    }
+
+-- the file that a power loss left with so many octets, and with these
 abbrev pub file_after_loss : FileState → ℕ → (ℕ → ℕ) → FileState
 file_after_loss file size octets =
     record {
@@ -58,6 +73,6 @@ file_after_loss file size octets =
       durable = octets;
       pending = λ _. false;
       is_clean = true;
-      is_sure = false;
+      is_sure = true;
       is_claimed = false;
     }

@@ -2,7 +2,8 @@
 use Rattle.std.specs.Prelude.{◌≡◌, ◌/◌, ◌==◌, ℕ, Bool, true, false, List, [], ◌∷◌, get_or, map}
 use Rattle.macs_disk.specs.Files.{FileState}
 use Rattle.macs_mem_file.specs.Blocks.{is_in_first_half, left_of, octet_left, size_left}
-use Rattle.macs_mem_file.specs.MemFiles.{file_after_loss, file_closed, file_of, file_pressed, octets_in, written_in}
+use Rattle.macs_mem_file.specs.MemFiles.{file_after_loss, file_closed, file_just_made, file_of, file_pressed, octets_in}
+use Rattle.macs_mem_file.specs.MemFiles.{written_in}
 use Rattle.macs_mem_file.specs.declared.blocks.DeviceBlock.TheVariants.{Octets512, Octets4096}
 use Rattle.macs_mem_file.specs.declared.blocks.Left.{Left}
 use Rattle.macs_mem_file.specs.declared.blocks.Left.TheVariants.{Durable, Written, Half, Zeros}
@@ -31,13 +32,14 @@ pub record LossWords : Type 0 where
     durable = octets;
     pending = λ _. false;
     is_clean = true;
-    is_sure = false;
+    is_sure = true;
     is_claimed = false;
   }
 
 -- A file in memory shows what its cache has, durably has what its device keeps, and has the blocks pending whose flags
 -- are up. A sync writes what the cache has where a block is dirty, and else what the device shows. A file that is
--- closed is not sure, nor claimed; pressure on memory changes nothing but what is shown.
+-- closed is in doubt, and not claimed; pressure on memory changes nothing but what is shown. A file that was just made
+-- is empty, durably so, sure, and not claimed.
 pub record MemoryWords (A : Type 0) : Type 0 where
   pub behaves : (it : MemFile A) → (file_of it).behaves ≡ true
   pub block : (it : MemFile A) → (file_of it).block ≡ it.block
@@ -55,3 +57,15 @@ pub record MemoryWords (A : Type 0) : Type 0 where
       → written_in it p ≡ get_or it.device.items p 0
   pub closed : (file : FileState) → file_closed file ≡ record file { is_sure = false; is_claimed = false }
   pub pressed : (file : FileState) (octets : ℕ → ℕ) → file_pressed file octets ≡ record file { seen = octets }
+  pub made : (block : ℕ) → file_just_made block ≡ record {
+    behaves = true;
+    block = block;
+    size = 0;
+    is_size_durable = true;
+    seen = λ _. 0;
+    durable = λ _. 0;
+    pending = λ _. false;
+    is_clean = true;
+    is_sure = true;
+    is_claimed = false;
+  }

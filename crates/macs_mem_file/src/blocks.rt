@@ -3,7 +3,7 @@
 ghost use Rattle.std.specs.Prelude.{◌≡◌, ◌<◌, ◌≤◌, ◌+◌, ◌*◌, ◌/◌, ◌^◌, ◌||◌, ℕ, nat_lt, not, false};
 ghost use Rattle.std.specs.Prelude.{true, length, take};
 ghost use Rattle.macs_disk.specs.Files.{has_some, put_from, values_from};
-ghost use Rattle.macs_mem_file.specs.Blocks.{are_octets, flag_in, is_in_first_half, left_of};
+ghost use Rattle.macs_mem_file.specs.Blocks.{EndsAt, are_octets, flag_in, is_in_first_half, left_of};
 ghost use Rattle.macs_mem_file.specs.Blocks.{octet_at, size_left};
 ghost use Rattle.macs_disk.specs.CallLists.{flag_at};
 
@@ -135,6 +135,19 @@ fn clear_part<A: Allocator>(to: &mut Vec<u8, A>, at: usize, end: usize)
 {
     for p in at..end {
         to[p] = 0;
+    }
+}
+
+/// Puts zeros from octet `at` on.
+pub(crate) fn cut<A: Allocator>(to: &mut Vec<u8, A>, at: u64)
+    ensures length { length to.new.items ≡ length to.old.items }
+    ensures cut { EndsAt at to.new.items }
+    ensures before { (p : ℕ) → p < at → octet_at to.new.items p ≡ octet_at to.old.items p }
+    ensures octets { are_octets to.old.items → are_octets to.new.items }
+{
+    let end = to.len();
+    if at < end as u64 {
+        clear_part(to, at as usize, end);
     }
 }
 

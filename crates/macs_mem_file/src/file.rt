@@ -1,11 +1,11 @@
 //! A file in memory that behaves.
 
 ghost use Rattle.std.specs.Prelude.{◌≡◌, ◌<◌, ◌≤◌, ◌*◌, ℕ, false, true, length, IfOk};
-ghost use Rattle.macs_mem_file.specs.Blocks.{IsKept};
+ghost use Rattle.macs_mem_file.specs.Blocks.{EndsAt, IsKept};
 
 use crate::blocks::{
-    DeviceBlock, Left, PAGE, clear, copy_blocks, dirty_from, dirty_to, fetch, keep_first, mark,
-    spoil, store,
+    DeviceBlock, Left, PAGE, clear, copy_blocks, cut, dirty_from, dirty_to, fetch, keep_first,
+    mark, spoil, store,
 };
 use crate::plan::{FileCall, Plan};
 use macs_disk::DiskFile;
@@ -20,10 +20,12 @@ use std::io::ErrorKind;
 /// sync writes the pages that are dirty to the device, and has the device make them durable. Where
 /// it fails the kernel takes the pages to be clean all the same: reads go on giving them, and no
 /// later sync writes them. The failure is reported once. Pages that are clean may be dropped at any
-/// moment, and are read from the device when they are next asked for.
+/// moment, and are read from the device when they are next asked for. After a sync that failed no
+/// block that was to be written is taken to be durable any more.
 ///
 /// A test chooses the call that fails, when memory is short and clean pages are dropped (`press`),
-/// when the program ends (`close`), and what a power loss leaves (`crash`).
+/// when the program ends (`close`), when another file is made in its place (`renew`), and what a
+/// power loss leaves (`crash`).
 #[derive(Drop)]
 pub struct MemFile<A: Allocator = Global> {
     /// What reads give.
@@ -35,14 +37,14 @@ pub struct MemFile<A: Allocator = Global> {
     /// By block of the device: the next sync writes it. While the file is sure, all else in a page
     /// is what the device has.
     dirty: Vec<bool, A>,
-    /// By block of the device: it was written since the last sync that succeeded.
+    /// By block of the device: it was written since the last sync that succeeded before any failed.
     pending: Vec<bool, A>,
     block: usize,
     size: u64,
     durable_size: u64,
     /// Nothing is pending.
     is_clean: bool,
-    /// The file was read again, and no sync has failed since.
+    /// No sync has failed.
     is_sure: bool,
     /// It was claimed since it was opened.
     is_claimed: bool,
@@ -55,10 +57,13 @@ pub struct MemFile<A: Allocator = Global> {
         is_clean is_sure },
     ghost fits: { size ≤ length cache.items },
     ghost grown: { durable_size ≤ size },
+    ghost ends: { EndsAt size cache.items },
+    ghost device_ends: { EndsAt size device.items },
+    ghost durable_ends: { EndsAt durable_size durable.items },
 }
 
 impl<A: Allocator + Copy> MemFile<A> {
-    ghost use Rattle.macs_disk.specs.Files.{Behaves};
+    ghost use Rattle.macs_disk.specs.Files.{Behaves, IsSure};
     ghost use Rattle.macs_mem_file.specs.MemFiles.{file_of, octets_in};
 
     /// An empty file with room for so many pages, on a device of such blocks. A call moves at most
@@ -72,6 +77,7 @@ impl<A: Allocator + Copy> MemFile<A> {
         ensures behaves { IfOk result (λ it. Behaves (file_of it)) }
         ensures block { IfOk result (λ it. (file_of it).block ≡ octets_in block) }
         ensures size { IfOk result (λ it. (file_of it).size ≡ 0) }
+        ensures sure { IfOk result (λ it. IsSure (file_of it)) }
     {
         let room = pages as usize * PAGE;
         let block = block.octets();
@@ -86,7 +92,7 @@ impl<A: Allocator + Copy> MemFile<A> {
             size: 0,
             durable_size: 0,
             is_clean: true,
-            is_sure: false,
+            is_sure: true,
             is_claimed: false,
             most,
             plan: Plan::none(),
@@ -99,8 +105,9 @@ impl<A: Allocator> MemFile<A> {
     ghost use Rattle.std.specs.Prelude.{◌≡◌, ◌<◌, ◌≤◌, ◌+◌, false, true, length, nat_lt, take};
     ghost use Rattle.macs_disk.specs.Files.{HasNothingNew, IsFileImage, IsSure, file_after_write};
     ghost use Rattle.macs_disk.specs.Files.{file_in_doubt, file_synced};
-    ghost use Rattle.macs_mem_file.specs.Blocks.{octet_at, octet_left, size_left};
-    ghost use Rattle.macs_mem_file.specs.MemFiles.{file_after_loss, file_closed, file_of};
+    ghost use Rattle.macs_mem_file.specs.Blocks.{EndsAt, octet_at, octet_left, size_left};
+    ghost use Rattle.macs_mem_file.specs.MemFiles.{file_after_loss, file_closed, file_just_made};
+    ghost use Rattle.macs_mem_file.specs.MemFiles.{file_of};
     ghost use Rattle.macs_mem_file.specs.MemFiles.{file_pressed, written_in};
     ghost use Rattle.macs_mem_file.specs.MemFiles.{blocks_reached_by, durable_size_of};
     ghost use Rattle.macs_mem_file.specs.MemFiles.{failing_call_of, failing_number_of};
@@ -149,13 +156,14 @@ impl<A: Allocator> MemFile<A> {
         self.is_clean = false;
     }
 
-    // Writes what is dirty to the device, which makes it durable.
+    // Writes what is dirty to the device, which makes it durable. Of a file in doubt what was
+    // pending stays so.
     fn flush(&mut self)
-        ensures synced { file_of self.new
-            ≡ file_synced (file_of self.old) (octet_at self.new.durable.items) }
-        ensures image { IsFileImage (file_of self.old) (octet_at self.new.durable.items) }
-        ensures sure { IsSure (file_of self.old) → (p : ℕ)
+        ensures sure { IsSure (file_of self.old)
+            → file_of self.new ≡ file_synced (file_of self.old) (octet_at self.new.durable.items) }
+        ensures shown { IsSure (file_of self.old) → (p : ℕ)
             → octet_at self.new.durable.items p ≡ octet_at self.old.cache.items p }
+        ensures doubt { self.new.is_sure ≡ self.old.is_sure }
     {
         copy_blocks(&mut self.device, &self.cache, &self.dirty, true, self.block);
         copy_blocks(
@@ -166,9 +174,11 @@ impl<A: Allocator> MemFile<A> {
             self.block,
         );
         clear(&mut self.dirty);
-        clear(&mut self.pending);
         self.durable_size = self.size;
-        self.is_clean = true;
+        if self.is_sure {
+            clear(&mut self.pending);
+            self.is_clean = true;
+        }
     }
 
     // Takes what is dirty to be written, though no more than some of it reached the device.
@@ -186,8 +196,6 @@ impl<A: Allocator> MemFile<A> {
         ensures same { file_of self.new ≡ file_pressed (file_of self.old) (file_of self.new).seen }
         ensures dropped { (p : ℕ) → (file_of self.new).seen p ≡ written_in self.old p }
         ensures sure { IsSure (file_of self.old) → file_of self.new ≡ file_of self.old }
-        ensures clean { (file_of self.old).is_clean ≡ true
-            → (p : ℕ) → (file_of self.new).seen p ≡ (file_of self.old).durable p }
     {
         copy_blocks(
             &mut self.cache,
@@ -217,10 +225,10 @@ impl<A: Allocator> MemFile<A> {
         ensures nothing_new { HasNothingNew (file_of self.old) (file_of self.new) }
         ensures size { (file_of self.old).is_size_durable ≡ true
             → (file_of self.new).size ≡ (file_of self.old).size }
-        ensures left { (p : ℕ) → (file_of self.new).durable p
+        ensures left { (p : ℕ) → p < (file_of self.new).size → (file_of self.new).durable p
             ≡ octet_left left (file_of self.old) (written_in self.old) p }
         ensures sure { IsSure (file_of self.old)
-            → (p : ℕ) → (file_of self.new).durable p
+            → (p : ℕ) → p < (file_of self.new).size → (file_of self.new).durable p
             ≡ octet_left left (file_of self.old) (file_of self.old).seen p }
         ensures length { (file_of self.new).size
             ≡ size_left left (file_of self.old).size (durable_size_of self.old) }
@@ -234,12 +242,32 @@ impl<A: Allocator> MemFile<A> {
             self.block,
             left,
         );
+        cut(&mut self.durable, size);
+        self.durable_size = size;
         self.boot(size);
+    }
+
+    /// The file is gone, and another one is made in its place: empty, durably so, and not claimed.
+    /// The call that is to fail, and what a failed sync reaches, stay as they were chosen.
+    pub fn renew(&mut self)
+        ensures { file_of self.new ≡ file_just_made (file_of self.old).block }
+    {
+        cut(&mut self.cache, 0);
+        cut(&mut self.device, 0);
+        cut(&mut self.durable, 0);
+        clear(&mut self.dirty);
+        clear(&mut self.pending);
+        self.size = 0;
+        self.durable_size = 0;
+        self.is_clean = true;
+        self.is_sure = true;
+        self.is_claimed = false;
     }
 
     // Shows what is durable, and nothing else.
     fn boot(&mut self, size: u64)
-        requires { size ≤ length self.old.cache.items }
+        requires fits { size ≤ length self.old.cache.items }
+        requires ends { EndsAt size self.old.durable.items }
         ensures { file_of self.new
             ≡ file_after_loss (file_of self.old) size (file_of self.old).durable }
     {
@@ -250,7 +278,7 @@ impl<A: Allocator> MemFile<A> {
         self.size = size;
         self.durable_size = size;
         self.is_clean = true;
-        self.is_sure = false;
+        self.is_sure = true;
         self.is_claimed = false;
     }
 }
@@ -267,7 +295,7 @@ impl<A: Allocator> DiskFile for MemFile<A> {
 
     ghost sound = { λ it _. memory-sound it.block it.size it.durable_size it.cache.items
         it.device.items it.durable.items it.dirty.items it.pending.items it.is_clean it.is_sure
-        it.is_claimed it.kept };
+        it.is_claimed it.kept it.ends };
 
     fn claim(&mut self) -> io::Result<()> {
         self.plan.pass(FileCall::Claim)?;
@@ -320,13 +348,5 @@ impl<A: Allocator> DiskFile for MemFile<A> {
             Err(_) => self.forget(),
         }
         answer
-    }
-
-    // A page with a block that is dirty stays in the cache, and so does the doubt.
-    fn reread(&mut self) -> io::Result<()> {
-        self.plan.pass(FileCall::Reread)?;
-        self.press();
-        self.is_sure |= self.is_clean;
-        Ok(())
     }
 }

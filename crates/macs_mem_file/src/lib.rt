@@ -4,11 +4,13 @@
 
 mod blocks;
 mod file;
+mod folder;
 pub mod laws;
 mod open;
 mod plan;
 
 pub use blocks::{DeviceBlock, Left};
 pub use file::MemFile;
+pub use folder::{MemFolder, make_disk, open_disk};
 pub use open::OpenMemFile;
 pub use plan::FileCall;

@@ -53,9 +53,5 @@ impl<A: Allocator> DiskFile for OpenMemFile<'_, A> {
         self.file()?.sync()
     }
 
-    fn reread(&mut self) -> io::Result<()> {
-        self.file()?.reread()
-    }
-
     ghost sound = { λ _ behaves. no-claim behaves };
 }

@@ -11,7 +11,6 @@ pub enum FileCall {
     Read,
     Write,
     Sync,
-    Reread,
 }
 
 /// Which call is to fail: this one of its kind, counted from 1. None where that is 0.

@@ -6,7 +6,7 @@ use Rattle.std.specs.Prelude.{IsErrOf}
 use Rattle.std.specs.declared.alloc.Global.{Global}
 use Rattle.macs_config.specs.Config.{this_edition}
 use Rattle.macs_disk.specs.Disk.{Disk, now}
-use Rattle.macs_disk.specs.Files.{Behaves, FileState, IsSure}
+use Rattle.macs_disk.specs.Files.{Behaves, FileState}
 use Rattle.macs_disk.specs.Layouts.{layout_in}
 use Rattle.macs_disk.specs.MemDisks.{disk_of}
 use Rattle.macs_disk.specs.States.{DiskState, Image}
@@ -158,15 +158,13 @@ printed-so state_of before after text shown said status is same (printed, ended)
 -- a copy was made, and then the layout was found
 pub laid-copy : (old new : FileState) (copy : MemDisk Global) (layout : Layout) → (Behaves old → new ≡ old)
     → (Behaves old → old.size % 512 ≡ 0)
-    → (Behaves old → least_sectors ≤ old.size / 512) → (Behaves old → IsSure old → IsCopy old (disk_of copy))
-    → (Behaves new → IsSure new → layout ≡ layout_in new) → IsLaidCopy old copy layout
+    → (Behaves old → least_sectors ≤ old.size / 512) → (Behaves old → IsCopy old (disk_of copy))
+    → (Behaves new → layout ≡ layout_in new) → IsLaidCopy old copy layout
 laid-copy old new copy layout same whole enough copied found = λ behaves. (
   whole behaves,
   enough behaves,
-  λ sure. (
-    copied behaves sure,
-    carried (λ (f : FileState). layout ≡ layout_in f) old new (same behaves) behaves sure found,
-  ),
+  copied behaves,
+  carried (λ (f : FileState). layout ≡ layout_in f) old new (same behaves) behaves found,
 )
 
 -- a layout that is not found for the length of the file is not found for its length before

@@ -9,8 +9,7 @@ use Rattle.macs_offline.specs.Failing.{failure_of_file, failure_status}
 use Rattle.macs_offline.specs.declared.failure.DiskFault.{DiskFault}
 use Rattle.macs_offline.specs.declared.failure.DiskFault.TheVariants as disk_faults
 use Rattle.macs_offline.specs.declared.failure.Failure.{Failure}
-use Rattle.macs_offline.specs.declared.failure.Failure.TheVariants.{Capture, Commands, Control, Disk, Memory, Output}
-use Rattle.macs_offline.specs.declared.failure.Failure.TheVariants.{Wire}
+use Rattle.macs_offline.specs.declared.failure.Failure.TheVariants.{Capture, Commands, Disk, Memory, Output}
 use Rattle.macs_offline.specs.declared.status.Status.TheVariants.{Usage}
 
 -- ---- want of memory, or one other failure
@@ -34,15 +33,6 @@ capture-no-output failure (inr same) is = let e = sym same ∙ is in cc
 pub capture-no-usage : (failure : Failure) → MemoryOr Capture failure → failure_status failure ≢ Usage
 capture-no-usage failure (inl memory) is = let e = ap failure_status (sym memory) ∙ is in cc
 capture-no-usage failure (inr same) is = let e = ap failure_status (sym same) ∙ is in cc
-
--- want of memory, a wire or a control socket
-abbrev pub IsOfSocket : Failure → Type 0
-IsOfSocket failure = (failure ≡ Memory) ⊎ (failure ≡ Wire) ⊎ (failure ≡ Control)
-
-pub socket-no-output : (failure : Failure) → IsOfSocket failure → failure ≢ Output
-socket-no-output failure (inl memory) is = let e = sym memory ∙ is in cc
-socket-no-output failure (inr (inl wire)) is = let e = sym wire ∙ is in cc
-socket-no-output failure (inr (inr control)) is = let e = sym control ∙ is in cc
 
 pub output-no-usage : (failure : Failure) → MemoryOr Output failure → failure_status failure ≢ Usage
 output-no-usage failure (inl memory) is = let e = ap failure_status (sym memory) ∙ is in cc

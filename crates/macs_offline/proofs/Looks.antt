@@ -1,13 +1,13 @@
 -- What is at places of a file that are looked at one after the other.
 use Rattle.std.proofs.Common.{◌≡◌, ◌⊎◌, ◌↔◌, inl, inr, ℕ, zero, suc, Bool, true, false, IsTrue, arith, subst, sym}
-use Rattle.macs_disk.specs.Files.{Behaves, FileState, IsSure}
+use Rattle.macs_disk.specs.Files.{Behaves, FileState}
 use Rattle.macs_journal.specs.Areas.{IsArea}
 
 -- what is known of a file after a call that left it alone
-pub carried : (Q : FileState → Type 0) (old new : FileState) → new ≡ old → Behaves old → IsSure old
-    → (Behaves new → IsSure new → Q new) → Q old
-carried Q old new same behaves sure known =
-    subst Q same (known (subst Behaves (sym same) behaves) (subst IsSure (sym same) sure))
+pub carried : (Q : FileState → Type 0) (old new : FileState) → new ≡ old → Behaves old
+    → (Behaves new → Q new) → Q old
+carried Q old new same behaves known =
+    subst Q same (known (subst Behaves (sym same) behaves))
 
 -- one of two holds, where the first is known not to
 pub either_holds : {A B : Type 0} (first second : Bool) → (IsTrue first ↔ A) → (IsTrue second ↔ B) → first ≡ false

@@ -172,6 +172,21 @@ of-trial state_of end commands failure (inr (inl (file, fails))) = inl (copy-fai
 of-trial state_of end commands failure (inr (inr (file, copy, is_copy, ends))) =
     ends-on _ copy end commands failure ends
 
+-- where no file says whom it is for, want of memory or a fault of the disk
+pub of-look : {F : Type 0} (state_of : F → FileState) (commands : List Command) (failure : Failure)
+    → TrialFails state_of None commands failure
+    → IsOfDisk failure
+of-look state_of commands failure (inl (fault, is, whole, device)) = of-file fault failure is
+of-look state_of commands failure (inr (inl (file, fails))) = copy-fails (state_of file) failure fails
+of-look state_of commands failure (inr (inr (file, copy, is_copy, inl (left, fault, refuses, is)))) =
+    in-memory (disk.Journal fault) failure is
+of-look state_of commands failure (inr (inr (file, copy, is_copy, inr (old, opens, inl (other, named))))) =
+    absurd (let clash : true ≡ false = named in cc)
+of-look state_of commands failure (inr (inr (file, copy, is_copy, inr (old, opens, inr (own, inl memory))))) =
+    inl memory
+of-look state_of commands failure (inr (inr (file, copy, is_copy, inr (old, opens, inr (own, inr stops))))) =
+    in-memory stops.ends.0 failure stops.ends.5
+
 -- what is to be printed of a trial is not
 pub trial-ended : {F : Type 0} (state_of : F → FileState) (left_in : F → Option (List ℕ)) (given : Bor Text)
     (octets : List ℕ) (end : Option (List ℕ)) (commands : List Command) (failure : Failure)

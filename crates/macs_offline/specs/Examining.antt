@@ -8,7 +8,7 @@ use Rattle.std.specs.declared.alloc.Global.{Global}
 use Rattle.hex.specs.Hex.{encode_lower}
 use Rattle.macs_config.specs.Config.{Config, this_edition}
 use Rattle.macs_disk.specs.Disk.{Disk, now}
-use Rattle.macs_disk.specs.Files.{Behaves, FileState, IsSure}
+use Rattle.macs_disk.specs.Files.{Behaves, FileState}
 use Rattle.macs_disk.specs.Layouts.{layout_in}
 use Rattle.macs_disk.specs.MemDisks.{disk_of}
 use Rattle.macs_disk.specs.States.{Image}
@@ -143,7 +143,7 @@ IsNotExamined copy failure =
 abbrev pub IsLaidCopy : FileState → MemDisk Global → Layout → Type 0
 IsLaidCopy file copy layout =
     Behaves file → (file.size % 512 ≡ 0) × (least_sectors ≤ file.size / 512)
-    × (IsSure file → IsCopy file (disk_of copy) × (layout ≡ layout_in file))
+    × IsCopy file (disk_of copy) × (layout ≡ layout_in file)
 
 -- this is said of the disk in a file, and the run ends so
 pub record ExaminesIn {F : Type 0} (state_of : F → FileState) (text : List ℕ) (status : Status) : Type 0 where

@@ -1,7 +1,7 @@
 -- The endpoint that a subcommand opens on a disk in a file.
 use Rattle.std.specs.Prelude.{◌≡◌, ◌⊎◌, Result}
-use Rattle.macs_disk.specs.FileDisks.{IsFresh, IsOpened, disk_in_file, file_given, layout_of}
-use Rattle.macs_disk.specs.Files.{Behaves, FileState}
+use Rattle.macs_disk.specs.FileDisks.{IsFresh, IsMadeWell, IsOpened, disk_in_file, file_given, file_made, layout_of}
+use Rattle.macs_disk.specs.Files.{FileState}
 use Rattle.macs_disk.specs.declared.file.FileDisk.{FileDisk}
 use Rattle.macs_disk.specs.declared.file_fault.FileFault.{FileFault}
 use Rattle.macs_endpoint.specs.Opening.{IsOpening, Opens, RefusesOpening}
@@ -11,9 +11,9 @@ use Rattle.macs_journal.specs.declared.recovery.RecoverRefused.{RecoverRefused}
 use Rattle.macs_offline.specs.Failing.{failure_of_file, failure_of_journal}
 use Rattle.macs_offline.specs.declared.failure.Failure.{Failure}
 
--- a disk was opened in a file as long as it is, where this is what a file is, and no call of it was made yet
+-- a disk was opened in a copy of a file, as long as it is, where this is what a file is, and no call of it was made yet
 pub record IsDiskIn {F : Type 0} (file : F → FileState) (disk : FileDisk F) : Type 0 where
-  pub known : Behaves (file (file_given disk))
+  pub known : IsMadeWell file (file_given disk) (file_made disk)
       → IsOpened (file (file_given disk)) 0 (layout_of disk) (disk_in_file file disk)
   pub fresh : IsFresh (disk_in_file file disk)
 

@@ -8,7 +8,7 @@ use Rattle.std.specs.declared.alloc.Global.{Global}
 use Rattle.macs_config.specs.declared.command.Command.{Command}
 use Rattle.macs_config.specs.declared.refusal.Refusal.{Refusal}
 use Rattle.macs_disk.specs.Disk.{Disk}
-use Rattle.macs_disk.specs.Files.{Behaves, FileState, IsSure}
+use Rattle.macs_disk.specs.Files.{Behaves, FileState}
 use Rattle.macs_disk.specs.MemDisks.{disk_of}
 use Rattle.macs_disk.specs.declared.memory.MemDisk.{MemDisk}
 use Rattle.macs_endpoint.specs.Calls.{IsCall}
@@ -111,7 +111,7 @@ EndsOn {D} disk_of copy end commands failure =
 abbrev pub IsCopyIn : {F : Type 0} → (F → FileState) → F → MemDisk Global → Type 0
 IsCopyIn state_of file copy =
     Behaves (state_of file) → ((state_of file).size % 512 ≡ 0) × (least_sectors ≤ (state_of file).size / 512)
-    × (IsSure (state_of file) → IsCopy (state_of file) (disk_of copy))
+    × IsCopy (state_of file) (disk_of copy)
 
 -- the commands are given to the endpoint on a copy of the disk in a file
 pub record TriesIn {F : Type 0} (state_of : F → FileState) (end : Option (List ℕ)) (commands : List Command)

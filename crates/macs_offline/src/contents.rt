@@ -1,9 +1,10 @@
 //! What is in a file before it is written over.
 
-ghost use Rattle.std.specs.Prelude.{◌≡◌, ◌↔◌, ◌<◌, ◌+◌, ◌*◌, ◌/◌, ◌^◌, IfErr, IfOk, IsTrue, OnOk};
+ghost use Rattle.std.specs.Prelude.{◌≡◌, ◌↔◌, ◌<◌, ◌≤◌, ◌+◌, ◌*◌, ◌/◌, ◌^◌, IfErr, IfOk, IsTrue};
+ghost use Rattle.std.specs.Prelude.{OnOk, ℕ};
 ghost use Rattle.std.specs.IoError.{error_kind};
 ghost use Rattle.macs_disk.specs.FileFailures.{MoveFails, Reads};
-ghost use Rattle.macs_disk.specs.Files.{Behaves, IsSure};
+ghost use Rattle.macs_disk.specs.Files.{Behaves, HasZeros};
 ghost use Rattle.macs_journal.specs.Areas.{least_sectors};
 ghost use Rattle.macs_record.specs.Heads.{Head, IsHeadOf};
 ghost use Rattle.macs_record.specs.Sectors.{Begins};
@@ -31,6 +32,9 @@ const OPEN_MARK: &[u8; 8] = b"MSECOPEN";
 /// The sector that has the mark of a spaced file: 1,028 blocks are in front of it.
 pub const SPACED_MARK_SECTOR: u64 = 8_224;
 
+/// How many sectors of a file are read before it is asked again where its next hole ends.
+const HOLE_SECTORS: u64 = 128;
+
 /// What is in a file that is to become the disk of an endpoint.
 #[derive(Clone, Copy, Debug, PartialEq, Eq)]
 pub enum Contents {
@@ -51,7 +55,7 @@ pub fn read_sector<F: DiskFile>(
     requires { 512 * number + 512 < 2 ^ 64 }
     ensures steady { (F.file file.new).behaves ≡ (F.file file.old).behaves }
     ensures same { Behaves (F.file file.old) → F.file file.new ≡ F.file file.old }
-    ensures octets { Behaves (F.file file.old) → IsSure (F.file file.old)
+    ensures octets { Behaves (F.file file.old)
         → OnOk result (sector.new ≡ sector_in (F.file file.old) number) }
     ensures cause { IfErr result
         (λ error. MoveFails (F.failures file.old) (F.failures file.new) Reads (error_kind error)) }
@@ -76,7 +80,7 @@ pub fn begins<F: DiskFile>(
     requires { 512 * sectors < 2 ^ 64 }
     ensures steady { (F.file file.new).behaves ≡ (F.file file.old).behaves }
     ensures same { Behaves (F.file file.old) → F.file file.new ≡ F.file file.old }
-    ensures found { Behaves (F.file file.old) → IsSure (F.file file.old)
+    ensures found { Behaves (F.file file.old)
         → IfOk result (λ is. IsTrue is ↔ HasFront (F.file file.old) sectors number front.now) }
 {
     if number >= sectors {
@@ -98,7 +102,7 @@ fn begins_in_either<F: DiskFile>(
     requires within { at < least_sectors }
     ensures steady { (F.file file.new).behaves ≡ (F.file file.old).behaves }
     ensures same { Behaves (F.file file.old) → F.file file.new ≡ F.file file.old }
-    ensures found { Behaves (F.file file.old) → IsSure (F.file file.old)
+    ensures found { Behaves (F.file file.old)
         → IfOk result (λ is. IsTrue is ↔ HasFrontInEither (F.file file.old) sectors at front.now) }
 {
     let is_packed = begins(file, sectors, at, front)?;
@@ -111,7 +115,7 @@ fn has_open_gate<F: DiskFile>(file: &mut F, sectors: u64) -> io::Result<bool>
     requires { 512 * sectors < 2 ^ 64 }
     ensures steady { (F.file file.new).behaves ≡ (F.file file.old).behaves }
     ensures same { Behaves (F.file file.old) → F.file file.new ≡ F.file file.old }
-    ensures found { Behaves (F.file file.old) → IsSure (F.file file.old)
+    ensures found { Behaves (F.file file.old)
         → IfOk result (λ is. IsTrue is ↔ HasOpenGate (F.file file.old) sectors) }
 {
     let [first, second] = HEAD_GATES;
@@ -125,7 +129,7 @@ fn has_head_mark<F: DiskFile>(file: &mut F, sectors: u64) -> io::Result<bool>
     requires { 512 * sectors < 2 ^ 64 }
     ensures steady { (F.file file.new).behaves ≡ (F.file file.old).behaves }
     ensures same { Behaves (F.file file.old) → F.file file.new ≡ F.file file.old }
-    ensures found { Behaves (F.file file.old) → IsSure (F.file file.old)
+    ensures found { Behaves (F.file file.old)
         → IfOk result (λ is. IsTrue is ↔ HasHeadMark (F.file file.old) sectors) }
 {
     let [first, second] = HEADS;
@@ -182,20 +186,42 @@ fn is_unused(number: u64, sector: &[u8; SECTOR]) -> bool
     is_part_of(sector, &leftover(number))
 }
 
+/// The first sector from this one on that may have others than zeros. Holes of the file are looked
+/// for in front of each block of `HOLE_SECTORS`.
+fn next_data<F: DiskFile>(file: &mut F, number: u64) -> u64
+    requires { 512 * number < 2 ^ 64 }
+    ensures after { number ≤ result }
+    ensures steady { (F.file file.new).behaves ≡ (F.file file.old).behaves }
+    ensures same { Behaves (F.file file.old) → F.file file.new ≡ F.file file.old }
+    ensures zeros { Behaves (F.file file.old) → (k : ℕ) → number ≤ k → k < result
+        → HasZeros (F.file file.old) (512 * k) (512 * k + 512) }
+{
+    if number % HOLE_SECTORS != 0 {
+        return number;
+    }
+    file.zeros_end(SECTOR as u64 * number) / SECTOR as u64
+}
+
 /// Whether all sectors of a file are unused.
 fn is_blank<F: DiskFile>(file: &mut F, sectors: u64) -> io::Result<bool>
     requires { 512 * sectors < 2 ^ 64 }
     ensures steady { (F.file file.new).behaves ≡ (F.file file.old).behaves }
     ensures same { Behaves (F.file file.old) → F.file file.new ≡ F.file file.old }
-    ensures found { Behaves (F.file file.old) → IsSure (F.file file.old)
+    ensures found { Behaves (F.file file.old)
         → IfOk result (λ is. IsTrue is ↔ IsBlankFile (F.file file.old) sectors) }
 {
     let mut sector = CLOSED_GATE;
-    for number in 0..sectors {
+    let mut number = 0;
+    for _round in 0..sectors {
+        number = next_data(file, number);
+        if number >= sectors {
+            return Ok(true);
+        }
         read_sector(file, number, &mut sector)?;
         if !is_unused(number, &sector) {
             return Ok(false);
         }
+        number += 1;
     }
     Ok(true)
 }
@@ -205,7 +231,7 @@ pub fn contents_of<F: DiskFile>(file: &mut F, sectors: u64) -> io::Result<Conten
     requires { 512 * sectors < 2 ^ 64 }
     ensures steady { (F.file file.new).behaves ≡ (F.file file.old).behaves }
     ensures same { Behaves (F.file file.old) → F.file file.new ≡ F.file file.old }
-    ensures are { Behaves (F.file file.old) → IsSure (F.file file.old)
+    ensures are { Behaves (F.file file.old)
         → IfOk result (ContentsAre (F.file file.old) sectors) }
 {
     if has_open_gate(file, sectors)? {
@@ -222,7 +248,7 @@ pub fn contents_of<F: DiskFile>(file: &mut F, sectors: u64) -> io::Result<Conten
 pub fn holds_endpoint<F: DiskFile>(file: &mut F) -> io::Result<bool>
     ensures steady { (F.file file.new).behaves ≡ (F.file file.old).behaves }
     ensures same { Behaves (F.file file.old) → F.file file.new ≡ F.file file.old }
-    ensures holds { Behaves (F.file file.old) → IsSure (F.file file.old)
+    ensures holds { Behaves (F.file file.old)
         → IfOk result
         (λ is. IsTrue is ↔ HoldsEndpoint (F.file file.old) ((F.file file.old).size / 512)) }
 {

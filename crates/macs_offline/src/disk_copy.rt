@@ -5,7 +5,7 @@ ghost use Rattle.std.specs.Prelude.{IsErrOf, OnOk};
 ghost use Rattle.std.specs.declared.io.ErrorKind.{ErrorKind};
 ghost use Rattle.macs_disk.specs.Disk.{now};
 ghost use Rattle.macs_disk.specs.FileFailures.{MeasureFails, MoveFails, NoneFailed, Reads};
-ghost use Rattle.macs_disk.specs.Files.{Behaves, IsSure};
+ghost use Rattle.macs_disk.specs.Files.{Behaves};
 ghost use Rattle.macs_disk.specs.Layouts.{layout_in};
 ghost use Rattle.macs_disk.specs.MemDisks.{disk_of};
 ghost use Rattle.macs_disk.specs.States.{state_after_write};
@@ -57,7 +57,7 @@ pub fn find_layout<F: DiskFile>(file: &mut F, sectors: u64) -> io::Result<Layout
     requires { 512 * sectors < 2 ^ 64 }
     ensures steady { (F.file file.new).behaves ≡ (F.file file.old).behaves }
     ensures same { Behaves (F.file file.old) → F.file file.new ≡ F.file file.old }
-    ensures found { Behaves (F.file file.old) → IsSure (F.file file.old)
+    ensures found { Behaves (F.file file.old)
         → sectors ≡ (F.file file.old).size / 512
         → IfOk result (λ layout. layout ≡ layout_in (F.file file.old)) }
 {
@@ -91,7 +91,7 @@ fn copy_sector<F: DiskFile>(
     ensures steady { (F.file file.new).behaves ≡ (F.file file.old).behaves }
     ensures same { Behaves (F.file file.old) → F.file file.new ≡ F.file file.old }
     ensures room { (disk_of copy.new).sectors ≡ least_sectors }
-    ensures copied { Behaves (F.file file.old) → IsSure (F.file file.old)
+    ensures copied { Behaves (F.file file.old)
         → OnOk result (now (disk_of copy.new)
         ≡ state_after_write (now (disk_of copy.old))
         at (sector_in (F.file file.old) (number_of layout at))) }
@@ -118,7 +118,7 @@ fn copy_sectors<F: DiskFile>(
     requires { (disk_of copy.old).sectors ≡ least_sectors }
     ensures steady { (F.file file.new).behaves ≡ (F.file file.old).behaves }
     ensures same { Behaves (F.file file.old) → F.file file.new ≡ F.file file.old }
-    ensures copied { Behaves (F.file file.old) → IsSure (F.file file.old)
+    ensures copied { Behaves (F.file file.old)
         → layout ≡ layout_in (F.file file.old)
         → OnOk result (IsCopy (F.file file.old) (disk_of copy.new)) }
     ensures failed { IfErr result (λ fault. fault ≢ FileFault.Length) }
@@ -144,7 +144,7 @@ fn blank_copy(alloc: Global) -> Result<MemDisk, FileFault>
 fn copy_disk<F: DiskFile>(alloc: Global, file: &mut F, sectors: u64) -> Result<MemDisk, FileFault>
     requires { 512 * sectors < 2 ^ 64 }
     ensures same { Behaves (F.file file.old) → F.file file.new ≡ F.file file.old }
-    ensures copied { Behaves (F.file file.old) → IsSure (F.file file.old)
+    ensures copied { Behaves (F.file file.old)
         → sectors ≡ (F.file file.old).size / 512
         → IfOk result (λ copy. IsCopy (F.file file.old) (disk_of copy)) }
     ensures failed { IfErr result (λ fault. fault ≢ FileFault.Length) }
@@ -164,7 +164,7 @@ fn copy_disk<F: DiskFile>(alloc: Global, file: &mut F, sectors: u64) -> Result<M
 /// sector cannot be read; and as `Memory`.
 pub fn copy_of<F: CaptureFile>(alloc: Global, file: &mut F) -> Result<MemDisk, Failure>
     ensures same { Behaves (F.file file.old) → F.file file.new ≡ F.file file.old }
-    ensures copied { Behaves (F.file file.old) → IsSure (F.file file.old)
+    ensures copied { Behaves (F.file file.old)
         → IfOk result (λ copy. IsCopy (F.file file.old) (disk_of copy)) }
     ensures whole { Behaves (F.file file.old) → OnOk result ((F.file file.old).size % 512 ≡ 0) }
     ensures enough { Behaves (F.file file.old)

@@ -5,7 +5,7 @@ ghost use Rattle.std.specs.Prelude.{List, string_bytes};
 ghost use Rattle.std.specs.declared.alloc.Global.{Global};
 ghost use Rattle.macs_config.specs.Config.{this_edition};
 ghost use Rattle.macs_disk.specs.Disk.{now};
-ghost use Rattle.macs_disk.specs.Files.{Behaves, IsSure};
+ghost use Rattle.macs_disk.specs.Files.{Behaves};
 ghost use Rattle.macs_disk.specs.Layouts.{layout_in};
 ghost use Rattle.macs_disk.specs.MemDisks.{disk_of};
 ghost use Rattle.macs_disk.specs.declared.file_fault.FileFault.{FileFault};
@@ -204,7 +204,7 @@ fn examine_copy(alloc: Global, layout: Layout, copy: MemDisk) -> Result<Said, Fa
 
 /// How the disk in a file of whole sectors lies there.
 fn layout_of<F: CaptureFile>(file: &mut F) -> Result<Layout, FileFault>
-    ensures found { Behaves (F.file file.old) → IsSure (F.file file.old)
+    ensures found { Behaves (F.file file.old)
         → IfOk result (λ layout. layout ≡ layout_in (F.file file.old)) }
     ensures length { IsErrOf result FileFault.Length → Behaves (F.file file.old)
         → (F.file file.old).size % 512 ≢ 0 }

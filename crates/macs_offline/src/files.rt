@@ -4,7 +4,7 @@ ghost use Rattle.std.specs.Prelude.{◌≡◌, ◌≢◌, ◌⊎◌, ◌/◌, fa
 ghost use Rattle.std.specs.Prelude.{IfOk, IfSome, OnErr, OnOk};
 ghost use Rattle.std.specs.Io.Buffered.{reader_buffer, reader_capacity, reader_inner};
 ghost use Rattle.std.specs.Io.Buffered.{writer_buffer, writer_inner};
-ghost use Rattle.macs_disk.specs.Files.{Behaves, IsSure, file_claimed, file_cut};
+ghost use Rattle.macs_disk.specs.Files.{Behaves, file_claimed, file_cut};
 ghost use Rattle.std.specs.IoError.{error_kind};
 ghost use Rattle.std.specs.declared.io.ErrorKind.TheVariants.{OutOfMemory};
 ghost use Rattle.macs_offline.specs.Applying.{SaidByFile, SaysCommands};
@@ -75,7 +75,7 @@ pub fn open_regular<T: Files>(rt: &T, path: &str) -> io::Result<T::File> {
 
 /// The disk in a file. It fails as `Memory`, or as `Disk` with `File` or `Length`, where the file
 /// is no disk, or standard output goes there.
-pub fn open_disk<T: Files>(rt: &T, path: &str) -> Result<FileDisk<T::File>, Failure>
+pub fn open_disk<T: Files>(rt: &T, alloc: Global, path: &str) -> Result<FileDisk<T::File>, Failure>
 where
     T::File: DiskFile,
     ensures disk { IfOk result (IsDiskIn T.File.file) }
@@ -87,7 +87,7 @@ where
     if is_printed_to(rt, path) {
         return Err(Failure::Disk(DiskFault::File));
     }
-    let disk = FileDisk::open(rt, path)?;
+    let disk = FileDisk::open(rt, alloc, path)?;
     Ok(disk)
 }
 
@@ -240,7 +240,7 @@ fn cut_output<F: CaptureFile>(file: &mut F) -> io::Result<()>
         → OnErr result (file_claimed (F.file file.new) ≡ file_claimed (F.file file.old)) }
     ensures cut { Behaves (F.file file.old)
         → OnOk result (F.file file.new ≡ file_cut (file_claimed (F.file file.old))) }
-    ensures free { Behaves (F.file file.old) → IsSure (F.file file.old)
+    ensures free { Behaves (F.file file.old)
         → OnOk result (¬ HoldsEndpoint (F.file file.old) ((F.file file.old).size / 512)) }
 {
     file.claim()?;

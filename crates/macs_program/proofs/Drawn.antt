@@ -370,10 +370,10 @@ file-words file = record {
   shown = λ before after s. (s.endpoint, s.printed);
   passed = λ side summary p.
       (p.endpoint, p.passes.source, p.passes.source_left, p.passes.sink, p.passes.sink_left, p.passes.passes);
-  formatted = λ is_over layout identity f. (f.made, f.formats);
+  formatted = λ is_over layout identity f. (f.free, f.makes);
   not_formatted = λ is_over identity failure is. is;
   not_blank = λ is_over given failure is. is;
-  taken = λ is_over given fault t. (t.settles, taken_for is_over t.settled (given.size / 512) fault t.permits);
+  taken = λ is_over given fault t. taken_for is_over given (given.size / 512) fault t;
 }
 
 -- ---- what is printed

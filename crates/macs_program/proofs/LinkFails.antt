@@ -1,6 +1,6 @@
 -- A link that is refused is a failure of `plan` alone, whose words are taken.
-use Rattle.std.proofs.Common.{◌≡◌, ◌≢◌, inl, inr, ℕ, Bool, true, false, List, Option, Some, None, Result, Ok, Err}
-use Rattle.std.proofs.Common.{refl, subst}
+use Rattle.std.proofs.Common.{◌≡◌, ◌≢◌, inl, inr, ℕ, Bool, true, false, List, [], Option, Some, None, Result, Ok}
+use Rattle.std.proofs.Common.{Err, refl, subst}
 use Rattle.std.specs.Borrow.{Bor}
 use Rattle.clap.specs.Words.{Text, subcommand_of, takes}
 use Rattle.macs_config.specs.Identity.{Identity}
@@ -34,7 +34,7 @@ use Rattle.macs_words.specs.declared.plan_words.PlanStage.{PlanStage}
 use Rattle.macs_offline.proofs.Examined.{of-examination}
 use Rattle.macs_offline.proofs.Failures.{IsOfDisk, of-file, of-opening}
 use Rattle.macs_offline.proofs.Inspected.{of-inspecting}
-use Rattle.macs_offline.proofs.Tried.{IsOfTrial, of-trial}
+use Rattle.macs_offline.proofs.Tried.{IsOfTrial, of-look, of-trial}
 use Rattle.macs_offline.specs.Applying.{EndsRun}
 use Rattle.macs_program.specs.Capturing.{EndsPass, EndsWith}
 use Rattle.macs_offline.specs.Checking.{CheckFails}
@@ -44,7 +44,7 @@ use Rattle.macs_program.specs.Inputs.{InputRead}
 use Rattle.macs_offline.specs.Inspecting.{InspectFails}
 use Rattle.macs_program.specs.Judging.{EndsEach, JudgingEnds}
 use Rattle.macs_program.specs.NewDisks.{FormatFails}
-use Rattle.macs_program.specs.Relaying.{Course, EndsRelay, RelayEnds, course_of, new_wire}
+use Rattle.macs_program.specs.Relaying.{Course, EndsRelay, IsUnbound, RelayEnds, course_of, new_wire}
 use Rattle.macs_program.specs.Run.{FailsAs, FailsFor, OpenFails}
 use Rattle.macs_offline.specs.declared.addresses.AddressFault.{AddressFault}
 use Rattle.macs_offline.specs.declared.failure.DiskFault.{DiskFault}
@@ -138,7 +138,8 @@ formats : {F : Type 0} (file : F → FileState) (is_over : Bool) (identity : Ide
 formats file is_over identity refusal (inl (fault, is)) = no-file refusal fault is
 formats file is_over identity refusal (inr (inl (given, inl (fault, is)))) = no-file refusal fault is
 formats file is_over identity refusal (inr (inl (given, inr (fault, is, held)))) = no-disk refusal fault is
-formats file is_over identity refusal (inr (inr (blank, left, fault, is, formatted))) =
+formats file is_over identity refusal (inr (inr (inl (fault, is)))) = no-file refusal fault is
+formats file is_over identity refusal (inr (inr (inr (blank, left, fault, is, formatted)))) =
     no-disk refusal (disk_faults.Journal fault) is
 
 ends-run : {D : Type 0} (disk_of : D → Disk) (refusal : LinkRefusal) (old new : EndpointValue D) (command : Command)
@@ -193,10 +194,16 @@ ends-relay disk_of course refusal old new controlled common (inr (is, summary, r
 relay-ends : {D : Type 0} (disk_of : D → Disk) (course : Course) (refusal : LinkRefusal) (old new : EndpointValue D)
     → RelayEnds disk_of course old (failures.Link refusal) new → ⊥
 relay-ends disk_of course refusal old new (inl (inl is, same)) = no-memory refusal is
-relay-ends disk_of course refusal old new (inl (inr (inl is), same)) = no-wire refusal is
-relay-ends disk_of course refusal old new (inl (inr (inr is), same)) = no-control refusal is
+relay-ends disk_of course refusal old new (inl (inr is, same)) = no-control refusal is
 relay-ends disk_of course refusal old new (inr stops) = ends-relay disk_of course refusal
     (relay_of old new_wire new_wire empty_lane empty_lane) new stops.controlled stops.common stops.ends
+
+not-unbound : {F : Type 0} (state_of : F → FileState) (refusal : LinkRefusal)
+    → IsUnbound state_of (failures.Link refusal) → ⊥
+not-unbound state_of refusal (inl (inl is, tries)) = no-memory refusal is
+not-unbound state_of refusal (inl (inr is, tries)) = no-wire refusal is
+not-unbound state_of refusal (inr fails) =
+    not-of-disk refusal (of-look state_of [] (failures.Link refusal) fails)
 
 inspects : (refusal : LinkRefusal) (before after : Option (List ℕ))
     → InspectFails before after (failures.Link refusal) → ⊥
@@ -245,9 +252,11 @@ module _ {F : Type 0} (state_of : F → FileState) (left_in : F → Option (List
   planned (Validate disk taken to is_all true) (inr ends) =
       absurd (judging-ends (disk_in_file state_of) refusal ends.old ends.new ends.ends)
   planned (Relays disk controlled common running) (inl (fault, is, first)) = absurd (no-address refusal fault is)
-  planned (Relays disk controlled common running) (inr (inl fails)) =
+  planned (Relays disk controlled common running) (inr (inl unbound)) =
+      absurd (not-unbound state_of refusal unbound)
+  planned (Relays disk controlled common running) (inr (inr (inl fails))) =
       absurd (not-of-disk refusal (of-opening state_of (failures.Link refusal) fails))
-  planned (Relays disk controlled common running) (inr (inr ends)) =
+  planned (Relays disk controlled common running) (inr (inr (inr ends))) =
       absurd (relay-ends (disk_in_file state_of) (course_of running) refusal ends.old ends.new ends.ends)
   planned (Ask path asked) is = absurd is
   planned (Key is_long) is = absurd is

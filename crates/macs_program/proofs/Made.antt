@@ -4,7 +4,7 @@ use Rattle.std.proofs.Common.{Err, IfErr, IfOk, refl, subst, sym}
 use Rattle.std.specs.Io.KnownBytes.{Appends}
 use Rattle.std.specs.Prelude.{codes}
 use Rattle.macs_config.specs.Identity.{Identity}
-use Rattle.macs_disk.specs.Files.{FileState, Settles}
+use Rattle.macs_disk.specs.Files.{FileState, file_claimed}
 use Rattle.macs_disk.specs.declared.file_fault.FileFault.{FileFault}
 use Rattle.macs_disk.specs.declared.file_fault.FileFault.TheVariants as file_faults
 use Rattle.macs_disk.specs.declared.layout.Layout.{Layout}
@@ -13,7 +13,7 @@ use Rattle.macs_journal.specs.declared.fault.JournalFault.TheVariants as journal
 use Rattle.macs_offline.proofs.FirstFault.{first-holds}
 use Rattle.macs_offline.proofs.Failures.{IsOfDisk, disk-no-output}
 use Rattle.macs_offline.specs.Failing.{failure_of_file, failure_status}
-use Rattle.macs_program.specs.NewDisks.{FormatFails, Formats, IsAfterValues, IsTaken, MakesDisk, Permits}
+use Rattle.macs_program.specs.NewDisks.{EndpointFails, FormatFails, Formats, IsAfterValues, IsTaken, MakesDisk, Permits}
 use Rattle.macs_texts.specs.Lines.{line}
 use Rattle.macs_offline.specs.Values.{value_faults}
 use Rattle.macs_offline.specs.declared.failure.DiskFault.{DiskFault}
@@ -24,23 +24,29 @@ use Rattle.macs_offline.specs.declared.status.Status.{Status}
 use Rattle.macs_offline.specs.declared.status.Status.TheVariants as ends
 use Rattle.macs_offline.specs.declared.values.ValueFault.{ValueFault}
 
--- what was settled is what is not written over
-pub taken : (is_over : Bool) (before settled : FileState) (sectors : ℕ) (fault : DiskFault) → Settles before settled
-    → sectors ≡ before.size / 512
-    → (fault ≡ disk.Journal journal.Disk) ⊎ Permits is_over settled sectors (Some fault)
-    → (fault ≡ disk.Journal journal.Disk) ⊎ IsTaken is_over before fault
-taken is_over before settled sectors fault settles count (inl device) = inl device
-taken is_over before settled sectors fault settles count (inr permits) = inr (record {
-  settled = settled;
-  settles = settles;
-  permits = subst (λ (n : ℕ). Permits is_over settled n (Some fault)) count permits;
-})
+-- what is not written over, whether the file is claimed or not
+pub taken : (is_over : Bool) (file claimed : FileState) (sectors : ℕ) (fault : DiskFault)
+    → claimed ≡ file_claimed file → sectors ≡ file.size / 512
+    → (fault ≡ disk.Journal journal.Disk) ⊎ Permits is_over claimed sectors (Some fault)
+    → (fault ≡ disk.Journal journal.Disk) ⊎ IsTaken is_over file fault
+taken is_over file claimed sectors fault is count (inl device) = inl device
+taken is_over file claimed sectors fault is count (inr permits) =
+    inr (subst (λ (n : ℕ). Permits is_over file n (Some fault)) count
+    (subst (λ (f : FileState). Permits is_over f sectors (Some fault)) is permits))
 
 -- an error of the system, at a file
 pub of-the-system : (failure : Failure) → (failure ≡ failures.Memory) ⊎ (failure ≡ failures.Disk disk.File)
     → (fault : FileFault) × (failure ≡ failure_of_file fault)
 of-the-system failure (inl memory) = (file_faults.Memory, memory)
 of-the-system failure (inr none) = (file_faults.Open, none)
+
+-- so where the new file does not take the name
+pub not-named : {F T : Type 0} (file : F → FileState) (identity : Identity) (result : Result T Failure)
+    → IfErr result (λ failure. (failure ≡ failures.Memory) ⊎ (failure ≡ failures.Disk disk.File))
+    → IfErr result
+    (λ failure. ((fault : FileFault) × (failure ≡ failure_of_file fault)) ⊎ EndpointFails file identity failure)
+not-named file identity (Ok value) refused = tt
+not-named file identity (Err failure) refused = inl (of-the-system failure refused)
 
 -- ---- the disk of a new endpoint
 

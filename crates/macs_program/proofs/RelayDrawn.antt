@@ -48,7 +48,7 @@ module _ {F : Type 0} (file : F → FileState) where
 
   ended : (course : Course) (failure : Failure) (is : RelayEndsIn file course failure)
       → RelayEnds (disk_in_file file) course is.old failure is.new
-      → (((failure ≡ failures.Memory) ⊎ (failure ≡ failures.Wire) ⊎ (failure ≡ failures.Control)) × (is.new ≡ is.old))
+      → (((failure ≡ failures.Memory) ⊎ (failure ≡ failures.Control)) × (is.new ≡ is.old))
       ⊎ ((controlled : WireState) × (common : WireState) × (fault : RefillFault) × (failure ≡ failure_of_refill fault)
       × RunsAs file course is.old (Err fault) is.new controlled common)
       ⊎ ((controlled : WireState) × (common : WireState) × (summary : RelaySummary) × (failure ≡ failures.Output)
@@ -77,6 +77,7 @@ module _ {F : Type 0} (file : F → FileState) where
     waiting = λ limit turns. refl;
     unended = λ limit. refl;
     turns = λ running. refl;
+    unbound = λ failure is. is;
     unattended = λ running is. neither running.control running.metrics is;
     by_nobody = λ running control metrics. both_none running.control running.metrics control metrics;
     comes = λ course summary is. (

@@ -1,5 +1,5 @@
 -- What a relay comes to, between two wires that are new; and how it is refused for an address.
-use Rattle.std.proofs.Common.{◌≡◌, ◌≢◌, ◌↔◌, ◌⊎◌, ◌∙◌, ℕ, Bool, true, List, Option, Result, Ok, Err, IfErr, IfOk, inl}
+use Rattle.std.proofs.Common.{◌≡◌, ◌≢◌, ◌↔◌, ◌⊎◌, ◌∙◌, ℕ, Bool, true, List, [], Option, Result, Ok, Err, IfErr, IfOk, inl}
 use Rattle.std.proofs.Common.{inr, refl, subst, sym}
 use Rattle.std.specs.Io.KnownBytes.{Appends}
 use Rattle.macs_disk.specs.Disk.{Disk}
@@ -17,12 +17,13 @@ use Rattle.macs_fields.specs.First.{IsFirst}
 use Rattle.macs_words.specs.declared.action.WireEnds.{WireEnds}
 use Rattle.macs_words.specs.declared.pace.Running.{Running}
 use Rattle.macs_offline.proofs.FirstFault.{first-holds}
-use Rattle.macs_offline.proofs.Failures.{IsOfSocket, disk-no-output, of-opening, socket-no-output}
+use Rattle.macs_offline.proofs.Failures.{disk-no-output, of-opening}
+use Rattle.macs_offline.proofs.Tried.{of-look}
 use Rattle.macs_offline.specs.Addresses.{AddressFaultHolds, SpellsBoth, address_faults}
 use Rattle.macs_offline.specs.Openings.{OpeningFails}
 use Rattle.macs_offline.specs.Failing.{failure_of_refill, failure_status}
-use Rattle.macs_program.specs.Relaying.{ComesTo, Course, EndsRelay, IsAfterAddresses, IsOfRelay, IsRun, RelayEndsIn}
-use Rattle.macs_program.specs.Relaying.{Relays, StopsRelay, attended, course_of, is_attended, new_wire, turns_of}
+use Rattle.macs_program.specs.Relaying.{ComesTo, Course, EndsRelay, IsAfterAddresses, IsOfRelay, IsRun, IsUnbound}
+use Rattle.macs_program.specs.Relaying.{RelayEndsIn, Relays, StopsRelay, attended, course_of, is_attended, new_wire, turns_of}
 use Rattle.macs_program.specs.Summing.{relay_line}
 use Rattle.macs_program.specs.Tasks.{DoesRelay, IsRunIn}
 use Rattle.macs_offline.specs.declared.addresses.AddressFault.{AddressFault}
@@ -137,34 +138,48 @@ address-handed Holds order before after error failure was is same exactly fault 
 
 -- ---- an endpoint between two wires
 
--- a wire, or what a desk needs, that is not there
-pub of-wire : (failure : Failure) → (failure ≡ failures.Memory) ⊎ (failure ≡ failures.Wire) → IsOfSocket failure
-of-wire failure (inl memory) = inl memory
-of-wire failure (inr wire) = inr (inl wire)
+-- what a desk needs that is not there
+abbrev IsOfDesk : Failure → Type 0
+IsOfDesk failure = (failure ≡ failures.Memory) ⊎ (failure ≡ failures.Control)
 
-pub of-desk : (failure : Failure) → (failure ≡ failures.Memory) ⊎ (failure ≡ failures.Control) → IsOfSocket failure
-of-desk failure (inl memory) = inl memory
-of-desk failure (inr control) = inr (inr control)
+desk-behind : (failure : Failure) → IsOfDesk failure → IsAfterAddresses failure
+desk-behind failure (inl memory) = subst IsAfterAddresses (sym memory) tt
+desk-behind failure (inr control) = subst IsAfterAddresses (sym control) tt
 
-wire-behind : (failure : Failure) → IsOfSocket failure → IsAfterAddresses failure
-wire-behind failure (inl memory) = subst IsAfterAddresses (sym memory) tt
-wire-behind failure (inr (inl wire)) = subst IsAfterAddresses (sym wire) tt
-wire-behind failure (inr (inr control)) = subst IsAfterAddresses (sym control) tt
+desk-no-output : (failure : Failure) → IsOfDesk failure → failure ≢ failures.Output
+desk-no-output failure (inl memory) is = let e = sym memory ∙ is in cc
+desk-no-output failure (inr control) is = let e = sym control ∙ is in cc
+
+-- wires that are not there, or what a look at the disk found
+unbound-behind : {F : Type 0} (file : F → FileState) (failure : Failure) → IsUnbound file failure
+    → IsAfterAddresses failure
+unbound-behind file failure (inl (inl memory, tries)) = subst IsAfterAddresses (sym memory) tt
+unbound-behind file failure (inl (inr wire, tries)) = subst IsAfterAddresses (sym wire) tt
+unbound-behind file failure (inr fails) = elim (of-look file [] failure fails) [
+  | inl memory ↦ subst IsAfterAddresses (sym memory) tt
+  | inr fault ↦ subst IsAfterAddresses (sym fault.1) tt
+]
+
+unbound-no-output : {F : Type 0} (file : F → FileState) (failure : Failure) → IsUnbound file failure
+    → failure ≢ failures.Output
+unbound-no-output file failure (inl (inl memory, tries)) is = let e = sym memory ∙ is in cc
+unbound-no-output file failure (inl (inr wire, tries)) is = let e = sym wire ∙ is in cc
+unbound-no-output file failure (inr fails) is = disk-no-output failure (of-look file [] failure fails) is
 
 module _ {D W : Type 0} (disk_of : D → Disk) (contents : W → Option (List ℕ)) (has_failed : W → Bool) (course : Course)
     (old : EndpointValue D) (before : W) where
-  -- without both wires, or the control socket, nothing is done
-  pub no-wire : (fault failure : Failure) (result : Result Status Failure) → result ≡ Err failure → failure ≡ fault
-      → IsOfSocket fault → DoesRelay disk_of contents has_failed course old before result old before
-  no-wire fault failure result is same names =
-      let named = subst IsOfSocket (sym same) names in
+  -- without the control socket nothing is done
+  pub no-desk : (fault failure : Failure) (result : Result Status Failure) → result ≡ Err failure → failure ≡ fault
+      → IsOfDesk fault → DoesRelay disk_of contents has_failed course old before result old before
+  no-desk fault failure result is same names =
+      let named = subst IsOfDesk (sym same) names in
       subst (λ (r : Result Status Failure). DoesRelay disk_of contents has_failed course old before r old before)
       (sym is) (record {
         printed = tt;
         ended = inl (named, refl);
-        failed = wire-behind failure named;
+        failed = desk-behind failure named;
         silent = λ other. refl;
-        broken = λ output. absurd (socket-no-output failure named output);
+        broken = λ output. absurd (desk-no-output failure named output);
       })
 
   pub frames-relayed : (new : EndpointValue D) (after : W) (first second controlled common : WireState)
@@ -251,8 +266,8 @@ pub record RelayedIn {F W : Type 0} (file : F → FileState) (contents : W → O
   pub usage : IfErr result (λ failure. failure_status failure ≡ ends.Usage
       → ((fault : AddressFault) × AddressFaultHolds controlled common fault) × (after ≡ before))
   pub ended : IfErr result (λ failure. ((fault : AddressFault) × (failure ≡ Address fault)
-      × IsFirst (AddressFaultHolds controlled common) address_faults fault) ⊎ OpeningFails file failure
-      ⊎ RelayEndsIn file course failure)
+      × IsFirst (AddressFaultHolds controlled common) address_faults fault) ⊎ IsUnbound file failure
+      ⊎ OpeningFails file failure ⊎ RelayEndsIn file course failure)
   pub names : IfErr result IsOfRelay
   pub silent : IfErr result (λ failure. failure ≢ failures.Output → after ≡ before)
   pub broken : IfErr result (λ failure. failure ≡ failures.Output → has_failed after ≡ true)
@@ -288,6 +303,22 @@ module _ {F W T : Type 0} (file : F → FileState) (contents : W → Option (Lis
         broken = λ output. absurd (let e = sym same ∙ output in cc);
       })
 
+  pub unbound-in : (value : T) (failure : Failure) (result : Result Status Failure) → addresses ≡ Ok value
+      → result ≡ Err failure → IsUnbound file failure
+      → RelayedIn file contents has_failed controlled common course before result before
+  unbound-in value failure result was is unbound =
+      let behind = unbound-behind file failure unbound in
+      subst (λ (r : Result Status Failure). Comes r before) (sym is) (record {
+        printed = tt;
+        address = no-address {U = Status} (AddressFaultHolds controlled common) address_faults addresses value
+            (Err failure) was behind exactly;
+        usage = λ usage. absurd (behind-no-usage failure behind usage);
+        ended = inr (inl unbound);
+        names = behind-of-relay failure behind;
+        silent = λ other. refl;
+        broken = λ output. absurd (unbound-no-output file failure unbound output);
+      })
+
   none-relayed-in : (value : T) (after : W) (failure : Failure) → addresses ≡ Ok value → OpeningFails file failure
       → after ≡ before
       → Comes (Err failure) after
@@ -298,7 +329,7 @@ module _ {F W T : Type 0} (file : F → FileState) (contents : W → Option (Lis
         address = no-address {U = Status} (AddressFaultHolds controlled common) address_faults addresses value
             (Err failure) was behind exactly;
         usage = λ usage. absurd (behind-no-usage failure behind usage);
-        ended = inr (inl fails);
+        ended = inr (inr (inl fails));
         names = behind-of-relay failure behind;
         silent = λ other. silent;
         broken = λ output. absurd (disk-no-output failure (of-opening file failure fails) output);
@@ -341,7 +372,12 @@ module _ {F W T : Type 0} (file : F → FileState) (contents : W → Option (Lis
     address = no-address {U = Status} (AddressFaultHolds controlled common) address_faults addresses value (Err failure)
         was run.does.failed exactly;
     usage = λ usage. absurd (behind-no-usage failure run.does.failed usage);
-    ended = inr (inr (record { old = run.old; new = run.new; endpoint = run.endpoint; ends = run.does.ended }));
+    ended = inr (inr (inr (record {
+      old = run.old;
+      new = run.new;
+      endpoint = run.endpoint;
+      ends = run.does.ended;
+    })));
     names = behind-of-relay failure run.does.failed;
     silent = run.does.silent;
     broken = run.does.broken;

@@ -1,11 +1,8 @@
 -- What is in a file is one thing, and only what may be written over is.
-use Rattle.std.proofs.Common.{◌≡◌, ◌/◌, ℕ, Bool, true, false, None, refl}
-use Rattle.macs_config.specs.Identity.{Identity}
-use Rattle.macs_disk.specs.FileDisks.{file_given}
-use Rattle.macs_disk.specs.Files.{Behaves, FileState, Settles}
-use Rattle.macs_disk.specs.declared.layout.Layout.{Layout}
+use Rattle.std.proofs.Common.{◌≡◌, ℕ, true, false, None, refl}
+use Rattle.macs_disk.specs.Files.{FileState}
 use Rattle.macs_offline.specs.Contents.{ContentsAre, HasOpenGate, IsBlankFile}
-use Rattle.macs_program.specs.NewDisks.{Formats, Permits}
+use Rattle.macs_program.specs.NewDisks.{Permits}
 use Rattle.macs_offline.specs.declared.contents.Contents.{Contents}
 use Rattle.macs_offline.specs.declared.contents.Contents.TheVariants as contents
 
@@ -31,18 +28,3 @@ pub closed-permitted : (file : FileState) (sectors : ℕ) → Permits true file 
 closed-permitted file sectors (contents.Blank, are, is) = are.0
 closed-permitted file sectors (contents.Endpoint, are, is) = absurd (cc)
 closed-permitted file sectors (contents.Other, are, is) = are.0
-
-pub made-free : {F : Type 0} (file : F → FileState) (is_over : Bool) (layout : Layout) (identity : Identity)
-    → Formats file is_over layout identity
-    → (given : F) × (Behaves (file given)
-    → (settled : FileState) × Settles (file given) settled × Permits is_over settled ((file given).size / 512) None)
-made-free file is_over layout identity f =
-    (file_given f.blank, λ behaves. let free = f.free behaves in (free.settled, free.settles, free.permits))
-
-pub given-free : {F : Type 0} (file : F → FileState) (is_over : Bool) (layout : Layout) (identity : Identity)
-    (made : Formats file is_over layout identity)
-    → Behaves (file (file_given made.blank))
-    → (settled : FileState) × Settles (file (file_given made.blank)) settled
-    × Permits is_over settled ((file (file_given made.blank)).size / 512) None
-given-free file is_over layout identity made behaves = let free = made.free behaves in
-    (free.settled, free.settles, free.permits)

@@ -18,8 +18,8 @@ use Rattle.macs_config.specs.Identity.{Identity, IsBlock}
 use Rattle.macs_config.specs.declared.command.Command.{Command}
 use Rattle.macs_config.specs.declared.refusal.Refusal.{Refusal}
 use Rattle.macs_disk.specs.Disk.{Disk}
-use Rattle.macs_disk.specs.FileDisks.{IsBlank, IsFresh, IsOpened, disk_in_file, file_given, file_left, layout_of}
-use Rattle.macs_disk.specs.Files.{Behaves, FileState, Settles}
+use Rattle.macs_disk.specs.FileDisks.{IsFresh, IsMadeWell, IsOpened, disk_in_file, file_given, file_made, layout_of}
+use Rattle.macs_disk.specs.Files.{Behaves, FileState}
 use Rattle.macs_disk.specs.declared.file.FileDisk.{FileDisk}
 use Rattle.macs_disk.specs.declared.file_fault.FileFault.{FileFault}
 use Rattle.macs_disk.specs.declared.layout.Layout.{Layout}
@@ -64,7 +64,7 @@ use Rattle.macs_offline.specs.Failing.{failure_text}
 use Rattle.macs_program.specs.Inputs.{InputRead}
 use Rattle.macs_program.specs.Judging.{EndsEach, JudgesCapture}
 use Rattle.macs_offline.specs.Lines.{line_at, lines, trimmed_line}
-use Rattle.macs_program.specs.NewDisks.{BlankFails, FormatFails, Formats, IsTaken}
+use Rattle.macs_program.specs.NewDisks.{BlankFails, EndpointFails, FormatFails, Formats, IsTaken, MakesEndpoint, Permits}
 use Rattle.macs_offline.specs.OpenInput.{IsFourLines, Spells, SpellsKey, SpellsSci, offset_text}
 use Rattle.macs_program.specs.Run.{HasPrinted, OpenFails, Prints, PrintsUnlessFailed, complaint}
 use Rattle.macs_offline.specs.Statuses.{code_of}
@@ -263,11 +263,11 @@ pub record CaptureWords {D : Type 0} (disk_of : D → Disk) : Type 0 where
 
 -- A disk in a file is one that was opened there as long as the file is, and no call of it was made yet. An endpoint in
 -- a file was opened on such a disk. A subcommand does what it does with one; where none is opened the failure is that
--- of the file, or of the opening that is refused. A file that is made a disk is blank in its layout, and formatted with
--- the identity; one that is not has a fault that names it, and of a file that behaves that fault is a device call's, or
--- is that of what it held when it was settled.
+-- of the file, or of the opening that is refused. A file that becomes a new endpoint's is free for it, and an endpoint
+-- is made in a new file; one that does not has a fault that names it, and of a file that behaves that fault is a device
+-- call's, or is that of what it holds.
 pub record FileWords {F : Type 0} (file : F → FileState) : Type 0 where
-  pub opened : (d : FileDisk F) → IsDiskIn file d → (Behaves (file (file_given d))
+  pub opened : (d : FileDisk F) → IsDiskIn file d → (IsMadeWell file (file_given d) (file_made d)
       → IsOpened (file (file_given d)) 0 (layout_of d) (disk_in_file file d))
       × IsFresh (disk_in_file file d)
   pub endpoint : (e : EndpointValue (FileDisk F)) → IsEndpointIn file e → (d : FileDisk F) × IsDiskIn file d
@@ -289,24 +289,21 @@ pub record FileWords {F : Type 0} (file : F → FileState) : Type 0 where
       × (source : SourceState) × (left : SourceState) × (sink : SinkState) × (after : SinkState)
       × PassesCapture (disk_in_file file) side (run_of p.old source sink) (Ok summary) (run_of p.new left after)
   pub formatted : (is_over : Bool) (layout : Layout) (identity : Identity) (f : Formats file is_over layout identity)
-      → (Behaves (file (file_given f.blank))
-      → IsBlank (file (file_given f.blank)) (file (file_left f.blank)) layout (disk_in_file file f.blank))
-      × IsFormat (disk_in_file file) f.blank identity (Ok tt) f.new
+      → (Behaves (file f.old) → Permits is_over (file f.old) ((file f.old).size / 512) None)
+      × MakesEndpoint file f.made layout identity
   pub not_formatted : (is_over : Bool) (identity : Identity) (failure : Failure)
       → FormatFails file is_over identity failure
       → ((fault : FileFault) × (failure ≡ failure_of_file fault))
       ⊎ ((given : F) × BlankFails is_over (file given) failure)
-      ⊎ ((blank : FileDisk F) × (left : FileDisk F) × (fault : JournalFault) × (failure ≡ failure_of_journal fault)
-      × IsFormat (disk_in_file file) blank identity (Err fault) left)
+      ⊎ EndpointFails file identity failure
   pub not_blank : (is_over : Bool) (given : FileState) (failure : Failure) → BlankFails is_over given failure
       → ((fault : FileFault) × (failure ≡ failure_of_file fault))
       ⊎ ((fault : DiskFault) × (failure ≡ failures.Disk fault)
       × (Behaves given → (fault ≡ disk.Journal journal.Disk) ⊎ IsTaken is_over given fault))
-  pub taken : (is_over : Bool) (given : FileState) (fault : DiskFault) (t : IsTaken is_over given fault)
-      → Settles given t.settled
-      × (((fault ≡ disk.Journal journal.AlreadyFormatted) × HasOpenGate t.settled (given.size / 512))
-      ⊎ ((fault ≡ disk.File) × (is_over ≡ false) × (¬ HasOpenGate t.settled (given.size / 512))
-      × (¬ IsBlankFile t.settled (given.size / 512))))
+  pub taken : (is_over : Bool) (given : FileState) (fault : DiskFault) → IsTaken is_over given fault
+      → ((fault ≡ disk.Journal journal.AlreadyFormatted) × HasOpenGate given (given.size / 512))
+      ⊎ ((fault ≡ disk.File) × (is_over ≡ false) × (¬ HasOpenGate given (given.size / 512))
+      × (¬ IsBlankFile given (given.size / 512)))
 
 -- ---- what is printed
 

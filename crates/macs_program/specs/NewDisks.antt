@@ -1,10 +1,10 @@
--- Which files become the disk of a new endpoint, by what the device has of them.
+-- Which files become the disk of a new endpoint, by what they show.
 use Rattle.std.specs.Prelude.{◌≡◌, ◌≢◌, ◌⊎◌, ◌/◌, if◌then◌else◌, ⊤, ℕ, Bool, true, List, Option, Some, None, Result, Ok}
 use Rattle.std.specs.Prelude.{Err, IfErr, IfOk, codes}
 use Rattle.std.specs.Io.KnownBytes.{Appends}
 use Rattle.macs_config.specs.Identity.{Identity}
 use Rattle.macs_disk.specs.FileDisks.{IsBlank, disk_in_file, file_given, file_left}
-use Rattle.macs_disk.specs.Files.{Behaves, FileState, Settles}
+use Rattle.macs_disk.specs.Files.{Behaves, FileState, IsEmpty}
 use Rattle.macs_disk.specs.declared.file.FileDisk.{FileDisk}
 use Rattle.macs_disk.specs.declared.layout.Layout.{Layout}
 use Rattle.macs_disk.specs.declared.file_fault.FileFault.{FileFault}
@@ -34,45 +34,54 @@ abbrev pub Permits : Bool → FileState → ℕ → Option DiskFault → Type 0
 Permits is_over file sectors refusal = (held : Contents) × ContentsAre file sectors held
     × (refusal_of held is_over ≡ refusal)
 
--- a file that is made a disk, by what it holds when it was settled: no endpoint, and nothing else, or that may be lost
-pub record IsFree (is_over : Bool) (file : FileState) : Type 0 where
-  pub settled : FileState
-  pub settles : Settles file settled
-  pub permits : Permits is_over settled (file.size / 512) None
+-- a file may become that of a new endpoint, by what it holds: no endpoint, and nothing else, or that may be lost
+abbrev pub IsFree : Bool → FileState → Type 0
+IsFree is_over file = Permits is_over file (file.size / 512) None
 
--- a file that was free for it became the disk of a new endpoint: a blank disk of this layout was made in it, and
--- formatted
-pub record Formats {F : Type 0} (file : F → FileState) (is_over : Bool) (layout : Layout)
-    (identity : Identity) : Type 0 where
+-- a blank disk of this layout was made in a file, and formatted
+pub record MakesEndpoint {F : Type 0} (file : F → FileState) (made : F) (layout : Layout) (identity : Identity)
+    : Type 0 where
   pub blank : FileDisk F
-  pub free : Behaves (file (file_given blank)) → IsFree is_over (file (file_given blank))
-  pub made : Behaves (file (file_given blank))
-      → IsBlank (file (file_given blank)) (file (file_left blank)) layout (disk_in_file file blank)
+  pub given : file_given blank ≡ made
+  pub is_blank : IsEmpty (file made) → IsBlank (file made) (file (file_left blank)) layout (disk_in_file file blank)
   pub new : FileDisk F
   pub formats : IsFormat (disk_in_file file) blank identity (Ok tt) new
 
--- a file is not made a disk for this fault, by what it holds when it was settled
-pub record IsTaken (is_over : Bool) (file : FileState) (fault : DiskFault) : Type 0 where
-  pub settled : FileState
-  pub settles : Settles file settled
-  pub permits : Permits is_over settled (file.size / 512) (Some fault)
+-- a file that was free for it was replaced by one that was made that of a new endpoint
+pub record Formats {F : Type 0} (file : F → FileState) (is_over : Bool) (layout : Layout)
+    (identity : Identity) : Type 0 where
+  pub old : F
+  pub free : Behaves (file old) → IsFree is_over (file old)
+  pub made : F
+  pub makes : MakesEndpoint file made layout identity
 
--- Why no blank disk is made in a file: it does not serve as one of a disk, for this fault; or it cannot be looked at,
--- or holds what is not written over
+-- a file may not become that of a new endpoint for this fault, by what it holds
+abbrev pub IsTaken : Bool → FileState → DiskFault → Type 0
+IsTaken is_over file fault = Permits is_over file (file.size / 512) (Some fault)
+
+-- Why a file is not free: it does not serve as one of a disk, for this fault; or it cannot be looked at, or holds what
+-- is not written over
 abbrev pub BlankFails : Bool → FileState → Failure → Type 0
 BlankFails is_over file failure =
     ((fault : FileFault) × (failure ≡ failure_of_file fault))
     ⊎ ((fault : DiskFault) × (failure ≡ failures.Disk fault)
     × (Behaves file → (fault ≡ disk.Journal journal.Disk) ⊎ IsTaken is_over file fault))
 
--- Why no file becomes the disk of a new endpoint: there is no file that serves as one of a disk, or its name is not
--- durable; or none that may be written over; or the blank disk in it is not formatted, for this fault
+-- why no endpoint is made in a new file: it cannot be written, or synced; or the blank disk in it is not formatted, for
+-- this fault
+abbrev pub EndpointFails : {F : Type 0} → (F → FileState) → Identity → Failure → Type 0
+EndpointFails {F} file identity failure =
+    ((fault : FileFault) × (failure ≡ failure_of_file fault))
+    ⊎ ((blank : FileDisk F) × (left : FileDisk F) × (fault : JournalFault) × (failure ≡ failure_of_journal fault)
+    × IsFormat (disk_in_file file) blank identity (Err fault) left)
+
+-- Why no file becomes the disk of a new endpoint: there is no file that serves as one of a disk, or it cannot be
+-- replaced; or none that is free for it; or no endpoint is made
 abbrev pub FormatFails : {F : Type 0} → (F → FileState) → Bool → Identity → Failure → Type 0
 FormatFails {F} file is_over identity failure =
     ((fault : FileFault) × (failure ≡ failure_of_file fault))
     ⊎ ((given : F) × BlankFails is_over (file given) failure)
-    ⊎ ((blank : FileDisk F) × (left : FileDisk F) × (fault : JournalFault) × (failure ≡ failure_of_journal fault)
-    × IsFormat (disk_in_file file) blank identity (Err fault) left)
+    ⊎ EndpointFails file identity failure
 
 -- the failures after those of the values: of the disk, memory and standard output
 abbrev pub IsAfterValues : Failure → Type 0

@@ -1,6 +1,7 @@
 -- What is to be drawn from words on relays of the program: how many turns one takes, who attends it, what it comes to
 -- and how it ends, of words that macs_edge has laws of.
-use Rattle.std.specs.Prelude.{◌≡◌, ◌≢◌, ◌⊎◌, ◌-◌, ◌^◌, ℕ, ℤ, pos, true, false, List, None, Some, Result, Ok, Err}
+use Rattle.std.specs.Prelude.{◌≡◌, ◌≢◌, ◌⊎◌, ◌-◌, ◌^◌, ℕ, ℤ, pos, true, false, List, []}
+use Rattle.std.specs.Prelude.{None, Some, Result, Ok, Err}
 use Rattle.macs_disk.specs.FileDisks.{disk_in_file}
 use Rattle.macs_disk.specs.Files.{FileState}
 use Rattle.macs_disk.specs.declared.file.FileDisk.{FileDisk}
@@ -17,8 +18,9 @@ use Rattle.macs_words.specs.declared.pace.Milliseconds.{Milliseconds}
 use Rattle.macs_words.specs.declared.pace.Running.{Running}
 use Rattle.macs_words.specs.declared.pace.Pace.TheVariants.{Sleepless, Waiting}
 use Rattle.macs_offline.specs.Openings.{IsEndpointIn}
+use Rattle.macs_offline.specs.Trying.{TrialFails, TriesIn}
 use Rattle.macs_offline.specs.Failing.{failure_of_refill}
-use Rattle.macs_program.specs.Relaying.{ComesTo, Course, RelayEndsIn, course_of, turns_of}
+use Rattle.macs_program.specs.Relaying.{ComesTo, Course, IsUnbound, RelayEndsIn, course_of, turns_of}
 use Rattle.macs_program.specs.Watching.{asks}
 use Rattle.macs_offline.specs.declared.failure.DiskFault.TheVariants as disk
 use Rattle.macs_offline.specs.declared.failure.Failure.{Failure}
@@ -43,7 +45,7 @@ RunsAs file course old result new controlled common =
 -- It takes the turns that are given, and where it waits and none are, 2^64 - 1. Nobody attends it exactly where it has
 -- neither a control socket nor a file of counters. What it comes to, an endpoint that was opened on a disk in a file
 -- came to, in such a relay. While it waits the system is asked whether a wire can be read (POLLIN is 1). Where it ends
--- otherwise, nothing was done with the endpoint, since a wire or a socket is not bound, or there is no memory; or a
+-- otherwise, nothing was done with the endpoint, since the control socket is not bound, or there is no memory; or a
 -- step was answered with a fault, which has its name and is not Busy; or it came to its summary, and that is not
 -- written.
 pub record RelayWords {F : Type 0} (file : F → FileState) : Type 0 where
@@ -62,11 +64,14 @@ pub record RelayWords {F : Type 0} (file : F → FileState) : Type 0 where
   pub ends : (course : Course) (failure : Failure) → RelayEndsIn file course failure
       → (old : EndpointValue (FileDisk F))
       × (new : EndpointValue (FileDisk F)) × IsEndpointIn file old
-      × ((((failure ≡ failures.Memory) ⊎ (failure ≡ failures.Wire) ⊎ (failure ≡ failures.Control)) × (new ≡ old))
+      × ((((failure ≡ failures.Memory) ⊎ (failure ≡ failures.Control)) × (new ≡ old))
       ⊎ ((controlled : WireState) × (common : WireState) × (fault : RefillFault) × (failure ≡ failure_of_refill fault)
       × RunsAs file course old (Err fault) new controlled common)
       ⊎ ((controlled : WireState) × (common : WireState) × (summary : RelaySummary) × (failure ≡ failures.Output)
       × RunsAs file course old (Ok summary) new controlled common))
+  pub unbound : (failure : Failure) → IsUnbound file failure
+      → (((failure ≡ failures.Memory) ⊎ (failure ≡ failures.Wire)) × TriesIn file None [] [])
+      ⊎ TrialFails file None [] failure
   pub stopped : failure_of_refill refill.Stopped ≡ failures.Disk (disk.Journal journal.Stopped)
   pub never_busy : (course : Course) (old new : EndpointValue (FileDisk F)) (fault : RefillFault)
       (controlled common : WireState)

@@ -1,5 +1,5 @@
 -- What a relay of the program comes to, and how it ends.
-use Rattle.std.specs.Prelude.{◌≡◌, ◌⊎◌, ◌-◌, ◌^◌, ◌||◌, ⊤, ℕ, Bool, true, false, List, None, Some, is_some, Result, Ok}
+use Rattle.std.specs.Prelude.{◌≡◌, ◌⊎◌, ◌-◌, ◌^◌, ◌||◌, ⊤, ℕ, Bool, true, false, List, [], None, Some, is_some, Result, Ok}
 use Rattle.std.specs.Prelude.{Err}
 use Rattle.macs_disk.specs.Disk.{Disk}
 use Rattle.macs_disk.specs.FileDisks.{disk_in_file}
@@ -17,6 +17,7 @@ use Rattle.macs_words.specs.declared.pace.Running.{Running}
 use Rattle.macs_words.specs.declared.pace.Pace.TheVariants.{Sleepless, Waiting}
 use Rattle.macs_offline.specs.Openings.{IsEndpointIn}
 use Rattle.macs_offline.specs.Failing.{failure_of_refill}
+use Rattle.macs_offline.specs.Trying.{TrialFails, TriesIn}
 use Rattle.macs_offline.specs.declared.failure.Failure.{Failure}
 use Rattle.macs_offline.specs.declared.failure.Failure.TheVariants as failures
 
@@ -127,12 +128,18 @@ pub record StopsRelay {D : Type 0} (disk_of : D → Disk) (course : Course) (old
   pub ends : EndsRelay disk_of course (relay_of old new_wire new_wire empty_lane empty_lane) failure new
       controlled common
 
--- a wire or the control socket cannot be bound, or there is no memory, and nothing is done with the endpoint; or the
--- relay ends
+-- the control socket cannot be bound, or there is no memory, and nothing is done with the endpoint; or the relay ends
 abbrev pub RelayEnds : {D : Type 0} → (D → Disk) → Course → EndpointValue D → Failure → EndpointValue D → Type 0
 RelayEnds disk_of course old failure new =
-    (((failure ≡ failures.Memory) ⊎ (failure ≡ failures.Wire) ⊎ (failure ≡ failures.Control)) × (new ≡ old))
+    (((failure ≡ failures.Memory) ⊎ (failure ≡ failures.Control)) × (new ≡ old))
     ⊎ StopsRelay disk_of course old failure new
+
+-- Not both wires can be bound, or there is no memory for them. Then the disk in the file is looked at, and its file is
+-- not made anew: this is the failure where an endpoint is there, else the one of the disk
+abbrev pub IsUnbound : {F : Type 0} → (F → FileState) → Failure → Type 0
+IsUnbound file failure =
+    (((failure ≡ failures.Memory) ⊎ (failure ≡ failures.Wire)) × TriesIn file None [] [])
+    ⊎ TrialFails file None [] failure
 
 -- so it ends with an endpoint on a disk in a file
 pub record RelayEndsIn {F : Type 0} (file : F → FileState) (course : Course) (failure : Failure) : Type 0 where

@@ -29,7 +29,7 @@ use Rattle.macs_offline.specs.Plans.{PlanFails, PrintsPlan, end_of, stage_of}
 use Rattle.macs_words.specs.Help.{topic_text}
 use Rattle.macs_program.specs.Inputs.{InputRead, read_of}
 use Rattle.macs_program.specs.NewDisks.{FormatFails, Formats}
-use Rattle.macs_program.specs.Relaying.{ComesTo, RelayEndsIn, course_of}
+use Rattle.macs_program.specs.Relaying.{ComesTo, IsUnbound, RelayEndsIn, course_of}
 use Rattle.macs_offline.specs.OpenInput.{InputFaultHolds, input_faults}
 use Rattle.macs_texts.specs.Lines.{line}
 use Rattle.macs_program.specs.Summing.{pass_status, relay_line, summary_line}
@@ -152,7 +152,8 @@ FailsAs state_of left_in (Validate disk from to is_all true) octets before after
 FailsAs state_of left_in (Relay disk controlled common running) octets before after failure =
     ((fault : AddressFault) × (failure ≡ Address fault)
     × IsFirst (AddressFaultHolds controlled common) address_faults fault)
-    ⊎ OpeningFails state_of failure ⊎ RelayEndsIn state_of (course_of running) failure
+    ⊎ IsUnbound state_of failure ⊎ OpeningFails state_of failure
+    ⊎ RelayEndsIn state_of (course_of running) failure
 FailsAs state_of left_in (Ask path asked) octets before after failure = IsOfAsking failure
 FailsAs state_of left_in (Key is_long) octets before after failure = IsOfKey failure
 FailsAs state_of left_in (Inspect from) octets before after failure = InspectFails before after failure

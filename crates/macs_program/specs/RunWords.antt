@@ -16,8 +16,8 @@ use Rattle.macs_config.specs.Identity.{Identity}
 use Rattle.macs_config.specs.declared.command.Command.{Command}
 use Rattle.macs_config.specs.declared.refusal.Refusal.{Refusal}
 use Rattle.macs_disk.specs.Disk.{Disk, IsHonest, now}
-use Rattle.macs_disk.specs.FileDisks.{IsBlank, disk_in_file, file_given, file_left, state_in_file}
-use Rattle.macs_disk.specs.Files.{Behaves, FileState, IsSure, Settles}
+use Rattle.macs_disk.specs.FileDisks.{disk_in_file, state_in_file}
+use Rattle.macs_disk.specs.Files.{Behaves, FileState}
 use Rattle.macs_disk.specs.Layouts.{layout_in}
 use Rattle.macs_disk.specs.MemDisks.{disk_of}
 use Rattle.macs_disk.specs.declared.file.FileDisk.{FileDisk}
@@ -87,9 +87,9 @@ use Rattle.macs_program.specs.Inputs.{InputRead}
 use Rattle.macs_offline.specs.Inspecting.{AreLinesOf, InspectsCapture, RunsCapture, StopsCapture}
 use Rattle.macs_program.specs.Judging.{EndsEach, JudgesCapture, JudgingEndsIn, verdict_lines}
 use Rattle.macs_offline.specs.Keys.{PrintsKey, key_octets}
-use Rattle.macs_program.specs.NewDisks.{FormatFails, Permits}
+use Rattle.macs_program.specs.NewDisks.{FormatFails, MakesEndpoint, Permits}
 use Rattle.macs_offline.specs.Plans.{IsSaidOfLink, PlansFile, RefusesLink, SaysWhy, end_of, stage_of}
-use Rattle.macs_program.specs.Relaying.{ComesTo, RelayEndsIn, course_of}
+use Rattle.macs_program.specs.Relaying.{ComesTo, IsUnbound, RelayEndsIn, course_of}
 use Rattle.macs_offline.specs.OpenInput.{InputFaultHolds, input_faults}
 use Rattle.macs_program.specs.Run.{Does, FailsAs, FailsFor, HasPrinted, HasWrongValues, PrintedBefore, Replies}
 use Rattle.macs_program.specs.Run.{WrongValues}
@@ -137,11 +137,9 @@ pub record ReplyWords {F : Type 0} (file : F → FileState) (left_in : F → Opt
       → Does file left_in (Format path sci tx_block rx_block block is_over) input before after status
       → (identity : Identity) × SpellsIdentity sci.now tx_block rx_block identity
       × (layout : Layout) × SpellsLayout (option_map (λ text. text.now) block) layout
-      × (blank : FileDisk F) × (new : FileDisk F)
-      × (Behaves (file (file_given blank)) → (settled : FileState) × Settles (file (file_given blank)) settled
-      × Permits is_over settled ((file (file_given blank)).size / 512) None
-      × IsBlank (file (file_given blank)) (file (file_left blank)) layout (disk_in_file file blank))
-      × IsFormat (disk_in_file file) blank identity (Ok tt) new
+      × (old : F) × (made : F)
+      × (Behaves (file old) → Permits is_over (file old) ((file old).size / 512) None)
+      × MakesEndpoint file made layout identity
       × Appends before after (codes "formatted" ++ 10 ∷ []) × (status ≡ ends.Done)
   pub applied : (path from : Bor Text) (input : InputRead) (before after : Option (List ℕ)) (status : Status)
       → Does file left_in (Apply path from) input before after status
@@ -157,8 +155,7 @@ pub record ReplyWords {F : Type 0} (file : F → FileState) (left_in : F → Opt
       → Does file left_in (Examine path) input before after status
       → (disk_file : F) × (copy : MemDisk Global) × (layout : Layout)
       × (Behaves (file disk_file) → ((file disk_file).size % 512 ≡ 0) × (1028 ≤ (file disk_file).size / 512)
-      × (IsSure (file disk_file)
-      → IsCopy (file disk_file) (disk_of copy) × (layout ≡ layout_in (file disk_file))))
+      × IsCopy (file disk_file) (disk_of copy) × (layout ≡ layout_in (file disk_file)))
       × (((content : Content) × (standing : Standing) × HasJournal (now (disk_of copy)).seen content
       × (meaning_of this_edition content ≡ Some standing)
       × Appends before after (examined_text layout (figures_of content) content.records standing)
@@ -258,7 +255,7 @@ pub record ReplyWords {F : Type 0} (file : F → FileState) (left_in : F → Opt
       → (octets : List ℕ) × (end : Option (List ℕ)) × (commands : List Command) × SaysCommands octets end commands
       × SaidByFile left_in end commands × (disk_file : F) × (copy : MemDisk Global)
       × (Behaves (file disk_file) → ((file disk_file).size % 512 ≡ 0) × (1028 ≤ (file disk_file).size / 512)
-      × (IsSure (file disk_file) → IsCopy (file disk_file) (disk_of copy)))
+      × IsCopy (file disk_file) (disk_of copy))
       × (old : EndpointValue (MemDisk Global)) × (new : EndpointValue (MemDisk Global)) × Opens disk_of copy old
       × ((end ≡ None) ⊎ (end ≡ Some (state_of old no_logs).identity.sci))
       × (outcomes : List (Option Refusal)) × Applies disk_of old commands outcomes new
@@ -314,8 +311,7 @@ pub record FailWords {F : Type 0} (file : F → FileState) (left_in : F → Opti
       ⊎ ((disk_file : F) × CopyFails (file disk_file) failure)
       ⊎ ((disk_file : F) × (copy : MemDisk Global) × (layout : Layout)
       × (Behaves (file disk_file) → ((file disk_file).size % 512 ≡ 0) × (1028 ≤ (file disk_file).size / 512)
-      × (IsSure (file disk_file)
-      → IsCopy (file disk_file) (disk_of copy) × (layout ≡ layout_in (file disk_file))))
+      × IsCopy (file disk_file) (disk_of copy) × (layout ≡ layout_in (file disk_file)))
       × ((failure ≡ failures.Memory) ⊎ ((fault : JournalFault) × (failure ≡ failures.Disk (disk.Journal fault))
       × IsUnfitTo this_edition (disk_of copy).sectors (now (disk_of copy)).seen fault
       × (fault ≡ journal.BadJournal → ¬ IsBadJournal (now (disk_of copy)).seen))))
@@ -343,7 +339,7 @@ pub record FailWords {F : Type 0} (file : F → FileState) (left_in : F → Opti
       → FailsAs file left_in (Relay path controlled common running) input before after failure
       → ((fault : AddressFault) × (failure ≡ failures.Address fault)
       × IsFirst (AddressFaultHolds controlled common) address_faults fault)
-      ⊎ OpeningFails file failure ⊎ RelayEndsIn file (course_of running) failure
+      ⊎ IsUnbound file failure ⊎ OpeningFails file failure ⊎ RelayEndsIn file (course_of running) failure
   pub of_ask : (path : Bor Text) (asked : Question) (input : InputRead) (before after : Option (List ℕ))
       (failure : Failure) → FailsAs file left_in (Ask path asked) input before after failure
       → (failure ≡ failures.Disk (disk.Journal journal.Stopped)) ⊎ (failure ≡ failures.Control)
@@ -395,7 +391,7 @@ pub record FailWords {F : Type 0} (file : F → FileState) (left_in : F → Opti
       ⊎ ((disk_file : F) × CopyFails (file disk_file) failure)
       ⊎ ((disk_file : F) × (copy : MemDisk Global)
       × (Behaves (file disk_file) → ((file disk_file).size % 512 ≡ 0) × (1028 ≤ (file disk_file).size / 512)
-      × (IsSure (file disk_file) → IsCopy (file disk_file) (disk_of copy)))
+      × IsCopy (file disk_file) (disk_of copy))
       × EndsOn disk_of copy end commands failure)))
   pub copying : (disk_file : FileState) (failure : Failure) → CopyFails disk_file failure
       → ((fault : FileFault) × (failure ≡ failure_of_file fault)

@@ -2,9 +2,8 @@
 
 ghost use Rattle.std.specs.Prelude.{◌≡◌, ◌/◌, ℕ, Bool, List, Option, true, false, None};
 ghost use Rattle.macs_config.specs.Identity.{Identity};
-ghost use Rattle.macs_disk.specs.Files.{Behaves, FileState, Settles};
+ghost use Rattle.macs_disk.specs.Files.{FileState};
 ghost use Rattle.macs_disk.specs.declared.layout.Layout.{Layout};
-ghost use Rattle.macs_disk.specs.FileDisks.{file_given};
 ghost use Rattle.macs_program.specs.AskWords.{AskWords};
 ghost use Rattle.macs_program.specs.CaptureOctets.{CaptureOctets};
 ghost use Rattle.macs_program.specs.ContentWords.{BlankWords, InUseWords};
@@ -14,7 +13,7 @@ ghost use Rattle.macs_program.specs.Drawn.{LineWords, TextLineWords};
 ghost use Rattle.macs_program.specs.Drawn.{ValueWords};
 ghost use Rattle.macs_program.specs.ExamineTexts.{AboutTexts, ExamineTexts};
 ghost use Rattle.macs_program.specs.Inputs.{read_of};
-ghost use Rattle.macs_program.specs.NewDisks.{Formats, Permits};
+ghost use Rattle.macs_program.specs.NewDisks.{Permits};
 ghost use Rattle.macs_program.specs.PlanTexts.{PlanTexts};
 ghost use Rattle.macs_program.specs.RelayDrawn.{RelayWords};
 ghost use Rattle.macs_program.specs.RunWords.{BeforeWords, FailWords, ReplyWords};
@@ -26,9 +25,9 @@ ghost use Rattle.macs_offline.specs.declared.contents.Contents.{Contents};
 use crate::input::Input;
 use macs_disk::{DiskFile, SectorDisk};
 
-/// A file is made the disk of a new endpoint only where it held nothing when it was settled, or
-/// where it may be written over and held no endpoint in use.
-pub fn written_over<F: DiskFile>()
+/// A file becomes that of a new endpoint only where it holds nothing, or where it may be written
+/// over and holds no endpoint in use.
+pub fn written_over()
     // One thing is in a file.
     ensures one { (file : FileState) (sectors : ℕ) (a b : Contents) → ContentsAre file sectors a
         → ContentsAre file sectors b → a ≡ b }
@@ -38,16 +37,6 @@ pub fn written_over<F: DiskFile>()
     // And with it none in which the gate of a head is open.
     ensures closed { (file : FileState) (sectors : ℕ) → Permits true file sectors None
         → ¬ HasOpenGate file sectors }
-    // A file that was made a disk was such a one when it was settled.
-    ensures made { (is_over : Bool) (layout : Layout) (identity : Identity)
-        → Formats F.file is_over layout identity → (given : F) × (Behaves (F.file given)
-        → (settled : FileState) × Settles (F.file given) settled
-        × Permits is_over settled ((F.file given).size / 512) None) }
-    // And it is the file that the blank disk was made in which was formatted.
-    ensures given { (is_over : Bool) (layout : Layout) (identity : Identity)
-        (made : Formats F.file is_over layout identity) → Behaves (F.file (file_given made.blank))
-        → (settled : FileState) × Settles (F.file (file_given made.blank)) settled
-        × Permits is_over settled ((F.file (file_given made.blank)).size / 512) None }
 {}
 
 /// What is in a file before it is written over: an endpoint in use is one that the journal finds,

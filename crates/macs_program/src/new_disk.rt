@@ -4,16 +4,17 @@ ghost use Rattle.std.specs.IoError.{error_kind};
 ghost use Rattle.std.specs.Prelude.{◌≡◌, ◌≢◌, ◌⊎◌, ◌<◌, ◌*◌, ◌^◌, None, Some, Ok, Err, IfErr, IfOk};
 ghost use Rattle.std.specs.Prelude.{IsErrOf, OnOk};
 ghost use Rattle.std.specs.declared.io.ErrorKind.TheVariants.{OutOfMemory};
-ghost use Rattle.macs_disk.specs.FileDisks.{IsBlank, disk_in_file, file_given, file_left};
-ghost use Rattle.macs_disk.specs.Files.{Behaves, IsSure};
+ghost use Rattle.macs_disk.specs.Files.{Behaves};
+ghost use Rattle.macs_disk.specs.declared.file_fault.FileFault.{FileFault};
 ghost use Rattle.macs_journal.specs.declared.fault.JournalFault.TheVariants as journal;
-ghost use Rattle.macs_program.specs.NewDisks.{BlankFails, FormatFails, Formats, IsFree, Permits};
-ghost use Rattle.macs_program.specs.NewDisks.{refusal_of};
+ghost use Rattle.macs_offline.specs.Failing.{failure_of_file};
+ghost use Rattle.macs_program.specs.NewDisks.{BlankFails, EndpointFails, FormatFails, Formats};
+ghost use Rattle.macs_program.specs.NewDisks.{IsFree, MakesEndpoint, Permits, refusal_of};
 ghost use Rattle.macs_offline.specs.declared.failure.DiskFault.{DiskFault};
 ghost use Rattle.macs_offline.specs.declared.failure.DiskFault.TheVariants as disk;
 
 use macs_config::Identity;
-use macs_disk::{DiskFile, FileDisk, FileFault, Layout, SettledFile, make_file, sync_folder};
+use macs_disk::{ClaimedFile, DiskFile, FileDisk, FileFault, Layout, Renewal, make_file};
 use macs_journal::JournalFault;
 use macs_offline::{Contents, DiskFault, Failure, contents_of, failure_of, is_printed_to};
 use std::alloc::Global;
@@ -55,16 +56,16 @@ fn refusal_of(contents: Contents, is_over: bool) -> Option<DiskFault>
     }
 }
 
-/// Looks at a settled file of so many sectors, and refuses it where it has an endpoint (`Journal`
+/// Looks at a file of so many sectors, and refuses it where it has an endpoint (`Journal`
 /// with `AlreadyFormatted`), or something else that may not be lost (`File`). Nothing of it is
 /// changed.
 fn admit<F: DiskFile>(file: &mut F, sectors: u64, is_over: bool) -> Result<(), Failure>
     requires { 512 * sectors < 2 ^ 64 }
     ensures steady { (F.file file.new).behaves ≡ (F.file file.old).behaves }
     ensures same { Behaves (F.file file.old) → F.file file.new ≡ F.file file.old }
-    ensures free { Behaves (F.file file.old) → IsSure (F.file file.old)
+    ensures free { Behaves (F.file file.old)
         → OnOk result (Permits is_over (F.file file.old) sectors None) }
-    ensures refused { Behaves (F.file file.old) → IsSure (F.file file.old) → (fault : DiskFault)
+    ensures refused { Behaves (F.file file.old) → (fault : DiskFault)
         → IsErrOf result (Failure.Disk fault) → (fault ≡ disk.Journal journal.Disk)
         ⊎ Permits is_over (F.file file.old) sectors (Some fault) }
     ensures failed { IfErr result
@@ -79,29 +80,33 @@ fn admit<F: DiskFile>(file: &mut F, sectors: u64, is_over: bool) -> Result<(), F
     }
 }
 
-/// A blank disk in a file that is open to read and write. The first of these that holds is the
-/// fault, and leaves the file as it is: it is claimed or cannot be measured (`File`), it is not
-/// whole sectors (`Length`), the device fails (`Journal` with `Disk`), it is not admitted. Then
-/// it fails as `File` where there is no room. Want of the system's memory is `Memory`.
-fn blank_disk<F: DiskFile>(file: F, how: NewFile) -> Result<FileDisk<F>, Failure>
-    ensures free { Behaves (F.file file) → OnOk result (IsFree how.is_over (F.file file)) }
-    ensures given { IfOk result (λ it. file_given it ≡ file) }
-    ensures blank { Behaves (F.file file) → IfOk result (λ it.
-        IsBlank (F.file file) (F.file (file_left it)) how.layout (disk_in_file F.file it)) }
-    ensures refused { IfErr result (BlankFails how.is_over (F.file file)) }
+/// Claims a file that is open to read and write, where it may become the disk of an endpoint. The
+/// first of these that holds is the fault: it is claimed or cannot be measured (`File`), it is not
+/// whole sectors (`Length`), it cannot be read (`Journal` with `Disk`), it is not admitted. Want of
+/// the system's memory is `Memory`. It is left as it is.
+fn claim_free<F: DiskFile>(file: F, is_over: bool) -> Result<ClaimedFile<F>, Failure>
+    ensures free { Behaves (F.file file) → OnOk result (IsFree is_over (F.file file)) }
+    ensures refused { IfErr result (BlankFails is_over (F.file file)) }
     ensures failed { IfErr result (λ failure. (failure ≡ Failure.Memory)
         ⊎ ((fault : DiskFault) × (failure ≡ Failure.Disk fault))) }
 {
-    let mut settled = SettledFile::of(file)?;
-    let sectors = settled.sectors();
-    admit(&mut settled.file, sectors, how.is_over)?;
-    Ok(settled.into_blank_disk(how.layout)?)
+    let mut claimed = ClaimedFile::of(file)?;
+    let sectors = claimed.sectors();
+    admit(&mut claimed.file, sectors, is_over)?;
+    Ok(claimed)
 }
 
-/// Makes the name of a file durable, in the folder that holds it.
-fn sync_name<T: Files>(rt: &T, alloc: Global, path: &str) -> io::Result<()> {
-    let place = rt.canonicalize(alloc, path)?;
-    sync_folder(rt, place.as_str())
+/// Makes the disk of a new endpoint in a file that is new and empty. It fails as `Memory`, or as
+/// `Disk`: `File` where there is no room, or it cannot be synced; then the fault of the journal.
+fn format_new<F: DiskFile>(file: F, layout: Layout, identity: &Identity) -> Result<(), Failure>
+    ensures made { OnOk result (MakesEndpoint F.file file layout identity.now) }
+    ensures refused { IfErr result (EndpointFails F.file identity.now) }
+    ensures failed { IfErr result (λ failure. (failure ≡ Failure.Memory)
+        ⊎ ((fault : DiskFault) × (failure ≡ Failure.Disk fault))) }
+{
+    let mut disk = FileDisk::blank(file, layout)?;
+    macs_endpoint::format(&mut disk, identity)?;
+    Ok(())
 }
 
 /// What the system answers of the file, or why that does not serve: `Memory`, or else `File`.
@@ -120,11 +125,42 @@ fn of_file<V>(answer: io::Result<V>) -> Result<V, Failure>
     }
 }
 
-/// Makes the disk in a file that of a new endpoint. Where there is no file it is made, and a short
-/// one is lengthened; its name is made durable before the journal is written. It fails as `Memory`,
-/// or as `Disk` with the first fault: `File` where there is no regular file, or standard output
-/// goes there; then as a blank disk is not to be had; `File` where the folder that holds the file
-/// cannot be synced; then the fault of the journal.
+/// Makes the file of a new endpoint in place of a claimed one, under its name.
+fn replace<T: Files>(
+    rt: &T,
+    alloc: Global,
+    path: &str,
+    old: &T::File,
+    layout: Layout,
+    identity: &Identity,
+) -> Result<(), Failure>
+where
+    T::File: DiskFile,
+    ensures made { OnOk result
+        ((new : T.File) × MakesEndpoint T.File.file new layout identity.now) }
+    ensures refused { IfErr result (λ failure.
+        ((fault : FileFault) × (failure ≡ failure_of_file fault))
+        ⊎ EndpointFails T.File.file identity.now failure) }
+    ensures failed { IfErr result (λ failure. (failure ≡ Failure.Memory)
+        ⊎ ((fault : DiskFault) × (failure ≡ Failure.Disk fault))) }
+{
+    let mut renewal = of_file(Renewal::of(rt, alloc, path))?;
+    let about = of_file(renewal.check(rt, old))?;
+    let new = of_file(renewal.make(rt, &about))?;
+    match format_new(new, layout, identity) {
+        Ok(()) => of_file(renewal.put(rt)),
+        Err(failure) => {
+            renewal.give_up(rt);
+            Err(failure)
+        }
+    }
+}
+
+/// Makes the file at a path that of a new endpoint. Where there is no file it is made. A new file
+/// is formatted, and takes the name of the one that is there. It fails as `Memory`, or as `Disk`
+/// with the first fault: `File` where there is no regular file, or standard output goes there; then
+/// as the file is not free for it; `File` where no new file can be made beside it; then as the new
+/// one cannot be written or synced; `File` where it cannot take the name, durably.
 pub fn format_disk<T: Files>(
     rt: &T,
     alloc: Global,
@@ -140,8 +176,6 @@ where
         ⊎ ((fault : DiskFault) × (failure ≡ Failure.Disk fault))) }
 {
     let file = of_file(open_file(rt, path))?;
-    let mut disk = blank_disk(file, how)?;
-    of_file(sync_name(rt, alloc, path))?;
-    macs_endpoint::format(&mut disk, identity)?;
-    Ok(())
+    let old = claim_free(file, how.is_over)?;
+    replace(rt, alloc, path, &old.file, how.layout, identity)
 }

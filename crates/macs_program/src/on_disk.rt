@@ -27,7 +27,7 @@ ghost use Rattle.macs_offline.specs.Failing.{failure_status};
 ghost use Rattle.macs_program.specs.Judging.{DoesJudge, JudgesIn, JudgingEndsIn, PrintsVerdicts};
 ghost use Rattle.macs_program.specs.Judging.{verdict_lines};
 ghost use Rattle.macs_program.specs.NewDisks.{FormatFails, Formats, MakesDisk};
-ghost use Rattle.macs_program.specs.Relaying.{ComesTo, IsOfRelay, RelayEndsIn, course_of};
+ghost use Rattle.macs_program.specs.Relaying.{ComesTo, IsOfRelay, IsUnbound, RelayEndsIn, course_of};
 ghost use Rattle.macs_program.specs.Relaying.{is_attended, left_out, new_wire, turns_of};
 ghost use Rattle.macs_program.specs.Summing.{pass_status, relay_line, summary_line};
 ghost use Rattle.macs_program.specs.Tasks.{DoesApply, DoesPass, DoesRelay, DoesShow, Doing};
@@ -53,7 +53,7 @@ use macs_edge::{Side, UdpWire, Wire};
 use macs_endpoint::{Endpoint, OpenRefused};
 use macs_offline::{
     Addresses, CaptureFile, Failure, Given, Status, Stream, WireAddresses, addresses_of,
-    apply_commands, commands_of_file, given_by, is_own, open_disk, print,
+    apply_commands, commands_of_file, given_by, is_own, open_disk, print, try_in,
 };
 use macs_texts::show_lines;
 use macs_words::{Milliseconds, Pace, Running, WireEnds};
@@ -125,29 +125,30 @@ where
 }
 
 /// What a subcommand does with the endpoint on its disk.
-trait Task<D: SectorDisk, W: Stream> {
+trait Task<D: SectorDisk, W: Stream>: Drop {
     /// What it answers, and what it leaves of the endpoint and of the stream.
     ghost does: { Self → Doing D W };
 
     /// Does it. No command of the endpoint waits.
-    fn run(&self, endpoint: &mut Endpoint<D>, out: &mut W) -> Result<Status, Failure>
+    fn run(self, endpoint: &mut Endpoint<D>, out: &mut W) -> Result<Status, Failure>
         requires { endpoint.old.waiting ≡ [] }
-        ensures { does self.now endpoint.old out.old result endpoint.new out.new };
+        ensures { does self endpoint.old out.old result endpoint.new out.new };
 }
 
 /// Does a task with the endpoint on the disk in a file.
 #[inline(never)]
 fn with_file<T: Files, K: Task<FileDisk<T::File>, W>, W: Stream>(
     rt: &T,
+    alloc: Global,
     path: &str,
-    task: &K,
+    task: K,
     out: &mut W,
 ) -> Result<Status, Failure>
 where
     T::File: DiskFile,
-    ensures { IsRunIn T.File.file (K.does task.now) out.old result out.new }
+    ensures { IsRunIn T.File.file (K.does task) out.old result out.new }
 {
-    let disk = open_disk(rt, path)?;
+    let disk = open_disk(rt, alloc, path)?;
     with_disk(disk, task, out)
 }
 
@@ -155,11 +156,11 @@ where
 #[inline(never)]
 fn with_disk<F: DiskFile, K: Task<FileDisk<F>, W>, W: Stream>(
     disk: FileDisk<F>,
-    task: &K,
+    task: K,
     out: &mut W,
 ) -> Result<Status, Failure>
     requires { IsDiskIn F.file disk }
-    ensures { IsRunIn F.file (K.does task.now) out.old result out.new }
+    ensures { IsRunIn F.file (K.does task) out.old result out.new }
 {
     with_opened(Endpoint::open(disk), task, out)
 }
@@ -168,11 +169,11 @@ fn with_disk<F: DiskFile, K: Task<FileDisk<F>, W>, W: Stream>(
 #[inline(never)]
 fn with_opened<F: DiskFile, K: Task<FileDisk<F>, W>, W: Stream>(
     mut opened: Result<Endpoint<FileDisk<F>>, OpenRefused<FileDisk<F>>>,
-    task: &K,
+    task: K,
     out: &mut W,
 ) -> Result<Status, Failure>
     requires { IsOpeningIn F.file opened }
-    ensures { IsRunIn F.file (K.does task.now) out.old result out.new }
+    ensures { IsRunIn F.file (K.does task) out.old result out.new }
 {
     match &mut opened {
         Ok(endpoint) => task.run(endpoint, out),
@@ -192,7 +193,7 @@ impl<T: Files, D: SectorDisk, W: Stream> Task<D, W> for ApplyFile<'_, T> {
     ghost does = { λ _. DoesApply T.File.remaining D.disk W.contents W.failed };
 
     #[inline(never)]
-    fn run(&self, endpoint: &mut Endpoint<D>, out: &mut W) -> Result<Status, Failure> {
+    fn run(self, endpoint: &mut Endpoint<D>, out: &mut W) -> Result<Status, Failure> {
         let told = commands_of_file(self.rt, self.alloc, self.path)?;
         if !is_own(endpoint, told.end) {
             return Err(Failure::Commands);
@@ -230,7 +231,7 @@ where
         alloc,
         path: file,
     };
-    with_file(rt, disk, &task, out)
+    with_file(rt, alloc, disk, task, out)
 }
 
 /// Prints the configuration and the packet numbers.
@@ -243,7 +244,7 @@ impl<D: SectorDisk, W: Stream> Task<D, W> for ShowAll {
     ghost does = { λ _. DoesShow W.contents W.failed };
 
     #[inline(never)]
-    fn run(&self, endpoint: &mut Endpoint<D>, out: &mut W) -> Result<Status, Failure> {
+    fn run(self, endpoint: &mut Endpoint<D>, out: &mut W) -> Result<Status, Failure> {
         let text = show_lines(self.alloc, endpoint)?;
         print(out, text.as_str())?;
         Ok(Status::Done)
@@ -269,7 +270,7 @@ where
     ensures broken { IfErr result (λ failure. failure ≡ Failure.Output → W.failed out.new ≡ true) }
 {
     let task = ShowAll { alloc };
-    with_file(rt, disk, &task, out)
+    with_file(rt, alloc, disk, task, out)
 }
 
 /// The captures of a run. INPUT is opened first, and OUTPUT is made only where it is.
@@ -331,7 +332,7 @@ where
     ghost does = { λ task. DoesPass D.disk W.contents W.failed task.side task.is_all };
 
     #[inline(never)]
-    fn run(&self, endpoint: &mut Endpoint<D>, out: &mut W) -> Result<Status, Failure> {
+    fn run(self, endpoint: &mut Endpoint<D>, out: &mut W) -> Result<Status, Failure> {
         let alloc = self.alloc;
         let mut captures = SystemCaptures { rt: self.rt, alloc };
         pass_between(
@@ -379,7 +380,7 @@ where
         from,
         to,
     };
-    with_file(rt, disk, &task, out)
+    with_file(rt, alloc, disk, task, out)
 }
 
 /// Validates a capture by an endpoint into another one, with a line for each verdict.
@@ -419,7 +420,7 @@ where
     ghost does = { λ task. DoesJudge D.disk W.contents W.failed task.is_all };
 
     #[inline(never)]
-    fn run(&self, endpoint: &mut Endpoint<D>, out: &mut W) -> Result<Status, Failure> {
+    fn run(self, endpoint: &mut Endpoint<D>, out: &mut W) -> Result<Status, Failure> {
         let is_all = self.is_all;
         let mut files = SystemCaptures {
             rt: self.rt,
@@ -463,7 +464,7 @@ where
         from,
         to,
     };
-    with_file(rt, disk, &task, out)
+    with_file(rt, alloc, disk, task, out)
 }
 
 /// The wires of a relay.
@@ -733,22 +734,45 @@ fn is_attended(running: &Running) -> bool
     running.control.is_some() || running.metrics.is_some()
 }
 
-/// Relays frames through an endpoint between two wires.
+/// Relays frames through an endpoint between two wires, of which no call was made yet.
 #[derive(Drop)]
 struct RelayWires<'a, T> {
     rt: &'a T,
     alloc: Global,
-    addresses: Addresses,
+    wires: Wires,
     running: Running<'a>,
+    ghost new_controlled: { ⟦<UdpWire<Global, UdpSocket> as Wire>⟧.state wires.controlled
+        ≡ new_wire },
+    ghost new_common: { ⟦<UdpWire<Global, UdpSocket> as Wire>⟧.state wires.common ≡ new_wire },
 }
 
 impl<T: Files + Net + Clock + Env, D: SectorDisk, W: Stream> Task<D, W> for RelayWires<'_, T> {
     ghost does = { λ task. DoesRelay D.disk W.contents W.failed (course_of task.running) };
 
     #[inline(never)]
-    fn run(&self, endpoint: &mut Endpoint<D>, out: &mut W) -> Result<Status, Failure> {
-        let wires = bind_wires(self.rt, self.alloc, self.addresses, self.running.buffer)?;
-        wires.run(self.rt, self.alloc, endpoint, self.running, out)
+    fn run(self, endpoint: &mut Endpoint<D>, out: &mut W) -> Result<Status, Failure> {
+        let RelayWires {
+            rt,
+            alloc,
+            wires,
+            running,
+        } = self;
+        wires.run(rt, alloc, endpoint, running, out)
+    }
+}
+
+/// The failure of a relay whose wires cannot be bound: that of its disk, which comes first, where
+/// there is one. The file is looked at where it lies, and not made anew: a relay that is started
+/// again and again writes nothing.
+fn unbound<T: Files>(rt: &T, alloc: Global, disk: &str, failure: Failure) -> Failure
+where
+    T::File: CaptureFile,
+    requires { (failure ≡ Failure.Memory) ⊎ (failure ≡ Failure.Wire) }
+    ensures { IsUnbound T.File.file result }
+{
+    match try_in(rt, alloc, disk, None, &[]) {
+        Ok(_) => failure,
+        Err(fault) => fault,
     }
 }
 
@@ -763,7 +787,7 @@ pub fn relay<'a, T: Files + Net + Clock + Env, W: Stream>(
     out: &mut W,
 ) -> Result<Status, Failure>
 where
-    T::File: DiskFile,
+    T::File: CaptureFile,
     ensures printed { IfOk result
         (λ status. (summary : RelaySummary) × ComesTo T.File.file (course_of running.entry) summary
         × SpellsBoth controlled.entry common.entry
@@ -777,6 +801,7 @@ where
     ensures ended { IfErr result
         (λ failure. ((fault : AddressFault) × (failure ≡ Failure.Address fault)
         × IsFirst (AddressFaultHolds controlled.entry common.entry) address_faults fault)
+        ⊎ IsUnbound T.File.file failure
         ⊎ OpeningFails T.File.file failure
         ⊎ RelayEndsIn T.File.file (course_of running.entry) failure) }
     ensures names { IfErr result IsOfRelay }
@@ -784,11 +809,16 @@ where
     ensures broken { IfErr result (λ failure. failure ≡ Failure.Output → W.failed out.new ≡ true) }
 {
     let addresses = addresses_of(controlled, common)?;
-    let task = RelayWires {
-        rt,
-        alloc,
-        addresses,
-        running,
-    };
-    with_file(rt, disk, &task, out)
+    match bind_wires(rt, alloc, addresses, running.buffer) {
+        Ok(wires) => {
+            let task = RelayWires {
+                rt,
+                alloc,
+                wires,
+                running,
+            };
+            with_file(rt, alloc, disk, task, out)
+        }
+        Err(failure) => Err(unbound(rt, alloc, disk, failure)),
+    }
 }

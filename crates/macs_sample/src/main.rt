@@ -90,7 +90,7 @@ fn play(rt: &HostRuntime) -> Option<()> {
     let memory = MemDisk::new(rt.alloc(), SECTORS).ok()?;
     let mut sender = new_endpoint(memory, SENDER)?;
     send_under_key(&mut sender)?;
-    let file = FileDisk::create(rt, "receiver.disk", SECTORS).ok()?;
+    let file = FileDisk::create(rt, rt.alloc(), "receiver.disk", SECTORS).ok()?;
     let mut receiver = new_endpoint(file, RECEIVER)?;
     receive_under_key(&mut receiver)?;
 

@@ -42,9 +42,13 @@ fn opening_of(line: Line<'_>) -> Option<Opening> {
 }
 
 /// The file of a disk; `None` where it cannot be made.
-fn file_of(rt: &impl Files<File = File>, path: Option<&str>) -> Option<Option<FileDisk>> {
+fn file_of(
+    rt: &impl Files<File = File>,
+    alloc: Global,
+    path: Option<&str>,
+) -> Option<Option<FileDisk>> {
     match path {
-        Some(path) => Some(Some(FileDisk::create(rt, path, SECTORS).ok()?)),
+        Some(path) => Some(Some(FileDisk::create(rt, alloc, path, SECTORS).ok()?)),
         None => Some(None),
     }
 }
@@ -56,7 +60,7 @@ fn blank(
     controls: Rc<Controls>,
     path: Option<&str>,
 ) -> Option<StoryDisk> {
-    let file = file_of(rt, path)?;
+    let file = file_of(rt, alloc, path)?;
     let mut disk = StoryDisk::new(alloc, controls, file, SECTORS)?;
     disk.restore();
     Some(disk)

@@ -45,8 +45,8 @@ pub const FORMAT: &str = "usage: macsecd format DISK SCI TX RX [--block n] [--ov
 
 Makes a disk file for an endpoint, with the default configuration, and prints
 'formatted'.
-  DISK   the file: it is made, or lengthened with zeros to 526,336 octets, a
-         multiple of 512; a longer one keeps its length
+  DISK   the file, of 526,336 octets: it is made, or replaces one that is blank
+         and a multiple of 512 octets long
   SCI    the endpoint's own SCI: 16 hex digits, MAC address and port number
   TX     packet numbers that are reserved at a time to transmit: 1 to 65536
   RX     and to receive: 1 to 65536

@@ -6,8 +6,8 @@ ghost use Rattle.macs_disk.specs.Disk.{IsHonest, MayLeave};
 ghost use Rattle.macs_disk.specs.FileDisks.{IsFoundAgain, disk_in_file, layout_of};
 
 use super::{full, seen};
-use macs_disk::{DeviceFault, DiskFile, FileDisk, Layout, SectorDisk};
-use macs_mem_file::{DeviceBlock, MemFile};
+use macs_disk::{ClaimedFile, DeviceFault, DiskFile, FileDisk, Layout, SectorDisk};
+use macs_mem_file::{DeviceBlock, MemFile, MemFolder, open_disk};
 use std::alloc::Allocator;
 use std::process::Abort;
 use std::test::Fail;
@@ -37,7 +37,11 @@ fn use_packed<F: DiskFile>(disk: &mut FileDisk<F>)
 #[test]
 fn a_disk_in_a_file_that_behaves_is_honest(rt: HostRuntime) -> Result<(), Fail> {
     let file = MemFile::new(rt.alloc(), 1, DeviceBlock::Octets512, 512)?;
-    let Ok(mut disk) = FileDisk::over(file, 4) else {
+    let new = MemFile::new(rt.alloc(), 1, DeviceBlock::Octets512, 512)?;
+    let Ok(mut old) = ClaimedFile::of(file) else {
+        panic!(rt; "not claimed");
+    };
+    let Ok(mut disk) = FileDisk::over(&mut old, new, 4) else {
         panic!(rt; "no disk");
     };
     assert!(rt; 3 < disk.sectors());
@@ -49,13 +53,14 @@ fn a_disk_in_a_file_that_behaves_is_honest(rt: HostRuntime) -> Result<(), Fail> 
 
 #[test]
 fn a_disk_in_a_file_is_found_again(rt: HostRuntime) -> Result<(), Fail> {
-    let file = MemFile::new(rt.alloc(), 129, DeviceBlock::Octets512, 4_096)?;
-    let Ok(mut disk) = FileDisk::blank(file, Layout::Packed) else {
+    let folder = MemFolder::new(rt.alloc(), 129, DeviceBlock::Octets512, 4_096)?;
+    let Ok(mut disk) = FileDisk::blank(folder.make_beside()?, Layout::Packed) else {
         panic!(rt; "no new disk");
     };
     assert!(rt; 3 < disk.sectors());
     use_packed(&mut disk);
-    let Ok(mut again) = disk.reopen() else {
+    folder.rename();
+    let Ok(mut again) = open_disk(&folder, 0) else {
         panic!(rt; "no disk");
     };
     assert!(rt; again.sectors() == 1_028);

@@ -1,25 +1,35 @@
-//! Disks in a file each of whose calls fails in turn, or that moves few octets at a time.
+//! Disks in files each of whose calls fails in turn, or that move few octets at a time.
 
 use super::Call::Fill;
 use super::{make, seen};
-use macs_disk::{DiskFile, FileDisk, FileFault, Layout, SectorDisk};
+use macs_disk::{ClaimedFile, DiskFile, FileDisk, FileFault, Layout, SectorDisk};
+use std::cell::Cell;
 use std::io;
 use std::io::{Cursor, ErrorKind, Read, Seek, SeekFrom, Write};
 use std::process::Abort;
 
-/// Calls, of which one fails.
-#[derive(Clone, Copy)]
+/// The calls of the file that is copied and of its copy, of which one fails.
+#[derive(Drop)]
 struct Calls {
-    made: u64,
+    made: Cell<u64>,
     /// Which one fails, counted from 1; 0 is none.
     failing: u64,
     kind: ErrorKind,
 }
 
 impl Calls {
-    fn make(&mut self) -> io::Result<()> {
-        self.made = self.made.saturating_add(1);
-        if self.made == self.failing {
+    fn new(failing: u64, kind: ErrorKind) -> Calls {
+        Calls {
+            made: Cell::new(0),
+            failing,
+            kind,
+        }
+    }
+
+    fn make(&self) -> io::Result<()> {
+        let made = self.made.get().saturating_add(1);
+        self.made.set(made);
+        if made == self.failing {
             return Err(io::Error::from(self.kind));
         }
         Ok(())
@@ -28,16 +38,16 @@ impl Calls {
 
 /// A file in memory that has 4 sectors of room.
 #[derive(Drop)]
-pub(super) struct FailingFile {
-    calls: Calls,
+struct FailingFile<'a> {
+    calls: &'a Calls,
     /// How many octets a read or a write moves at most.
     most: usize,
-    /// How many octets the file has.
+    /// How many octets the file says that it has.
     length: u64,
     octets: Cursor<[u8; 2_048]>,
 }
 
-impl DiskFile for FailingFile {
+impl DiskFile for FailingFile<'_> {
     ghost use Rattle.macs_disk.specs.Evidence.{no-claim};
 
     fn claim(&mut self) -> io::Result<()> {
@@ -69,21 +79,13 @@ impl DiskFile for FailingFile {
         self.calls.make()
     }
 
-    fn reread(&mut self) -> io::Result<()> {
-        self.calls.make()
-    }
-
     ghost sound = { λ _ behaves. no-claim behaves };
 }
 
 /// A file of so many octets of zeros.
-pub(super) fn file(length: u64, most: usize, failing: u64, kind: ErrorKind) -> FailingFile {
+fn file(calls: &Calls, length: u64, most: usize) -> FailingFile<'_> {
     FailingFile {
-        calls: Calls {
-            made: 0,
-            failing,
-            kind,
-        },
+        calls,
         most,
         length,
         octets: Cursor::new([0; 2_048]),
@@ -93,9 +95,10 @@ pub(super) fn file(length: u64, most: usize, failing: u64, kind: ErrorKind) -> F
 /// Whether a write of 7 was done, what is read then, and whether a sync was done.
 type Life = Result<(bool, Option<u8>, bool), FileFault>;
 
-/// The life of a disk of 4 sectors.
-fn live(rt: &impl Abort, file: FailingFile) -> Life {
-    let mut disk = FileDisk::over(file, 4)?;
+/// The life of a disk of 4 sectors in a copy of a file of so many octets.
+fn live(rt: &impl Abort, calls: &Calls, length: u64, most: usize) -> Life {
+    let mut old = ClaimedFile::of(file(calls, length, most))?;
+    let mut disk = FileDisk::over(&mut old, file(calls, 0, most), 4)?;
     assert!(rt; disk.sectors() == 4);
     let is_written = make(rt, &mut disk, Fill(3, 7)).is_ok();
     let read = seen(rt, &mut disk, 3).ok();
@@ -117,11 +120,12 @@ const NOT_READ: Life = Ok((true, None, false));
 
 const NOT_SYNCED: Life = Ok((true, Some(7), false));
 
-/// What is answered where no call fails, and where this one does: the claim, the size, the sync,
-/// the reading again, the write of zeros and its sync; the write, the read and the sync. Want of
-/// memory is reported where there is no disk yet, but for the calls that find out what the device
-/// has. An interrupted write or read is tried again. Each call after one that failed fails.
-const LIVES: [(ErrorKind, [Life; 10]); 3] = [
+/// What is answered where no call fails, and where this one does: the claim of the file, its size
+/// and the read of it; the write of the copy and its sync; the write of zeros and its sync; and of
+/// the disk the write, the read and the sync. Want of memory is reported where there is no disk
+/// yet, but for the calls that find out what the file has, and make the copy durable. An interrupted
+/// write or read is tried again. Each call after one that failed fails.
+const LIVES: [(ErrorKind, [Life; 11]); 3] = [
     (
         ErrorKind::Other,
         [
@@ -129,6 +133,7 @@ const LIVES: [(ErrorKind, [Life; 10]); 3] = [
             REFUSED,
             REFUSED,
             NO_DEVICE,
+            REFUSED,
             NO_DEVICE,
             REFUSED,
             REFUSED,
@@ -144,6 +149,7 @@ const LIVES: [(ErrorKind, [Life; 10]); 3] = [
             NO_MEMORY,
             NO_MEMORY,
             NO_DEVICE,
+            NO_MEMORY,
             NO_DEVICE,
             NO_MEMORY,
             NO_MEMORY,
@@ -155,7 +161,7 @@ const LIVES: [(ErrorKind, [Life; 10]); 3] = [
     (
         ErrorKind::Interrupted,
         [
-            DONE, REFUSED, REFUSED, NO_DEVICE, NO_DEVICE, DONE, REFUSED, DONE, DONE, NOT_SYNCED,
+            DONE, REFUSED, REFUSED, DONE, DONE, NO_DEVICE, DONE, REFUSED, DONE, DONE, NOT_SYNCED,
         ],
     ),
 ];
@@ -164,39 +170,23 @@ const LIVES: [(ErrorKind, [Life; 10]); 3] = [
 fn each_call_that_fails_is_answered(rt: HostRuntime) {
     for (kind, lives) in LIVES {
         for (failing, life) in lives.into_iter().enumerate() {
-            let file = file(1_024, 2_048, failing as u64, kind);
-            assert!(rt; live(&rt, file) == life, "call {failing}");
+            let calls = Calls::new(failing as u64, kind);
+            assert!(rt; live(&rt, &calls, 1_024, 2_048) == life, "call {failing}");
         }
     }
 }
 
-/// What is answered where this call fails of those that make a blank disk: the claim, the size, the
-/// sync, the reading again, the sync of the layout's mark and the write of zeros. The file has no
-/// room for all of these, so there is no disk where no call fails.
-const NOT_BLANK: [(ErrorKind, [FileFault; 7]); 2] = [
+/// What is answered where no call fails of those that make a blank disk, and where this one does:
+/// two writes of zeros. The file has no room for all of these, and the second writes none, so there
+/// is no disk where no call fails.
+const NOT_BLANK: [(ErrorKind, [FileFault; 3]); 2] = [
     (
         ErrorKind::Other,
-        [
-            FileFault::Open,
-            FileFault::Open,
-            FileFault::Open,
-            FileFault::Device,
-            FileFault::Device,
-            FileFault::Open,
-            FileFault::Open,
-        ],
+        [FileFault::Open, FileFault::Open, FileFault::Open],
     ),
     (
         ErrorKind::OutOfMemory,
-        [
-            FileFault::Open,
-            FileFault::Memory,
-            FileFault::Memory,
-            FileFault::Device,
-            FileFault::Device,
-            FileFault::Memory,
-            FileFault::Memory,
-        ],
+        [FileFault::Open, FileFault::Memory, FileFault::Memory],
     ),
 ];
 
@@ -204,31 +194,39 @@ const NOT_BLANK: [(ErrorKind, [FileFault; 7]); 2] = [
 fn each_call_of_a_blank_disk_that_fails_is_answered(rt: HostRuntime) {
     for (kind, faults) in NOT_BLANK {
         for (failing, fault) in faults.into_iter().enumerate() {
-            let file = file(1_024, 2_048, failing as u64, kind);
-            let answer = FileDisk::blank(file, Layout::Packed).err();
+            let calls = Calls::new(failing as u64, kind);
+            let answer = FileDisk::blank(file(&calls, 0, 2_048), Layout::Packed).err();
             assert!(rt; answer == Some(fault), "call {failing}");
         }
     }
 }
 
-/// How many octets the file has at first and a call moves at most, which call fails, and the life:
-/// short moves are finished, and one that moves nothing fails. The last two fail at the second of
-/// two reads, and are interrupted there.
-const SHORT: [(u64, usize, u64, ErrorKind, Life); 8] = [
+/// How many octets the file has and a call moves at most, which call fails, and the life: short
+/// moves are finished, and one that moves nothing fails. Of 2,048 octets that move by 256, the
+/// copy is calls 3 to 18, a read and a write in turn, and 19 its sync; a sector is written by calls
+/// 20 and 21, and read by 22 and 23. A file that has fewer octets than it said is not copied.
+const SHORT: [(u64, usize, u64, ErrorKind, Life); 12] = [
     (1_024, 1, 0, ErrorKind::Other, DONE),
     (1_024, 100, 0, ErrorKind::Other, DONE),
     (1_024, 511, 0, ErrorKind::Other, DONE),
-    (1_024, 0, 0, ErrorKind::Other, REFUSED),
+    (1_024, 0, 0, ErrorKind::Other, NO_DEVICE),
+    (0, 0, 0, ErrorKind::Other, REFUSED),
     (2_048, 1, 0, ErrorKind::Other, DONE),
-    (2_048, 0, 0, ErrorKind::Other, NOT_WRITTEN),
-    (2_048, 256, 8, ErrorKind::Other, NOT_READ),
-    (2_048, 256, 8, ErrorKind::Interrupted, DONE),
+    (2_048, 256, 17, ErrorKind::Other, NO_DEVICE),
+    (2_048, 256, 18, ErrorKind::Other, REFUSED),
+    (2_048, 256, 19, ErrorKind::Other, NO_DEVICE),
+    (2_048, 256, 23, ErrorKind::Other, NOT_READ),
+    (2_048, 256, 23, ErrorKind::Interrupted, DONE),
+    (2_560, 2_048, 0, ErrorKind::Other, NO_DEVICE),
 ];
 
 #[test]
 fn short_moves_are_finished(rt: HostRuntime) {
     for (length, most, failing, kind, life) in SHORT {
-        let file = file(length, most, failing, kind);
-        assert!(rt; live(&rt, file) == life, "{length} and {most} octets");
+        let calls = Calls::new(failing, kind);
+        assert!(rt;
+            live(&rt, &calls, length, most) == life,
+            "{length} and {most} octets"
+        );
     }
 }

@@ -3,7 +3,8 @@
 
 use super::Call::{Fill, Read, Sync};
 use super::{Call, make};
-use macs_disk::{FileDisk, FileFault, SectorDisk};
+use macs_disk::{ClaimedFile, FileDisk, FileFault, SectorDisk, make_file};
+use std::alloc::AllocError;
 use std::fs::File;
 use std::os::fd::AsRawFd;
 use std::os::unix::fs::PermissionsExt;
@@ -76,42 +77,50 @@ fn is_done(rt: &impl Abort, disk: &mut Option<FileDisk>, call: Call) -> bool {
     make(rt, disk, call).is_ok()
 }
 
+/// Whether there is no file NAME.new, which an opening makes for a while.
+fn is_alone(rt: &(impl Files<File = File> + AllocGlobal), path: &str) -> Result<bool, AllocError> {
+    let new = format!(in rt.alloc(); "{path}.new")?;
+    Ok(!matches!(fs::exists(rt, &new), Ok(true)))
+}
+
 /// Opens the disk, with this answer.
 fn opened(
-    rt: &(impl Abort + Files<File = File>),
+    rt: &(impl Abort + Files<File = File> + AllocGlobal),
     path: &str,
     disk: Option<FileDisk>,
     wanted: Answer,
-) -> Option<FileDisk> {
-    let (next, answer) = replaced(disk, FileDisk::open(rt, path));
+) -> Result<Option<FileDisk>, Fail> {
+    let (next, answer) = replaced(disk, FileDisk::open(rt, rt.alloc(), path));
     assert!(rt; answer == wanted);
-    next
+    assert!(rt; is_alone(rt, path)?);
+    Ok(next)
 }
 
 /// Makes a disk of so many sectors, with this answer.
 fn created(
-    rt: &(impl Abort + Files<File = File>),
+    rt: &(impl Abort + Files<File = File> + AllocGlobal),
     path: &str,
     disk: Option<FileDisk>,
     sectors: u64,
     wanted: Answer,
-) -> Option<FileDisk> {
-    let (next, answer) = replaced(disk, FileDisk::create(rt, path, sectors));
+) -> Result<Option<FileDisk>, Fail> {
+    let (next, answer) = replaced(disk, FileDisk::create(rt, rt.alloc(), path, sectors));
     assert!(rt; answer == wanted);
-    next
+    assert!(rt; is_alone(rt, path)?);
+    Ok(next)
 }
 
 /// Takes one step.
 fn take(
-    rt: &(impl Abort + Files<File = File>),
+    rt: &(impl Abort + Files<File = File> + AllocGlobal),
     path: &str,
     mut disk: Option<FileDisk>,
     step: Step,
 ) -> Result<Option<FileDisk>, Fail> {
     match step {
         Zeros(octets) => zeros(rt, path, octets)?,
-        Open(wanted) => return Ok(opened(rt, path, disk, wanted)),
-        Create(sectors, wanted) => return Ok(created(rt, path, disk, sectors, wanted)),
+        Open(wanted) => return opened(rt, path, disk, wanted),
+        Create(sectors, wanted) => return created(rt, path, disk, sectors, wanted),
         Make(call) => assert!(rt; is_done(rt, &mut disk, call)),
         Fails(call) => assert!(rt; !is_done(rt, &mut disk, call)),
         Close => return Ok(None),
@@ -123,7 +132,11 @@ fn take(
 }
 
 /// Takes steps, one after the other, from no disk on.
-fn play(rt: &(impl Abort + Files<File = File>), path: &str, story: &[Step]) -> Result<(), Fail> {
+fn play(
+    rt: &(impl Abort + Files<File = File> + AllocGlobal),
+    path: &str,
+    story: &[Step],
+) -> Result<(), Fail> {
     let mut disk = None;
     for step in story {
         disk = take(rt, path, disk, *step)?;
@@ -132,7 +145,11 @@ fn play(rt: &(impl Abort + Files<File = File>), path: &str, story: &[Step]) -> R
 }
 
 /// Takes steps on a file that is not there at first, and that is removed at the end.
-fn begin(rt: &(impl Abort + Files<File = File>), path: &str, story: &[Step]) -> Result<(), Fail> {
+fn begin(
+    rt: &(impl Abort + Files<File = File> + AllocGlobal),
+    path: &str,
+    story: &[Step],
+) -> Result<(), Fail> {
     let _ = fs::remove_file(rt, path);
     play(rt, path, story)?;
     fs::remove_file(rt, path)?;
@@ -310,12 +327,11 @@ fn what_cannot_be_opened_is_refused(rt: HostRuntime) -> Result<(), Fail> {
     Ok(())
 }
 
-/// The system neither syncs a pipe nor reads it again, nor writes at a place of it. Its octets
-/// cannot be counted.
+/// A pipe has no name in a folder.
 const PIPE: &[Step] = &[
-    Open(Err(FileFault::Device)),
-    Create(0, Err(FileFault::Device)),
-    Create(1, Err(FileFault::Device)),
+    Open(Err(FileFault::Open)),
+    Create(0, Err(FileFault::Open)),
+    Create(1, Err(FileFault::Open)),
 ];
 
 #[test]
@@ -325,8 +341,22 @@ fn a_pipe_is_no_disk(rt: HostRuntime) -> Result<(), Fail> {
     play(&rt, path.as_str(), PIPE)
 }
 
-/// A file that can be claimed, measured and read again, and that the system does not sync.
+/// A file that can be claimed and measured, in a folder where none can be made.
+#[test]
+fn what_has_no_room_beside_it_is_no_disk(rt: HostRuntime) -> Result<(), Fail> {
+    play(&rt, "/proc/self/comm", &[Open(Err(FileFault::Open))])
+}
+
+/// The copy of an empty file is made in a file that the system does not sync.
 #[test]
 fn what_cannot_be_synced_is_no_disk(rt: HostRuntime) -> Result<(), Fail> {
-    play(&rt, "/proc/self/comm", &[Open(Err(FileFault::Device))])
+    let file = make_file(&rt, "disk-not-synced")?;
+    let Ok(mut old) = ClaimedFile::of(file) else {
+        panic!(rt; "not claimed");
+    };
+    let new = make_file(&rt, "/proc/self/comm")?;
+    let answer = FileDisk::over(&mut old, new, 0).err();
+    assert!(rt; answer == Some(FileFault::Device));
+    fs::remove_file(&rt, "disk-not-synced")?;
+    Ok(())
 }

@@ -1,18 +1,17 @@
-//! Disks in a file that behaves as one of a kernel's does. Each sync in turn fails once, and the
+//! Disks in files that behave as those of a kernel do. Each sync in turn fails once, and the next
 //! program goes on. Then memory is short, and the power is lost: what was acknowledged is there,
 //! and so is what reads gave.
 
 use super::{fill, full, seen};
 use macs_disk::{FileDisk, FileFault, Layout, SectorDisk};
-use macs_mem_file::{DeviceBlock, FileCall, Left, MemFile, OpenMemFile};
+use macs_mem_file::{
+    DeviceBlock, FileCall, Left, MemFile, MemFolder, OpenMemFile, make_disk, open_disk,
+};
 use std::alloc::Global;
 use std::cell::{RefCell, RefMut};
 use std::process::Abort;
 
-/// The file of a kernel.
-pub(super) type Kernel = RefCell<MemFile>;
-
-/// A disk in it.
+/// A disk in a file of a kernel.
 type Disk<'a> = FileDisk<OpenMemFile<'a>>;
 
 /// What a trial is made on.
@@ -20,7 +19,7 @@ type Disk<'a> = FileDisk<OpenMemFile<'a>>;
 pub(super) struct Ground {
     layout: Layout,
     block: DeviceBlock,
-    /// How many pages the file has room for.
+    /// How many pages a file has room for.
     pages: u16,
     /// How many octets a call moves at most.
     most: usize,
@@ -55,17 +54,18 @@ const UNSUITED: Ground = Ground {
     most: 4_096,
 };
 
-/// How a program goes on after a call that failed.
+/// What the kernel does with the file where a call failed and its program ends. The next program
+/// opens the disk again.
 #[derive(Clone, Copy)]
 enum Going {
-    /// It makes a new disk of the same open file.
-    Reopens,
-    /// It ends, and the next one opens the file.
-    Ends,
+    /// Some other program has the file open, and its pages stay.
+    IsHeld,
+    /// The pages that are clean are dropped.
+    IsDropped,
 }
 
-/// A trial: which sync fails, how many blocks that it was to write reach the device, how the
-/// program goes on, and what the power loss leaves.
+/// A trial: which sync fails, how many blocks that it was to write reach the device, what becomes
+/// of the pages where the program ends, and what the power loss leaves.
 #[derive(Clone, Copy)]
 struct Trial {
     failing: u64,
@@ -83,74 +83,89 @@ const WRITES: [(usize, u8); 5] = [(2, 1), (3, 2), (2, 3), (7, 4), (3, 5)];
 /// What is written then, and not synced.
 const LAST: (usize, u8) = (0, 6);
 
-/// The syncs of a trial: one of an opening, and one after each write.
+/// The syncs of a trial: one of the copy that an opening makes, and one after each write.
 const SYNCS: u64 = 1 + 5;
 
-/// The syncs of a new disk: before its mark is written, after that, and after its sectors.
-const BLANK_SYNCS: u64 = 3;
+/// The syncs of a new disk: one, after its mark and its sectors.
+const BLANK_SYNCS: u64 = 1;
 
 /// What is known of the sectors: the octet that each is full of.
 type Known = [u8; SECTORS];
 
-pub(super) fn kernel(rt: &impl Abort, alloc: Global, ground: Ground) -> Kernel {
-    match MemFile::new(alloc, ground.pages, ground.block, ground.most) {
-        Ok(file) => RefCell::new(file),
+pub(super) fn folder(rt: &impl Abort, alloc: Global, ground: Ground) -> MemFolder {
+    match MemFolder::new(alloc, ground.pages, ground.block, ground.most) {
+        Ok(folder) => folder,
         Err(_) => panic!(rt; "no memory"),
     }
 }
 
-/// The file, as the kernel has it.
-pub(super) fn file<'a>(rt: &impl Abort, kernel: &'a Kernel) -> RefMut<'a, MemFile> {
-    match kernel.try_borrow_mut() {
+/// A file, as the kernel has it.
+fn borrowed<'a>(rt: &impl Abort, file: &'a RefCell<MemFile>) -> RefMut<'a, MemFile> {
+    match file.try_borrow_mut() {
         Ok(file) => file,
         Err(_) => panic!(rt; "the file is in use"),
     }
 }
 
-/// The file of a new disk of zeros. Where this sync fails while it is made, it is made once more.
-fn blank(rt: &impl Abort, alloc: Global, ground: Ground, failing: u64) -> Kernel {
-    let kernel = kernel(rt, alloc, ground);
-    file(rt, &kernel).fail(FileCall::Sync, failing);
-    if FileDisk::blank(OpenMemFile::new(&kernel), ground.layout).is_err() {
-        file(rt, &kernel).close();
-        assert!(rt; FileDisk::blank(OpenMemFile::new(&kernel), ground.layout).is_ok());
-    }
-    assert!(rt; !file(rt, &kernel).is_due());
-    file(rt, &kernel).close();
-    kernel
+/// The file that has the name.
+pub(super) fn named<'a>(rt: &impl Abort, folder: &'a MemFolder) -> RefMut<'a, MemFile> {
+    borrowed(rt, folder.named())
 }
 
-/// The disk in the file. Where a sync of its opening fails it is opened once more.
-fn open<'a>(rt: &impl Abort, kernel: &'a Kernel) -> Disk<'a> {
-    match FileDisk::over(OpenMemFile::new(kernel), 0) {
+/// The file beside it.
+fn beside<'a>(rt: &impl Abort, folder: &'a MemFolder) -> RefMut<'a, MemFile> {
+    borrowed(rt, folder.beside())
+}
+
+/// Has a sync fail of the file that takes the name next.
+fn fail_sync(rt: &impl Abort, folder: &MemFolder, failing: u64, reached: usize) {
+    beside(rt, folder).fail(FileCall::Sync, failing);
+    beside(rt, folder).reach(reached);
+}
+
+/// Whether the sync that was to fail has not come yet.
+fn is_due(rt: &impl Abort, folder: &MemFolder) -> bool {
+    named(rt, folder).is_due() || beside(rt, folder).is_due()
+}
+
+/// The folder of a new disk of zeros. Where this sync fails while it is made, it is made once more.
+fn blank(rt: &impl Abort, alloc: Global, ground: Ground, failing: u64) -> MemFolder {
+    let folder = folder(rt, alloc, ground);
+    fail_sync(rt, &folder, failing, 0);
+    if make_disk(&folder, ground.layout).is_err() {
+        assert!(rt; make_disk(&folder, ground.layout).is_ok());
+    }
+    assert!(rt; !is_due(rt, &folder));
+    named(rt, &folder).close();
+    folder
+}
+
+/// The disk in the folder. Where a sync of its opening fails it is opened once more.
+fn open<'a>(rt: &impl Abort, folder: &'a MemFolder) -> Disk<'a> {
+    match open_disk(folder, 0) {
         Ok(disk) => disk,
         Err(fault) => {
             assert!(rt; fault == FileFault::Device);
-            file(rt, kernel).close();
-            open_again(rt, kernel)
+            named(rt, folder).close();
+            open_again(rt, folder)
         }
     }
 }
 
-fn open_again<'a>(rt: &impl Abort, kernel: &'a Kernel) -> Disk<'a> {
-    match FileDisk::over(OpenMemFile::new(kernel), 0) {
+fn open_again<'a>(rt: &impl Abort, folder: &'a MemFolder) -> Disk<'a> {
+    match open_disk(folder, 0) {
         Ok(disk) => disk,
         Err(_) => panic!(rt; "not opened"),
     }
 }
 
-/// The program goes on after a call that failed.
-fn go_on<'a>(rt: &impl Abort, kernel: &'a Kernel, disk: Disk<'a>, going: Going) -> Disk<'a> {
-    match going {
-        Going::Reopens => match disk.reopen() {
-            Ok(disk) => disk,
-            Err(_) => panic!(rt; "not opened again"),
-        },
-        Going::Ends => {
-            file(rt, kernel).close();
-            open_again(rt, kernel)
-        }
+/// The program ends, and the next one opens the disk.
+fn go_on<'a>(rt: &impl Abort, folder: &'a MemFolder, going: Going) -> Disk<'a> {
+    named(rt, folder).close();
+    if matches!(going, Going::IsDropped) {
+        named(rt, folder).press();
     }
+    open_again(rt, folder)
 }
 
 /// The octet that a sector is full of, of a disk that does not fail.
@@ -158,11 +173,11 @@ fn octet(rt: &impl Abort, disk: &mut Disk<'_>, at: usize) -> u8 {
     seen(rt, disk, at as u64).expect(rt, "a sector")
 }
 
-/// Writes a sector and syncs it. Where that fails, the program goes on, and takes the sector as it
-/// finds it: as before or as written.
+/// Writes a sector and syncs it. Where that fails, the next program goes on, and takes the sector
+/// as it finds it: as before or as written.
 fn keep<'a>(
     rt: &impl Abort,
-    kernel: &'a Kernel,
+    folder: &'a MemFolder,
     mut disk: Disk<'a>,
     known: &mut Known,
     write: (usize, u8),
@@ -175,7 +190,7 @@ fn keep<'a>(
         known[at] = written;
         return disk;
     }
-    let mut disk = go_on(rt, kernel, disk, going);
+    let mut disk = go_on(rt, folder, going);
     let found = octet(rt, &mut disk, at);
     assert!(rt; found == known[at] || found == written);
     known[at] = found;
@@ -205,21 +220,20 @@ fn has(rt: &impl Abort, disk: &mut Disk<'_>, known: &Known) -> bool {
 }
 
 /// Makes a trial: whether all that was acknowledged is there.
-fn holds(rt: &impl Abort, kernel: &Kernel, trial: Trial) -> bool {
-    file(rt, kernel).fail(FileCall::Sync, trial.failing);
-    file(rt, kernel).reach(trial.reached);
-    let mut disk = open(rt, kernel);
+fn holds(rt: &impl Abort, folder: &MemFolder, trial: Trial) -> bool {
+    fail_sync(rt, folder, trial.failing, trial.reached);
+    let mut disk = open(rt, folder);
     let mut known = found(rt, &mut disk);
     for write in WRITES {
-        disk = keep(rt, kernel, disk, &mut known, write, trial.going);
+        disk = keep(rt, folder, disk, &mut known, write, trial.going);
     }
-    assert!(rt; !file(rt, kernel).is_due());
+    assert!(rt; !is_due(rt, folder));
     let (at, last) = LAST;
     assert!(rt; fill(rt, &mut disk, at as u64, last).is_ok());
-    file(rt, kernel).press();
+    named(rt, folder).press();
     assert!(rt; has(rt, &mut disk, &known));
-    file(rt, kernel).crash(trial.left);
-    has(rt, &mut open_again(rt, kernel), &known)
+    named(rt, folder).crash(trial.left);
+    has(rt, &mut open_again(rt, folder), &known)
 }
 
 const LEFT: [Left; 4] = [Left::Durable, Left::Written, Left::Half, Left::Zeros];
@@ -227,8 +241,8 @@ const LEFT: [Left; 4] = [Left::Durable, Left::Written, Left::Half, Left::Zeros];
 /// How many blocks of a failed sync reach the device: none, one, or all.
 const REACHED: [usize; 3] = [0, 1, usize::MAX];
 
-/// Each sync fails in turn, and the program goes on in this way.
-fn fail_each(rt: &impl Abort, kernel: &Kernel, going: Going, left: Left) {
+/// Each sync fails in turn, and the next program goes on in this way.
+fn fail_each(rt: &impl Abort, folder: &MemFolder, going: Going, left: Left) {
     for failing in 1..=SYNCS {
         for reached in REACHED {
             let trial = Trial {
@@ -238,7 +252,7 @@ fn fail_each(rt: &impl Abort, kernel: &Kernel, going: Going, left: Left) {
                 left,
             };
             assert!(rt;
-                holds(rt, kernel, trial),
+                holds(rt, folder, trial),
                 "sync {failing}, {reached} blocks"
             );
         }
@@ -248,25 +262,25 @@ fn fail_each(rt: &impl Abort, kernel: &Kernel, going: Going, left: Left) {
 #[test]
 fn a_failed_sync_loses_nothing_of_a_packed_disk(rt: HostRuntime) {
     for failing in 1..=BLANK_SYNCS {
-        let kernel = blank(&rt, rt.alloc(), PACKED, failing);
+        let folder = blank(&rt, rt.alloc(), PACKED, failing);
         for left in LEFT {
-            fail_each(&rt, &kernel, Going::Reopens, left);
-            fail_each(&rt, &kernel, Going::Ends, left);
+            fail_each(&rt, &folder, Going::IsHeld, left);
+            fail_each(&rt, &folder, Going::IsDropped, left);
         }
     }
 }
 
 #[test]
 fn a_failed_sync_loses_nothing_of_a_spaced_disk(rt: HostRuntime) {
-    let kernel = blank(&rt, rt.alloc(), SPACED, 2);
-    fail_each(&rt, &kernel, Going::Reopens, Left::Zeros);
-    fail_each(&rt, &kernel, Going::Ends, Left::Half);
+    let folder = blank(&rt, rt.alloc(), SPACED, 1);
+    fail_each(&rt, &folder, Going::IsHeld, Left::Zeros);
+    fail_each(&rt, &folder, Going::IsDropped, Left::Half);
 }
 
 #[test]
 fn small_blocks_lose_nothing_of_a_spaced_disk(rt: HostRuntime) {
-    let kernel = blank(&rt, rt.alloc(), SPACED_512, 3);
-    fail_each(&rt, &kernel, Going::Ends, Left::Half);
+    let folder = blank(&rt, rt.alloc(), SPACED_512, 1);
+    fail_each(&rt, &folder, Going::IsDropped, Left::Half);
 }
 
 /// No sync fails, and the last write spoils the sectors beside it: what a spaced disk prevents.
@@ -275,7 +289,7 @@ fn large_blocks_break_a_packed_disk(rt: HostRuntime) {
     let trial = Trial {
         failing: 0,
         reached: 0,
-        going: Going::Ends,
+        going: Going::IsDropped,
         left: Left::Zeros,
     };
     assert!(rt; holds(&rt, &blank(&rt, rt.alloc(), PACKED, 0), trial));

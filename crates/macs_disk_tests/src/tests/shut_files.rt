@@ -1,63 +1,17 @@
-//! A system that opens no file, for each reason that a disk tells apart, and one that makes no name
-//! durable.
+//! A system that opens no file, for each reason that a disk tells apart.
 
-use super::failing_files::{FailingFile, file};
 use macs_disk::{FileDisk, FileFault};
 use std::alloc::Allocator;
-use std::fs::{Metadata, OpenFile, OpenOptions};
+use std::fs::{File, Metadata, OpenOptions};
 use std::io;
-use std::io::{Empty, ErrorKind, Read, Seek, SeekFrom, Write};
+use std::io::{Empty, ErrorKind};
 use std::process::Abort;
 use std::rt::Files;
 
-/// What a system asks of its files, and no disk does: this, and what follows.
-impl Read for FailingFile {
-    fn read(&mut self, _into: &mut [u8]) -> io::Result<usize> {
-        Err(io::Error::from(ErrorKind::Unsupported))
-    }
-}
-
-impl Write for FailingFile {
-    fn write(&mut self, _from: &[u8]) -> io::Result<usize> {
-        Err(io::Error::from(ErrorKind::Unsupported))
-    }
-
-    fn flush(&mut self) -> io::Result<()> {
-        Err(io::Error::from(ErrorKind::Unsupported))
-    }
-}
-
-impl Seek for FailingFile {
-    fn seek(&mut self, _to: SeekFrom) -> io::Result<u64> {
-        Err(io::Error::from(ErrorKind::Unsupported))
-    }
-}
-
-impl OpenFile for FailingFile {
-    fn metadata(&self) -> io::Result<Metadata> {
-        Err(io::Error::from(ErrorKind::Unsupported))
-    }
-
-    fn set_len(&self, _size: u64) -> io::Result<()> {
-        Err(io::Error::from(ErrorKind::Unsupported))
-    }
-
-    fn sync_all(&self) -> io::Result<()> {
-        Err(io::Error::from(ErrorKind::Unsupported))
-    }
-
-    fn sync_data(&self) -> io::Result<()> {
-        Err(io::Error::from(ErrorKind::Unsupported))
-    }
-}
-
-/// A system each of whose calls fails with an error of this kind, but that it may open files.
+/// A system each of whose calls fails with an error of this kind.
 #[derive(Clone, Copy)]
 struct Shut {
     kind: ErrorKind,
-    /// Each name is that of a file of two sectors. What a disk asks of the file is done, and
-    /// `sync_all`, which makes the names in a folder durable, is an error.
-    has_files: bool,
 }
 
 impl Shut {
@@ -67,14 +21,11 @@ impl Shut {
 }
 
 impl Files for Shut {
-    type File = FailingFile;
+    type File = File;
 
     type Dir = Empty;
 
-    fn open_file(&self, _how: &OpenOptions, _path: &str) -> io::Result<FailingFile> {
-        if self.has_files {
-            return Ok(file(1_024, 2_048, 0, self.kind));
-        }
+    fn open_file(&self, _how: &OpenOptions, _path: &str) -> io::Result<File> {
         self.refuse()
     }
 
@@ -125,21 +76,8 @@ const REASONS: [(ErrorKind, FileFault); 3] = [
 #[test]
 fn what_is_not_opened_says_why(rt: HostRuntime) {
     for (kind, fault) in REASONS {
-        let system = Shut {
-            kind,
-            has_files: false,
-        };
-        assert!(rt; FileDisk::create(&system, "disk", 1).err() == Some(fault));
-        assert!(rt; FileDisk::open(&system, "disk").err() == Some(fault));
+        let system = Shut { kind };
+        assert!(rt; FileDisk::create(&system, rt.alloc(), "disk", 1).err() == Some(fault));
+        assert!(rt; FileDisk::open(&system, rt.alloc(), "disk").err() == Some(fault));
     }
-}
-
-#[test]
-fn a_name_that_is_not_durable_is_no_disk(rt: HostRuntime) {
-    let system = Shut {
-        kind: ErrorKind::Other,
-        has_files: true,
-    };
-    assert!(rt; FileDisk::open(&system, "disk").is_ok());
-    assert!(rt; FileDisk::create(&system, "disk", 1).err() == Some(FileFault::Open));
 }

@@ -1,18 +1,18 @@
-//! Each sync of a file fails in turn, and the program goes on as its operator does: it opens the
-//! disk again, and plays on. Then memory is short, the power is lost, and what an opening finds is
+//! Each sync of a file fails in turn, and the operator goes on: the next program opens the disk
+//! again, and plays on. Then memory is short, the power is lost, and what an opening finds is
 //! judged.
 
 use super::cutting::{identity, opening};
 use super::judging::judge;
 use super::kernel_files::{
-    Disk, Going, Ground, Kernel, fail_sync, file, go_on, kernel, make_disk, open_disk,
+    Disk, Going, Ground, fail_none, fail_sync, folder, go_on, is_due, make_disk, named, open_disk,
 };
 use super::known::Known;
 use super::life::{command, protect, step, take};
 use super::script::{Asked, Part, command_of};
 use macs_endpoint::{Endpoint, format};
 use macs_journal::JournalFault;
-use macs_mem_file::Left;
+use macs_mem_file::{Left, MemFolder};
 use std::alloc::Global;
 use std::process::Abort;
 
@@ -59,10 +59,10 @@ enum Behind {
     Plays,
 }
 
-/// The syncs of a run without a failure: three of a new disk, two of a format, whose first leaves
-/// the file alone, and one of an opening; and two for each of eight commands and nine ceilings that
-/// are kept.
-const SYNCS: u64 = 3 + 2 + 1 + 2 * (8 + 9);
+/// The syncs of a run without a failure: one of a new disk, two of a format, whose first leaves the
+/// file alone, and one of an opening; and two for each of eight commands and nine ceilings that are
+/// kept.
+const SYNCS: u64 = 1 + 2 + 1 + 2 * (8 + 9);
 
 /// More syncs than any run has.
 const MOST_SYNCS: u64 = 200;
@@ -78,12 +78,12 @@ const WAYS: [(usize, Left); 6] = [
 ];
 
 /// A disk of a new endpoint. Where a sync fails, it is formatted once more.
-fn formatted<'a>(rt: &impl Abort, kernel: &'a Kernel, run: Run) -> Disk<'a> {
-    let mut disk = make_disk(rt, kernel, run.ground);
+fn formatted<'a>(rt: &impl Abort, folder: &'a MemFolder, run: Run) -> Disk<'a> {
+    let mut disk = make_disk(rt, folder, run.ground);
     if format(&mut disk, &identity(rt)).is_ok() {
         return disk;
     }
-    let mut disk = go_on(rt, kernel, disk, run.going);
+    let mut disk = go_on(rt, folder, run.going);
     if let Err(fault) = format(&mut disk, &identity(rt)) {
         assert!(rt; fault == JournalFault::AlreadyFormatted);
     }
@@ -93,15 +93,14 @@ fn formatted<'a>(rt: &impl Abort, kernel: &'a Kernel, run: Run) -> Disk<'a> {
 /// The endpoint of a disk. Where a sync fails, it is opened once more.
 fn opened<'a>(
     rt: &impl Abort,
-    kernel: &'a Kernel,
+    folder: &'a MemFolder,
     disk: Disk<'a>,
     going: Going,
 ) -> Endpoint<Disk<'a>> {
-    let disk = match opening(rt, disk) {
-        Ok(endpoint) => return endpoint,
-        Err(disk) => disk,
-    };
-    match opening(rt, go_on(rt, kernel, disk, going)) {
+    if let Ok(endpoint) = opening(rt, disk) {
+        return endpoint;
+    }
+    match opening(rt, go_on(rt, folder, going)) {
         Ok(endpoint) => endpoint,
         Err(_) => panic!(rt; "no endpoint"),
     }
@@ -110,14 +109,13 @@ fn opened<'a>(
 /// An endpoint that a device fault has stopped is opened again: it has what was acknowledged.
 fn opened_again<'a>(
     rt: &impl Abort,
-    kernel: &'a Kernel,
+    folder: &'a MemFolder,
     stopped: Endpoint<Disk<'a>>,
     known: &mut Known,
     going: Going,
 ) -> Endpoint<Disk<'a>> {
     known.is_in_hand = stopped.in_hand().is_some();
-    let disk = go_on(rt, kernel, stopped.into_disk(), going);
-    let endpoint = opened(rt, kernel, disk, going);
+    let endpoint = opened(rt, folder, go_on(rt, folder, going), going);
     known.catch_up(rt, &endpoint);
     endpoint
 }
@@ -176,7 +174,7 @@ fn cut_last<'a>(rt: &impl Abort, endpoint: &mut Endpoint<Disk<'a>>, known: &mut 
 /// Plays all parts, or those up to the failure and frames.
 fn play<'a>(
     rt: &impl Abort,
-    kernel: &'a Kernel,
+    folder: &'a MemFolder,
     endpoint: Endpoint<Disk<'a>>,
     known: &mut Known,
     run: Run,
@@ -184,7 +182,7 @@ fn play<'a>(
     let mut endpoint = endpoint;
     for part in PARTS {
         if take(rt, &mut endpoint, known, part).is_err() {
-            endpoint = opened_again(rt, kernel, endpoint, known, run.going);
+            endpoint = opened_again(rt, folder, endpoint, known, run.going);
             let is_kept = is_kept(rt, &endpoint, known, part);
             if matches!(run.behind, Behind::Sends) {
                 send_all(rt, &mut endpoint, known);
@@ -195,24 +193,27 @@ fn play<'a>(
             }
         }
     }
-    cut_last(rt, &mut endpoint, known, run.failing % 4);
+    // A sync that is still to come would fail the last command's.
+    if !is_due(rt, folder) {
+        cut_last(rt, &mut endpoint, known, run.failing % 4);
+    }
     endpoint
 }
 
 /// Makes a run. Whether its sync failed.
 fn make_run(rt: &impl Abort, alloc: Global, run: Run) -> bool {
-    let kernel = kernel(rt, alloc, run.ground);
+    let folder = folder(rt, alloc, run.ground);
     let mut known = Known::new(&identity(rt));
-    fail_sync(rt, &kernel, run.failing, run.reached);
-    let disk = formatted(rt, &kernel, run);
+    fail_sync(rt, &folder, run.failing, run.reached);
+    let disk = formatted(rt, &folder, run);
     known.is_formatted = true;
-    let endpoint = opened(rt, &kernel, disk, run.going);
-    let endpoint = play(rt, &kernel, endpoint, &mut known, run);
-    let is_failed = !file(rt, &kernel).is_due();
-    fail_sync(rt, &kernel, 0, 0);
-    file(rt, &kernel).press();
-    file(rt, &kernel).crash(run.left);
-    judge(rt, open_disk(rt, &kernel), &known);
+    let endpoint = opened(rt, &folder, disk, run.going);
+    let endpoint = play(rt, &folder, endpoint, &mut known, run);
+    let is_failed = !is_due(rt, &folder);
+    fail_none(rt, &folder);
+    named(rt, &folder).press();
+    named(rt, &folder).crash(run.left);
+    judge(rt, open_disk(rt, &folder), &known);
     is_failed
 }
 
@@ -244,23 +245,23 @@ fn fail_packed(rt: &impl Abort, alloc: Global, going: Going, behind: Behind) {
 }
 
 #[test]
-fn frames_go_out_behind_a_failed_sync_of_an_open_file(rt: HostRuntime) {
-    fail_packed(&rt, rt.alloc(), Going::Reopens, Behind::Sends);
+fn frames_go_out_behind_a_failed_sync_whose_pages_stay(rt: HostRuntime) {
+    fail_packed(&rt, rt.alloc(), Going::IsHeld, Behind::Sends);
 }
 
 #[test]
-fn frames_go_out_behind_a_failed_sync_of_a_program_that_ends(rt: HostRuntime) {
-    fail_packed(&rt, rt.alloc(), Going::Ends, Behind::Sends);
+fn frames_go_out_behind_a_failed_sync_whose_pages_are_dropped(rt: HostRuntime) {
+    fail_packed(&rt, rt.alloc(), Going::IsDropped, Behind::Sends);
 }
 
 #[test]
-fn all_is_played_behind_a_failed_sync_of_an_open_file(rt: HostRuntime) {
-    fail_packed(&rt, rt.alloc(), Going::Reopens, Behind::Plays);
+fn all_is_played_behind_a_failed_sync_whose_pages_stay(rt: HostRuntime) {
+    fail_packed(&rt, rt.alloc(), Going::IsHeld, Behind::Plays);
 }
 
 #[test]
-fn all_is_played_behind_a_failed_sync_of_a_program_that_ends(rt: HostRuntime) {
-    fail_packed(&rt, rt.alloc(), Going::Ends, Behind::Plays);
+fn all_is_played_behind_a_failed_sync_whose_pages_are_dropped(rt: HostRuntime) {
+    fail_packed(&rt, rt.alloc(), Going::IsDropped, Behind::Plays);
 }
 
 /// Each sync of a spaced disk fails in turn, and then a power loss spoils whole blocks.
@@ -278,10 +279,10 @@ fn fail_spaced(rt: &impl Abort, alloc: Global, going: Going, behind: Behind) {
 
 #[test]
 fn frames_go_out_behind_a_failed_sync_of_a_spaced_disk(rt: HostRuntime) {
-    fail_spaced(&rt, rt.alloc(), Going::Ends, Behind::Sends);
+    fail_spaced(&rt, rt.alloc(), Going::IsDropped, Behind::Sends);
 }
 
 #[test]
 fn all_is_played_behind_a_failed_sync_of_a_spaced_disk(rt: HostRuntime) {
-    fail_spaced(&rt, rt.alloc(), Going::Reopens, Behind::Plays);
+    fail_spaced(&rt, rt.alloc(), Going::IsHeld, Behind::Plays);
 }

@@ -49,13 +49,14 @@ const DISKS: &[Step] = &[
     HasOctets("story-disks/disk", 526_337),
     Filled("story-disks/disk", 0, 512),
     Run(SHOW, Outcome::Disk("macsecd: too small\n")),
-    // A short file is lengthened, and a longer one keeps its length.
+    // A new file has 1,028 sectors, whether the old one was shorter or longer.
     Run(FORMAT, FORMATTED),
     HasOctets("story-disks/disk", 526_336),
     Filled("story-disks/disk", 0, 526_848),
     Run(SHOW, Outcome::Disk("macsecd: not formatted\n")),
-    Run(FORMAT, FORMATTED),
     HasOctets("story-disks/disk", 526_848),
+    Run(FORMAT, FORMATTED),
+    HasOctets("story-disks/disk", 526_336),
     Patch("story-disks/disk", 0, "ff"),
     Run(SHOW, Outcome::Disk("macsecd: bad journal\n")),
 ];

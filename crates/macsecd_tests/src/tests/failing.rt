@@ -2,7 +2,7 @@
 
 use super::captures::{PLAIN, SENDER};
 use super::stand_in::Broken;
-use super::stand_in::Broken::{Read, Reread, Sync, Write};
+use super::stand_in::Broken::{Read, Sync, Write};
 use super::stories::Step::{Failing, Hex, Run, Text};
 use super::stories::{Step, play};
 use macsecd_fixtures::Outcome;
@@ -56,39 +56,40 @@ spent tx 1 rx 0
 ",
 );
 
-/// A format syncs and reads again before it looks, and writes its zeros before the journal: 129
-/// times, and as much in the file of a cut one. An opening syncs once, reads again and reads; each
-/// command writes twice and syncs after each write.
+/// A format writes its zeros into a new file, 129 times, and syncs it before it writes the journal.
+/// An opening copies the file, in 33 parts of 16,384 octets, and syncs the copy; each command
+/// writes twice and syncs after each write.
 const DISKS: &[Step] = &[
     Failing(DISK, NOT_READ, FORMAT, DISK_FAULT),
     Failing(DISK, NOT_READ, FORMAT, DISK_FAULT),
     Failing(DISK, Write(1), FORMAT, NO_FILE),
     Failing(DISK, Write(129), FORMAT, NO_FILE),
     Failing(DISK, Write(130), FORMAT, DISK_FAULT),
-    Failing(DISK, Sync(1), FORMAT, DISK_FAULT),
-    Failing(DISK, Reread, FORMAT, DISK_FAULT),
+    Failing(DISK, Sync(1), FORMAT, NO_FILE),
+    Failing(DISK, Sync(2), FORMAT, DISK_FAULT),
     Run(FORMAT, Outcome::Done("formatted\n")),
     Failing(DISK, NOT_READ, SHOW, DISK_FAULT),
+    Failing(DISK, Write(1), SHOW, NO_FILE),
+    Failing(DISK, Write(33), SHOW, NO_FILE),
     Failing(DISK, Sync(1), SHOW, DISK_FAULT),
-    Failing(DISK, Reread, SHOW, DISK_FAULT),
     Text(FILE, SENDER),
     Failing(DISK, NOT_READ, APPLY, DISK_FAULT),
     Failing(DISK, Sync(1), APPLY, DISK_FAULT),
-    Failing(DISK, Write(1), APPLY, DISK_FAULT),
+    Failing(DISK, Write(34), APPLY, DISK_FAULT),
     Failing(DISK, Sync(2), APPLY, DISK_FAULT),
     Failing(
         DISK,
-        Write(3),
+        Write(36),
         APPLY,
         Outcome::DiskBehind("1 ok\n", "macsecd: disk\n"),
     ),
     Run(APPLY, Outcome::Refused("1 refused SlotTaken\n2 ok\n")),
-    Failing(DISK, Write(1), SHOW, SHOWN),
+    Failing(DISK, Write(34), SHOW, SHOWN),
     Failing(DISK, NOT_READ, RELAY, DISK_FAULT),
     // A frame waits for packet numbers, which cannot be reserved.
     Hex(IN, PLAIN),
     Failing(DISK, NOT_READ, PROTECT, DISK_FAULT),
-    Failing(DISK, Write(1), PROTECT, DISK_FAULT),
+    Failing(DISK, Write(34), PROTECT, DISK_FAULT),
     Failing(DISK, Sync(2), PROTECT, DISK_FAULT),
 ];
 

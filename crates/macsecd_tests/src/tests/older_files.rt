@@ -1,6 +1,6 @@
 //! Files as a program wrote them that knew format one alone, by the octets of their sectors.
 
-use super::stand_in::Broken::{Reread, Sync, Write};
+use super::stand_in::Broken::{Sync, Write};
 use super::stories::Step::{Failing, Keeping, Patch, Run, Text, Zeros};
 use super::stories::{Step, play};
 use macsecd_fixtures::Outcome;
@@ -73,8 +73,8 @@ const DISK: &str = "story-older/disk";
 
 const SHOW: &[&str] = &["show", DISK];
 
-/// `format` leaves the file as it is. An opening syncs it; then the journal starts over: a sync, a
-/// head and three records, a sync, a gate and a sync. From the gate on it is of format two, and a
+/// `format` leaves the file as it is. An opening copies it, in 33 parts, and syncs the copy; then
+/// the journal starts over: a sync, a head and three records, a sync, a gate and a sync. From the gate on it is of format two, and a
 /// `show` writes nothing.
 const BEGUN_ANEW: &[Step] = &[
     Zeros(DISK, 526_336),
@@ -90,15 +90,14 @@ const BEGUN_ANEW: &[Step] = &[
         &["format", DISK, "12153524c0895e81", "4", "4"],
         Outcome::Disk("macsecd: already formatted\n"),
     ),
-    Failing(DISK, Reread, SHOW, DISK_FAULT),
     Failing(DISK, Sync(1), SHOW, DISK_FAULT),
     Failing(DISK, Sync(2), SHOW, DISK_FAULT),
-    Failing(DISK, Write(1), SHOW, DISK_FAULT),
-    Failing(DISK, Write(4), SHOW, DISK_FAULT),
+    Failing(DISK, Write(34), SHOW, DISK_FAULT),
+    Failing(DISK, Write(37), SHOW, DISK_FAULT),
     Failing(DISK, Sync(3), SHOW, DISK_FAULT),
-    Failing(DISK, Write(5), SHOW, DISK_FAULT),
+    Failing(DISK, Write(38), SHOW, DISK_FAULT),
     Failing(DISK, Sync(4), SHOW, DISK_FAULT),
-    Failing(DISK, Write(1), SHOW, SHOWN),
+    Failing(DISK, Write(34), SHOW, SHOWN),
     Keeping(&[DISK], SHOW, SHOWN),
     Text("story-older/keys.toml", KEYS),
     Run(
@@ -115,7 +114,7 @@ fn an_older_file_goes_on(rt: HostRuntime) -> Result<(), Fail> {
 
 const SPACED: &str = "story-older-spaced/disk";
 
-/// The same sectors, each in a block of its own.
+/// The same sectors, each in a block of its own: 258 parts.
 const BEGUN_ANEW_SPACED: &[Step] = &[
     Zeros(SPACED, 4_214_784),
     Patch(SPACED, 1_028 * 4_096, "4d53454334303936"),
@@ -126,9 +125,9 @@ const BEGUN_ANEW_SPACED: &[Step] = &[
     Patch(SPACED, 5 * 4_096, GATE),
     Patch(SPACED, 6 * 4_096, TX_USE),
     Patch(SPACED, 7 * 4_096, GATE),
-    Failing(SPACED, Write(5), &["show", SPACED], DISK_FAULT),
-    Failing(SPACED, Write(6), &["show", SPACED], SHOWN),
-    Failing(SPACED, Write(1), &["show", SPACED], SHOWN),
+    Failing(SPACED, Write(263), &["show", SPACED], DISK_FAULT),
+    Failing(SPACED, Write(264), &["show", SPACED], SHOWN),
+    Failing(SPACED, Write(259), &["show", SPACED], SHOWN),
     Keeping(&[SPACED], &["show", SPACED], SHOWN),
 ];
 

@@ -68,12 +68,10 @@ const SLIPS: &[Step] = &[
     ),
     Text(FILE, SENDER),
     Hex(IN, PLAIN),
-    Link(DISK, SECOND),
     Symbolic("disk", SYMBOLIC),
     Run(&["apply", DISK, FILE], Outcome::Done("1 ok\n2 ok\n")),
     // OUTPUT is the disk, by each of its names, or that of another endpoint, or INPUT.
     Keeping(FILES, &["protect", DISK, IN, DISK], CAPTURE_FAULT),
-    Keeping(FILES, &["protect", DISK, IN, SECOND], CAPTURE_FAULT),
     Keeping(FILES, &["protect", DISK, IN, SYMBOLIC], CAPTURE_FAULT),
     Keeping(FILES, &["validate", DISK, IN, DISK], CAPTURE_FAULT),
     Keeping(FILES, &["protect", DISK, IN, OTHER], CAPTURE_FAULT),
@@ -116,6 +114,10 @@ const SLIPS: &[Step] = &[
         &["protect", DISK, IN, "/dev/null"],
         Outcome::Done("protected 3 dropped 0\n"),
     ),
+    // A disk file with a second name is refused: that one would keep packet numbers of before.
+    Link(DISK, SECOND),
+    Keeping(FILES, &["protect", DISK, IN, SECOND], NO_FILE),
+    Keeping(FILES, &["show", SECOND], NO_FILE),
 ];
 
 #[test]

@@ -6,7 +6,7 @@ use macs_disk::DiskFile;
 use macs_program::CaptureFile;
 use std::alloc::Allocator;
 use std::env::FillError;
-use std::fs::{File, Metadata, OpenFile, OpenOptions};
+use std::fs::{File, Metadata, OpenFile, OpenOptions, Permissions};
 use std::io;
 use std::io::{ErrorKind, Read, Seek, SeekFrom, Write};
 use std::net::{Net, SocketAddr, UdpSocket};
@@ -35,8 +35,6 @@ pub enum Broken {
     Flush,
     /// This sync of its octets.
     Sync(u32),
-    /// Each rereading.
-    Reread,
     /// Each sync of the folder that it is.
     Folder,
 }
@@ -129,6 +127,10 @@ impl OpenFile for BrokenFile {
     fn sync_data(&self) -> io::Result<()> {
         self.file.sync_data()
     }
+
+    fn set_permissions(&self, to: Permissions) -> io::Result<()> {
+        self.file.set_permissions(to)
+    }
 }
 
 impl DiskFile for BrokenFile {
@@ -159,13 +161,6 @@ impl DiskFile for BrokenFile {
         self.file.sync()
     }
 
-    fn reread(&mut self) -> io::Result<()> {
-        match self.broken {
-            Broken::Reread => Err(io::Error::from(ErrorKind::Other)),
-            _ => self.file.reread(),
-        }
-    }
-
     ghost sound = { λ _ behaves. no-claim behaves };
 }
 
@@ -194,8 +189,10 @@ impl<R: Files<File = File>> Files for StandIn<'_, R> {
     type Dir = R::Dir;
 
     fn open_file(&self, how: &OpenOptions, path: &str) -> io::Result<BrokenFile> {
-        // A path that was resolved has the folders in front of it too.
-        let broken = if path.ends_with(self.path) {
+        // A path that was resolved has the folders in front of it too. What fails of a file fails of
+        // the new one that is to have its name.
+        let name = path.strip_suffix(".new").unwrap_or(path);
+        let broken = if name.ends_with(self.path) {
             self.broken
         } else {
             Broken::Nothing
@@ -260,6 +257,10 @@ impl<R: Files<File = File>> Files for StandIn<'_, R> {
 
     fn canonicalize<B: Allocator>(&self, alloc: B, path: &str) -> io::Result<PathBuf<B>> {
         self.system.canonicalize(alloc, path)
+    }
+
+    fn lchown(&self, path: &str, user: Option<u32>, group: Option<u32>) -> io::Result<()> {
+        self.system.lchown(path, user, group)
     }
 }
 

@@ -1,6 +1,6 @@
 use Rattle.std.proofs.Common.{refl}
 use Rattle.macs_disk.specs.Files.{file_in_doubt}
-use Rattle.macs_disk.proofs.FrontKept.{nothing-doubted, nothing-lost, nothing-more, nothing-same}
+use Rattle.macs_disk.proofs.NothingNew.{nothing-doubted, nothing-lost, nothing-more, nothing-same}
 use Rattle.macs_disk.proofs.laws.nothing_new_of_a_file.Goals as goal
 
 pub returns-clause-none : goal.returns-clause-none

@@ -8,22 +8,22 @@ use Rattle.macs_disk.proofs.InterruptedCalls.{fails-of, none-yet}
 use Rattle.macs_disk.proofs.settled_file.find_layout.Goals as goal
 
 pub returns-then-octets-clause-found : goal.returns-then-octets-clause-found
-returns-then-octets-clause-found g c behaves sure size =
+returns-then-octets-clause-found g c behaves size =
     let short = c.if-octets.true in
     too-short (g.F.DiskFile.file c.args.file.now) (omega (arith, short, size))
 
 pub returns-then-is_mark-clause-found : goal.returns-then-is_mark-clause-found
-returns-then-is_mark-clause-found g c behaves sure size =
+returns-then-is_mark-clause-found g c behaves size =
     let long = c.if-octets.false in
     by-mark (g.F.DiskFile.file c.args.file.now) c.read_sector.new.into true Spaced (omega (arith, long, size))
-    (c.in-Ok.ensures.octets behaves sure)
+    (c.in-Ok.ensures.octets behaves)
     (sym c.is_mark.ensures ∙ c.if-is_mark.true) refl
 
 pub returns-clause-found : goal.returns-clause-found
-returns-clause-found g c behaves sure size =
+returns-clause-found g c behaves size =
     let long = c.if-octets.false in
     by-mark (g.F.DiskFile.file c.args.file.now) c.read_sector.new.into false Packed (omega (arith, long, size))
-    (c.in-Ok.ensures.octets behaves sure)
+    (c.in-Ok.ensures.octets behaves)
     (sym c.is_mark.ensures ∙ c.if-is_mark.false) refl
 
 pub returns-then-octets-clause-quiet : goal.returns-then-octets-clause-quiet

@@ -1,10 +1,8 @@
-use Rattle.std.proofs.Common.{◌≡◌, max, ap, ◌∙◌, arith}
-use Rattle.macs_disk.specs.Files.{FileState}
+use Rattle.std.proofs.Common.{◌≡◌, ℕ, max, ap, ◌∙◌, arith}
 use Rattle.macs_disk.specs.Layouts.{sectors_in}
 use Rattle.macs_disk.specs.declared.layout.Layout.{Layout}
 use Rattle.macs_headline.proofs.DiskFiles.{blank-file-is-new, left-suited, lengthened, let-go, opened-again}
 use Rattle.macs_headline.proofs.DiskFiles.{opened-still}
-use Rattle.macs_headline.proofs.DiskWords.{disk-words}
 use Rattle.macs_headline.proofs.LayoutWords.{layout-words}
 use Rattle.macs_headline.proofs.laws.files.Goals as goal
 
@@ -15,22 +13,13 @@ pub returns-clause-opened_again : goal.returns-clause-opened_again
 returns-clause-opened_again g c = opened-again
 
 pub returns-clause-reopened : goal.returns-clause-reopened
-returns-clause-reopened g c it file again new left found behaves honest nothing opened =
+returns-clause-reopened g c it file again new left found behaves honest nothing sound opened =
     opened-again (g.F.DiskFile.file it.file) file it.layout again _ new (found behaves).0
     (left-suited g.F.DiskFile.file it left behaves honest) honest
-    (λ image is. c.a_file_is_left_as_its_disk.ensures it image left behaves is) nothing opened
+    (λ image is. c.a_file_is_left_as_its_disk.ensures it image left behaves is) nothing sound opened
 
 pub returns-clause-let_go : goal.returns-clause-let_go
 returns-clause-let_go g c = let-go
-
-pub returns-clause-sectors : goal.returns-clause-sectors
-returns-clause-sectors g c = λ old new layout disk blank. blank.sectors
-
-pub returns-clause-zeros : goal.returns-clause-zeros
-returns-clause-zeros g c = λ old new layout disk i blank within. blank.zeros i within
-
-pub returns-clause-durable : goal.returns-clause-durable
-returns-clause-durable g c = λ old new layout disk i blank. (blank.durable i, blank.clean i)
 
 pub returns-clause-opened : goal.returns-clause-opened
 returns-clause-opened g c = λ file least layout disk i opened.
@@ -41,7 +30,7 @@ returns-clause-opened g c = λ file least layout disk i opened.
 pub returns-clause-counted : goal.returns-clause-counted
 returns-clause-counted g c = λ file least layout disk opened.
     let all : disk.sectors ≡ max (sectors_in layout file.size) least =
-    opened.sectors ∙ ap (λ (f : FileState). max (sectors_in layout f.size) least) opened.settles.3 in (
+    opened.sectors ∙ ap (λ (n : ℕ). max (sectors_in layout n) least) opened.copies.size in (
       λ is. all ∙ ap (λ (l : Layout). max (sectors_in l file.size) least) is,
       λ is. all ∙ ap (λ (l : Layout). max (sectors_in l file.size) least) is,
     )
@@ -54,12 +43,3 @@ returns-clause-lengthened g c = lengthened
 
 pub returns-clause-layouts : goal.returns-clause-layouts
 returns-clause-layouts g c = layout-words
-
-pub returns-clause-disks : goal.returns-clause-disks
-returns-clause-disks g c = disk-words
-
-pub returns-clause-settled : goal.returns-clause-settled
-returns-clause-settled g c = λ old new is. (
-  ap (λ (f : FileState). f.is_claimed) is.3,
-  λ sure. ap (λ (f : FileState). f.seen) is.3 ∙ is.2 sure,
-)

@@ -20,21 +20,21 @@ loop-at-preserved g c =
       c.in_ok-copy_sector.ensures.steady ∙ inv.0,
       λ behaves. c.in_ok-copy_sector.ensures.same (inv.0 ∙ behaves) ∙ inv.1 behaves,
       c.in_ok-copy_sector.ensures.room,
-      λ behaves sure.
+      λ behaves.
           one-written (now (disk_of c.loop-at.copy)) (now (disk_of c.copy_sector.new.copy))
           at _ (λ (k : ℕ). sector_in file (number_of c.args.layout k))
           (carried (λ (f : FileState). now (disk_of c.copy_sector.new.copy)
           ≡ state_after_write (now (disk_of c.loop-at.copy)) at (sector_in f (number_of c.args.layout at)))
-          _ _ (inv.1 behaves) behaves sure c.in_ok-copy_sector.ensures.copied)
-          refl (inv.3 behaves sure),
+          _ _ (inv.1 behaves) behaves c.in_ok-copy_sector.ensures.copied)
+          refl (inv.3 behaves),
     )
 
 pub returns-clause-copied : goal.returns-clause-copied
-returns-clause-copied g c = λ behaves sure laid. record {
+returns-clause-copied g c = λ behaves laid. record {
   sectors = c.loop-at.invariant.2;
   honest = refl;
   seen = λ k below.
       subst (λ (l : Layout). (now (disk_of c.loop-at.copy)).seen k
       ≡ sector_in (g.F.DiskFile.file c.args.file.now) (number_of l k)) laid
-      (c.loop-at.invariant.3 behaves sure k (omega (arith, below, c.loop-at-test.false)));
+      (c.loop-at.invariant.3 behaves k (omega (arith, below, c.loop-at-test.false)));
 }

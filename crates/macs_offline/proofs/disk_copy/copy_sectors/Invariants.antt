@@ -1,6 +1,6 @@
 use Rattle.std.proofs.Common.{◌≡◌, ◌<◌, ℕ}
 use Rattle.macs_disk.specs.Disk.{now}
-use Rattle.macs_disk.specs.Files.{Behaves, IsSure}
+use Rattle.macs_disk.specs.Files.{Behaves}
 use Rattle.macs_disk.specs.MemDisks.{disk_of}
 use Rattle.macs_journal.specs.Areas.{least_sectors}
 use Rattle.macs_offline.specs.Contents.{number_of, sector_in}
@@ -13,5 +13,5 @@ invariant-loop-at g l =
     ((g.F.DiskFile.file l.file).behaves ≡ file.behaves)
     × (Behaves file → g.F.DiskFile.file l.file ≡ file)
     × ((disk_of l.copy).sectors ≡ least_sectors)
-    × (Behaves file → IsSure file → (k : ℕ) → k < l.at
+    × (Behaves file → (k : ℕ) → k < l.at
     → (now (disk_of l.copy)).seen k ≡ sector_in file (number_of l.layout k))

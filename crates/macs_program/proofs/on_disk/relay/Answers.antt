@@ -1,5 +1,6 @@
+use Rattle.std.proofs.Common.{Err, refl}
 use Rattle.std.proofs.lemmas.Result.{err_from_is_err_and}
-use Rattle.macs_program.proofs.Relayed.{refused-in, relayed-in}
+use Rattle.macs_program.proofs.Relayed.{refused-in, relayed-in, unbound-in}
 use Rattle.macs_program.specs.Relaying.{course_of}
 use Rattle.macs_program.proofs.on_disk.relay.Goals as goal
 
@@ -21,8 +22,8 @@ returns-in_err-addresses g c =
       broken = all.broken;
     }
 
-pub returns : goal.returns
-returns g c =
+pub returns-in-Ok : goal.returns-in-Ok
+returns-in-Ok g c =
     let words = c.in_ok-addresses in
     let all =
     relayed-in g.T.File.DiskFile.file g.W.Stream.contents g.W.Stream.failed c.args.controlled c.args.common
@@ -30,6 +31,24 @@ returns g c =
     c.addresses_of.result c.addresses_of.ensures.fault words.addresses c.with_file.new.out c.with_file.result words.was
     (words.addresses.controlled, words.addresses.common, words.ensures.controlled, words.ensures.common)
     c.with_file.ensures in
+    record {
+      printed = all.printed;
+      address = all.address;
+      usage = all.usage;
+      ended = all.ended;
+      names = all.names;
+      silent = all.silent;
+      broken = all.broken;
+    }
+
+pub returns-in-Err : goal.returns-in-Err
+returns-in-Err g c =
+    let words = c.in_ok-addresses in
+    let all =
+    unbound-in g.T.File.DiskFile.file g.W.Stream.contents g.W.Stream.failed c.args.controlled c.args.common
+    (course_of c.args.running) c.args.out.now
+    c.addresses_of.result c.addresses_of.ensures.fault words.addresses c.unbound.result (Err c.unbound.result) words.was refl
+    c.unbound.ensures in
     record {
       printed = all.printed;
       address = all.address;

@@ -49,7 +49,7 @@ returns-clause-effect g c honest =
     let before = fit-before file old.layout new.layout lent back new.shown _ lay came fit honest in
     let octets = subst (λ (l : Layout). OnOk c.read_sector-answer.result
     (into ≡ values_from (file lent).seen (place l c.args.at) 512)) c.begin.ensures.layout
-    (c.read_sector-answer.ensures.octets before.behaves before.sure) in
+    (c.read_sector-answer.ensures.octets before.behaves) in
     effect file (λ s t. Reads s t c.args.at into c.count.result) old.layout new.layout old.past.items new.past.items
     old.shown new.shown old.clock new.clock old.kept new.kept lay
     (through file (λ s t. Reads s t c.args.at into c.count.result) old.layout lent back old.shown new.shown went came

@@ -19,7 +19,7 @@ returns-clause-known g c behaves settled =
     (opened file given c.prepare.new.file (file c.args.self.file) c.in_ok-extent.extent.layout new.past.items new.shown
     c.args.least c.in_ok-extent.extent.sectors new.sectors
     new.clock new.failures (c.in_ok-extent.ensures.known behaves (still (file given) (file c.args.self.file) settled.0)
-    settled.1) settled.0 whole behaves c.new.ensures.shown c.new.ensures.past c.new.ensures.sectors)
+    settled.1) settled.0 whole c.new.ensures.shown c.new.ensures.past c.new.ensures.sectors)
 
 pub returns-clause-left : goal.returns-clause-left
 returns-clause-left g c _ = inl (ap g.F.DiskFile.file (c.new.ensures.file ∙ sym c.new.ensures.shown))

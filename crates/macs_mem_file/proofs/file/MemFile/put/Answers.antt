@@ -1,7 +1,7 @@
 use Rattle.std.proofs.Common.{◌≡◌, ◌+◌, ◌||◌, ◌∙◌, ℕ, length, length-take-le, take, refl, arith}
 use Rattle.macs_disk.specs.Files.{has_some}
 use Rattle.macs_disk.specs.CallLists.{flag_at}
-use Rattle.macs_mem_file.proofs.MemoryFile.{kept_put, put_writes}
+use Rattle.macs_mem_file.proofs.MemoryFile.{ends_put, kept_put, put_writes}
 use Rattle.macs_mem_file.proofs.file.MemFile.put.Goals as goal
 
 pub invariant_of-self-clause-kept : goal.invariant_of-self-clause-kept
@@ -16,6 +16,13 @@ invariant_of-self-clause-kept g c =
     c.store.new.to.items c.mark.new.flags.items c.mark-2.new.flags.items c.store.ensures.length c.store.ensures.stored
     (c.store.ensures.octets m.kept.cache_octets)
     c.mark.ensures.length c.mark.ensures.marked c.mark-2.ensures.length c.mark-2.ensures.marked
+
+pub invariant_of-self-clause-ends : goal.invariant_of-self-clause-ends
+invariant_of-self-clause-ends g c =
+    let m = c.args.self.now in
+    let xs = take c.args.count c.args.from.now in
+    ends_put m.size c.args.at c.args.count c.max-self.result m.cache.items c.store.new.to.items xs m.ends
+    (length-take-le c.args.count c.args.from.now c.requires.given) c.max-self.ensures c.store.ensures.stored
 
 pub returns-clause-sure : goal.returns-clause-sure
 returns-clause-sure g c sure =

@@ -6,6 +6,6 @@ use Rattle.macs_mem_file.proofs.file.MemFileDiskFile.read_at.Goals as goal
 pub returns-then-at-self-clause-effect : goal.returns-then-at-self-clause-effect
 returns-then-at-self-clause-effect g c _ = record {
   same = refl;
-  octets = λ _. fetched-all c.args.self.now.cache.items c.args.into.now c.args.at 0 (omega arith)
+  octets = fetched-all c.args.self.now.cache.items c.args.into.now c.args.at 0 (omega arith)
       (λ k lt. absurd (omega (arith, lt)));
 }

@@ -1,11 +1,11 @@
 use Rattle.std.proofs.lemmas.Result.{err_from_is_err_and}
-use Rattle.macs_program.proofs.Relayed.{no-wire, of-desk}
+use Rattle.macs_program.proofs.Relayed.{no-desk}
 use Rattle.macs_program.proofs.on_disk.Wires.attend.Goals as goal
 
 pub returns-in_err-desk : goal.returns-in_err-desk
 returns-in_err-desk g c =
     let p = err_from_is_err_and c.from_residual.result c.from_residual.ensures.1 in
-    no-wire _ _ _ _ _ _ c.in_err-desk.field-0.0 p.0 c.from_residual.result p.1 p.2 (of-desk _ c.in_err-desk.ensures)
+    no-desk _ _ _ _ _ _ c.in_err-desk.field-0.0 p.0 c.from_residual.result p.1 p.2 c.in_err-desk.ensures
 
 pub returns : goal.returns
 returns g c = c.relay_attended-result.ensures
