@@ -239,7 +239,7 @@ def a_command_file_that_is_wrong():
         with open(file, "w", encoding="ascii") as wrong:
             wrong.write("[[command]]\ndo = 1\n")
         asked = it.ask("apply", file)
-        assert (asked.returncode, asked.stdout, asked.stderr) == (5, "", "macsecd: commands\n"), asked
+        assert (asked.returncode, asked.stdout, asked.stderr) == (5, "", "macsecd: command 1 do: not a command\n"), asked
         it.passes()
         it.stop()
 
@@ -250,7 +250,7 @@ def a_command_file_for_one_end():
         file = command_file(it.folder, install(1, KEYS[0]))
         with open(file, encoding="ascii") as given:
             commands = given.read()
-        for sci, told in (("0200000000020001", (5, "", "macsecd: commands\n")), ("0200000000010001", (0, "1 ok\n", ""))):
+        for sci, told in (("0200000000020001", (5, "", f"macsecd: commands: {file}: for another end\n")), ("0200000000010001", (0, "1 ok\n", ""))):
             with open(file, "w", encoding="ascii") as named:
                 named.write(f'sci = "{sci}"\n' + commands)
             asked = it.ask("apply", file)
@@ -573,16 +573,17 @@ def stop_is_one_line_and_the_next_start_goes_on():
     with link() as it:
         assert it.stop().startswith("sent ")
         nobody = it.ask("show")
-        assert (nobody.returncode, nobody.stdout, nobody.stderr) == (5, "", "macsecd: control\n"), nobody
+        assert (nobody.returncode, nobody.stdout, nobody.stderr) == (5, "", f"macsecd: control: {it.control}: no such socket\n"), nobody
 
 
 @a_try
 def nobody_there():
     with tempfile.TemporaryDirectory() as folder:
-        for path in (os.path.join(folder, "none"), folder, "/dev/null", "x" * 200):
+        for path, why in ((os.path.join(folder, "none"), "no such socket"), (folder, "nobody listens"), ("/dev/null", "nobody listens"),
+                          ("x" * 200, "not a socket of a relay")):
             for words in (["show"], ["counters"], ["stop"], ["apply", f"{TOP}/examples/left.toml"]):
                 asked = run("ask", path, *words)
-                assert (asked.returncode, asked.stdout, asked.stderr) == (5, "", "macsecd: control\n"), (path, asked)
+                assert (asked.returncode, asked.stdout, asked.stderr) == (5, "", f"macsecd: control: {path}: {why}\n"), (path, asked)
 
 
 @a_try
@@ -603,7 +604,7 @@ def one_that_listens_and_says_nothing_whole():
             thread.start()
             asked = run("ask", path, "show")
             thread.join()
-            assert (asked.returncode, asked.stdout, asked.stderr) == (5, "", "macsecd: control\n"), (said, asked)
+            assert (asked.returncode, asked.stdout, asked.stderr) == (5, "", f"macsecd: control: {path}: no answer of a relay, or it went away\n"), (said, asked)
         other.close()
 
 

@@ -3,7 +3,8 @@
 use crate::connection::{Connection, Taken};
 use crate::local_address::address_with;
 use libc::net::connect;
-use std::io::{ErrorKind, Read, Write};
+use os::errno;
+use std::io::{self, Error, ErrorKind, Read, Write};
 use std::net::Net;
 use std::os::fd::AsRawFd;
 use std::os::unix::net::UnixStream;
@@ -20,19 +21,22 @@ pub struct PatientStream {
 }
 
 impl PatientStream {
-    /// A connection to the relay that listens at a name, if one does. Where as many wait for that
-    /// relay as may, it waits too: the limit of a write is that of a connection (socket(7)).
-    pub fn connect<N: Net>(net: &N, path: &str) -> Option<PatientStream> {
-        let address = address_with(path.as_bytes())?;
-        let stream = UnixStream::from(net.unix_socket().ok()?);
+    /// A connection to the relay that listens at a name, or the error of the system where none
+    /// does. Where as many wait for that relay as may, it waits too: the limit of a write is that
+    /// of a connection (socket(7)).
+    pub fn connect<N: Net>(net: &N, path: &str) -> io::Result<PatientStream> {
+        let Some(address) = address_with(path.as_bytes()) else {
+            return Err(Error::from(ErrorKind::InvalidInput));
+        };
+        let stream = UnixStream::from(net.unix_socket()?);
         let patience = Some(Duration::from_secs(PATIENCE));
-        stream.set_read_timeout(patience).ok()?;
-        stream.set_write_timeout(patience).ok()?;
+        stream.set_read_timeout(patience)?;
+        stream.set_write_timeout(patience)?;
         let found = unsafe { connect(stream.as_raw_fd(), &address.octets, address.count) };
         if found < 0 {
-            return None;
+            return Err(Error::from_raw_os_error(errno()));
         }
-        Some(PatientStream { stream })
+        Ok(PatientStream { stream })
     }
 }
 

@@ -12,9 +12,16 @@ use Rattle.macs_commands.specs.declared.ends.CommandFileFault.TheVariants as tol
 use Rattle.std.proofs.lemmas.List.{take_all}
 use Rattle.macs_config.specs.declared.command.Command.{Command}
 use Rattle.macs_offline.specs.Applying.{SaidByFile, longest_file}
-use Rattle.macs_offline.specs.Checking.{Complains, ComplainsOfFile, HasFault, IsSaidOfFile, fault_text, file_fault_text}
+use Rattle.macs_offline.specs.Checking.{ComplainsOfFile, HasFault, IsSaidOfFile, IsSaidOfText, fault_text}
+use Rattle.macs_offline.specs.Checking.{file_fault_text}
+use Rattle.macs_offline.specs.Reasons.{Complains, IsUnread, Tells, TellsOfFile, reason_text}
+use Rattle.macs_offline.specs.TomlPlaces.{SaysNotToml}
+use Rattle.toml.specs.Errors.{IsMemory}
+use Rattle.toml.specs.declared.de.error.Error.{Error}
+use Rattle.std.proofs.Common.{codes}
+use Rattle.macs_offline.specs.declared.file_reason.FileReason.{FileReason}
 use Rattle.macs_offline.specs.declared.failure.Failure.{Failure}
-use Rattle.macs_offline.specs.declared.failure.Failure.TheVariants.{Commands, Memory}
+use Rattle.macs_offline.specs.declared.failure.Failure.TheVariants.{Memory}
 
 -- what holds of what is said holds of what a failure says
 pub complains-weaker : (P Q : List ℕ → Type 0) (failure : Failure) → ((said : List ℕ) → P said → Q said)
@@ -25,43 +32,55 @@ complains-weaker P Q failure weaker (inr (text, is, holds)) = inr (text, is, wea
 -- ---- the first fault
 
 -- this is said for the first fault of the commands of a file, which is not want of memory
-abbrev pub SaidForCause : ConfigFault → List ℕ → Type 0
-SaidForCause cause said = (cause ≢ config.Memory) × (said ≡ fault_text cause)
+abbrev pub SaidForCause : Members → ConfigFault → List ℕ → Type 0
+SaidForCause file cause said = (cause ≢ config.Memory) × (said ≡ fault_text file cause)
 
 -- so it is for that of a file
-abbrev pub SaidForFault : CommandFileFault → List ℕ → Type 0
-SaidForFault fault said = (fault ≢ told.Commands config.Memory) × (said ≡ file_fault_text fault)
+abbrev pub SaidForFault : Members → CommandFileFault → List ℕ → Type 0
+SaidForFault file fault said = (fault ≢ told.Commands config.Memory) × (said ≡ file_fault_text file fault)
 
-pub cause-said : (cause : ConfigFault) (failure : Failure) → cause ≢ config.Memory
-    → Complains (λ said. said ≡ fault_text cause) failure → Complains (SaidForCause cause) failure
-cause-said cause failure other complains =
-    complains-weaker (λ (said : List ℕ). said ≡ fault_text cause) (SaidForCause cause) failure
+pub cause-said : (file : Members) (cause : ConfigFault) (failure : Failure) → cause ≢ config.Memory
+    → Complains (λ said. said ≡ fault_text file cause) failure → Complains (SaidForCause file cause) failure
+cause-said file cause failure other complains =
+    complains-weaker (λ (said : List ℕ). said ≡ fault_text file cause) (SaidForCause file cause) failure
     (λ said is. (other, is)) complains
 
 same-cause : (cause : ConfigFault) → told.Commands cause ≡ told.Commands config.Memory → cause ≡ config.Memory
 same-cause cause is = cc
 
-pub commands-said : (cause : ConfigFault) (failure : Failure) → Complains (SaidForCause cause) failure
-    → Complains (SaidForFault (told.Commands cause)) failure
-commands-said cause failure complains =
-    complains-weaker (SaidForCause cause) (SaidForFault (told.Commands cause)) failure
+pub commands-said : (file : Members) (cause : ConfigFault) (failure : Failure)
+    → Complains (SaidForCause file cause) failure
+    → Complains (SaidForFault file (told.Commands cause)) failure
+commands-said file cause failure complains =
+    complains-weaker (SaidForCause file cause) (SaidForFault file (told.Commands cause)) failure
     (λ said is. ((λ memory. is.0 (same-cause cause memory)), is.1)) complains
 
 no-memory : told.Sci ≢ told.Commands config.Memory
 no-memory is = cc
 
-pub sci-said : (failure : Failure) → Complains (λ said. said ≡ file_fault_text told.Sci) failure
-    → Complains (SaidForFault told.Sci) failure
-sci-said failure complains =
-    complains-weaker (λ (said : List ℕ). said ≡ file_fault_text told.Sci) (SaidForFault told.Sci) failure
+pub sci-said : (file : Members) (failure : Failure) → Complains (λ said. said ≡ file_fault_text file told.Sci) failure
+    → Complains (SaidForFault file told.Sci) failure
+sci-said file failure complains =
+    complains-weaker (λ (said : List ℕ). said ≡ file_fault_text file told.Sci) (SaidForFault file told.Sci) failure
     (λ said is. (no-memory, is)) complains
 
 pub has-fault : (text : List ℕ) (members : Members) (fault : CommandFileFault) (failure : Failure)
     → parse_document text ≡ Some members → (fault ≢ told.Commands config.Memory → HasFileFault members fault)
-    → Complains (SaidForFault fault) failure → Complains (HasFault text) failure
+    → Complains (SaidForFault members fault) failure → Complains (HasFault text) failure
 has-fault text members fault failure parsed has complains =
-    complains-weaker (SaidForFault fault) (HasFault text) failure
+    complains-weaker (SaidForFault members fault) (HasFault text) failure
     (λ said is. (members, parsed, fault, has is.0, is.1)) complains
+
+-- ---- of a text that is no TOML
+
+pub not-toml : (text : List ℕ) (error : Error) (failure : Failure)
+    → (¬ IsMemory error → parse_document text ≡ None)
+    → (failure ≡ Memory) ⊎ ((¬ IsMemory error) × Complains (SaysNotToml (codes "command file") text) failure)
+    → Complains (IsSaidOfText text) failure
+not-toml text error failure refused (inl memory) = inl memory
+not-toml text error failure refused (inr (other, complains)) =
+    complains-weaker (SaysNotToml (codes "command file") text) (IsSaidOfText text) failure
+    (λ said is. inl (refused other, is)) complains
 
 -- ---- of a file that was opened
 
@@ -71,31 +90,32 @@ pub said-of : {F : Type 0} (left_in : F → Option (List ℕ)) (end : Option (Li
 said-of left_in end given said same by_file =
     subst (λ (commands : List Command). SaidByFile left_in end commands) (sym same) by_file
 
-module _ (IsSaid : List ℕ → List ℕ → Type 0) where
+-- it is not read, for this reason
+pub unread-for : (word name : List ℕ) (why : FileReason) (failure : Failure)
+    → Complains (Tells word name (reason_text why)) failure → Complains (TellsOfFile word name) failure
+unread-for word name why failure complains =
+    complains-weaker (Tells word name (reason_text why)) (TellsOfFile word name) failure
+    (λ said is. (why, is)) complains
+
+module _ (IsSaid : List ℕ → List ℕ → Type 0) (name : List ℕ) where
   -- nothing could be read of it; or this is said of its octets
   abbrev pub EndsOfFile : {F : Type 0} → (F → Option (List ℕ)) → Failure → Type 0
-  EndsOfFile left_in failure = (failure ≡ Commands)
+  EndsOfFile left_in failure = IsUnread name failure
       ⊎ ((octets : List ℕ) × Complains (IsSaid octets) failure
       × ((failure ≡ Memory) ⊎ ComplainsOfFile IsSaid left_in failure))
 
-  -- it was not opened
-  pub not-opened : {F : Type 0} (left_in : F → Option (List ℕ)) (failure : Failure)
-      → (failure ≡ Memory) ⊎ (failure ≡ Commands) → EndsOfFile left_in failure
-  not-opened left_in failure (inl memory) = inr ([], inl memory, inl memory)
-  not-opened left_in failure (inr unread) = inl unread
-
   complained : {F : Type 0} (left_in : F → Option (List ℕ)) (file : F) (failure : Failure)
-      → (failure ≡ Commands) ⊎ IfSome (left_in file) (λ octets. Complains (IsSaid octets) failure)
-      → (failure ≡ Commands) ⊎ ((octets : List ℕ) × Complains (IsSaid octets) failure) → EndsOfFile left_in failure
+      → IsUnread name failure ⊎ IfSome (left_in file) (λ octets. Complains (IsSaid octets) failure)
+      → IsUnread name failure ⊎ ((octets : List ℕ) × Complains (IsSaid octets) failure) → EndsOfFile left_in failure
   complained left_in file failure (inl unread) ended = inl unread
   complained left_in file failure (inr fault) (inl unread) = inl unread
   complained left_in file failure (inr fault) (inr (octets, complains)) = inr (octets, complains, inr (file, fault))
 
   -- it was opened, and no commands were read
   pub file-complained : {T F : Type 0} (left_in : F → Option (List ℕ)) (file : F) (result : Result T Failure)
-      → IfErr result (λ failure. (failure ≡ Commands)
+      → IfErr result (λ failure. IsUnread name failure
       ⊎ IfSome (left_in file) (λ octets. Complains (IsSaid octets) failure))
-      → IfErr result (λ failure. (failure ≡ Commands) ⊎ ((octets : List ℕ) × Complains (IsSaid octets) failure))
+      → IfErr result (λ failure. IsUnread name failure ⊎ ((octets : List ℕ) × Complains (IsSaid octets) failure))
       → IfErr result (EndsOfFile left_in)
   file-complained left_in file (Ok value) fault ended = tt
   file-complained left_in file (Err failure) fault ended = complained left_in file failure fault ended

@@ -33,7 +33,7 @@ use Rattle.macs_offline.specs.declared.failure.DiskFault.TheVariants as disk
 use Rattle.macs_offline.specs.declared.failure.Failure.{Failure}
 use Rattle.macs_offline.specs.declared.status.Status.{Status}
 use Rattle.macs_offline.specs.declared.status.Status.TheVariants.{Done, Refused, Usage}
-use Rattle.macs_offline.proofs.Failures.{IsOfDisk, disk-no-usage, of-file}
+use Rattle.macs_offline.proofs.Failures.{IsOfCopy, IsOfDisk, copy-no-usage, of-file, of-unread}
 use Rattle.macs_offline.proofs.Looks.{carried}
 
 -- ---- the journal
@@ -122,19 +122,20 @@ of-copy : (file : FileState) (failure : Failure) → CopyFails file failure → 
 of-copy file failure (inl (fault, is, length)) = of-file fault failure is
 of-copy file failure (inr (is, few)) = inr (disk.Journal journal.TooSmall, is)
 
--- want of memory, or a fault of the disk
-pub of-examination : {F : Type 0} (state_of : F → FileState) (failure : Failure) → ExaminationFails state_of failure
-    → IsOfDisk failure
-of-examination state_of failure (inl (fault, is, whole, device)) = of-file fault failure is
-of-examination state_of failure (inr (inl (file, fails))) = of-copy (state_of file) failure fails
-of-examination state_of failure (inr (inr (file, copy, layout, is_copy, inl memory))) = inl memory
-of-examination state_of failure (inr (inr (file, copy, layout, is_copy, inr (fault, is, known, none)))) =
-    inr (disk.Journal fault, is)
+-- want of memory, or a fault of the disk or of its file
+pub of-examination : {F : Type 0} (state_of : F → FileState) (name : List ℕ) (failure : Failure)
+    → ExaminationFails state_of name failure → IsOfCopy failure
+of-examination state_of name failure (inl unread) = of-unread name failure unread
+of-examination state_of name failure (inr (inl (file, fails))) = inl (of-copy (state_of file) failure fails)
+of-examination state_of name failure (inr (inr (file, copy, layout, is_copy, inl memory))) = inl (inl memory)
+of-examination state_of name failure (inr (inr (file, copy, layout, is_copy, inr (fault, is, known, none)))) =
+    inl (inr (disk.Journal fault, is))
 
-pub examining-no-usage : {F : Type 0} (state_of : F → FileState) (failure : Failure) → ExamineFails state_of failure
-    → failure_status failure ≢ Usage
-examining-no-usage state_of failure (inl output) = λ e. let f = sym e ∙ ap failure_status output in cc
-examining-no-usage state_of failure (inr fails) = disk-no-usage failure (of-examination state_of failure fails)
+pub examining-no-usage : {F : Type 0} (state_of : F → FileState) (name : List ℕ) (failure : Failure)
+    → ExamineFails state_of name failure → failure_status failure ≢ Usage
+examining-no-usage state_of name failure (inl output) = λ e. let f = sym e ∙ ap failure_status output in cc
+examining-no-usage state_of name failure (inr fails) =
+    copy-no-usage failure (of-examination state_of name failure fails)
 
 -- ---- what is said
 

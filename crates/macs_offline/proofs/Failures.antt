@@ -1,5 +1,5 @@
 -- Failures that are not of standard output, and no wrong usage.
-use Rattle.std.proofs.Common.{◌≡◌, ◌≢◌, ◌⊎◌, ◌∙◌, inl, inr, ap, sym}
+use Rattle.std.proofs.Common.{◌≡◌, ◌≢◌, ◌⊎◌, ◌∙◌, inl, inr, ap, sym, ℕ, List}
 use Rattle.macs_disk.specs.declared.file_fault.FileFault.{FileFault}
 use Rattle.macs_disk.specs.declared.file_fault.FileFault.TheVariants as file_faults
 use Rattle.macs_disk.specs.Files.{FileState}
@@ -9,7 +9,11 @@ use Rattle.macs_offline.specs.Failing.{failure_of_file, failure_status}
 use Rattle.macs_offline.specs.declared.failure.DiskFault.{DiskFault}
 use Rattle.macs_offline.specs.declared.failure.DiskFault.TheVariants as disk_faults
 use Rattle.macs_offline.specs.declared.failure.Failure.{Failure}
-use Rattle.macs_offline.specs.declared.failure.Failure.TheVariants.{Capture, Commands, Disk, Memory, Output}
+use Rattle.macs_offline.specs.declared.failure.Failure.TheVariants.{Capture, Commands, Control, Disk, DiskFile, Memory}
+use Rattle.macs_offline.specs.declared.failure.Failure.TheVariants.{Output, Wire}
+use Rattle.macs_offline.specs.Reasons.{ComplainsOfDisk, IsNotRead, Tells, reason_text}
+use Rattle.macs_offline.specs.declared.file_reason.FileReason.{FileReason}
+use Rattle.std.proofs.Common.{codes}
 use Rattle.macs_offline.specs.declared.status.Status.TheVariants.{Usage}
 
 -- ---- want of memory, or one other failure
@@ -62,3 +66,27 @@ of-file file_faults.Memory failure is = inl is
 pub of-opening : {F : Type 0} (file : F → FileState) (failure : Failure) → OpeningFails file failure → IsOfDisk failure
 of-opening file failure (inl (fault, is)) = of-file fault failure is
 of-opening file failure (inr refused) = inr (disk_faults.Journal refused.fault, refused.is)
+
+-- ---- a disk that is copied
+
+-- so it is, or its file is not opened to be read
+abbrev pub IsOfCopy : Failure → Type 0
+IsOfCopy failure = IsOfDisk failure ⊎ ((text : _) × (failure ≡ DiskFile text))
+
+pub of-unread : (name : List ℕ) (failure : Failure) → IsNotRead name failure → IsOfCopy failure
+of-unread name failure (inl memory) = inl (inl memory)
+of-unread name failure (inr (text, is, said)) = inr (text, is)
+
+-- it is not opened, for this reason
+pub not-read-for : (name : List ℕ) (why : FileReason) (failure : Failure)
+    → ComplainsOfDisk (Tells (codes "disk file") name (reason_text why)) failure → IsNotRead name failure
+not-read-for name why failure (inl memory) = inl memory
+not-read-for name why failure (inr (text, is, tells)) = inr (text, is, (why, tells))
+
+pub copy-no-output : (failure : Failure) → IsOfCopy failure → failure ≢ Output
+copy-no-output failure (inl ours) is = disk-no-output failure ours is
+copy-no-output failure (inr (text, same)) is = let e = sym same ∙ is in cc
+
+pub copy-no-usage : (failure : Failure) → IsOfCopy failure → failure_status failure ≢ Usage
+copy-no-usage failure (inl ours) is = disk-no-usage failure ours is
+copy-no-usage failure (inr (text, same)) is = let e = ap failure_status (sym same) ∙ is in cc

@@ -1,6 +1,6 @@
 -- The frames of a capture that are inspected, one after another.
 use Rattle.std.proofs.Common.{◌≡◌, ◌≢◌, ◌+◌, ◌<◌, ◌≤◌, ◌++◌, if◌then◌else◌, ℕ, Bool, true, false, List, [], ◌∷◌}
-use Rattle.std.proofs.Common.{length, Option, Some, None, Result, Ok, inl, inr, refl, sym, ap, ◌∙◌, subst}
+use Rattle.std.proofs.Common.{length, Option, Some, None, Result, Ok, Err, inl, inr, refl, sym, ap, ◌∙◌, subst}
 use Rattle.std.proofs.Common.{arith, append_assoc, append-nil}
 use Rattle.std.specs.Io.KnownBytes.{Appends}
 use Rattle.std.proofs.KnownBytes.{Appends-nil, Appends-trans}
@@ -17,14 +17,18 @@ use Rattle.macs_pcap.specs.declared.fault.PcapFault.{PcapFault}
 use Rattle.macs_pcap.specs.declared.fault.PcapFault.TheVariants as pcap
 use Rattle.macs_pcap.specs.declared.header.Header.{Header}
 use Rattle.macs_edge.proofs.Behind.{left-more, longer}
-use Rattle.macs_offline.specs.Failing.{failure_of_capture}
-use Rattle.macs_offline.specs.Inspecting.{AreLinesOf, HasInspected, InspectsNext}
+use Rattle.macs_offline.specs.Inspecting.{AreLinesOf, FailsSo, HasInspected, InspectFails, InspectsNext}
 use Rattle.macs_offline.specs.Inspecting.{InspectsRecords, IsLineOf, IsOfInspecting, IsSaidOf, PrintsFrames}
 use Rattle.macs_offline.specs.Inspecting.{PrintsLines, RunsCapture, RunsRecords, StopsCapture, StopsNext, StopsRecords}
 use Rattle.macs_offline.specs.Inspecting.{tag_text}
 use Rattle.macs_offline.specs.declared.failure.Failure.{Failure}
 use Rattle.macs_offline.specs.declared.failure.Failure.TheVariants as failures
 use Rattle.macs_offline.specs.declared.status.Status.{Status}
+use Rattle.macs_offline.specs.declared.stop.Stop.{Stop}
+use Rattle.macs_offline.specs.declared.stop.Stop.TheVariants as stops
+use Rattle.macs_offline.specs.Reasons.{Complains, Tells, TellsOfFile}
+use Rattle.macs_offline.specs.CaptureReasons.{capture_text, header_reason, record_reason}
+use Rattle.std.proofs.Common.{codes}
 
 -- ---- lines
 
@@ -110,15 +114,15 @@ says_tag frame parts short octets text (tag, other) is_short is_octets said =
 
 -- the next one ends the run
 pub read-stops : (big : Bool) (old until new : SourceState) (before between after : Option (List ℕ)) (count : ℕ)
-    (failure : Failure)
-    → HasRead big old before count until between → StopsNext big count until between failure new after
-    → StopsRecords big old before failure new after
-read-stops big old until new before between after count failure (records, has, size) stops = record {
+    (stop : Stop)
+    → HasRead big old before count until between → StopsNext big count until between stop new after
+    → StopsRecords big old before stop new after
+read-stops big old until new before between after count stop (records, has, size) stops = record {
   records = records;
   until = until;
   between = between;
   inspected = has;
-  stops = subst (λ (n : ℕ). StopsNext big n until between failure new after) (sym size) stops;
+  stops = subst (λ (n : ℕ). StopsNext big n until between stop new after) (sym size) stops;
 }
 
 -- there is none
@@ -147,58 +151,87 @@ room-for big between new known after count more is next =
 -- ---- a whole capture
 
 pub capture-run : (old behind new : SourceState) (header : Header) (before after : Option (List ℕ))
-    (result : Result Status Failure)
+    (result : Result Status Stop)
     → ReadsHeader old behind (Ok header) → RunsRecords header.big behind before result new after
     → RunsCapture old before result new after
 capture-run old behind new header before after result begins runs = record {
   done = IfOk-weaker result _ _
       (λ status all. (record { header = header; behind = behind; begins = begins; records = all.0 }, all.1)) runs.done;
-  stopped = IfErr-weaker result _ _ (λ failure stops. inr (header, behind, begins, stops)) runs.stopped;
+  stopped = IfErr-weaker result _ _ (λ stop is. inr (header, behind, begins, is)) runs.stopped;
 }
 
 -- its failures
-of-capture : (fault : PcapFault) → IsOfInspecting (failure_of_capture fault)
-of-capture pcap.BadMagic = tt
-of-capture pcap.BadVersion = tt
-of-capture pcap.NotEthernet = tt
-of-capture pcap.CutFile = tt
-of-capture pcap.CutRecord = tt
-of-capture pcap.RecordTooLong = tt
-of-capture pcap.TooManyRecords = tt
-of-capture pcap.Read = tt
-of-capture pcap.Write = tt
-of-capture pcap.Memory = tt
+of-complaint : (Holds : List ℕ → Type 0) (failure : Failure) → Complains Holds failure → IsOfInspecting failure
+of-complaint Holds failure (inl memory) = subst IsOfInspecting (sym memory) tt
+of-complaint Holds failure (inr (text, is, holds)) = subst IsOfInspecting (sym is) tt
 
-of-next : (big : Bool) (count : ℕ) (old new : SourceState) (before after : Option (List ℕ)) (failure : Failure)
-    → StopsNext big count old before failure new after → IsOfInspecting failure
-of-next big count old new before after failure (inl (fault, room, frame, reads, is, same)) =
-    subst IsOfInspecting (sym is) (of-capture fault)
-of-next big count old new before after failure (inr (inl (is, same))) = subst IsOfInspecting (sym is) tt
-of-next big count old new before after failure (inr (inr is)) = subst IsOfInspecting (sym is) tt
+abbrev Told : List ℕ → List ℕ → List ℕ → Type 0
+Told name why = Tells (codes "capture") name why
 
-pub of-inspecting : (old new : SourceState) (before after : Option (List ℕ)) (failure : Failure)
-    → StopsCapture old before failure new after
-    → IsOfInspecting failure
-of-inspecting old new before after failure (inl (fault, reads, is, same)) =
-    subst IsOfInspecting (sym is) (of-capture fault)
-of-inspecting old new before after failure (inr (header, behind, begins, stops)) =
-    of-next header.big (length stops.records) stops.until new stops.between after failure stops.stops
+pub of-stop : (name : List ℕ) (stop : Stop) (failure : Failure) → FailsSo name stop failure → IsOfInspecting failure
+of-stop name (stops.Header fault) failure (is_pcapng, complains) =
+    of-complaint (Told name (capture_text (header_reason is_pcapng fault))) failure complains
+of-stop name (stops.Record fault) failure (memory, complains) =
+    of-complaint (Told name (capture_text (record_reason fault))) failure complains
+of-stop name stops.Memory failure is = subst IsOfInspecting (sym is) tt
+of-stop name stops.Output failure is = subst IsOfInspecting (sym is) tt
+
+pub of-inspecting : (name : List ℕ) (before after : Option (List ℕ)) (failure : Failure)
+    → InspectFails name before after failure → IsOfInspecting failure
+of-inspecting name before after failure (inl (complains, same)) =
+    of-complaint (TellsOfFile (codes "capture") name) failure complains
+of-inspecting name before after failure (inr (old, new, stop, stopped, fails)) = of-stop name stop failure fails
+
+-- a failure is that of the output where the stop is
+no-output : (Holds : List ℕ → Type 0) (failure : Failure) → Complains Holds failure → failure ≢ failures.Output
+no-output Holds failure (inl memory) is = let e = sym memory ∙ is in cc
+no-output Holds failure (inr (text, said, holds)) is = let e = sym said ∙ is in cc
+
+pub stop-output : (name : List ℕ) (stop : Stop) (failure : Failure) → FailsSo name stop failure
+    → failure ≡ failures.Output → stop ≡ stops.Output
+stop-output name (stops.Header fault) failure (is_pcapng, complains) is =
+    absurd (no-output (Told name (capture_text (header_reason is_pcapng fault))) failure complains is)
+stop-output name (stops.Record fault) failure (memory, complains) is =
+    absurd (no-output (Told name (capture_text (record_reason fault))) failure complains is)
+stop-output name stops.Memory failure memory is = absurd (let e = sym memory ∙ is in cc)
+stop-output name stops.Output failure output is = refl
 
 -- what was printed before them
-next-front : (big : Bool) (count : ℕ) (old new : SourceState) (between after : Option (List ℕ)) (failure : Failure)
-    → StopsNext big count old between failure new after → failure ≢ failures.Output → after ≡ between
-next-front big count old new between after failure (inl (fault, room, frame, reads, is, same)) other = same
-next-front big count old new between after failure (inr (inl (is, same))) other = same
-next-front big count old new between after failure (inr (inr is)) other = absurd (other is)
+next-front : (big : Bool) (count : ℕ) (old new : SourceState) (between after : Option (List ℕ)) (stop : Stop)
+    → StopsNext big count old between stop new after → stop ≢ stops.Output → after ≡ between
+next-front big count old new between after stop (inl (fault, room, frame, reads, is, same)) other = same
+next-front big count old new between after stop (inr (inl (is, same))) other = same
+next-front big count old new between after stop (inr (inr is)) other = absurd (other is)
 
-pub front-printed : (old new : SourceState) (before after : Option (List ℕ)) (failure : Failure)
-    → StopsCapture old before failure new after
-    → failure ≢ failures.Output → PrintsFrames before after
-front-printed old new before after failure (inl (fault, reads, is, same)) other =
+pub front-printed : (old new : SourceState) (before after : Option (List ℕ)) (stop : Stop)
+    → StopsCapture old before stop new after
+    → stop ≢ stops.Output → PrintsFrames before after
+front-printed old new before after stop (inl (fault, reads, is, same)) other =
     ([], ([], refl, subst (λ (a : Option (List ℕ)). Appends before a []) (sym same) (Appends-nil before)))
-front-printed old new before after failure (inr (header, behind, begins, stops)) other =
+front-printed old new before after stop (inr (header, behind, begins, stopped)) other =
     let same =
-    next-front header.big (length stops.records) stops.until new stops.between after failure stops.stops other in (
-      stops.records,
-      subst (λ (a : Option (List ℕ)). PrintsLines stops.records before a) (sym same) stops.inspected.printed,
+    next-front header.big (length stopped.records) stopped.until new stopped.between after stop stopped.stops other in (
+      stopped.records,
+      subst (λ (a : Option (List ℕ)). PrintsLines stopped.records before a) (sym same) stopped.inspected.printed,
     )
+
+pub stop-front : (name : List ℕ) (old new : SourceState) (before after : Option (List ℕ)) (stop : Stop)
+    (failure : Failure)
+    → StopsCapture old before stop new after → FailsSo name stop failure → failure ≢ failures.Output
+    → PrintsFrames before after
+stop-front name old new before after (stops.Header fault) failure stopped fails other =
+    front-printed old new before after (stops.Header fault) stopped (λ e. cc)
+stop-front name old new before after (stops.Record fault) failure stopped fails other =
+    front-printed old new before after (stops.Record fault) stopped (λ e. cc)
+stop-front name old new before after stops.Memory failure stopped fails other =
+    front-printed old new before after stops.Memory stopped (λ e. cc)
+stop-front name old new before after stops.Output failure stopped fails other = absurd (other fails)
+
+-- a capture that was not opened
+pub unopened-front : (before : Option (List ℕ)) → PrintsFrames before before
+unopened-front before = ([], ([], refl, Appends-nil before))
+
+-- its header has a fault
+pub header-stops : (old new : SourceState) (fault : PcapFault) (before : Option (List ℕ))
+    → ReadsHeader old new (Err fault) → RunsCapture old before (Err (stops.Header fault)) new before
+header-stops old new fault before reads = record { done = tt; stopped = inl (fault, reads, refl, refl) }

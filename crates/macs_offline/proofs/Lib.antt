@@ -19,4 +19,5 @@ pub mod RecordWords
 pub mod SpelledWires
 pub mod Spelling
 pub mod TextLines
+pub mod TomlPlaces
 pub mod Tried

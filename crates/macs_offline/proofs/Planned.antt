@@ -13,12 +13,16 @@ use Rattle.macs_plan.specs.declared.link.Link.{Link}
 use Rattle.macs_plan.specs.declared.plan_fault.PlanFault.{PlanFault}
 use Rattle.macs_plan.specs.declared.planning.Stage.{Stage}
 use Rattle.macs_offline.specs.Applying.{longest_file}
-use Rattle.macs_offline.specs.Checking.{Complains}
 use Rattle.macs_offline.specs.Plans.{IsSaidOfLink, IsSaidOfLinkText, PlanFails, PlansFile, RefusesLink}
 use Rattle.macs_offline.specs.Plans.{RefusesLinkText, RefusesSo, SaysWhy, SaysWhyOfFile, SaysWhyOfText}
 use Rattle.macs_offline.specs.Plans.{link_refusal, plan_fault_text}
+use Rattle.macs_offline.specs.Reasons.{Complains, IsUnread}
+use Rattle.macs_offline.specs.TomlPlaces.{SaysNotToml}
+use Rattle.toml.specs.Errors.{IsMemory}
+use Rattle.toml.specs.declared.de.error.Error.{Error}
+use Rattle.std.proofs.Common.{codes}
 use Rattle.macs_offline.specs.declared.failure.Failure.{Failure}
-use Rattle.macs_offline.specs.declared.failure.Failure.TheVariants.{Commands, Memory}
+use Rattle.macs_offline.specs.declared.failure.Failure.TheVariants.{Memory}
 use Rattle.macs_offline.specs.declared.failure.LinkRefusal.{LinkRefusal}
 use Rattle.macs_offline.proofs.Checked.{complains-weaker, short-whole}
 
@@ -102,38 +106,43 @@ module _ (end : End) (stage : Stage) where
   why-of-fault text members fault failure parsed fails (inr (refusal, is, which)) =
       inr (refusal, is, (fault, (members, parsed, fails), which))
 
+  -- a text is no TOML
+  pub why-not-toml : (text : List ℕ) (error : Error) (failure : Failure)
+      → (¬ IsMemory error → parse_document text ≡ None)
+      → (failure ≡ Memory) ⊎ ((¬ IsMemory error) × Complains (SaysNotToml (codes "link file") text) failure)
+      → SaysWhyOfText end stage text failure
+  why-not-toml text error failure refused (inl memory) = inl (inl memory)
+  why-not-toml text error failure refused (inr (other, complains)) =
+      inl (complains-weaker (SaysNotToml (codes "link file") text) (IsSaidOfLinkText end stage text) failure
+      (λ said is. inl (refused other, is)) complains)
+
   -- ---- of a file that was opened, or not
 
   -- nothing could be read of it; or this is why
-  abbrev pub EndsOfLink : {F : Type 0} → (F → Option (List ℕ)) → Failure → Type 0
-  EndsOfLink left_in failure = (failure ≡ Commands)
+  abbrev pub EndsOfLink : {F : Type 0} → (F → Option (List ℕ)) → List ℕ → Failure → Type 0
+  EndsOfLink left_in name failure = IsUnread name failure
       ⊎ ((octets : List ℕ) × SaysWhy end stage octets failure
       × ((failure ≡ Memory) ⊎ SaysWhyOfFile left_in end stage failure))
 
-  -- it was not opened
-  pub link-not-opened : {F : Type 0} (left_in : F → Option (List ℕ)) (failure : Failure)
-      → (failure ≡ Memory) ⊎ (failure ≡ Commands) → EndsOfLink left_in failure
-  link-not-opened left_in failure (inl memory) = inr ([], inl (inl memory), inl memory)
-  link-not-opened left_in failure (inr unread) = inl unread
-
-  not-planned-of : {F : Type 0} (left_in : F → Option (List ℕ)) (file : F) (failure : Failure)
-      → (failure ≡ Commands) ⊎ IfSome (left_in file) (λ octets. SaysWhy end stage octets failure)
-      → (failure ≡ Commands) ⊎ ((octets : List ℕ) × SaysWhy end stage octets failure) → EndsOfLink left_in failure
-  not-planned-of left_in file failure (inl unread) ended = inl unread
-  not-planned-of left_in file failure (inr fault) (inl unread) = inl unread
-  not-planned-of left_in file failure (inr fault) (inr (octets, says)) = inr (octets, says, inr (file, fault))
+  not-planned-of : {F : Type 0} (left_in : F → Option (List ℕ)) (name : List ℕ) (file : F) (failure : Failure)
+      → IsUnread name failure ⊎ IfSome (left_in file) (λ octets. SaysWhy end stage octets failure)
+      → IsUnread name failure ⊎ ((octets : List ℕ) × SaysWhy end stage octets failure) → EndsOfLink left_in name failure
+  not-planned-of left_in name file failure (inl unread) ended = inl unread
+  not-planned-of left_in name file failure (inr fault) (inl unread) = inl unread
+  not-planned-of left_in name file failure (inr fault) (inr (octets, says)) = inr (octets, says, inr (file, fault))
 
   -- it was opened, and nothing was planned
-  pub file-not-planned : {T F : Type 0} (left_in : F → Option (List ℕ)) (file : F) (result : Result T Failure)
-      → IfErr result (λ failure. (failure ≡ Commands)
+  pub file-not-planned : {T F : Type 0} (left_in : F → Option (List ℕ)) (name : List ℕ) (file : F)
+      (result : Result T Failure)
+      → IfErr result (λ failure. IsUnread name failure
       ⊎ IfSome (left_in file) (λ octets. SaysWhy end stage octets failure))
-      → IfErr result (λ failure. (failure ≡ Commands) ⊎ ((octets : List ℕ) × SaysWhy end stage octets failure))
-      → IfErr result (EndsOfLink left_in)
-  file-not-planned left_in file (Ok value) fault ended = tt
-  file-not-planned left_in file (Err failure) fault ended = not-planned-of left_in file failure fault ended
+      → IfErr result (λ failure. IsUnread name failure ⊎ ((octets : List ℕ) × SaysWhy end stage octets failure))
+      → IfErr result (EndsOfLink left_in name)
+  file-not-planned left_in name file (Ok value) fault ended = tt
+  file-not-planned left_in name file (Err failure) fault ended = not-planned-of left_in name file failure fault ended
 
   -- nothing is planned of a file, and nothing was printed
-  pub not-planned : {F : Type 0} (left_in : F → Option (List ℕ)) (failure : Failure)
-      → EndsOfLink left_in failure → PlanFails left_in end stage failure
-  not-planned left_in failure (inl unread) = inl unread
-  not-planned left_in failure (inr said) = inr (inr said)
+  pub not-planned : {F : Type 0} (left_in : F → Option (List ℕ)) (name : List ℕ) (failure : Failure)
+      → EndsOfLink left_in name failure → PlanFails left_in name end stage failure
+  not-planned left_in name failure (inl unread) = inl unread
+  not-planned left_in name failure (inr said) = inr (inr said)

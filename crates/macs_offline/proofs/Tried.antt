@@ -18,7 +18,8 @@ use Rattle.macs_endpoint.specs.State.{Commands, Ran}
 use Rattle.macs_endpoint.specs.Value.{EndpointValue}
 use Rattle.macs_journal.specs.declared.fault.JournalFault.TheVariants as journal
 use Rattle.macs_offline.specs.Applying.{Applies, SaidByFile, SaysCommands, answer_of, outcomes_status}
-use Rattle.macs_offline.specs.Checking.{CheckEnds}
+use Rattle.macs_offline.specs.Checking.{CheckEnds, IsSaidOfFile}
+use Rattle.macs_offline.proofs.Checked.{EndsOfFile}
 use Rattle.macs_offline.specs.Copying.{CopyFails}
 use Rattle.macs_offline.specs.Trying.{EndsOn, EndsTrial, TrialEnds, TrialFails, failure_in_memory, trial_line}
 use Rattle.macs_offline.specs.Trying.{trial_lines, trial_report}
@@ -29,7 +30,7 @@ use Rattle.macs_offline.specs.declared.failure.Failure.TheVariants.{Memory, Othe
 use Rattle.macs_offline.proofs.Applied.{applies-more, parted, status-more}
 use Rattle.macs_offline.specs.declared.status.Status.{Status}
 use Rattle.macs_offline.specs.declared.status.Status.TheVariants.{Refused, Usage}
-use Rattle.macs_offline.proofs.Failures.{IsOfDisk, disk-no-output, disk-no-usage, of-file}
+use Rattle.macs_offline.proofs.Failures.{IsOfCopy, IsOfDisk, copy-no-output, copy-no-usage, of-file, of-unread}
 use Rattle.macs_offline.specs.Failing.{failure_status}
 
 -- ---- one command more
@@ -138,14 +139,14 @@ in-memory (disk.Journal journal.GenerationsSpent) failure is = inr (disk.Journal
 
 -- that, or it is for another end than the file's
 abbrev pub IsOfTrial : Failure → Type 0
-IsOfTrial failure = IsOfDisk failure ⊎ (failure ≡ OtherEnd)
+IsOfTrial failure = IsOfCopy failure ⊎ (failure ≡ OtherEnd)
 
 pub trial-no-output : (failure : Failure) → IsOfTrial failure → failure ≢ Output
-trial-no-output failure (inl ours) is = disk-no-output failure ours is
+trial-no-output failure (inl ours) is = copy-no-output failure ours is
 trial-no-output failure (inr other) is = let e = sym other ∙ is in cc
 
 pub trial-no-usage : (failure : Failure) → IsOfTrial failure → failure_status failure ≢ Usage
-trial-no-usage failure (inl ours) is = disk-no-usage failure ours is
+trial-no-usage failure (inl ours) is = copy-no-usage failure ours is
 trial-no-usage failure (inr other) is = let e = ap failure_status (sym other) ∙ is in cc
 
 ends-on : {D : Type 0} (disk_of : D → Disk) (copy : D) (end : Option (List ℕ)) (commands : List Command)
@@ -153,23 +154,24 @@ ends-on : {D : Type 0} (disk_of : D → Disk) (copy : D) (end : Option (List ℕ
     → EndsOn disk_of copy end commands failure
     → IsOfTrial failure
 ends-on disk_of copy end commands failure (inl (left, fault, refuses, is)) =
-    inl (in-memory (disk.Journal fault) failure is)
+    inl (inl (in-memory (disk.Journal fault) failure is))
 ends-on disk_of copy end commands failure (inr (old, opens, inl (other, named))) = inr other
-ends-on disk_of copy end commands failure (inr (old, opens, inr (own, inl memory))) = inl (inl memory)
+ends-on disk_of copy end commands failure (inr (old, opens, inr (own, inl memory))) = inl (inl (inl memory))
 ends-on disk_of copy end commands failure (inr (old, opens, inr (own, inr stops))) =
-    inl (in-memory stops.ends.0 failure stops.ends.5)
+    inl (inl (in-memory stops.ends.0 failure stops.ends.5))
 
 copy-fails : (file : FileState) (failure : Failure) → CopyFails file failure → IsOfDisk failure
 copy-fails file failure (inl (fault, is, length)) = of-file fault failure is
 copy-fails file failure (inr (is, few)) = inr (disk.Journal journal.TooSmall, is)
 
-pub of-trial : {F : Type 0} (state_of : F → FileState) (end : Option (List ℕ)) (commands : List Command)
-    (failure : Failure)
-    → TrialFails state_of end commands failure
+pub of-trial : {F : Type 0} (state_of : F → FileState) (name : List ℕ) (end : Option (List ℕ))
+    (commands : List Command) (failure : Failure)
+    → TrialFails state_of name end commands failure
     → IsOfTrial failure
-of-trial state_of end commands failure (inl (fault, is, whole, device)) = inl (of-file fault failure is)
-of-trial state_of end commands failure (inr (inl (file, fails))) = inl (copy-fails (state_of file) failure fails)
-of-trial state_of end commands failure (inr (inr (file, copy, is_copy, ends))) =
+of-trial state_of name end commands failure (inl unread) = inl (of-unread name failure unread)
+of-trial state_of name end commands failure (inr (inl (file, fails))) =
+    inl (inl (copy-fails (state_of file) failure fails))
+of-trial state_of name end commands failure (inr (inr (file, copy, is_copy, ends))) =
     ends-on _ copy end commands failure ends
 
 -- where no file says whom it is for, want of memory or a fault of the disk
@@ -188,13 +190,23 @@ of-look state_of commands failure (inr (inr (file, copy, is_copy, inr (old, open
     in-memory stops.ends.0 failure stops.ends.5
 
 -- what is to be printed of a trial is not
-pub trial-ended : {F : Type 0} (state_of : F → FileState) (left_in : F → Option (List ℕ)) (given : Bor Text)
+pub trial-ended : {F : Type 0} (state_of : F → FileState) (left_in : F → Option (List ℕ)) (name : List ℕ)
+    (given : Bor Text)
     (octets : List ℕ) (end : Option (List ℕ)) (commands : List Command) (failure : Failure)
     → SaysCommands octets end commands → SaidByFile left_in end commands
-    → (failure ≡ Output) ⊎ (failure ≡ Memory) ⊎ TrialFails state_of end commands failure
-    → CheckEnds state_of left_in (Some given) failure
-trial-ended state_of left_in given octets end commands failure says by_file (inl output) = inl (inr (inl output))
-trial-ended state_of left_in given octets end commands failure says by_file (inr (inl memory)) =
+    → (failure ≡ Output) ⊎ (failure ≡ Memory) ⊎ TrialFails state_of given.now end commands failure
+    → CheckEnds state_of left_in name (Some given) failure
+trial-ended state_of left_in name given octets end commands failure says by_file (inl output) = inl (inr (inl output))
+trial-ended state_of left_in name given octets end commands failure says by_file (inr (inl memory)) =
     inl (inr (inr (octets, inl memory, inl memory)))
-trial-ended state_of left_in given octets end commands failure says by_file (inr (inr fails)) =
+trial-ended state_of left_in name given octets end commands failure says by_file (inr (inr fails)) =
     inr (octets, end, commands, says, by_file, fails)
+
+-- the command file is not read, or has a fault
+pub told-ended : {F : Type 0} (state_of : F → FileState) (left_in : F → Option (List ℕ)) (name : List ℕ)
+    (disk : Option (Bor Text)) (failure : Failure) → EndsOfFile IsSaidOfFile name left_in failure
+    → CheckEnds state_of left_in name disk failure
+told-ended state_of left_in name None failure (inl unread) = inl unread
+told-ended state_of left_in name None failure (inr said) = inr (inr said)
+told-ended state_of left_in name (Some given) failure (inl unread) = inl (inl unread)
+told-ended state_of left_in name (Some given) failure (inr said) = inl (inr (inr said))

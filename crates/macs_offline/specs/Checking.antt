@@ -1,12 +1,12 @@
 -- What `check` says of a command file, and of the commands on a disk.
 use Rattle.std.specs.Prelude.{◌≡◌, ◌⊎◌, ◌<◌, ◌≤◌, ◌==◌, ◌++◌, if◌then◌else◌, ℕ, List, length, codes, Option, Some}
-use Rattle.std.specs.Prelude.{None, IfSome, string_bytes}
+use Rattle.std.specs.Prelude.{◌-◌, Bool, false, None, IfSome, is_none, option_and_then}
 use Rattle.std.specs.Fmt.{decimal}
 use Rattle.std.specs.Io.KnownBytes.{Appends}
 use Rattle.std.specs.Borrow.{Bor}
 use Rattle.std.specs.Str.{IsUtf8}
 use Rattle.clap.specs.Words.{Text}
-use Rattle.toml.specs.Data.{Members}
+use Rattle.toml.specs.Data.{Members, as_table, at as item_at, get_member}
 use Rattle.toml.specs.Parse.{parse_document}
 use Rattle.macs_config.specs.declared.command.Command.{Command}
 use Rattle.macs_commands.specs.Ends.{HasFileFault}
@@ -20,6 +20,8 @@ use Rattle.macs_disk.specs.Files.{FileState}
 use Rattle.macs_texts.specs.Lines.{line}
 use Rattle.macs_offline.specs.Applying.{SaidByFile, SaysCommands, longest_file}
 use Rattle.macs_offline.specs.FileModes.{mode_warning}
+use Rattle.macs_offline.specs.Reasons.{Complains, IsUnread}
+use Rattle.macs_offline.specs.TomlPlaces.{SaysNotToml}
 use Rattle.macs_offline.specs.declared.failure.Failure.{Failure}
 use Rattle.macs_offline.specs.declared.failure.Failure.TheVariants as failures
 use Rattle.macs_offline.specs.declared.status.Status.{Status}
@@ -56,19 +58,36 @@ key_reason name.Confidential = codes "not true or false"
 key_reason name.Offset = codes "not 0 to 255"
 key_reason name.Sci = codes "not 16 hex digits"
 
+-- the table of command `at` of a file, counted from 1
+abbrev pub command_at : Members → ℕ → Option Members
+command_at file at =
+    option_and_then as_table
+    (option_and_then (λ commands. item_at (at - 1) commands) (get_member (codes "command") file))
+
+-- it has no such key
+abbrev pub lacks : Members → ℕ → KeyName → Bool
+lacks file at name = elim (command_at file at) [
+  | None ↦ false
+  | Some command ↦ is_none (get_member (key_word name) command)
+]
+
+-- what is wrong with a key of command `at` of a file: it is missing, or what it is not
+abbrev pub key_fault : Members → ℕ → KeyName → List ℕ
+key_fault file at name = if lacks file at name then codes "missing" else key_reason name
+
 -- the first fault of the commands of a file, by its place, key and reason
-abbrev pub fault_text : ConfigFault → List ℕ
-fault_text config.Shape = codes "command file: not sci and tables [[command]] alone"
-fault_text (config.Word at) = codes "command " ++ (decimal at ++ codes " do: not a command")
-fault_text (config.Key at name) =
-    codes "command " ++ (decimal at ++ (codes " " ++ (key_word name ++ (codes ": " ++ key_reason name))))
-fault_text (config.Extra at) = codes "command " ++ (decimal at ++ codes ": a key that it does not have")
-fault_text config.Memory = codes "memory"
+abbrev pub fault_text : Members → ConfigFault → List ℕ
+fault_text file config.Shape = codes "command file: not sci and tables [[command]] alone"
+fault_text file (config.Word at) = codes "command " ++ (decimal at ++ codes " do: not a command")
+fault_text file (config.Key at name) =
+    codes "command " ++ (decimal at ++ (codes " " ++ (key_word name ++ (codes ": " ++ key_fault file at name))))
+fault_text file (config.Extra at) = codes "command " ++ (decimal at ++ codes ": a key that it does not have")
+fault_text file config.Memory = codes "memory"
 
 -- the first fault of a file: that of its end, or of its commands
-abbrev pub file_fault_text : CommandFileFault → List ℕ
-file_fault_text told.Sci = codes "command file sci: not 16 hex digits"
-file_fault_text (told.Commands cause) = fault_text cause
+abbrev pub file_fault_text : Members → CommandFileFault → List ℕ
+file_fault_text file told.Sci = codes "command file sci: not 16 hex digits"
+file_fault_text file (told.Commands cause) = fault_text file cause
 
 -- ---- of the octets of a file
 
@@ -76,11 +95,12 @@ file_fault_text (told.Commands cause) = fault_text cause
 abbrev pub HasFault : List ℕ → List ℕ → Type 0
 HasFault text said =
     (members : Members) × (parse_document text ≡ Some members)
-    × (fault : CommandFileFault) × HasFileFault members fault × (said ≡ file_fault_text fault)
+    × (fault : CommandFileFault) × HasFileFault members fault × (said ≡ file_fault_text members fault)
 
--- this is said of a text: that it is no TOML, or the fault of its end or of its commands
+-- this is said of a text: where it is no TOML, or the fault of its end or of its commands
 abbrev pub IsSaidOfText : List ℕ → List ℕ → Type 0
-IsSaidOfText text said = ((parse_document text ≡ None) × (said ≡ codes "command file: not TOML")) ⊎ HasFault text said
+IsSaidOfText text said =
+    ((parse_document text ≡ None) × SaysNotToml (codes "command file") text said) ⊎ HasFault text said
 
 -- this is said of octets: that they are too many, or no text, or what is said of the text
 abbrev pub IsSaidOfFile : List ℕ → List ℕ → Type 0
@@ -88,11 +108,6 @@ IsSaidOfFile octets said =
     ((longest_file < length octets) × (said ≡ codes "command file: more than 1048576 octets"))
     ⊎ ((length octets ≤ longest_file) × (¬ IsUtf8 octets) × (said ≡ codes "command file: not UTF-8"))
     ⊎ ((length octets ≤ longest_file) × IsUtf8 octets × IsSaidOfText octets said)
-
--- a failure says something of a command file for which this holds, unless there is no memory
-abbrev pub Complains : (List ℕ → Type 0) → Failure → Type 0
-Complains Holds failure =
-    (failure ≡ failures.Memory) ⊎ ((text : _) × (failure ≡ failures.CommandFile text) × Holds (string_bytes text))
 
 -- ---- of a file, where `left_in` says what is left to read of one, where that is known
 
@@ -108,9 +123,10 @@ abbrev pub ComplainsOfFile : {F : Type 0} → (List ℕ → List ℕ → Type 0)
 ComplainsOfFile {F} IsSaid left_in failure =
     (file : F) × IfSome (left_in file) (λ octets. Complains (IsSaid octets) failure)
 
--- the file is not read; or something is said of its octets, or there is no memory; or what is to be printed cannot be
-abbrev pub CheckFails : {F : Type 0} → (F → Option (List ℕ)) → Failure → Type 0
-CheckFails left_in failure = (failure ≡ failures.Commands) ⊎ (failure ≡ failures.Output)
+-- the file of this name is not read; or something is said of its octets, or there is no memory; or what is to be
+-- printed cannot be
+abbrev pub CheckFails : {F : Type 0} → (F → Option (List ℕ)) → List ℕ → Failure → Type 0
+CheckFails left_in name failure = IsUnread name failure ⊎ (failure ≡ failures.Output)
     ⊎ ((octets : List ℕ) × Complains (IsSaidOfFile octets) failure
     × ((failure ≡ failures.Memory) ⊎ ComplainsOfFile IsSaidOfFile left_in failure))
 
@@ -123,6 +139,8 @@ Checks state_of left_in None before after status = PrintsCount left_in before af
 Checks state_of left_in (Some disk) before after status = PrintsTrial state_of left_in before after status
 
 -- the command file is not read, or has a fault; or they cannot be tried on the disk
-abbrev pub CheckEnds : {F : Type 0} → (F → FileState) → (F → Option (List ℕ)) → Option (Bor Text) → Failure → Type 0
-CheckEnds state_of left_in None failure = CheckFails left_in failure
-CheckEnds state_of left_in (Some disk) failure = CheckFails left_in failure ⊎ TrialStops state_of left_in failure
+abbrev pub CheckEnds : {F : Type 0} → (F → FileState) → (F → Option (List ℕ)) → List ℕ → Option (Bor Text) → Failure
+    → Type 0
+CheckEnds state_of left_in name None failure = CheckFails left_in name failure
+CheckEnds state_of left_in name (Some disk) failure =
+    CheckFails left_in name failure ⊎ TrialStops state_of left_in disk.now failure

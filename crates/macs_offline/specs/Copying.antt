@@ -17,11 +17,6 @@ pub record IsCopy (file : FileState) (copy : Disk) : Type 0 where
   pub honest : IsHonest copy
   pub seen : (at : ℕ) → at < least_sectors → (now copy).seen at ≡ sector_in file (number_of (layout_in file) at)
 
--- the file is not opened to be read: it cannot be, or there is no memory for that
-abbrev pub IsNotRead : Failure → Type 0
-IsNotRead failure = (fault : FileFault) × (failure ≡ failure_of_file fault) × (fault ≢ file_fault.Length)
-    × (fault ≢ file_fault.Device)
-
 -- there is no copy: the file cannot be claimed beside other readers, measured or read, it is not whole sectors, or
 -- there is no memory; or it is whole sectors, and has too few
 abbrev pub CopyFails : FileState → Failure → Type 0

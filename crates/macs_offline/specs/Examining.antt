@@ -26,9 +26,10 @@ use Rattle.macs_store.specs.Replay.{meaning_of}
 use Rattle.macs_store.specs.Standing.{Standing}
 use Rattle.macs_texts.specs.Lines.{line}
 use Rattle.macs_texts.specs.Showing.{association_numbers}
-use Rattle.macs_offline.specs.Copying.{CopyFails, IsCopy, IsNotRead}
+use Rattle.macs_offline.specs.Copying.{CopyFails, IsCopy}
 use Rattle.macs_offline.specs.Failing.{failure_of_journal}
 use Rattle.macs_offline.specs.FirstFault.{IsFirstFault}
+use Rattle.macs_offline.specs.Reasons.{IsNotRead}
 use Rattle.macs_offline.specs.RecordLines.{records_text}
 use Rattle.macs_offline.specs.declared.examined_text.Figures.{Figures}
 use Rattle.macs_offline.specs.declared.failure.Failure.{Failure}
@@ -153,10 +154,10 @@ pub record ExaminesIn {F : Type 0} (state_of : F → FileState) (text : List ℕ
   pub is_copy : IsLaidCopy (state_of file) copy layout
   pub says : Says (now (disk_of copy)).seen layout text status
 
--- nothing is: the file is not opened; or there is no copy; or nothing is said of that
-abbrev pub ExaminationFails : {F : Type 0} → (F → FileState) → Failure → Type 0
-ExaminationFails {F} state_of failure =
-    IsNotRead failure
+-- nothing is: the file of this name is not opened; or there is no copy; or nothing is said of that
+abbrev pub ExaminationFails : {F : Type 0} → (F → FileState) → List ℕ → Failure → Type 0
+ExaminationFails {F} state_of name failure =
+    IsNotRead name failure
     ⊎ ((file : F) × CopyFails (state_of file) failure)
     ⊎ ((file : F) × (copy : MemDisk Global) × (layout : Layout) × IsLaidCopy (state_of file) copy layout
     × IsNotExamined (disk_of copy) failure)
@@ -169,5 +170,5 @@ PrintsExamined state_of before after status = (text : List ℕ) × ExaminesIn st
     × Appends before after text
 
 -- it is not: it cannot be printed, or nothing is said
-abbrev pub ExamineFails : {F : Type 0} → (F → FileState) → Failure → Type 0
-ExamineFails state_of failure = (failure ≡ failures.Output) ⊎ ExaminationFails state_of failure
+abbrev pub ExamineFails : {F : Type 0} → (F → FileState) → List ℕ → Failure → Type 0
+ExamineFails state_of name failure = (failure ≡ failures.Output) ⊎ ExaminationFails state_of name failure

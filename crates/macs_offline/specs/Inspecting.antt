@@ -17,12 +17,16 @@ use Rattle.macs_pcap.specs.Reading.{HoldsOfLeft, ReadsHeader, ReadsRecord}
 use Rattle.macs_pcap.specs.Records.{CaptureRecord}
 use Rattle.macs_pcap.specs.States.{SourceState}
 use Rattle.macs_pcap.specs.declared.fault.PcapFault.{PcapFault}
+use Rattle.macs_pcap.specs.declared.fault.PcapFault.TheVariants as pcap
 use Rattle.macs_pcap.specs.declared.header.Header.{Header}
 use Rattle.macs_texts.specs.Lines.{line}
 use Rattle.macs_offline.specs.Opened.{refusal_text}
-use Rattle.macs_offline.specs.Failing.{failure_of_capture}
+use Rattle.macs_offline.specs.CaptureReasons.{capture_text, header_reason, record_reason}
+use Rattle.macs_offline.specs.Reasons.{Complains, Tells, TellsOfFile}
 use Rattle.macs_offline.specs.declared.failure.Failure.{Failure}
 use Rattle.macs_offline.specs.declared.failure.Failure.TheVariants as failures
+use Rattle.macs_offline.specs.declared.stop.Stop.{Stop}
+use Rattle.macs_offline.specs.declared.stop.Stop.TheVariants as stops
 use Rattle.macs_offline.specs.declared.status.Status.{Status}
 use Rattle.macs_offline.specs.declared.status.Status.TheVariants as ends
 
@@ -85,22 +89,22 @@ pub record HasInspected (big : Bool) (old : SourceState) (before : Option (List 
 
 -- The run ends after so many records: the next one is not read, with a fault; or there is no memory for its line; or
 -- that cannot be printed
-abbrev pub StopsNext : Bool → ℕ → SourceState → Option (List ℕ) → Failure → SourceState → Option (List ℕ) → Type 0
-StopsNext big count old before failure new after =
+abbrev pub StopsNext : Bool → ℕ → SourceState → Option (List ℕ) → Stop → SourceState → Option (List ℕ) → Type 0
+StopsNext big count old before stop new after =
     ((fault : PcapFault) × (room : ℕ) × (frame : List ℕ) × ReadsRecord big count room old new frame (Err fault)
-    × (failure ≡ failure_of_capture fault) × (after ≡ before))
-    ⊎ ((failure ≡ failures.Memory) × (after ≡ before)) ⊎ (failure ≡ failures.Output)
+    × (stop ≡ stops.Record fault) × (after ≡ before))
+    ⊎ ((stop ≡ stops.Memory) × (after ≡ before)) ⊎ (stop ≡ stops.Output)
 
 -- what becomes of the next record, after so many others: its line is printed; there is none, at the end; or the run
 -- ends
-abbrev pub InspectsNext : Bool → ℕ → SourceState → Option (List ℕ) → Result Bool Failure → SourceState
+abbrev pub InspectsNext : Bool → ℕ → SourceState → Option (List ℕ) → Result Bool Stop → SourceState
     → Option (List ℕ) → Type 0
 InspectsNext big count old before (Ok true) new after =
     (taken : CaptureRecord) × (room : ℕ) × ReadsRecord big count room old new taken.frame (Ok (Some taken.stamp))
     × (text : List ℕ) × IsLineOf (count + 1) taken.frame text × Appends before after text
 InspectsNext big count old before (Ok false) new after =
     (room : ℕ) × (frame : List ℕ) × ReadsRecord big count room old new frame (Ok None) × (after ≡ before)
-InspectsNext big count old before (Err failure) new after = StopsNext big count old before failure new after
+InspectsNext big count old before (Err stop) new after = StopsNext big count old before stop new after
 
 -- all records up to the end
 pub record InspectsRecords (big : Bool) (old : SourceState) (before : Option (List ℕ)) (new : SourceState)
@@ -112,22 +116,22 @@ pub record InspectsRecords (big : Bool) (old : SourceState) (before : Option (Li
   pub frame : List ℕ
   pub ended : ReadsRecord big (length records) room until new frame (Ok None)
 
--- those before a failure
-pub record StopsRecords (big : Bool) (old : SourceState) (before : Option (List ℕ)) (failure : Failure)
+-- those before a stop
+pub record StopsRecords (big : Bool) (old : SourceState) (before : Option (List ℕ)) (stop : Stop)
     (new : SourceState)
     (after : Option (List ℕ)) : Type 0 where
   pub records : List CaptureRecord
   pub until : SourceState
   pub between : Option (List ℕ)
   pub inspected : HasInspected big old before records until between
-  pub stops : StopsNext big (length records) until between failure new after
+  pub stops : StopsNext big (length records) until between stop new after
 
 -- the one or the other
-pub record RunsRecords (big : Bool) (old : SourceState) (before : Option (List ℕ)) (result : Result Status Failure)
+pub record RunsRecords (big : Bool) (old : SourceState) (before : Option (List ℕ)) (result : Result Status Stop)
     (new : SourceState)
     (after : Option (List ℕ)) : Type 0 where
   pub done : IfOk result (λ status. InspectsRecords big old before new after × (status ≡ ends.Done))
-  pub stopped : IfErr result (λ failure. StopsRecords big old before failure new after)
+  pub stopped : IfErr result (λ stop. StopsRecords big old before stop new after)
 
 -- ---- a whole capture
 
@@ -140,18 +144,18 @@ pub record InspectsCapture (old : SourceState) (before : Option (List ℕ)) (new
   pub records : InspectsRecords header.big behind before new after
 
 -- it is not: its header has a fault, or the run ends after some of its records
-abbrev pub StopsCapture : SourceState → Option (List ℕ) → Failure → SourceState → Option (List ℕ) → Type 0
-StopsCapture old before failure new after =
-    ((fault : PcapFault) × ReadsHeader old new (Err fault) × (failure ≡ failure_of_capture fault) × (after ≡ before))
+abbrev pub StopsCapture : SourceState → Option (List ℕ) → Stop → SourceState → Option (List ℕ) → Type 0
+StopsCapture old before stop new after =
+    ((fault : PcapFault) × ReadsHeader old new (Err fault) × (stop ≡ stops.Header fault) × (after ≡ before))
     ⊎ ((header : Header) × (behind : SourceState) × ReadsHeader old behind (Ok header)
-    × StopsRecords header.big behind before failure new after)
+    × StopsRecords header.big behind before stop new after)
 
 -- what is done with a capture
-pub record RunsCapture (old : SourceState) (before : Option (List ℕ)) (result : Result Status Failure)
+pub record RunsCapture (old : SourceState) (before : Option (List ℕ)) (result : Result Status Stop)
     (new : SourceState)
     (after : Option (List ℕ)) : Type 0 where
   pub done : IfOk result (λ status. InspectsCapture old before new after × (status ≡ ends.Done))
-  pub stopped : IfErr result (λ failure. StopsCapture old before failure new after)
+  pub stopped : IfErr result (λ stop. StopsCapture old before stop new after)
 
 -- ---- a capture in a file, of which is not known here what it has
 
@@ -159,11 +163,21 @@ pub record RunsCapture (old : SourceState) (before : Option (List ℕ)) (result 
 abbrev pub Inspects : Option (List ℕ) → Option (List ℕ) → Type 0
 Inspects before after = (old : SourceState) × (new : SourceState) × InspectsCapture old before new after
 
--- some capture is not opened, or not inspected whole
-abbrev pub InspectFails : Option (List ℕ) → Option (List ℕ) → Failure → Type 0
-InspectFails before after failure =
-    (((failure ≡ failures.Memory) ⊎ (failure ≡ failures.Capture)) × (after ≡ before))
-    ⊎ ((old : SourceState) × (new : SourceState) × StopsCapture old before failure new after)
+-- a failure says of a capture of this name why it is not inspected whole
+abbrev pub FailsSo : List ℕ → Stop → Failure → Type 0
+FailsSo name (stops.Header fault) failure =
+    (is_pcapng : Bool) × Complains (Tells (codes "capture") name (capture_text (header_reason is_pcapng fault))) failure
+FailsSo name (stops.Record fault) failure = (fault ≡ pcap.Memory → failure ≡ failures.Memory)
+    × Complains (Tells (codes "capture") name (capture_text (record_reason fault))) failure
+FailsSo name stops.Memory failure = failure ≡ failures.Memory
+FailsSo name stops.Output failure = failure ≡ failures.Output
+
+-- some capture is not opened, or not inspected whole: the one of this name
+abbrev pub InspectFails : List ℕ → Option (List ℕ) → Option (List ℕ) → Failure → Type 0
+InspectFails name before after failure =
+    (Complains (TellsOfFile (codes "capture") name) failure × (after ≡ before))
+    ⊎ ((old : SourceState) × (new : SourceState) × (stop : Stop) × StopsCapture old before stop new after
+    × FailsSo name stop failure)
 
 -- the lines of some frames were printed
 abbrev pub PrintsFrames : Option (List ℕ) → Option (List ℕ) → Type 0
@@ -171,7 +185,7 @@ PrintsFrames before after = (records : List CaptureRecord) × PrintsLines record
 
 -- the failures of `inspect`: the capture, memory and standard output
 abbrev pub IsOfInspecting : Failure → Type 0
-IsOfInspecting failures.Capture = ⊤
+IsOfInspecting (failures.Said text) = ⊤
 IsOfInspecting failures.Memory = ⊤
 IsOfInspecting failures.Output = ⊤
 IsOfInspecting other = ⊥

@@ -5,6 +5,9 @@ pub mod Values
 pub mod Addresses
 pub mod Contents
 pub mod Failing
+pub mod Reasons
+pub mod CaptureReasons
+pub mod TomlPlaces
 pub mod Applying
 pub mod Keys
 pub mod Inspecting

@@ -23,7 +23,8 @@ use Rattle.macs_words.specs.declared.plan_words.PlanEnd.TheVariants as plan_end
 use Rattle.macs_words.specs.declared.plan_words.PlanStage.{PlanStage}
 use Rattle.macs_words.specs.declared.plan_words.PlanStage.TheVariants as plan_stage
 use Rattle.macs_offline.specs.Applying.{longest_file}
-use Rattle.macs_offline.specs.Checking.{Complains}
+use Rattle.macs_offline.specs.Reasons.{Complains, IsUnread}
+use Rattle.macs_offline.specs.TomlPlaces.{SaysNotToml}
 use Rattle.macs_offline.specs.declared.failure.Failure.{Failure}
 use Rattle.macs_offline.specs.declared.failure.Failure.TheVariants as failures
 use Rattle.macs_offline.specs.declared.failure.LinkRefusal.{LinkRefusal}
@@ -107,7 +108,7 @@ HasPlanFault end stage text fault =
 
 -- this is said of a text: that it is no TOML, or why nothing is planned of it, where no link is refused
 abbrev pub IsSaidOfLinkText : End → Stage → List ℕ → List ℕ → Type 0
-IsSaidOfLinkText end stage text said = ((parse_document text ≡ None) × (said ≡ codes "link file: not TOML"))
+IsSaidOfLinkText end stage text said = ((parse_document text ≡ None) × SaysNotToml (codes "link file") text said)
     ⊎ ((fault : PlanFault) × HasPlanFault end stage text fault × (link_refusal fault ≡ None)
     × (said ≡ plan_fault_text fault))
 
@@ -162,9 +163,9 @@ abbrev pub SaysWhyOfFile : {F : Type 0} → (F → Option (List ℕ)) → End �
 SaysWhyOfFile {F} left_in end stage failure =
     (file : F) × IfSome (left_in file) (λ octets. SaysWhy end stage octets failure)
 
--- the file is not read; or what is to be printed cannot be; or something is said of its octets or its link is refused,
--- or there is no memory
-abbrev pub PlanFails : {F : Type 0} → (F → Option (List ℕ)) → End → Stage → Failure → Type 0
-PlanFails left_in end stage failure = (failure ≡ failures.Commands) ⊎ (failure ≡ failures.Output)
+-- the file of this name is not read; or what is to be printed cannot be; or something is said of its octets or its link
+-- is refused, or there is no memory
+abbrev pub PlanFails : {F : Type 0} → (F → Option (List ℕ)) → List ℕ → End → Stage → Failure → Type 0
+PlanFails left_in name end stage failure = IsUnread name failure ⊎ (failure ≡ failures.Output)
     ⊎ ((octets : List ℕ) × SaysWhy end stage octets failure
     × ((failure ≡ failures.Memory) ⊎ SaysWhyOfFile left_in end stage failure))

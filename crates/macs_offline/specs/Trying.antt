@@ -23,8 +23,9 @@ use Rattle.macs_texts.specs.Lines.{line}
 use Rattle.macs_texts.specs.Refusals.{refusal_name}
 use Rattle.macs_offline.specs.Applying.{Applies, SaidByFile, SaysCommands, commit_fault, is_for, outcomes_status}
 use Rattle.macs_offline.specs.Applying.{own_sci}
-use Rattle.macs_offline.specs.Copying.{CopyFails, IsCopy, IsNotRead}
+use Rattle.macs_offline.specs.Copying.{CopyFails, IsCopy}
 use Rattle.macs_offline.specs.FileModes.{mode_warning}
+use Rattle.macs_offline.specs.Reasons.{IsNotRead}
 use Rattle.macs_offline.specs.declared.failure.DiskFault.{DiskFault}
 use Rattle.macs_offline.specs.declared.failure.DiskFault.TheVariants as disk
 use Rattle.macs_offline.specs.declared.failure.Failure.{Failure}
@@ -121,11 +122,11 @@ pub record TriesIn {F : Type 0} (state_of : F → FileState) (end : Option (List
   pub is_copy : IsCopyIn state_of file copy
   pub tries : TriesOn disk_of copy end commands outcomes
 
--- they are not, or not all of them: the file is not opened; or there is no copy; or it has no endpoint, or another one,
--- or one of the commands ends the run
-abbrev pub TrialFails : {F : Type 0} → (F → FileState) → Option (List ℕ) → List Command → Failure → Type 0
-TrialFails {F} state_of end commands failure =
-    IsNotRead failure
+-- they are not, or not all of them: the file of this name is not opened; or there is no copy; or it has no endpoint, or
+-- another one, or one of the commands ends the run
+abbrev pub TrialFails : {F : Type 0} → (F → FileState) → List ℕ → Option (List ℕ) → List Command → Failure → Type 0
+TrialFails {F} state_of name end commands failure =
+    IsNotRead name failure
     ⊎ ((file : F) × CopyFails (state_of file) failure)
     ⊎ ((file : F) × (copy : MemDisk Global) × IsCopyIn state_of file copy × EndsOn disk_of copy end commands failure)
 
@@ -146,8 +147,8 @@ pub record PrintsTrial {F : Type 0} (state_of : F → FileState) (left_in : F �
   pub printed : Appends before after (trial_report outcomes ++ mode_warning mode)
   pub status_is : status ≡ outcomes_status outcomes
 
--- they cannot be tried
-abbrev pub TrialStops : {F : Type 0} → (F → FileState) → (F → Option (List ℕ)) → Failure → Type 0
-TrialStops state_of left_in failure =
+-- they cannot be tried on the disk in the file of this name
+abbrev pub TrialStops : {F : Type 0} → (F → FileState) → (F → Option (List ℕ)) → List ℕ → Failure → Type 0
+TrialStops state_of left_in name failure =
     (octets : List ℕ) × (end : Option (List ℕ)) × (commands : List Command) × SaysCommands octets end commands
-    × SaidByFile left_in end commands × TrialFails state_of end commands failure
+    × SaidByFile left_in end commands × TrialFails state_of name end commands failure

@@ -2,7 +2,8 @@
 //! would be answered.
 
 ghost use Rattle.std.specs.Prelude.{◌≡◌, ◌≢◌, ◌⊎◌, ◌++◌, ◌<◌, ◌^◌, ◌==◌, if◌then◌else◌, codes, ℕ};
-ghost use Rattle.std.specs.Prelude.{List, Option, true, IfErr, IfOk, IfSome, string_bytes};
+ghost use Rattle.std.specs.Prelude.{List, Option, true, IfErr, IfOk, IfSome, option_map};
+ghost use Rattle.std.specs.Prelude.{string_bytes};
 ghost use Rattle.std.specs.Io.KnownBytes.{Appends};
 ghost use Rattle.toml.specs.Data.{Members};
 ghost use Rattle.toml.specs.View.{table_view};
@@ -13,23 +14,25 @@ ghost use Rattle.macs_commands.specs.declared.config_fault.ConfigFault.TheVarian
 ghost use Rattle.macs_commands.specs.declared.ends.CommandFileFault.TheVariants as told;
 ghost use Rattle.std.specs.Prelude.{Ok, Some};
 ghost use Rattle.macs_offline.specs.Applying.{SaidByFile, SaysCommands, outcomes_status};
-ghost use Rattle.macs_offline.specs.Checking.{CheckEnds, Checks, Complains, ComplainsOfFile};
-ghost use Rattle.macs_offline.specs.Checking.{HasFault, IsSaidOfFile, IsSaidOfText};
-ghost use Rattle.macs_offline.specs.Checking.{count_line, fault_text, file_fault_text, key_reason};
-ghost use Rattle.macs_offline.specs.Checking.{key_word};
+ghost use Rattle.macs_offline.specs.Checking.{CheckEnds, Checks, ComplainsOfFile};
+ghost use Rattle.macs_offline.specs.Checking.{HasFault, IsSaidOfFile, IsSaidOfText, command_at};
+ghost use Rattle.macs_offline.specs.Checking.{count_line, fault_text, file_fault_text, key_fault};
+ghost use Rattle.macs_offline.specs.Checking.{key_reason, key_word, lacks};
 ghost use Rattle.macs_offline.specs.FileModes.{mode_warning};
+ghost use Rattle.macs_offline.specs.Reasons.{Complains, IsUnread};
 ghost use Rattle.macs_offline.specs.Trying.{TrialFails, TriesIn, trial_report};
 
 use crate::applying::{MAX_FILE, MAX_READ};
 use crate::capture_file::CaptureFile;
 use crate::failure::Failure;
 use crate::file_mode::{mode_of, print_mode};
-use crate::files::failure_of;
+use crate::file_reason::failure_at;
 use crate::output::{Line, append_count, print, print_octets};
 use crate::status::Status;
 use crate::stream::Stream;
+use crate::toml_place::failure_of_toml;
 use crate::trial::{outcomes_status, trial_report, try_in};
-use macs_commands::{CommandFile, CommandFileFault, ConfigFault, KeyName, command_file};
+use macs_commands::{CommandFile, CommandFileFault, ConfigFault, KeyName, command_file, value};
 use macs_config::Command;
 use macs_fields::Sci;
 use std::alloc::{AllocError, Global};
@@ -72,9 +75,43 @@ fn key_reason(name: KeyName) -> &'static str
     }
 }
 
+/// The table of command `at` of a file.
+fn command_at(file: &Table, at: usize) -> Option<&Table>
+    ensures { option_map (λ t. table_view t.now) result ≡ command_at (table_view file.now) at }
+{
+    match value(file, "command") {
+        Some(commands) => match commands.get(at.saturating_sub(1)) {
+            Some(command) => command.as_table(),
+            None => None,
+        },
+        None => None,
+    }
+}
+
+/// Whether command `at` of a file has no such key.
+fn lacks(file: &Table, at: usize, name: KeyName) -> bool
+    ensures { result ≡ lacks (table_view file.now) at name }
+{
+    match command_at(file, at) {
+        Some(command) => value(command, key_word(name)).is_none(),
+        None => false,
+    }
+}
+
+/// What is wrong with a key of command `at` of a file.
+fn key_fault(file: &Table, at: usize, name: KeyName) -> &'static str
+    ensures { result.now ≡ key_fault (table_view file.now) at name }
+{
+    if lacks(file, at, name) {
+        "missing"
+    } else {
+        key_reason(name)
+    }
+}
+
 /// What is said of the first fault of the commands of a file: its place, key and reason.
-fn fault_text(alloc: Global, fault: ConfigFault) -> Result<String, AllocError>
-    ensures { IfOk result (λ text. string_bytes text ≡ fault_text fault) }
+fn fault_text(alloc: Global, file: &Table, fault: ConfigFault) -> Result<String, AllocError>
+    ensures { IfOk result (λ text. string_bytes text ≡ fault_text (table_view file.now) fault) }
 {
     match fault {
         ConfigFault::Shape => {
@@ -83,7 +120,7 @@ fn fault_text(alloc: Global, fault: ConfigFault) -> Result<String, AllocError>
         ConfigFault::Word { at } => format!(in alloc; "command {at} do: not a command"),
         ConfigFault::Key { at, name } => {
             let key = key_word(name);
-            let reason = key_reason(name);
+            let reason = key_fault(file, at, name);
             format!(in alloc; "command {at} {key}: {reason}")
         }
         ConfigFault::Extra { at } => format!(in alloc; "command {at}: a key that it does not have"),
@@ -97,28 +134,29 @@ pub fn failure_saying(text: Result<String, AllocError>) -> Failure
         → Complains (λ t. t ≡ said) result }
 {
     match text {
-        Ok(text) => Failure::CommandFile(text),
+        Ok(text) => Failure::Said(text),
         Err(_) => Failure::Memory,
     }
 }
 
 /// The failure that says the first fault of the commands of a file, unless that is `Memory`.
-fn failure_of_cause(alloc: Global, cause: ConfigFault) -> Failure
-    ensures { Complains (λ t. (cause ≢ config.Memory) × (t ≡ fault_text cause)) result }
+fn failure_of_cause(alloc: Global, file: &Table, cause: ConfigFault) -> Failure
+    ensures { Complains (λ t. (cause ≢ config.Memory)
+        × (t ≡ fault_text (table_view file.now) cause)) result }
 {
     match cause {
         ConfigFault::Memory => Failure::Memory,
-        _ => failure_saying(fault_text(alloc, cause)),
+        _ => failure_saying(fault_text(alloc, file, cause)),
     }
 }
 
 /// The failure that says the first fault of a command file, unless that is want of memory.
-fn failure_of_fault(alloc: Global, fault: CommandFileFault) -> Failure
-    ensures { Complains
-        (λ t. (fault ≢ told.Commands config.Memory) × (t ≡ file_fault_text fault)) result }
+fn failure_of_fault(alloc: Global, file: &Table, fault: CommandFileFault) -> Failure
+    ensures { Complains (λ t. (fault ≢ told.Commands config.Memory)
+        × (t ≡ file_fault_text (table_view file.now) fault)) result }
 {
     match fault {
-        CommandFileFault::Commands(cause) => failure_of_cause(alloc, cause),
+        CommandFileFault::Commands(cause) => failure_of_cause(alloc, file, cause),
         CommandFileFault::Sci => {
             let text = String::from_str(alloc, "command file sci: not 16 hex digits");
             failure_saying(text)
@@ -136,7 +174,7 @@ fn commands_in_table(alloc: Global, table: &Table) -> Result<CommandFile<Global>
 {
     match command_file(alloc, table) {
         Ok(told) => Ok(told),
-        Err(fault) => Err(failure_of_fault(alloc, fault)),
+        Err(fault) => Err(failure_of_fault(alloc, table, fault)),
     }
 }
 
@@ -149,8 +187,7 @@ fn commands_in_text(alloc: Global, text: &str) -> Result<CommandFile<Global>, Fa
 {
     match toml::table_from_str(alloc, text) {
         Ok(table) => commands_in_table(alloc, &table),
-        Err(error) if error.is_memory() => Err(Failure::Memory),
-        Err(_) => Err(failure_saying(String::from_str(alloc, "command file: not TOML"))),
+        Err(error) => Err(failure_of_toml(alloc, "command file", text, &error)),
     }
 }
 
@@ -170,22 +207,26 @@ fn commands_said(alloc: Global, octets: &[u8]) -> Result<CommandFile<Global>, Fa
     commands_in_text(alloc, text)
 }
 
-/// What an open command file says, of which no more is read than can be of use. It fails as
-/// `Commands` where a read fails, else as `CommandFile` with the first fault, or as `Memory`.
-pub fn commands_read<R: Read>(alloc: Global, file: &mut R) -> Result<CommandFile<Global>, Failure>
+/// What an open command file of this name says, of which no more is read than can be of use. It
+/// fails as `Said` with the reason where a read fails, else with the first fault, or as `Memory`.
+fn commands_read<R: Read>(
+    alloc: Global,
+    name: &str,
+    file: &mut R,
+) -> Result<CommandFile<Global>, Failure>
     ensures said { IfOk result (λ told. IfSome (R.remaining file.old)
         (λ octets. SaysCommands octets told.end told.commands.items)) }
     ensures spelled { IfOk result
         (λ told. (octets : List ℕ) × SaysCommands octets told.end told.commands.items) }
-    ensures fault { IfErr result (λ failure. (failure ≡ Failure.Commands)
+    ensures fault { IfErr result (λ failure. IsUnread name.now failure
         ⊎ IfSome (R.remaining file.old) (λ octets. Complains (IsSaidOfFile octets) failure)) }
-    ensures ended { IfErr result (λ failure. (failure ≡ Failure.Commands)
+    ensures ended { IfErr result (λ failure. IsUnread name.now failure
         ⊎ ((octets : List ℕ) × Complains (IsSaidOfFile octets) failure)) }
 {
     let mut octets = Vec::new(alloc);
     match file.take(MAX_READ as u64).read_to_end(&mut octets) {
         Ok(_) => commands_said(alloc, octets.as_slice()),
-        Err(error) => Err(failure_of(error, Failure::Commands)),
+        Err(error) => Err(failure_at(alloc, "commands", name, error)),
     }
 }
 
@@ -204,8 +245,8 @@ fn count_line(count: usize) -> Line
     line
 }
 
-/// What a command file says, whose mode is left in `mode`. It fails as `Commands` where it cannot
-/// be opened or read, else as `CommandFile` with the first fault, or as `Memory`.
+/// What a command file says, whose mode is left in `mode`. It fails as `Said`, with the reason
+/// where it cannot be opened or read, else with the first fault; or as `Memory`.
 fn checked_commands<T: Files>(
     rt: &T,
     alloc: Global,
@@ -217,17 +258,32 @@ fn checked_commands<T: Files>(
         (λ told. SaidByFile T.File.remaining told.end told.commands.items) }
     ensures spelled { IfOk result
         (λ told. (octets : List ℕ) × SaysCommands octets told.end told.commands.items) }
-    ensures ended { IfErr result (λ failure. (failure ≡ Failure.Commands)
+    ensures ended { IfErr result (λ failure. IsUnread path.now failure
         ⊎ ((octets : List ℕ) × Complains (IsSaidOfFile octets) failure
         × ((failure ≡ Failure.Memory) ⊎ ComplainsOfFile IsSaidOfFile T.File.remaining failure))) }
 {
     match fs::open(rt, path) {
         Ok(mut file) => {
             *mode = mode_of(&file);
-            commands_read(alloc, &mut file)
+            commands_read(alloc, path, &mut file)
         }
-        Err(error) => Err(failure_of(error, Failure::Commands)),
+        Err(error) => Err(failure_at(alloc, "commands", path, error)),
     }
+}
+
+/// What a command file says. It fails as `checked_commands` does.
+pub fn commands_told<T: Files>(
+    rt: &T,
+    alloc: Global,
+    path: &str,
+) -> Result<CommandFile<Global>, Failure>
+    ensures said { IfOk result
+        (λ told. SaidByFile T.File.remaining told.end told.commands.items) }
+    ensures ended { IfErr result (λ failure. IsUnread path.now failure
+        ⊎ ((octets : List ℕ) × Complains (IsSaidOfFile octets) failure)) }
+{
+    let mut mode = None;
+    checked_commands(rt, alloc, path, &mut mode)
 }
 
 /// Prints how many commands there are, and what is said of the mode of their file.
@@ -263,7 +319,7 @@ where
         (trial_report outcomes ++ mode_warning mode)
         × (status ≡ outcomes_status outcomes)) }
     ensures ended { IfErr result (λ failure. (failure ≡ Failure.Output) ⊎ (failure ≡ Failure.Memory)
-        ⊎ TrialFails T.File.file end commands.now failure) }
+        ⊎ TrialFails T.File.file disk.now end commands.now failure) }
     ensures silent { IfErr result (λ failure. failure ≢ Failure.Output → out.new ≡ out.old) }
     ensures broken { IfErr result (λ failure. failure ≡ Failure.Output → W.failed out.new ≡ true) }
 {
@@ -276,8 +332,8 @@ where
 
 /// `check`: prints how many commands a file says, or what each of them would be answered by the
 /// endpoint on the disk in a file, and the mode of the command file where others can read it.
-/// Neither file is changed. It fails as `Commands` where the command file cannot be opened or read,
-/// and as `CommandFile` with its first fault; then, with a disk, as `try_in` does; and as `Memory`,
+/// Neither file is changed. It fails as `Said`, with the reason where the command file cannot be
+/// opened or read, else with its first fault; then, with a disk, as `try_in` does; and as `Memory`,
 /// and as `Output` where a line cannot be printed.
 pub fn check<T: Files, W: Stream>(
     rt: &T,
@@ -290,7 +346,7 @@ where
     T::File: CaptureFile,
     ensures printed { IfOk result (Checks T.File.file T.File.remaining disk.entry
         (W.contents out.old) (W.contents out.new)) }
-    ensures ended { IfErr result (CheckEnds T.File.file T.File.remaining disk.entry) }
+    ensures ended { IfErr result (CheckEnds T.File.file T.File.remaining path.now disk.entry) }
     ensures silent { IfErr result (λ failure. failure ≢ Failure.Output → out.new ≡ out.old) }
     ensures broken { IfErr result (λ failure. failure ≡ Failure.Output → W.failed out.new ≡ true) }
 {

@@ -30,7 +30,8 @@ use crate::capture_file::CaptureFile;
 use crate::disk_copy::{copy_of, find_layout, measure};
 use crate::examined_text::{Figures, examined_text, fault_line};
 use crate::failure::{DiskFault, Failure};
-use crate::files::open_regular;
+use crate::file_reason::failure_at_disk;
+use crate::files::open_shared;
 use crate::first_fault::fault_of;
 use crate::output::print_last;
 use crate::record_lines::records_text;
@@ -216,23 +217,23 @@ fn layout_of<F: CaptureFile>(file: &mut F) -> Result<Layout, FileFault>
     Ok(layout)
 }
 
-/// What is said of the disk in a file, which is opened to be read alone. It fails as `Disk` with
-/// `File` where there is no regular file that can be opened; then as `copy_of` and `examine_copy`
-/// do.
+/// What is said of the disk in a file, which is opened to be read alone. It fails as `DiskFile`
+/// with the reason where there is no regular file that can be opened, or a writer has claimed it;
+/// then as `copy_of` and `examine_copy` do.
 fn examine_in<T: Files>(rt: &T, alloc: Global, path: &str) -> Result<Said, Failure>
 where
     T::File: CaptureFile,
     ensures reported { IfOk result
         (λ said. ExaminesIn T.File.file (string_bytes said.text) said.status) }
-    ensures ended { IfErr result (ExaminationFails T.File.file) }
+    ensures ended { IfErr result (ExaminationFails T.File.file path.now) }
 {
-    match open_regular(rt, path) {
+    match open_shared(rt, path) {
         Ok(mut file) => {
             let copy = copy_of(alloc, &mut file)?;
             let layout = layout_of(&mut file)?;
             examine_copy(alloc, layout, copy)
         }
-        Err(error) => Err(Failure::from(FileFault::from(error))),
+        Err(error) => Err(failure_at_disk(alloc, path, error)),
     }
 }
 
@@ -248,7 +249,7 @@ where
     T::File: CaptureFile,
     ensures printed { IfOk result
         (PrintsExamined T.File.file (W.contents out.old) (W.contents out.new)) }
-    ensures ended { IfErr result (ExamineFails T.File.file) }
+    ensures ended { IfErr result (ExamineFails T.File.file path.now) }
     ensures silent { IfErr result (λ failure. failure ≢ Failure.Output → out.new ≡ out.old) }
     ensures broken { IfErr result (λ failure. failure ≡ Failure.Output → W.failed out.new ≡ true) }
 {

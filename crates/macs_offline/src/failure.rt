@@ -52,10 +52,10 @@ pub enum Failure {
     Address(AddressFault),
     /// The disk file does not serve.
     Disk(DiskFault),
-    /// A capture cannot be opened, read or written.
+    /// A capture cannot be opened, read or written by a run over frames.
     Capture,
-    /// A command file cannot be read, spells no commands, or is given to an endpoint and is for
-    /// another one; or a link's file cannot be read.
+    /// A command file that is applied cannot be read, spells no commands, or is for another
+    /// endpoint.
     Commands,
     /// A wire cannot be bound.
     Wire,
@@ -63,8 +63,11 @@ pub enum Failure {
     Control,
     /// The system's random source gives nothing.
     Random,
-    /// A command file or a link's file has a fault, of which this is said.
-    CommandFile(String),
+    /// A file or a socket that the words name does not serve, or what a command file or a link's
+    /// file says has a fault: this is said of it.
+    Said(String),
+    /// The disk file cannot be read, of which this is said.
+    DiskFile(String),
     /// A command file that is tried on a disk is for another end.
     OtherEnd,
     /// A link that a file says is refused.
@@ -133,7 +136,8 @@ impl Failure {
             Failure::Wire => "wire",
             Failure::Control => "control",
             Failure::Random => "random source",
-            Failure::CommandFile(cause) => cause.as_str(),
+            Failure::Said(cause) => cause.as_str(),
+            Failure::DiskFile(cause) => cause.as_str(),
             Failure::OtherEnd => "command file sci: not that of DISK",
             Failure::Link(refusal) => refusal.text(),
             Failure::Memory => "memory",
@@ -148,14 +152,14 @@ impl Failure {
     {
         match self {
             Failure::Usage(_) | Failure::Value(_) | Failure::Address(_) => Status::Usage,
-            Failure::Disk(_) => Status::Disk,
+            Failure::Disk(_) | Failure::DiskFile(_) => Status::Disk,
             Failure::Link(_) => Status::Refused,
             Failure::Capture
             | Failure::Commands
             | Failure::Wire
             | Failure::Control
             | Failure::Random
-            | Failure::CommandFile(_)
+            | Failure::Said(_)
             | Failure::OtherEnd
             | Failure::Memory
             | Failure::Input(_)

@@ -73,6 +73,21 @@ pub fn open_regular<T: Files>(rt: &T, path: &str) -> io::Result<T::File> {
     fs::open(rt, path)
 }
 
+/// Opens the regular file of a disk to read it, as `open_regular` does, and claims it together with
+/// other readers. An error also where a writer has claimed it, and that of a folder where it is
+/// one.
+pub fn open_shared<T: Files>(rt: &T, path: &str) -> io::Result<T::File>
+where
+    T::File: CaptureFile,
+{
+    if rt.metadata(path)?.is_dir() {
+        return Err(io::Error::from(io::ErrorKind::IsADirectory));
+    }
+    let mut file = open_regular(rt, path)?;
+    file.share()?;
+    Ok(file)
+}
+
 /// The disk in a file. It fails as `Memory`, or as `Disk` with `File` or `Length`, where the file
 /// is no disk, or standard output goes there.
 pub fn open_disk<T: Files>(rt: &T, alloc: Global, path: &str) -> Result<FileDisk<T::File>, Failure>
@@ -155,7 +170,7 @@ fn buffer_of<F: Write + Drop>(alloc: Global, file: F) -> Result<BufWriter<F>, Fa
 }
 
 /// A capture that is read from an open file: all that the file has left. It fails as `Memory`.
-fn source_over<F: Read + Drop>(alloc: Global, file: F) -> Result<CaptureSource<F>, Failure>
+pub fn source_over<F: Read + Drop>(alloc: Global, file: F) -> Result<CaptureSource<F>, Failure>
     ensures left { IfOk result (λ source. IfSome (F.remaining file)
         (λ octets. (⟦<ReaderSource<BufReader<F>> as Source>⟧.state source).left ≡ Some octets)) }
     ensures fresh { IfOk result
@@ -183,7 +198,7 @@ fn sink_over<F: Write + Drop>(alloc: Global, file: F) -> Result<CaptureSink<F>, 
 
 /// Opens a file to read it as a capture. A regular file is claimed along with other readers, so
 /// that it is no output.
-fn open_source<T: Files>(rt: &T, path: &str) -> io::Result<T::File>
+pub fn open_source<T: Files>(rt: &T, path: &str) -> io::Result<T::File>
 where
     T::File: CaptureFile,
 {

@@ -1,28 +1,33 @@
 //! `inspect`: what the SecTAG of each frame of a capture says.
 
 ghost use Rattle.std.specs.Prelude.{◌≡◌, ◌≢◌, ◌<◌, ◌++◌, codes, length, true, IfErr, IfOk};
-ghost use Rattle.std.specs.Prelude.{string_bytes};
+ghost use Rattle.std.specs.Prelude.{◌∷◌, [], IfSome, IsTrue, string_bytes, take};
 ghost use Rattle.std.specs.Fmt.{decimal};
 ghost use Rattle.macs_frame.specs.Tag.{short_length};
 ghost use Rattle.macs_texts.specs.Lines.{line};
-ghost use Rattle.macs_offline.specs.Inspecting.{InspectFails, Inspects, InspectsNext, IsLineOf};
+ghost use Rattle.macs_offline.specs.Inspecting.{FailsSo, InspectFails, Inspects, InspectsNext};
+ghost use Rattle.macs_offline.specs.Inspecting.{IsLineOf};
 ghost use Rattle.macs_offline.specs.Inspecting.{IsOfInspecting, IsSaidOf};
 ghost use Rattle.macs_offline.specs.Inspecting.{PrintsFrames, RunsCapture, RunsRecords, bit_text};
 ghost use Rattle.macs_offline.specs.Inspecting.{bits_text, numbers_text, tag_text};
+ghost use Rattle.macs_offline.specs.Reasons.{Complains, TellsOfFile};
 
 use crate::capture_file::CaptureFile;
 use crate::failure::Failure;
-use crate::files::open_capture;
+use crate::file_reason::{failure_at, failure_told};
+use crate::files::{CaptureSource, open_source, source_over};
 use crate::hex_text::HexText;
 use crate::opened::refusal_text;
-use crate::output::print;
 use crate::status::Status;
+use crate::stop::{CaptureReason, Stop};
 use crate::stream::Stream;
 use macs_frame::{OpenFault, ScName, SecTag, read_tag};
-use macs_pcap::{Source, read_header, read_record};
+use macs_pcap::{PcapFault, Source, read_header, read_record};
 use std::alloc::{AllocError, Global};
-use std::fmt;
+use std::fs::OpenFile;
+use std::io::Read;
 use std::rt::Files;
+use std::{fmt, fs, io};
 
 /// How a SecTAG names its channel, as it is displayed.
 #[derive(Clone, Copy)]
@@ -126,16 +131,16 @@ fn inspect_next<R: Source, W: Stream>(
     count: u32,
     frame: &mut Vec<u8>,
     out: &mut W,
-) -> Result<bool, Failure>
+) -> Result<bool, Stop>
     ensures next { InspectsNext big count (R.state source.old) (W.contents out.old) result
         (R.state source.new) (W.contents out.new) }
-    ensures broken { IfErr result (λ failure. failure ≡ Failure.Output → W.failed out.new ≡ true) }
+    ensures broken { IfErr result (λ stop. stop ≡ Stop.Output → W.failed out.new ≡ true) }
 {
     let Some(_stamp) = read_record(source, big, count, frame)? else {
         return Ok(false);
     };
     let line = inspect_line(alloc, u64::from(count) + 1, frame.as_slice())?;
-    print(out, line.as_str())?;
+    out.print(line.as_str().as_bytes())?;
     Ok(true)
 }
 
@@ -145,10 +150,10 @@ fn inspect_frames<R: Source, W: Stream>(
     source: &mut R,
     big: bool,
     out: &mut W,
-) -> Result<Status, Failure>
+) -> Result<Status, Stop>
     ensures runs { RunsRecords big (R.state source.old) (W.contents out.old) result
         (R.state source.new) (W.contents out.new) }
-    ensures broken { IfErr result (λ failure. failure ≡ Failure.Output → W.failed out.new ≡ true) }
+    ensures broken { IfErr result (λ stop. stop ≡ Stop.Output → W.failed out.new ≡ true) }
 {
     let mut frame = Vec::new(alloc);
     let mut count: u32 = 0;
@@ -158,23 +163,115 @@ fn inspect_frames<R: Source, W: Stream>(
     Ok(Status::Done)
 }
 
-/// Prints a line for each frame of a capture. It fails as `Capture` or `Memory` with the first
-/// fault of the capture, after the lines of the frames before it; and as `Output` at the first line
-/// that cannot be printed.
+/// Prints a line for each frame of a capture. It stops at the first fault of the capture, after the
+/// lines of the frames before it; where there is no memory; and at the first line that cannot be
+/// printed.
 pub fn inspect_capture<R: Source, W: Stream>(
     alloc: Global,
     source: &mut R,
     out: &mut W,
-) -> Result<Status, Failure>
+) -> Result<Status, Stop>
     ensures runs { RunsCapture (R.state source.old) (W.contents out.old) result
         (R.state source.new) (W.contents out.new) }
-    ensures broken { IfErr result (λ failure. failure ≡ Failure.Output → W.failed out.new ≡ true) }
+    ensures broken { IfErr result (λ stop. stop ≡ Stop.Output → W.failed out.new ≡ true) }
 {
-    let header = read_header(source)?;
-    inspect_frames(alloc, source, header.big, out)
+    match read_header(source) {
+        Ok(header) => inspect_frames(alloc, source, header.big, out),
+        Err(fault) => Err(Stop::Header(fault)),
+    }
 }
 
-/// `inspect`: prints a line for each frame of a capture.
+/// The file of a capture, which is opened to read it. An error also where it is a folder.
+fn open_file<T: Files>(rt: &T, path: &str) -> io::Result<T::File>
+where
+    T::File: CaptureFile,
+{
+    let file = open_source(rt, path)?;
+    if file.metadata()?.is_dir() {
+        return Err(io::Error::from(io::ErrorKind::IsADirectory));
+    }
+    Ok(file)
+}
+
+/// A capture that is read from a file. It fails as `Said` with the reason where the file cannot be
+/// opened, or is claimed by who writes it; and as `Memory`. Nothing is read yet.
+fn open_to_inspect<T: Files>(
+    rt: &T,
+    alloc: Global,
+    path: &str,
+) -> Result<CaptureSource<T::File>, Failure>
+where
+    T::File: CaptureFile,
+    ensures { IfErr result (Complains (TellsOfFile (codes "capture") path.now)) }
+{
+    match open_file(rt, path) {
+        Ok(file) => source_over(alloc, file),
+        Err(error) => Err(failure_at(alloc, "capture", path, error)),
+    }
+}
+
+/// Whether what is read begins as a pcapng file does. False too where a read fails.
+fn begins_pcapng<R: Read>(file: &mut R) -> bool
+    ensures { IfSome (R.remaining file.old)
+        (λ octets. IsTrue result → take 4 octets ≡ 10 ∷ 13 ∷ 13 ∷ 10 ∷ []) }
+{
+    let mut front = [0; 4];
+    match file.read_exact(&mut front) {
+        Ok(()) => front == [0x0a, 0x0d, 0x0d, 0x0a],
+        Err(_) => false,
+    }
+}
+
+/// Whether a regular file of this name begins as a pcapng file does.
+fn is_pcapng<T: Files>(rt: &T, path: &str) -> bool {
+    match rt.metadata(path) {
+        Ok(about) if about.is_file() => match fs::open(rt, path) {
+            Ok(mut file) => begins_pcapng(&mut file),
+            Err(_) => false,
+        },
+        _ => false,
+    }
+}
+
+/// The failure of a fault of a capture's header.
+fn failure_of_header<T: Files>(rt: &T, alloc: Global, name: &str, fault: PcapFault) -> Failure
+    ensures { FailsSo name.now (Stop.Header fault) result }
+{
+    let is_pcapng = fault == PcapFault::BadMagic && is_pcapng(rt, name);
+    let reason = CaptureReason::of_header(is_pcapng, fault);
+    failure_told(alloc, "capture", name, reason.text())
+}
+
+/// The failure of a fault of a record.
+fn failure_of_record(alloc: Global, name: &str, fault: PcapFault) -> Failure
+    ensures { FailsSo name.now (Stop.Record fault) result }
+{
+    match fault {
+        PcapFault::Memory => Failure::Memory,
+        _ => failure_told(
+            alloc,
+            "capture",
+            name,
+            CaptureReason::of_record(fault).text(),
+        ),
+    }
+}
+
+/// The failure of what ends an inspection of the capture of this name.
+fn failure_of_stop<T: Files>(rt: &T, alloc: Global, name: &str, stop: Stop) -> Failure
+    ensures { FailsSo name.now stop result }
+{
+    match stop {
+        Stop::Header(fault) => failure_of_header(rt, alloc, name, fault),
+        Stop::Record(fault) => failure_of_record(alloc, name, fault),
+        Stop::Memory => Failure::Memory,
+        Stop::Output => Failure::Output,
+    }
+}
+
+/// `inspect`: prints a line for each frame of a capture. It fails as `Said` with the reason where
+/// the capture cannot be opened, or at its first fault, after the lines of the frames before it; as
+/// `Memory`; and as `Output` at the first line that cannot be printed.
 pub fn inspect<T: Files, W: Stream>(
     rt: &T,
     alloc: Global,
@@ -185,12 +282,16 @@ where
     T::File: CaptureFile,
     ensures printed { IfOk result (λ status.
         Inspects (W.contents out.old) (W.contents out.new) × (status ≡ Status.Done)) }
-    ensures ended { IfErr result (InspectFails (W.contents out.old) (W.contents out.new)) }
+    ensures ended { IfErr result
+        (InspectFails input.now (W.contents out.old) (W.contents out.new)) }
     ensures failed { IfErr result IsOfInspecting }
     ensures front { IfErr result (λ failure. failure ≢ Failure.Output
         → PrintsFrames (W.contents out.old) (W.contents out.new)) }
     ensures broken { IfErr result (λ failure. failure ≡ Failure.Output → W.failed out.new ≡ true) }
 {
-    let mut source = open_capture(rt, alloc, input)?;
-    inspect_capture(alloc, &mut source, out)
+    let mut source = open_to_inspect(rt, alloc, input)?;
+    match inspect_capture(alloc, &mut source, out) {
+        Ok(status) => Ok(status),
+        Err(stop) => Err(failure_of_stop(rt, alloc, input, stop)),
+    }
 }

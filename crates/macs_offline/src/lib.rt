@@ -12,6 +12,7 @@ pub mod examine;
 mod examined_text;
 mod failure;
 mod file_mode;
+mod file_reason;
 mod files;
 mod first_fault;
 mod four_lines;
@@ -24,7 +25,9 @@ mod output;
 pub mod plan;
 mod record_lines;
 mod status;
+mod stop;
 mod stream;
+mod toml_place;
 mod trial;
 mod values;
 mod whole_writes;
@@ -34,6 +37,7 @@ pub use applying::{apply_commands, is_own, outcome_line, status_after};
 pub use capture_file::CaptureFile;
 pub use contents::{Contents, contents_of};
 pub use failure::{DiskFault, Failure, failure_of_refill, failure_of_run};
+pub use file_reason::{FileReason, failure_told};
 pub use files::{
     CaptureSink, CaptureSource, commands_of_file, failure_of, is_printed_to, make_capture,
     open_capture, open_disk,

@@ -7,19 +7,20 @@ ghost use Rattle.toml.specs.Data.{Members};
 ghost use Rattle.toml.specs.View.{table_view};
 ghost use Rattle.toml.specs.Parse.{parse_document};
 ghost use Rattle.macs_plan.specs.Writing.{PlansText};
-ghost use Rattle.macs_offline.specs.Checking.{Complains};
 ghost use Rattle.macs_offline.specs.Plans.{IsPlanOfFile, PlanFails, PlansFile, PrintsPlan};
 ghost use Rattle.macs_offline.specs.Plans.{RefusesSo, SaysWhy, SaysWhyOfFile, SaysWhyOfText};
 ghost use Rattle.macs_offline.specs.Plans.{end_of, extra_text, link_refusal, name_reason};
 ghost use Rattle.macs_offline.specs.Plans.{name_word, plan_fault_text, stage_of, value_text};
+ghost use Rattle.macs_offline.specs.Reasons.{Complains, IsUnread};
 
 use crate::applying::{MAX_FILE, MAX_READ};
 use crate::check::failure_saying;
 use crate::failure::{Failure, LinkRefusal};
-use crate::files::failure_of;
+use crate::file_reason::failure_at;
 use crate::output::print;
 use crate::status::Status;
 use crate::stream::Stream;
+use crate::toml_place::failure_of_toml;
 use macs_plan::{End, Place, PlanFault, Stage, ValueName};
 use macs_words::{PlanEnd, PlanStage};
 use std::alloc::{AllocError, Global};
@@ -168,8 +169,7 @@ fn planned_in_text(alloc: Global, text: &str, end: End, stage: Stage) -> Result<
 {
     match toml::table_from_str(alloc, text) {
         Ok(table) => planned_in_table(alloc, &table, end, stage),
-        Err(error) if error.is_memory() => Err(Failure::Memory),
-        Err(_) => Err(failure_saying(String::from_str(alloc, "link file: not TOML"))),
+        Err(error) => Err(failure_of_toml(alloc, "link file", text, &error)),
     }
 }
 
@@ -190,11 +190,12 @@ fn planned_said(alloc: Global, octets: &[u8], end: End, stage: Stage) -> Result<
     planned_in_text(alloc, text, end, stage)
 }
 
-/// The command file of what is planned of an open file, of which no more is read than can be of
-/// use. It fails as `Commands` where a read fails, and else says the first fault, or refuses the
-/// link.
+/// The command file of what is planned of an open file of this name, of which no more is read than
+/// can be of use. It fails as `Said` with the reason where a read fails, and else says the first
+/// fault, or refuses the link.
 fn planned_read<R: Read>(
     alloc: Global,
+    name: &str,
     file: &mut R,
     end: End,
     stage: Stage,
@@ -203,20 +204,20 @@ fn planned_read<R: Read>(
         (λ octets. PlansFile end stage octets (string_bytes text))) }
     ensures spelled { IfOk result
         (λ text. (octets : List ℕ) × PlansFile end stage octets (string_bytes text)) }
-    ensures fault { IfErr result (λ failure. (failure ≡ Failure.Commands)
+    ensures fault { IfErr result (λ failure. IsUnread name.now failure
         ⊎ IfSome (R.remaining file.old) (λ octets. SaysWhy end stage octets failure)) }
-    ensures ended { IfErr result (λ failure. (failure ≡ Failure.Commands)
+    ensures ended { IfErr result (λ failure. IsUnread name.now failure
         ⊎ ((octets : List ℕ) × SaysWhy end stage octets failure)) }
 {
     let mut octets = Vec::new(alloc);
     match file.take(MAX_READ as u64).read_to_end(&mut octets) {
         Ok(_) => planned_said(alloc, octets.as_slice(), end, stage),
-        Err(error) => Err(failure_of(error, Failure::Commands)),
+        Err(error) => Err(failure_at(alloc, "commands", name, error)),
     }
 }
 
-/// The command file of what is planned of a file. It fails as `Commands` where it cannot be opened
-/// or read, and else says the first fault, or refuses the link.
+/// The command file of what is planned of a file. It fails as `Said` with the reason where it
+/// cannot be opened or read, and else says the first fault, or refuses the link.
 fn planned_file<T: Files>(
     rt: &T,
     alloc: Global,
@@ -229,20 +230,20 @@ fn planned_file<T: Files>(
         (λ text. IsPlanOfFile T.File.remaining end stage (string_bytes text)) }
     ensures spelled { IfOk result
         (λ text. (octets : List ℕ) × PlansFile end stage octets (string_bytes text)) }
-    ensures ended { IfErr result (λ failure. (failure ≡ Failure.Commands)
+    ensures ended { IfErr result (λ failure. IsUnread path.now failure
         ⊎ ((octets : List ℕ) × SaysWhy end stage octets failure
         × ((failure ≡ Failure.Memory) ⊎ SaysWhyOfFile T.File.remaining end stage failure))) }
 {
     match fs::open(rt, path) {
-        Ok(mut file) => planned_read(alloc, &mut file, end, stage),
-        Err(error) => Err(failure_of(error, Failure::Commands)),
+        Ok(mut file) => planned_read(alloc, path, &mut file, end, stage),
+        Err(error) => Err(failure_at(alloc, "commands", path, error)),
     }
 }
 
 /// `plan`: prints the command file of an end of the link that a file says, for a stage of its keys.
-/// The file is not changed. It fails as `Commands` where it cannot be opened or read, as
-/// `CommandFile` with its first fault, as `Link` where the link is refused, as `Memory`, and as
-/// `Output` where the text cannot be printed.
+/// The file is not changed. It fails as `Said`, with the reason where it cannot be opened or read,
+/// else with its first fault; as `Link` where the link is refused, as `Memory`, and as `Output`
+/// where the text cannot be printed.
 pub fn plan<T: Files, W: Stream>(
     rt: &T,
     alloc: Global,
@@ -255,7 +256,8 @@ pub fn plan<T: Files, W: Stream>(
         PrintsPlan T.File.remaining (end_of end) (stage_of stage) (W.contents out.old)
         (W.contents out.new)
         × (status ≡ Status.Done)) }
-    ensures ended { IfErr result (PlanFails T.File.remaining (end_of end) (stage_of stage)) }
+    ensures ended { IfErr result
+        (PlanFails T.File.remaining path.now (end_of end) (stage_of stage)) }
     ensures silent { IfErr result (λ failure. failure ≢ Failure.Output → out.new ≡ out.old) }
     ensures broken { IfErr result (λ failure. failure ≡ Failure.Output → W.failed out.new ≡ true) }
 {

@@ -18,10 +18,11 @@ use crate::applying::{give, is_own, status_after};
 use crate::capture_file::CaptureFile;
 use crate::disk_copy::copy_of;
 use crate::failure::{DiskFault, Failure};
-use crate::files::open_regular;
+use crate::file_reason::failure_at_disk;
+use crate::files::open_shared;
 use crate::status::Status;
 use macs_config::{Command, Refusal};
-use macs_disk::{FileFault, MemDisk, SectorDisk};
+use macs_disk::{MemDisk, SectorDisk};
 use macs_endpoint::{Endpoint, OpenRefused};
 use macs_fields::Sci;
 use macs_journal::JournalFault;
@@ -135,10 +136,10 @@ fn try_on(
 }
 
 /// What these commands would be answered by the endpoint on the disk in a file, which is opened to
-/// be read alone. It fails as `Disk` with `File` where there is no regular file that can be opened;
-/// then as `copy_of` does, as the opening of an endpoint does, as `OtherEnd` where the file that
-/// says them is for another end, and with `GenerationsSpent` where a command would be answered so;
-/// and as `Memory`.
+/// be read alone. It fails as `DiskFile` with the reason where there is no regular file that can be
+/// opened, or a writer has claimed it; then as `copy_of` does, as the opening of an endpoint does,
+/// as `OtherEnd` where the file that says them is for another end, and with `GenerationsSpent`
+/// where a command would be answered so; and as `Memory`.
 pub fn try_in<T: Files>(
     rt: &T,
     alloc: Global,
@@ -149,14 +150,14 @@ pub fn try_in<T: Files>(
 where
     T::File: CaptureFile,
     ensures tried { IfOk result (λ outcomes. TriesIn T.File.file end commands.now outcomes.items) }
-    ensures ended { IfErr result (TrialFails T.File.file end commands.now) }
+    ensures ended { IfErr result (TrialFails T.File.file path.now end commands.now) }
 {
-    match open_regular(rt, path) {
+    match open_shared(rt, path) {
         Ok(mut file) => {
             let copy = copy_of(alloc, &mut file)?;
             try_on(alloc, copy, end, commands)
         }
-        Err(error) => Err(Failure::from(FileFault::from(error))),
+        Err(error) => Err(failure_at_disk(alloc, path, error)),
     }
 }
 

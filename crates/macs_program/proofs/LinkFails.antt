@@ -32,7 +32,7 @@ use Rattle.macs_words.specs.declared.action.UsageFault.TheVariants as usage
 use Rattle.macs_words.specs.declared.plan_words.PlanEnd.{PlanEnd}
 use Rattle.macs_words.specs.declared.plan_words.PlanStage.{PlanStage}
 use Rattle.macs_offline.proofs.Examined.{of-examination}
-use Rattle.macs_offline.proofs.Failures.{IsOfDisk, of-file, of-opening}
+use Rattle.macs_offline.proofs.Failures.{IsOfCopy, IsOfDisk, of-file, of-opening}
 use Rattle.macs_offline.proofs.Inspected.{of-inspecting}
 use Rattle.macs_offline.proofs.Tried.{IsOfTrial, of-look, of-trial}
 use Rattle.macs_offline.specs.Applying.{EndsRun}
@@ -96,8 +96,13 @@ not-of-disk : (refusal : LinkRefusal) → IsOfDisk (failures.Link refusal) → �
 not-of-disk refusal (inl memory) = no-memory refusal memory
 not-of-disk refusal (inr (fault, is)) = no-disk refusal fault is
 
+-- nor one of its file
+not-of-copy : (refusal : LinkRefusal) → IsOfCopy (failures.Link refusal) → ⊥
+not-of-copy refusal (inl ours) = not-of-disk refusal ours
+not-of-copy refusal (inr (text, is)) = let wrong : failures.Link refusal ≡ failures.DiskFile text = is in cc
+
 not-of-trial : (refusal : LinkRefusal) → IsOfTrial (failures.Link refusal) → ⊥
-not-of-trial refusal (inl ours) = not-of-disk refusal ours
+not-of-trial refusal (inl ours) = not-of-copy refusal ours
 not-of-trial refusal (inr other) = cc
 
 no-file : (refusal : LinkRefusal) (fault : FileFault) → failures.Link refusal ≢ failure_of_file fault
@@ -205,20 +210,19 @@ not-unbound state_of refusal (inl (inr is, tries)) = no-wire refusal is
 not-unbound state_of refusal (inr fails) =
     not-of-disk refusal (of-look state_of [] (failures.Link refusal) fails)
 
-inspects : (refusal : LinkRefusal) (before after : Option (List ℕ))
-    → InspectFails before after (failures.Link refusal) → ⊥
-inspects refusal before after (inl (inl is, same)) = no-memory refusal is
-inspects refusal before after (inl (inr is, same)) = no-capture refusal is
-inspects refusal before after (inr (old, new, stops)) =
-    of-inspecting old new before after (failures.Link refusal) stops
+inspects : (refusal : LinkRefusal) (name : List ℕ) (before after : Option (List ℕ))
+    → InspectFails name before after (failures.Link refusal) → ⊥
+inspects refusal name before after fails = of-inspecting name before after (failures.Link refusal) fails
 
-checks : {F : Type 0} (left_in : F → Option (List ℕ)) (refusal : LinkRefusal)
-    → CheckFails left_in (failures.Link refusal) → ⊥
-checks left_in refusal (inl is) = no-commands refusal is
-checks left_in refusal (inr (inl is)) = no-output refusal is
-checks left_in refusal (inr (inr (octets, inl is, by_file))) = no-memory refusal is
-checks left_in refusal (inr (inr (octets, inr (text, is, said), by_file))) =
-    let wrong : failures.Link refusal ≡ failures.CommandFile text = is in cc
+checks : {F : Type 0} (left_in : F → Option (List ℕ)) (name : List ℕ) (refusal : LinkRefusal)
+    → CheckFails left_in name (failures.Link refusal) → ⊥
+checks left_in name refusal (inl (inl is)) = no-memory refusal is
+checks left_in name refusal (inl (inr (text, is, said))) =
+    let wrong : failures.Link refusal ≡ failures.Said text = is in cc
+checks left_in name refusal (inr (inl is)) = no-output refusal is
+checks left_in name refusal (inr (inr (octets, inl is, by_file))) = no-memory refusal is
+checks left_in name refusal (inr (inr (octets, inr (text, is, said), by_file))) =
+    let wrong : failures.Link refusal ≡ failures.Said text = is in cc
 
 -- ---- so it is `plan`
 
@@ -260,15 +264,15 @@ module _ {F : Type 0} (state_of : F → FileState) (left_in : F → Option (List
       absurd (relay-ends (disk_in_file state_of) (course_of running) refusal ends.old ends.new ends.ends)
   planned (Ask path asked) is = absurd is
   planned (Key is_long) is = absurd is
-  planned (Inspect taken) fails = absurd (inspects refusal before after fails)
-  planned (Check file None) fails = absurd (checks left_in refusal fails)
-  planned (Check file (Some disk)) (inl fails) = absurd (checks left_in refusal fails)
+  planned (Inspect taken) fails = absurd (inspects refusal taken.now before after fails)
+  planned (Check file None) fails = absurd (checks left_in file.now refusal fails)
+  planned (Check file (Some disk)) (inl fails) = absurd (checks left_in file.now refusal fails)
   planned (Check file (Some disk)) (inr (octets, end, commands, says, by_file, fails)) =
-      absurd (not-of-trial refusal (of-trial state_of end commands (failures.Link refusal) fails))
+      absurd (not-of-trial refusal (of-trial state_of disk.now end commands (failures.Link refusal) fails))
   planned (Plan file end stage) fails = (file, end, stage, refl)
   planned (Examine disk) (inl is) = absurd (no-output refusal is)
   planned (Examine disk) (inr fails) =
-      absurd (not-of-disk refusal (of-examination state_of (failures.Link refusal) fails))
+      absurd (not-of-copy refusal (of-examination state_of disk.now (failures.Link refusal) fails))
   planned About (inl is) = absurd (no-memory refusal is)
   planned About (inr is) = absurd (no-output refusal is)
 

@@ -56,7 +56,8 @@ asking-no-usage failures.Commands is = λ e. cc
 asking-no-usage failures.Wire is = absurd is
 asking-no-usage failures.Control is = λ e. cc
 asking-no-usage failures.Random is = absurd is
-asking-no-usage (failures.CommandFile cause) is = absurd is
+asking-no-usage (failures.Said cause) is = λ e. cc
+asking-no-usage (failures.DiskFile cause) is = absurd is
 asking-no-usage failures.OtherEnd is = absurd is
 asking-no-usage (failures.Link refusal) is = absurd is
 asking-no-usage failures.Memory is = λ e. cc
@@ -76,7 +77,8 @@ key-no-usage failures.Capture is = absurd is
 key-no-usage failures.Commands is = absurd is
 key-no-usage failures.Wire is = absurd is
 key-no-usage failures.Control is = absurd is
-key-no-usage (failures.CommandFile cause) is = absurd is
+key-no-usage (failures.Said cause) is = absurd is
+key-no-usage (failures.DiskFile cause) is = absurd is
 key-no-usage failures.OtherEnd is = absurd is
 key-no-usage (failures.Link refusal) is = absurd is
 key-no-usage failures.Memory is = absurd is
@@ -85,7 +87,7 @@ key-no-usage (failures.Input fault) is = absurd is
 -- nor is one of `inspect`
 inspecting-no-usage : (failure : Failure) → IsOfInspecting failure
     → (failure_status failure ≢ ends.Usage) × (failure_status failure ≢ ends.Disk)
-inspecting-no-usage failures.Capture is = ((λ e. cc), (λ e. cc))
+inspecting-no-usage (failures.Said cause) is = ((λ e. cc), (λ e. cc))
 inspecting-no-usage failures.Memory is = ((λ e. cc), (λ e. cc))
 inspecting-no-usage failures.Output is = ((λ e. cc), (λ e. cc))
 inspecting-no-usage failures.Random is = absurd is
@@ -96,33 +98,39 @@ inspecting-no-usage (failures.Disk fault) is = absurd is
 inspecting-no-usage failures.Commands is = absurd is
 inspecting-no-usage failures.Wire is = absurd is
 inspecting-no-usage failures.Control is = absurd is
-inspecting-no-usage (failures.CommandFile cause) is = absurd is
+inspecting-no-usage failures.Capture is = absurd is
+inspecting-no-usage (failures.DiskFile cause) is = absurd is
 inspecting-no-usage failures.OtherEnd is = absurd is
 inspecting-no-usage (failures.Link refusal) is = absurd is
 inspecting-no-usage (failures.Input fault) is = absurd is
 
 -- nor is one of `check`
-checking-no-usage : {F : Type 0} (left_in : F → Option (List ℕ)) (failure : Failure) → CheckFails left_in failure
+checking-no-usage : {F : Type 0} (left_in : F → Option (List ℕ)) (name : List ℕ) (failure : Failure)
+    → CheckFails left_in name failure
     → (failure_status failure ≢ ends.Usage) × (failure_status failure ≢ ends.Disk)
-checking-no-usage left_in failure (inl is) =
+checking-no-usage left_in name failure (inl (inl is)) =
     ((λ e. let f = sym e ∙ ap failure_status is in cc), (λ e. let f = sym e ∙ ap failure_status is in cc))
-checking-no-usage left_in failure (inr (inl is)) =
+checking-no-usage left_in name failure (inl (inr (text, is, said))) =
     ((λ e. let f = sym e ∙ ap failure_status is in cc), (λ e. let f = sym e ∙ ap failure_status is in cc))
-checking-no-usage left_in failure (inr (inr (octets, inl is, by_file))) =
+checking-no-usage left_in name failure (inr (inl is)) =
     ((λ e. let f = sym e ∙ ap failure_status is in cc), (λ e. let f = sym e ∙ ap failure_status is in cc))
-checking-no-usage left_in failure (inr (inr (octets, inr (text, is, said), by_file))) =
+checking-no-usage left_in name failure (inr (inr (octets, inl is, by_file))) =
+    ((λ e. let f = sym e ∙ ap failure_status is in cc), (λ e. let f = sym e ∙ ap failure_status is in cc))
+checking-no-usage left_in name failure (inr (inr (octets, inr (text, is, said), by_file))) =
     ((λ e. let f = sym e ∙ ap failure_status is in cc), (λ e. let f = sym e ∙ ap failure_status is in cc))
 
 -- a failure of `plan` is no wrong usage
-planning-no-usage : {F : Type 0} (left_in : F → Option (List ℕ)) (end : End) (stage : Stage) (failure : Failure)
-    → PlanFails left_in end stage failure → failure_status failure ≢ ends.Usage
-planning-no-usage left_in end stage failure (inl is) = λ e. let f = sym e ∙ ap failure_status is in cc
-planning-no-usage left_in end stage failure (inr (inl is)) = λ e. let f = sym e ∙ ap failure_status is in cc
-planning-no-usage left_in end stage failure (inr (inr (octets, inl (inl is), by_file))) =
+planning-no-usage : {F : Type 0} (left_in : F → Option (List ℕ)) (name : List ℕ) (end : End) (stage : Stage)
+    (failure : Failure) → PlanFails left_in name end stage failure → failure_status failure ≢ ends.Usage
+planning-no-usage left_in name end stage failure (inl (inl is)) = λ e. let f = sym e ∙ ap failure_status is in cc
+planning-no-usage left_in name end stage failure (inl (inr (text, is, said))) =
     λ e. let f = sym e ∙ ap failure_status is in cc
-planning-no-usage left_in end stage failure (inr (inr (octets, inl (inr (text, is, said)), by_file))) =
+planning-no-usage left_in name end stage failure (inr (inl is)) = λ e. let f = sym e ∙ ap failure_status is in cc
+planning-no-usage left_in name end stage failure (inr (inr (octets, inl (inl is), by_file))) =
     λ e. let f = sym e ∙ ap failure_status is in cc
-planning-no-usage left_in end stage failure (inr (inr (octets, inr (refusal, is, refuses), by_file))) =
+planning-no-usage left_in name end stage failure (inr (inr (octets, inl (inr (text, is, said)), by_file))) =
+    λ e. let f = sym e ∙ ap failure_status is in cc
+planning-no-usage left_in name end stage failure (inr (inr (octets, inr (refusal, is, refuses), by_file))) =
     λ e. let f = sym e ∙ ap failure_status is in cc
 
 done-or-refused : (refused : Bool) → ((if refused then ends.Refused else ends.Done) ≡ ends.Done)
@@ -349,7 +357,7 @@ module _ {F W : Type 0} (state_of : F → FileState) (left_in : F → Option (Li
 
   pub inspects : (from : Bor (List ℕ)) → IfOk result
       (λ status. Inspects (contents old) (contents new) × (status ≡ ends.Done)) → IfErr result IsOfInspecting
-      → IfErr result (InspectFails (contents old) (contents new))
+      → IfErr result (InspectFails from.now (contents old) (contents new))
       → IfErr result (λ failure. failure ≢ Output → PrintsFrames (contents old) (contents new))
       → Broken → Performs state_of left_in contents failed (Inspect from) input old result new
   inspects from done ours fails front broken = record {
@@ -370,21 +378,22 @@ module _ {F W : Type 0} (state_of : F → FileState) (left_in : F → Option (Li
   check-status (Some disk) status printed = applied-status printed.outcomes status printed.status_is
 
   -- a failure of a check is no wrong usage
-  check-no-usage : (disk : Option (Bor (List ℕ))) (failure : Failure) → CheckEnds state_of left_in disk failure
+  check-no-usage : (name : List ℕ) (disk : Option (Bor (List ℕ))) (failure : Failure)
+      → CheckEnds state_of left_in name disk failure
       → failure_status failure ≢ ends.Usage
-  check-no-usage None failure is = (checking-no-usage left_in failure is).0
-  check-no-usage (Some disk) failure (inl is) = (checking-no-usage left_in failure is).0
-  check-no-usage (Some disk) failure (inr (octets, end, commands, says, by_file, fails)) =
-      trial-no-usage failure (of-trial state_of end commands failure fails)
+  check-no-usage name None failure is = (checking-no-usage left_in name failure is).0
+  check-no-usage name (Some disk) failure (inl is) = (checking-no-usage left_in name failure is).0
+  check-no-usage name (Some disk) failure (inr (octets, end, commands, says, by_file, fails)) =
+      trial-no-usage failure (of-trial state_of disk.now end commands failure fails)
 
   pub checks : (file : Bor (List ℕ)) (disk : Option (Bor (List ℕ)))
       → IfOk result (Checks state_of left_in disk (contents old) (contents new))
-      → IfErr result (CheckEnds state_of left_in disk) → Silent → Broken
+      → IfErr result (CheckEnds state_of left_in file.now disk) → Silent → Broken
       → Performs state_of left_in contents failed (Check file disk) input old result new
   checks file disk done fails silent broken = record {
     does = done;
     status = IfOk-weaker result _ _ (check-status disk) done;
-    usage = IfErr-weaker result _ _ (λ failure is usage. absurd (check-no-usage disk failure is usage)) fails;
+    usage = IfErr-weaker result _ _ (λ failure is usage. absurd (check-no-usage file.now disk failure is usage)) fails;
     disk = IfErr-weaker result _ _ (λ failure same disk. ((λ is. absurd cc), same disk)) (kept silent);
     before = before silent;
     fails = fails;
@@ -394,13 +403,14 @@ module _ {F W : Type 0} (state_of : F → FileState) (left_in : F → Option (Li
   pub plans : (file : Bor (List ℕ)) (end : PlanEnd) (stage : PlanStage) → IfOk result
       (λ status. PrintsPlan left_in (end_of end) (stage_of stage) (contents old) (contents new)
       × (status ≡ ends.Done))
-      → IfErr result (PlanFails left_in (end_of end) (stage_of stage)) → Silent → Broken
+      → IfErr result (PlanFails left_in file.now (end_of end) (stage_of stage)) → Silent → Broken
       → Performs state_of left_in contents failed (Plan file end stage) input old result new
   plans file end stage done fails silent broken = record {
     does = done;
     status = IfOk-weaker result _ _ (λ status all. inl all.1) done;
     usage = IfErr-weaker result _ _
-        (λ failure is usage. absurd (planning-no-usage left_in (end_of end) (stage_of stage) failure is usage)) fails;
+        (λ failure is usage.
+        absurd (planning-no-usage left_in file.now (end_of end) (stage_of stage) failure is usage)) fails;
     disk = IfErr-weaker result _ _ (λ failure same disk. ((λ is. absurd cc), same disk)) (kept silent);
     before = before silent;
     fails = fails;
@@ -408,12 +418,13 @@ module _ {F W : Type 0} (state_of : F → FileState) (left_in : F → Option (Li
   }
 
   pub examines : (disk : Bor (List ℕ)) → IfOk result (PrintsExamined state_of (contents old) (contents new))
-      → IfErr result (ExamineFails state_of) → Silent → Broken
+      → IfErr result (ExamineFails state_of disk.now) → Silent → Broken
       → Performs state_of left_in contents failed (Examine disk) input old result new
   examines disk done fails silent broken = record {
     does = done;
     status = IfOk-weaker result _ _ (λ status (text, is, printed). said-status _ _ _ _ is.says) done;
-    usage = IfErr-weaker result _ _ (λ failure is usage. absurd (examining-no-usage state_of failure is usage)) fails;
+    usage = IfErr-weaker result _ _
+        (λ failure is usage. absurd (examining-no-usage state_of disk.now failure is usage)) fails;
     disk = IfErr-weaker result _ _ (λ failure same disk. ((λ is. absurd cc), same disk)) (kept silent);
     before = before silent;
     fails = fails;

@@ -1,4 +1,5 @@
 -- All that is to be drawn from words on whole runs.
+use Rattle.std.proofs.Common.{codes}
 use Rattle.std.proofs.Common.{◌≡◌, ◌⊎◌, ◌++◌, inl, inr, ℕ, Bool, List, Option, None, length, refl, subst, Ok, ◌*◌, ◌∙◌}
 use Rattle.std.proofs.Common.{ap, arith}
 use Rattle.std.specs.Prelude.{IfSome, option_map, string_bytes}
@@ -28,13 +29,14 @@ use Rattle.macs_rxsc.specs.declared.verdict.Verdict.{Verdict}
 use Rattle.macs_offline.specs.Addresses.{AddressFaultHolds}
 use Rattle.macs_program.specs.Asking.{IsOfAsking}
 use Rattle.macs_offline.specs.Applying.{SaidByFile, SaysCommands, own_sci}
-use Rattle.macs_offline.specs.Checking.{CheckFails, Complains, IsSaidOfFile, PrintsCount, count_line}
+use Rattle.macs_offline.specs.Checking.{CheckFails, IsSaidOfFile, PrintsCount, count_line}
 use Rattle.macs_program.specs.Capturing.{EndsPass, PassesCapture}
 use Rattle.macs_offline.specs.Contents.{number_of, sector_in}
 use Rattle.macs_program.specs.Endpoints.{PassEnds, PassesIn}
 use Rattle.macs_offline.specs.Openings.{IsEndpointIn}
 use Rattle.macs_offline.specs.FileModes.{mode_warning}
 use Rattle.macs_offline.specs.Inspecting.{AreLinesOf, InspectsCapture}
+use Rattle.macs_offline.specs.Reasons.{Complains, TellsOfFile}
 use Rattle.macs_program.proofs.LinkFails.{link-fails}
 use Rattle.macs_program.proofs.OwnEnds.{other-end, own-end}
 use Rattle.macs_program.specs.Judging.{EndsEach, JudgesCapture, JudgesIn, JudgingEnds, verdict_lines}
@@ -281,11 +283,13 @@ reply-words file left_in = record {
 of_asking : (failure : Failure) → IsOfAsking failure
     → (failure ≡ failures.Disk (disk.Journal journal.Stopped)) ⊎ (failure ≡ failures.Control)
     ⊎ (failure ≡ failures.Commands) ⊎ (failure ≡ failures.Memory) ⊎ (failure ≡ failures.Output)
+    ⊎ ((said : _) × (failure ≡ failures.Said said))
 of_asking (failures.Disk (disk.Journal journal.Stopped)) is = inl refl
 of_asking failures.Control is = inr (inl refl)
 of_asking failures.Commands is = inr (inr (inl refl))
 of_asking failures.Memory is = inr (inr (inr (inl refl)))
-of_asking failures.Output is = inr (inr (inr (inr refl)))
+of_asking failures.Output is = inr (inr (inr (inr (inl refl))))
+of_asking (failures.Said text) is = inr (inr (inr (inr (inr (text, refl)))))
 of_asking other is = absurd is
 
 of_key : (failure : Failure) → IsOfKey failure → (failure ≡ failures.Random) ⊎ (failure ≡ failures.Output)
@@ -293,31 +297,34 @@ of_key failures.Random is = inl refl
 of_key failures.Output is = inr refl
 of_key other is = absurd is
 
-of_check : {F : Type 0} (left_in : F → Option (List ℕ)) (failure : Failure) → CheckFails left_in failure
-    → (failure ≡ failures.Commands) ⊎ (failure ≡ failures.Output) ⊎ (failure ≡ failures.Memory)
-    ⊎ ((octets : List ℕ) × (said : _) × (failure ≡ failures.CommandFile said) × IsSaidOfFile octets (string_bytes said)
+of_check : {F : Type 0} (left_in : F → Option (List ℕ)) (name : List ℕ) (failure : Failure)
+    → CheckFails left_in name failure
+    → Complains (TellsOfFile (codes "commands") name) failure ⊎ (failure ≡ failures.Output)
+    ⊎ (failure ≡ failures.Memory)
+    ⊎ ((octets : List ℕ) × (said : _) × (failure ≡ failures.Said said) × IsSaidOfFile octets (string_bytes said)
     × (from_file : F) × IfSome (left_in from_file) (λ all. Complains (IsSaidOfFile all) failure))
-of_check left_in failure (inl unread) = inl unread
-of_check left_in failure (inr (inl unprinted)) = inr (inl unprinted)
-of_check left_in failure (inr (inr (octets, inl memory, by_file))) = inr (inr (inl memory))
-of_check left_in failure (inr (inr (octets, inr (said, is, holds), inl memory))) = inr (inr (inl memory))
-of_check left_in failure (inr (inr (octets, inr (said, is, holds), inr (file, complains)))) =
+of_check left_in name failure (inl unread) = inl unread
+of_check left_in name failure (inr (inl unprinted)) = inr (inl unprinted)
+of_check left_in name failure (inr (inr (octets, inl memory, by_file))) = inr (inr (inl memory))
+of_check left_in name failure (inr (inr (octets, inr (said, is, holds), inl memory))) = inr (inr (inl memory))
+of_check left_in name failure (inr (inr (octets, inr (said, is, holds), inr (file, complains)))) =
     inr (inr (inr (octets, said, is, holds, file, complains)))
 
-of_plan : {F : Type 0} (left_in : F → Option (List ℕ)) (end : End) (stage : Stage) (failure : Failure)
-    → PlanFails left_in end stage failure
-    → (failure ≡ failures.Commands) ⊎ (failure ≡ failures.Output) ⊎ (failure ≡ failures.Memory)
-    ⊎ ((octets : List ℕ) × (((said : _) × (failure ≡ failures.CommandFile said)
+of_plan : {F : Type 0} (left_in : F → Option (List ℕ)) (name : List ℕ) (end : End) (stage : Stage) (failure : Failure)
+    → PlanFails left_in name end stage failure
+    → Complains (TellsOfFile (codes "commands") name) failure ⊎ (failure ≡ failures.Output)
+    ⊎ (failure ≡ failures.Memory)
+    ⊎ ((octets : List ℕ) × (((said : _) × (failure ≡ failures.Said said)
     × IsSaidOfLink end stage octets (string_bytes said))
     ⊎ ((refusal : LinkRefusal) × (failure ≡ failures.Link refusal) × RefusesLink end stage octets refusal))
     × (from_file : F) × IfSome (left_in from_file) (λ all. SaysWhy end stage all failure))
-of_plan left_in end stage failure (inl unread) = inl unread
-of_plan left_in end stage failure (inr (inl unprinted)) = inr (inl unprinted)
-of_plan left_in end stage failure (inr (inr (octets, inl (inl memory), by_file))) = inr (inr (inl memory))
-of_plan left_in end stage failure (inr (inr (octets, says, inl memory))) = inr (inr (inl memory))
-of_plan left_in end stage failure (inr (inr (octets, inl (inr (said, is, holds)), inr (file, why)))) =
+of_plan left_in name end stage failure (inl unread) = inl unread
+of_plan left_in name end stage failure (inr (inl unprinted)) = inr (inl unprinted)
+of_plan left_in name end stage failure (inr (inr (octets, inl (inl memory), by_file))) = inr (inr (inl memory))
+of_plan left_in name end stage failure (inr (inr (octets, says, inl memory))) = inr (inr (inl memory))
+of_plan left_in name end stage failure (inr (inr (octets, inl (inr (said, is, holds)), inr (file, why)))) =
     inr (inr (inr (octets, inl (said, is, holds), file, why)))
-of_plan left_in end stage failure (inr (inr (octets, inr (refusal, is, refuses), inr (file, why)))) =
+of_plan left_in name end stage failure (inr (inr (octets, inr (refusal, is, refuses), inr (file, why)))) =
     inr (inr (inr (octets, inr (refusal, is, refuses), file, why)))
 
 passing : {D : Type 0} (disk_of : D → Disk) (side : Side) (old : EndpointValue D) (failure : Failure)
@@ -358,7 +365,7 @@ fail-words file left_in = record {
   of_ask = λ path asked input before after failure is. of_asking failure is;
   of_key = λ is_long input before after failure is. of_key failure is;
   of_inspect = λ from input before after failure is. is;
-  inspecting = λ old before failure new after is. elim is [
+  inspecting = λ old before stop new after is. elim is [
     | inl at_once ↦ inl at_once
     | inr (header, behind, begins, stops) ↦ inr (
       header,
@@ -375,9 +382,9 @@ fail-words file left_in = record {
     )
   ];
   of_about = λ input before after failure is. is;
-  of_check = λ from input before after failure is. of_check left_in failure is;
+  of_check = λ from input before after failure is. of_check left_in from.now failure is;
   of_plan = λ from end stage input before after failure is.
-      of_plan left_in (end_of end) (stage_of stage) failure is;
+      of_plan left_in from.now (end_of end) (stage_of stage) failure is;
   of_trial = λ from path input before after failure is. is;
   copying = λ disk_file failure is. is;
   trying = λ copy end commands failure is. elim is [

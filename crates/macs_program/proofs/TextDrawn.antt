@@ -31,9 +31,12 @@ use Rattle.macs_program.specs.CaptureOctets.{CaptureOctets}
 use Rattle.macs_program.specs.ShowTexts.{ShowTexts}
 use Rattle.macs_journal.specs.declared.fault.JournalFault.TheVariants as journal
 use Rattle.macs_program.proofs.EndShapes.{no_array, no_table}
+use Rattle.macs_offline.specs.TomlPlaces.{SaysNotToml}
 use Rattle.macs_offline.specs.Applying.{outcome_line, outcome_lines}
 use Rattle.macs_program.specs.Asking.{failure_in}
-use Rattle.macs_offline.specs.Checking.{IsSaidOfFile, count_line, fault_text, file_fault_text}
+use Rattle.macs_offline.specs.Checking.{IsSaidOfFile, count_line, fault_text, file_fault_text, key_reason, key_word}
+use Rattle.macs_offline.specs.Checking.{lacks}
+use Rattle.macs_commands.specs.declared.config_fault.KeyName.{KeyName}
 use Rattle.macs_offline.specs.FileModes.{mode_line, mode_warning, octal_digit, three_digits}
 use Rattle.macs_program.specs.Summing.{pass_status}
 use Rattle.macs_program.specs.TextWords.{CheckTexts, FailureTexts, FaultOrders, FrameTexts, LineTexts}
@@ -104,6 +107,7 @@ failure-texts = record {
   of_input = λ fault. (refl, refl);
   of_usage = λ cause. (refl, refl);
   of_file = λ cause. (refl, refl);
+  of_disk_file = λ cause. (refl, refl);
   other_end = (refl, refl);
   of_link = λ refusal. (refl, refl);
   new_statuses = (refl, refl);
@@ -158,10 +162,10 @@ several n =
 
 -- what is said of a file's first fault
 fault_said : (members : Members) (said : List ℕ) (fault : CommandFileFault) → HasFileFault members fault
-    → said ≡ file_fault_text fault
+    → said ≡ file_fault_text members fault
     → ((end_in members ≡ Err told.Sci) × (said ≡ codes "command file sci: not 16 hex digits"))
     ⊎ ((end : Option (List ℕ)) × (cause : ConfigFault) × (end_in members ≡ Ok end)
-    × (end_commands members ≡ Err cause) × (said ≡ fault_text cause))
+    × (end_commands members ≡ Err cause) × (said ≡ fault_text members cause))
 fault_said members said told.Sci has is = inl (has, is)
 fault_said members said (told.Commands cause) (end, named, has) is = inr (end, cause, named, has, is)
 
@@ -169,10 +173,10 @@ said_of : (octets said : List ℕ) → IsSaidOfFile octets said
     → ((1048576 < length octets) × (said ≡ codes "command file: more than 1048576 octets"))
     ⊎ ((length octets ≤ 1048576) × (¬ IsUtf8 octets) × (said ≡ codes "command file: not UTF-8"))
     ⊎ ((length octets ≤ 1048576) × IsUtf8 octets × (((parse_document octets ≡ None)
-    × (said ≡ codes "command file: not TOML")) ⊎ ((members : Members) × (parse_document octets ≡ Some members)
+    × SaysNotToml (codes "command file") octets said) ⊎ ((members : Members) × (parse_document octets ≡ Some members)
     × (((end_in members ≡ Err told.Sci) × (said ≡ codes "command file sci: not 16 hex digits"))
     ⊎ ((end : Option (List ℕ)) × (cause : ConfigFault) × (end_in members ≡ Ok end)
-    × (end_commands members ≡ Err cause) × (said ≡ fault_text cause))))))
+    × (end_commands members ≡ Err cause) × (said ≡ fault_text members cause))))))
 said_of octets said (inl long) = inl long
 said_of octets said (inr (inl other)) = inr (inl other)
 said_of octets said (inr (inr (short, utf8, inl none))) = inr (inr (short, utf8, inl none))
@@ -201,19 +205,29 @@ long_mode : (mode : ℕ) → mode / 512 % 8 ≢ 0 → mode_line mode
 long_mode mode other = ap (λ (b : Bool). line (codes "mode " ++ (if b then three_digits mode
     else octal_digit (mode / 512) ∷ three_digits mode))) (ne_eqb (mode / 512 % 8) 0 other)
 
+-- a key of a command that is missing, or wrong
+key_said : (at : ℕ) (name : KeyName) (lacked is : Bool) → lacked ≡ is
+    → codes "command " ++ (decimal at ++ (codes " " ++ (key_word name ++ (codes ": "
+    ++ (if lacked then codes "missing" else key_reason name)))))
+    ≡ codes "command " ++ (decimal at ++ (codes " " ++ (key_word name ++ (codes ": "
+    ++ (if is then codes "missing" else key_reason name)))))
+key_said at name lacked is same = ap (λ (b : Bool). codes "command " ++ (decimal at ++ (codes " " ++ (key_word name
+    ++ (codes ": " ++ (if b then codes "missing" else key_reason name)))))) same
+
 pub check-texts : CheckTexts
 check-texts = record {
   one = refl;
   none = refl;
   several = several;
   said = said_of;
-  shape = refl;
+  shape = λ m. refl;
   no_array = no_array;
   no_table = no_table;
-  word = λ at. refl;
-  of_key = λ at name. refl;
-  extra = λ at. refl;
-  memory = refl;
+  word = λ m at. refl;
+  of_key = λ m at name is. key_said at name (lacks m at name) false is;
+  of_missing = λ m at name is. key_said at name (lacks m at name) true is;
+  extra = λ m at. refl;
+  memory = λ m. refl;
   keys = refl;
   reasons = refl;
   none_tried = λ at. refl;

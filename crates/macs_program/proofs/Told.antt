@@ -10,7 +10,14 @@ use Rattle.macs_control.specs.Asking.{BeginsWithAnswer, unread}
 use Rattle.macs_control.specs.Links.{GivesOctets, Link}
 use Rattle.macs_offline.specs.Applying.{outcome_line, outcome_lines, outcomes_status}
 use Rattle.macs_program.specs.Asking.{AsksForText, BeginsWithOwn, HandsCommands, IsBeforeCommands, IsOfAsking}
-use Rattle.macs_program.specs.Asking.{failure_in, failure_of_other, is_of_endpoint, sci_line}
+use Rattle.macs_program.specs.Asking.{IsForOther, TellsOfSocket, failure_in, failure_of_other, is_of_endpoint, sci_line}
+use Rattle.macs_offline.specs.Checking.{IsSaidOfFile}
+use Rattle.macs_offline.specs.Reasons.{Complains, IsUnread, Tells, TellsOfFile}
+use Rattle.macs_program.specs.Sockets.{socket_text}
+use Rattle.macs_program.specs.declared.socket_reason.SocketReason.{SocketReason}
+use Rattle.std.proofs.Common.{codes}
+use Rattle.macs_words.specs.declared.action.Question.{Question}
+use Rattle.macs_words.specs.declared.action.Question.TheVariants as question
 use Rattle.macs_journal.specs.declared.fault.JournalFault.TheVariants as journal
 use Rattle.macs_offline.specs.declared.failure.DiskFault.TheVariants as disk
 use Rattle.macs_offline.specs.declared.failure.Failure.TheVariants as failures
@@ -86,19 +93,22 @@ own-shown all rest sci text status (Err failure) heard own = tt
 
 -- ---- what comes of it
 
--- no memory, no relay, or no commands
+-- no memory, no relay, no commands, or something that is said
 abbrev pub IsEarly : Failure → Type 0
-IsEarly failure = (failure ≡ Memory) ⊎ (failure ≡ Control) ⊎ (failure ≡ Commands)
+IsEarly failure =
+    (failure ≡ Memory) ⊎ (failure ≡ Control) ⊎ (failure ≡ Commands) ⊎ ((text : _) × (failure ≡ failures.Said text))
 
 early-asking : (failure : Failure) → IsEarly failure → IsOfAsking failure
 early-asking failure (inl memory) = subst IsOfAsking (sym memory) tt
 early-asking failure (inr (inl control)) = subst IsOfAsking (sym control) tt
-early-asking failure (inr (inr commands)) = subst IsOfAsking (sym commands) tt
+early-asking failure (inr (inr (inl commands))) = subst IsOfAsking (sym commands) tt
+early-asking failure (inr (inr (inr (text, said)))) = subst IsOfAsking (sym said) tt
 
 early-no-output : (failure : Failure) → IsEarly failure → failure ≢ Output
 early-no-output failure (inl memory) is = let e = sym memory ∙ is in cc
 early-no-output failure (inr (inl control)) is = let e = sym control ∙ is in cc
-early-no-output failure (inr (inr commands)) is = let e = sym commands ∙ is in cc
+early-no-output failure (inr (inr (inl commands))) is = let e = sym commands ∙ is in cc
+early-no-output failure (inr (inr (inr (text, said)))) is = let e = sym said ∙ is in cc
 
 pub before-commands : (failure : Failure) → IsEarly failure → IsBeforeCommands failure
 before-commands failure early = (early-asking failure early, early-no-output failure early)
@@ -136,9 +146,76 @@ pub no-answer : (failure : Failure) → (failure ≡ Memory) ⊎ (failure ≡ Co
 no-answer failure (inl memory) = inl memory
 no-answer failure (inr control) = inr (inl control)
 
-pub no-commands : (failure : Failure) → (failure ≡ Memory) ⊎ (failure ≡ Commands) → IsEarly failure
-no-commands failure (inl memory) = inl memory
-no-commands failure (inr commands) = inr (inr commands)
+pub complained : (Holds : List ℕ → Type 0) (failure : Failure) → Complains Holds failure → IsEarly failure
+complained Holds failure (inl memory) = inl memory
+complained Holds failure (inr (text, is, holds)) = inr (inr (inr (text, is)))
+
+pub no-commands : (name : List ℕ) (failure : Failure)
+    → IsUnread name failure ⊎ ((octets : List ℕ) × Complains (IsSaidOfFile octets) failure) → IsEarly failure
+no-commands name failure (inl unread) = complained (TellsOfFile (codes "commands") name) failure unread
+no-commands name failure (inr (octets, complains)) = complained (IsSaidOfFile octets) failure complains
+
+complained-asking : (Holds : List ℕ → Type 0) (failure : Failure) → Complains Holds failure → IsOfAsking failure
+complained-asking Holds failure complains = early-asking failure (complained Holds failure complains)
+
+complained-no-output : (Holds : List ℕ → Type 0) (failure : Failure) → Complains Holds failure → failure ≢ Output
+complained-no-output Holds failure complains = early-no-output failure (complained Holds failure complains)
+
+other-asking : (asked : Question) (failure : Failure) → IsForOther asked failure → IsOfAsking failure
+other-asking question.Show failure is = subst IsOfAsking (sym is) tt
+other-asking question.Counters failure is = subst IsOfAsking (sym is) tt
+other-asking question.Stop failure is = subst IsOfAsking (sym is) tt
+other-asking (question.Apply file) failure complains =
+    complained-asking (Tells (codes "commands") file.now (codes "for another end")) failure complains
+
+other-no-output : (asked : Question) (failure : Failure) → IsForOther asked failure → failure ≢ Output
+other-no-output question.Show failure is = λ e. let f = sym is ∙ e in cc
+other-no-output question.Counters failure is = λ e. let f = sym is ∙ e in cc
+other-no-output question.Stop failure is = λ e. let f = sym is ∙ e in cc
+other-no-output (question.Apply file) failure complains =
+    complained-no-output (Tells (codes "commands") file.now (codes "for another end")) failure complains
+
+-- nobody is asked, for this reason
+pub not-connected : (name : List ℕ) (why : SocketReason) (failure : Failure)
+    → Complains (Tells (codes "control") name (socket_text why)) failure → TellsOfSocket name failure
+not-connected name why failure (inl memory) = inl memory
+not-connected name why failure (inr (text, is, tells)) = inr (text, is, (why, tells))
+
+pub not-reached : (name : List ℕ) (failure : Failure) → TellsOfSocket name failure → IsEarly failure
+not-reached name failure (inl memory) = inl memory
+not-reached name failure (inr (text, is, tells)) = inr (inr (inr (text, is)))
+
+-- a failure says of which socket or file it is
+pub record Named (IsGone : List ℕ → Type 0) (asked : Question) (failure named : Failure) : Type 0 where
+  pub gone : failure ≡ Control → Complains IsGone named
+  pub other : failure ≡ Commands → IsForOther asked named
+  pub same : failure ≢ Control → failure ≢ Commands → named ≡ failure
+
+module _ (IsGone : List ℕ → Type 0) (asked : Question) where
+  pub named-asking : (failure named : Failure) → IsOfAsking failure → Named IsGone asked failure named
+      → IsOfAsking named
+  named-asking Control named ours is = complained-asking IsGone named (is.gone refl)
+  named-asking Commands named ours is = other-asking asked named (is.other refl)
+  named-asking (failures.Disk fault) named ours is =
+      subst IsOfAsking (sym (is.same (λ e. cc) (λ e. cc))) ours
+  named-asking (failures.Said text) named ours is = subst IsOfAsking (sym (is.same (λ e. cc) (λ e. cc))) ours
+  named-asking Memory named ours is = subst IsOfAsking (sym (is.same (λ e. cc) (λ e. cc))) ours
+  named-asking Output named ours is = subst IsOfAsking (sym (is.same (λ e. cc) (λ e. cc))) ours
+  named-asking failure named ours is = absurd ours
+
+  pub output-named : (failure named : Failure) → IsOfAsking failure → Named IsGone asked failure named
+      → named ≡ Output → failure ≡ Output
+  output-named Control named ours is e = absurd (complained-no-output IsGone named (is.gone refl) e)
+  output-named Commands named ours is e = absurd (other-no-output asked named (is.other refl) e)
+  output-named (failures.Disk fault) named ours is e = sym (is.same (λ e. cc) (λ e. cc)) ∙ e
+  output-named (failures.Said text) named ours is e = sym (is.same (λ e. cc) (λ e. cc)) ∙ e
+  output-named Memory named ours is e = sym (is.same (λ e. cc) (λ e. cc)) ∙ e
+  output-named Output named ours is e = refl
+  output-named failure named ours is e = absurd ours
+
+  pub named-output : (failure named : Failure) → Named IsGone asked failure named → named ≢ Output → failure ≢ Output
+  named-output failure named is other output =
+      other (is.same (λ e. let f = sym output ∙ e in cc) (λ e. let f = sym output ∙ e in cc) ∙ output)
 
 module _ {W : Type 0} (contents : W → Option (List ℕ)) (has_failed : W → Bool) (before : W) where
   -- no text comes, and nothing is printed

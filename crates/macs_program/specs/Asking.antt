@@ -15,6 +15,9 @@ use Rattle.macs_record.specs.Sectors.{Begins}
 use Rattle.macs_words.specs.declared.action.Question.{Question}
 use Rattle.macs_words.specs.declared.action.Question.TheVariants.{Apply}
 use Rattle.macs_offline.specs.Applying.{SaidByFile, outcome_lines, outcomes_status}
+use Rattle.macs_offline.specs.Reasons.{Complains, Tells}
+use Rattle.macs_program.specs.Sockets.{socket_text}
+use Rattle.macs_program.specs.declared.socket_reason.SocketReason.{SocketReason}
 use Rattle.macs_offline.specs.declared.failure.DiskFault.TheVariants as disk
 use Rattle.macs_offline.specs.declared.failure.Failure.{Failure}
 use Rattle.macs_offline.specs.declared.failure.Failure.TheVariants as failures
@@ -36,14 +39,26 @@ PrintsFront (Apply file) before after = (outcomes : List (Option Refusal))
     × Appends before after (outcome_lines 1 outcomes)
 PrintsFront asked before after = after ≡ before
 
--- the failures of `ask`: nobody answers, or the relay ended; the command file, memory and standard output
+-- the failures of `ask`: nobody answers, or the relay ended; the command file, something that is said, memory and
+-- standard output
 abbrev pub IsOfAsking : Failure → Type 0
 IsOfAsking (failures.Disk (disk.Journal journal.Stopped)) = ⊤
 IsOfAsking failures.Control = ⊤
 IsOfAsking failures.Commands = ⊤
+IsOfAsking (failures.Said text) = ⊤
 IsOfAsking failures.Memory = ⊤
 IsOfAsking failures.Output = ⊤
 IsOfAsking other = ⊥
+
+-- a failure says why nobody is asked at the socket of this name
+abbrev pub TellsOfSocket : List ℕ → Failure → Type 0
+TellsOfSocket name failure =
+    Complains (λ said. (why : SocketReason) × Tells (codes "control") name (socket_text why) said) failure
+
+-- and that a command file is for another end
+abbrev pub IsForOther : Question → Failure → Type 0
+IsForOther (Apply file) failure = Complains (Tells (codes "commands") file.now (codes "for another end")) failure
+IsForOther asked failure = failure ≡ failures.Commands
 
 -- before a command is sent they are these, but for standard output
 abbrev pub IsBeforeCommands : Failure → Type 0

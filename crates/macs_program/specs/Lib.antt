@@ -22,3 +22,4 @@ pub mod AskWords
 pub mod ExamineTexts
 pub mod PlanTexts
 pub mod CaptureOctets
+pub mod Sockets

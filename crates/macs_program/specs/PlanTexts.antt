@@ -25,6 +25,7 @@ use Rattle.macs_words.specs.declared.plan_words.PlanEnd.TheVariants as plan_end
 use Rattle.macs_words.specs.declared.plan_words.PlanStage.TheVariants as plan_stage
 use Rattle.macs_offline.specs.Plans.{IsSaidOfLink, PlansFile, RefusesLink, SaysWhy, end_of, link_refusal, name_reason}
 use Rattle.macs_offline.specs.Plans.{name_word, plan_fault_text, stage_of}
+use Rattle.macs_offline.specs.TomlPlaces.{SaysNotToml}
 use Rattle.macs_offline.specs.declared.failure.Failure.{Failure}
 use Rattle.macs_offline.specs.declared.failure.Failure.TheVariants as failures
 use Rattle.macs_offline.specs.declared.failure.LinkRefusal.{LinkRefusal}
@@ -50,7 +51,7 @@ pub record PlanTexts : Type 0 where
       → ((1048576 < length octets) × (said ≡ codes "link file: more than 1048576 octets"))
       ⊎ ((length octets ≤ 1048576) × (¬ IsUtf8 octets) × (said ≡ codes "link file: not UTF-8"))
       ⊎ ((length octets ≤ 1048576) × IsUtf8 octets × (((parse_document octets ≡ None)
-      × (said ≡ codes "link file: not TOML")) ⊎ ((members : Members) × (parse_document octets ≡ Some members)
+      × SaysNotToml (codes "link file") octets said) ⊎ ((members : Members) × (parse_document octets ≡ Some members)
       × (fault : PlanFault) × (file_planned members end stage ≡ Err fault) × (link_refusal fault ≡ None)
       × (said ≡ plan_fault_text fault))))
   pub refused : (end : End) (stage : Stage) (octets : List ℕ) (refusal : LinkRefusal)
@@ -59,7 +60,7 @@ pub record PlanTexts : Type 0 where
       × (fault : PlanFault) × (file_planned members end stage ≡ Err fault) × (link_refusal fault ≡ Some refusal)
   pub why : (end : End) (stage : Stage) (octets : List ℕ) (failure : Failure) → SaysWhy end stage octets failure
       → (failure ≡ failures.Memory)
-      ⊎ ((said : _) × (failure ≡ failures.CommandFile said) × IsSaidOfLink end stage octets (string_bytes said))
+      ⊎ ((said : _) × (failure ≡ failures.Said said) × IsSaidOfLink end stage octets (string_bytes said))
       ⊎ ((refusal : LinkRefusal) × (failure ≡ failures.Link refusal) × RefusesLink end stage octets refusal)
   pub refusals : map link_refusal (plan.SameSci ∷ plan.SameKey ∷ plan.AnInUse ∷ [])
       ≡ Some wrong.SameSci ∷ Some wrong.SameKey ∷ Some wrong.AnInUse ∷ []

@@ -156,11 +156,12 @@ FailsAs state_of left_in (Relay disk controlled common running) octets before af
     ⊎ RelayEndsIn state_of (course_of running) failure
 FailsAs state_of left_in (Ask path asked) octets before after failure = IsOfAsking failure
 FailsAs state_of left_in (Key is_long) octets before after failure = IsOfKey failure
-FailsAs state_of left_in (Inspect from) octets before after failure = InspectFails before after failure
-FailsAs state_of left_in (Check file disk) octets before after failure = CheckEnds state_of left_in disk failure
+FailsAs state_of left_in (Inspect from) octets before after failure = InspectFails from.now before after failure
+FailsAs state_of left_in (Check file disk) octets before after failure =
+    CheckEnds state_of left_in file.now disk failure
 FailsAs state_of left_in (Plan file end stage) octets before after failure =
-    PlanFails left_in (end_of end) (stage_of stage) failure
-FailsAs state_of left_in (Examine disk) octets before after failure = ExamineFails state_of failure
+    PlanFails left_in file.now (end_of end) (stage_of stage) failure
+FailsAs state_of left_in (Examine disk) octets before after failure = ExamineFails state_of disk.now failure
 FailsAs state_of left_in About octets before after failure = (failure ≡ Memory) ⊎ (failure ≡ Output)
 
 -- it is one that reads no standard input and opens no disk file to write it

@@ -75,16 +75,17 @@ use Rattle.macs_offline.specs.Opened.{Answers, answer_status, answer_text}
 use Rattle.macs_offline.specs.Applying.{Applies, SaidByFile, SaysCommands, commit_fault, outcome_lines}
 use Rattle.macs_offline.specs.Applying.{outcomes_status}
 use Rattle.macs_program.specs.Capturing.{EndsPass, PassesCapture}
-use Rattle.macs_offline.specs.Checking.{Complains, IsSaidOfFile, count_line}
+use Rattle.macs_offline.specs.Checking.{IsSaidOfFile, count_line}
 use Rattle.macs_offline.specs.Copying.{CopyFails, IsCopy}
 use Rattle.macs_program.specs.Endpoints.{BreaksOffIn, PassEndsIn}
 use Rattle.macs_offline.specs.Openings.{IsEndpointIn, OpeningFails}
 use Rattle.macs_offline.specs.Examining.{examined_text, fault_line, figures_of}
-use Rattle.macs_offline.specs.Failing.{failure_of_capture, failure_of_file, failure_of_words}
+use Rattle.macs_offline.specs.Failing.{failure_of_file, failure_of_words}
 use Rattle.macs_offline.specs.FileModes.{mode_warning}
 use Rattle.macs_offline.specs.FirstFault.{IsFirstFault}
 use Rattle.macs_program.specs.Inputs.{InputRead}
-use Rattle.macs_offline.specs.Inspecting.{AreLinesOf, InspectsCapture, RunsCapture, StopsCapture}
+use Rattle.macs_offline.specs.Inspecting.{AreLinesOf, FailsSo, InspectsCapture, RunsCapture, StopsCapture}
+use Rattle.macs_offline.specs.Reasons.{Complains, ComplainsOfDisk, TellsOfFile}
 use Rattle.macs_program.specs.Judging.{EndsEach, JudgesCapture, JudgingEndsIn, verdict_lines}
 use Rattle.macs_offline.specs.Keys.{PrintsKey, key_octets}
 use Rattle.macs_program.specs.NewDisks.{FormatFails, MakesEndpoint, Permits}
@@ -98,6 +99,8 @@ use Rattle.macs_offline.specs.Trying.{EndsOn, failure_in_memory, trial_report}
 use Rattle.macs_offline.specs.Values.{SpellsIdentity, SpellsLayout, ValueFaultHolds, value_faults}
 use Rattle.macs_offline.specs.declared.addresses.AddressFault.{AddressFault}
 use Rattle.macs_offline.specs.declared.opened.Opened.{Opened}
+use Rattle.macs_offline.specs.declared.stop.Stop.{Stop}
+use Rattle.macs_offline.specs.declared.stop.Stop.TheVariants as stops
 use Rattle.macs_offline.specs.declared.failure.DiskFault.{DiskFault}
 use Rattle.macs_offline.specs.declared.failure.DiskFault.TheVariants as disk
 use Rattle.macs_offline.specs.declared.failure.Failure.{Failure}
@@ -248,8 +251,8 @@ pub record ReplyWords {F : Type 0} (file : F → FileState) (left_in : F → Opt
       × (room : ℕ) × (frame : List ℕ) × ReadsRecord header.big (length records) room until new frame (Ok None)
   pub runs : (old new : SourceState) (before after : Option (List ℕ)) (status : Status)
       → RunsCapture old before (Ok status) new after → InspectsCapture old before new after × (status ≡ ends.Done)
-  pub stops : (old new : SourceState) (before after : Option (List ℕ)) (failure : Failure)
-      → RunsCapture old before (Err failure) new after → StopsCapture old before failure new after
+  pub stops : (old new : SourceState) (before after : Option (List ℕ)) (stop : Stop)
+      → RunsCapture old before (Err stop) new after → StopsCapture old before stop new after
   pub tried : (from path : Bor Text) (input : InputRead) (before after : Option (List ℕ)) (status : Status)
       → Does file left_in (Check from (Some path)) input before after status
       → (octets : List ℕ) × (end : Option (List ℕ)) × (commands : List Command) × SaysCommands octets end commands
@@ -306,8 +309,7 @@ pub record FailWords {F : Type 0} (file : F → FileState) (left_in : F → Opti
       → OpeningFails file failure ⊎ (failure ≡ failures.Memory) ⊎ (failure ≡ failures.Output)
   pub of_examine : (path : Bor Text) (input : InputRead) (before after : Option (List ℕ)) (failure : Failure)
       → FailsAs file left_in (Examine path) input before after failure
-      → (failure ≡ failures.Output) ⊎ ((fault : FileFault) × (failure ≡ failure_of_file fault)
-      × (fault ≢ file_fault.Length) × (fault ≢ file_fault.Device))
+      → (failure ≡ failures.Output) ⊎ ComplainsOfDisk (TellsOfFile (codes "disk file") path.now) failure
       ⊎ ((disk_file : F) × CopyFails (file disk_file) failure)
       ⊎ ((disk_file : F) × (copy : MemDisk Global) × (layout : Layout)
       × (Behaves (file disk_file) → ((file disk_file).size % 512 ≡ 0) × (1028 ≤ (file disk_file).size / 512)
@@ -344,16 +346,18 @@ pub record FailWords {F : Type 0} (file : F → FileState) (left_in : F → Opti
       (failure : Failure) → FailsAs file left_in (Ask path asked) input before after failure
       → (failure ≡ failures.Disk (disk.Journal journal.Stopped)) ⊎ (failure ≡ failures.Control)
       ⊎ (failure ≡ failures.Commands) ⊎ (failure ≡ failures.Memory) ⊎ (failure ≡ failures.Output)
+      ⊎ ((said : _) × (failure ≡ failures.Said said))
   pub of_key : (is_long : Bool) (input : InputRead) (before after : Option (List ℕ)) (failure : Failure)
       → FailsAs file left_in (Key is_long) input before after failure
       → (failure ≡ failures.Random) ⊎ (failure ≡ failures.Output)
   pub of_inspect : (from : Bor Text) (input : InputRead) (before after : Option (List ℕ)) (failure : Failure)
       → FailsAs file left_in (Inspect from) input before after failure
-      → (((failure ≡ failures.Memory) ⊎ (failure ≡ failures.Capture)) × (after ≡ before))
-      ⊎ ((old : SourceState) × (new : SourceState) × StopsCapture old before failure new after)
-  pub inspecting : (old : SourceState) (before : Option (List ℕ)) (failure : Failure) (new : SourceState)
-      (after : Option (List ℕ)) → StopsCapture old before failure new after
-      → ((fault : PcapFault) × ReadsHeader old new (Err fault) × (failure ≡ failure_of_capture fault)
+      → (Complains (TellsOfFile (codes "capture") from.now) failure × (after ≡ before))
+      ⊎ ((old : SourceState) × (new : SourceState) × (stop : Stop) × StopsCapture old before stop new after
+      × FailsSo from.now stop failure)
+  pub inspecting : (old : SourceState) (before : Option (List ℕ)) (stop : Stop) (new : SourceState)
+      (after : Option (List ℕ)) → StopsCapture old before stop new after
+      → ((fault : PcapFault) × ReadsHeader old new (Err fault) × (stop ≡ stops.Header fault)
       × (after ≡ before))
       ⊎ ((header : Header) × (behind : SourceState) × ReadsHeader old behind (Ok header)
       × (records : List CaptureRecord) × (until : SourceState) × (between : Option (List ℕ))
@@ -361,22 +365,24 @@ pub record FailWords {F : Type 0} (file : F → FileState) (left_in : F → Opti
       × (text : List ℕ) × AreLinesOf 1 records text × Appends before between text
       × (((fault : PcapFault) × (room : ℕ) × (frame : List ℕ)
       × ReadsRecord header.big (length records) room until new frame (Err fault)
-      × (failure ≡ failure_of_capture fault) × (after ≡ between))
-      ⊎ ((failure ≡ failures.Memory) × (after ≡ between)) ⊎ (failure ≡ failures.Output)))
+      × (stop ≡ stops.Record fault) × (after ≡ between))
+      ⊎ ((stop ≡ stops.Memory) × (after ≡ between)) ⊎ (stop ≡ stops.Output)))
   pub of_about : (input : InputRead) (before after : Option (List ℕ)) (failure : Failure)
       → FailsAs file left_in About input before after failure
       → (failure ≡ failures.Memory) ⊎ (failure ≡ failures.Output)
   pub of_check : (from : Bor Text) (input : InputRead) (before after : Option (List ℕ)) (failure : Failure)
       → FailsAs file left_in (Check from None) input before after failure
-      → (failure ≡ failures.Commands) ⊎ (failure ≡ failures.Output) ⊎ (failure ≡ failures.Memory)
-      ⊎ ((octets : List ℕ) × (said : _) × (failure ≡ failures.CommandFile said)
+      → Complains (TellsOfFile (codes "commands") from.now) failure ⊎ (failure ≡ failures.Output)
+      ⊎ (failure ≡ failures.Memory)
+      ⊎ ((octets : List ℕ) × (said : _) × (failure ≡ failures.Said said)
       × IsSaidOfFile octets (string_bytes said)
       × (from_file : F) × IfSome (left_in from_file) (λ all. Complains (IsSaidOfFile all) failure))
   pub of_plan : (from : Bor Text) (end : PlanEnd) (stage : PlanStage) (input : InputRead)
       (before after : Option (List ℕ)) (failure : Failure)
       → FailsAs file left_in (Plan from end stage) input before after failure
-      → (failure ≡ failures.Commands) ⊎ (failure ≡ failures.Output) ⊎ (failure ≡ failures.Memory)
-      ⊎ ((octets : List ℕ) × (((said : _) × (failure ≡ failures.CommandFile said)
+      → Complains (TellsOfFile (codes "commands") from.now) failure ⊎ (failure ≡ failures.Output)
+      ⊎ (failure ≡ failures.Memory)
+      ⊎ ((octets : List ℕ) × (((said : _) × (failure ≡ failures.Said said)
       × IsSaidOfLink (end_of end) (stage_of stage) octets (string_bytes said))
       ⊎ ((refusal : LinkRefusal) × (failure ≡ failures.Link refusal)
       × RefusesLink (end_of end) (stage_of stage) octets refusal))
@@ -386,8 +392,7 @@ pub record FailWords {F : Type 0} (file : F → FileState) (left_in : F → Opti
       → FailsAs file left_in (Check from (Some path)) input before after failure
       → FailsAs file left_in (Check from None) input before after failure
       ⊎ ((octets : List ℕ) × (end : Option (List ℕ)) × (commands : List Command) × SaysCommands octets end commands
-      × SaidByFile left_in end commands × (((fault : FileFault) × (failure ≡ failure_of_file fault)
-      × (fault ≢ file_fault.Length) × (fault ≢ file_fault.Device))
+      × SaidByFile left_in end commands × (ComplainsOfDisk (TellsOfFile (codes "disk file") path.now) failure
       ⊎ ((disk_file : F) × CopyFails (file disk_file) failure)
       ⊎ ((disk_file : F) × (copy : MemDisk Global)
       × (Behaves (file disk_file) → ((file disk_file).size % 512 ≡ 0) × (1028 ≤ (file disk_file).size / 512)

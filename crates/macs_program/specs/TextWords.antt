@@ -49,11 +49,12 @@ use Rattle.macs_texts.specs.Counting.{verdict_words}
 use Rattle.macs_texts.specs.Refusals.{refusal_name}
 use Rattle.macs_words.specs.declared.action.UsageFault.TheVariants as usage
 use Rattle.macs_words.specs.declared.action.WireEnds.{WireEnds}
+use Rattle.macs_offline.specs.TomlPlaces.{SaysNotToml}
 use Rattle.macs_offline.specs.Addresses.{AddressFaultHolds, SpellsNone, address_faults}
 use Rattle.macs_offline.specs.Opened.{answer_status, answer_text, refusal_text, valid_text}
 use Rattle.macs_offline.specs.Applying.{longest_file, outcome_lines}
 use Rattle.macs_program.specs.Asking.{failure_in}
-use Rattle.macs_offline.specs.Checking.{IsSaidOfFile, count_line, fault_text, key_reason, key_word}
+use Rattle.macs_offline.specs.Checking.{IsSaidOfFile, count_line, fault_text, key_reason, key_word, lacks}
 use Rattle.macs_offline.specs.Failing.{address_fault_text, disk_fault_text, failure_of_asking, failure_of_bind}
 use Rattle.macs_offline.specs.Failing.{failure_of_capture, failure_of_commands, failure_of_control, failure_of_file}
 use Rattle.macs_offline.specs.Failing.{failure_of_journal, failure_of_run, failure_of_words, failure_status}
@@ -166,8 +167,10 @@ pub record FailureTexts : Type 0 where
       × (failure_status (failures.Input fault) ≡ ends.Fault)
   pub of_usage : (cause : _) → (failure_text (failures.Usage cause) ≡ string_bytes cause)
       × (failure_status (failures.Usage cause) ≡ ends.Usage)
-  pub of_file : (cause : _) → (failure_text (failures.CommandFile cause) ≡ string_bytes cause)
-      × (failure_status (failures.CommandFile cause) ≡ ends.Fault)
+  pub of_file : (cause : _) → (failure_text (failures.Said cause) ≡ string_bytes cause)
+      × (failure_status (failures.Said cause) ≡ ends.Fault)
+  pub of_disk_file : (cause : _) → (failure_text (failures.DiskFile cause) ≡ string_bytes cause)
+      × (failure_status (failures.DiskFile cause) ≡ ends.Disk)
   pub other_end : (failure_text failures.OtherEnd ≡ codes "command file sci: not that of DISK")
       × (failure_status failures.OtherEnd ≡ ends.Fault)
   pub of_link : (refusal : LinkRefusal) → (failure_text (failures.Link refusal) ≡ link_refusal_text refusal)
@@ -285,21 +288,26 @@ pub record CheckTexts : Type 0 where
       → ((1048576 < length octets) × (said ≡ codes "command file: more than 1048576 octets"))
       ⊎ ((length octets ≤ 1048576) × (¬ IsUtf8 octets) × (said ≡ codes "command file: not UTF-8"))
       ⊎ ((length octets ≤ 1048576) × IsUtf8 octets × (((parse_document octets ≡ None)
-      × (said ≡ codes "command file: not TOML")) ⊎ ((members : Members) × (parse_document octets ≡ Some members)
+      × SaysNotToml (codes "command file") octets said) ⊎ ((members : Members) × (parse_document octets ≡ Some members)
       × (((end_in members ≡ Err told.Sci) × (said ≡ codes "command file sci: not 16 hex digits"))
       ⊎ ((end : Option (List ℕ)) × (fault : ConfigFault) × (end_in members ≡ Ok end)
-      × (end_commands members ≡ Err fault) × (said ≡ fault_text fault))))))
-  pub shape : fault_text config.Shape ≡ codes "command file: not sci and tables [[command]] alone"
+      × (end_commands members ≡ Err fault) × (said ≡ fault_text members fault))))))
+  pub shape : (m : Members) → fault_text m config.Shape ≡ codes "command file: not sci and tables [[command]] alone"
   pub no_array : (m : Members) (other : Data) → get_member (codes "command") m ≡ Some other
       → ((items : Items) → other ≢ array items) → end_commands m ≡ Err config.Shape
   pub no_table : (m : Members) (items : Items) → get_member (codes "command") m ≡ Some (array items)
       → are_tables items ≡ false → end_commands m ≡ Err config.Shape
-  pub word : (at : ℕ) → fault_text (config.Word at) ≡ codes "command " ++ (decimal at ++ codes " do: not a command")
-  pub of_key : (at : ℕ) (name : KeyName) → fault_text (config.Key at name)
+  pub word : (m : Members) (at : ℕ) → fault_text m (config.Word at)
+      ≡ codes "command " ++ (decimal at ++ codes " do: not a command")
+  pub of_key : (m : Members) (at : ℕ) (name : KeyName) → lacks m at name ≡ false
+      → fault_text m (config.Key at name)
       ≡ codes "command " ++ (decimal at ++ (codes " " ++ (key_word name ++ (codes ": " ++ key_reason name))))
-  pub extra : (at : ℕ) → fault_text (config.Extra at)
+  pub of_missing : (m : Members) (at : ℕ) (name : KeyName) → lacks m at name ≡ true
+      → fault_text m (config.Key at name)
+      ≡ codes "command " ++ (decimal at ++ (codes " " ++ (key_word name ++ (codes ": " ++ codes "missing"))))
+  pub extra : (m : Members) (at : ℕ) → fault_text m (config.Extra at)
       ≡ codes "command " ++ (decimal at ++ codes ": a key that it does not have")
-  pub memory : fault_text config.Memory ≡ codes "memory"
+  pub memory : (m : Members) → fault_text m config.Memory ≡ codes "memory"
   pub keys : map key_word (key.Mode ∷ key.On ∷ key.Window ∷ key.An ∷ key.Key ∷ key.Start ∷ key.Confidential
       ∷ key.Offset ∷ key.Sci ∷ [])
       ≡ codes "mode" ∷ codes "on" ∷ codes "window" ∷ codes "an" ∷ codes "key" ∷ codes "start"

@@ -1,29 +1,36 @@
 //! `ask`: what a running relay is asked over its control socket, and what it answers.
 
 ghost use Rattle.std.specs.Prelude.{◌≡◌, ◌≢◌, ◌⊎◌, ◌↔◌, ◌++◌, ℕ, List, Option, None, is_some, true};
-ghost use Rattle.std.specs.Prelude.{IfErr, IfOk, IfSome, IsTrue, Ok, OnOk, string_bytes};
+ghost use Rattle.std.specs.Prelude.{IfErr, IfOk, IfSome, IsTrue, Ok, OnOk, codes, string_bytes};
 ghost use Rattle.std.specs.Io.KnownBytes.{Appends};
+ghost use Rattle.std.specs.IoError.{error_kind};
 ghost use Rattle.macs_config.specs.declared.refusal.Refusal.{Refusal};
 ghost use Rattle.macs_control.specs.Asking.{BeginsWithAnswer};
 ghost use Rattle.macs_offline.specs.Applying.{outcome_line};
+ghost use Rattle.macs_offline.specs.Reasons.{Complains, Tells};
 ghost use Rattle.macs_program.specs.Asking.{AsksForText, BeginsWithEnd, BeginsWithOwn};
+ghost use Rattle.macs_program.specs.Asking.{IsForOther, TellsOfSocket};
+ghost use Rattle.macs_program.specs.Sockets.{socket_reason, socket_text};
 ghost use Rattle.macs_program.specs.Asking.{HandsCommands, IsBeforeCommands, IsForRelay};
 ghost use Rattle.macs_program.specs.Asking.{IsOfAsking, PrintsAnswer, PrintsFront, failure_in};
 ghost use Rattle.macs_program.specs.Asking.{failure_of_other, is_of_endpoint, sci_line, unread_by};
 ghost use Rattle.macs_record.specs.Sectors.{Begins};
 ghost use Rattle.macs_texts.specs.Refusals.{refusal_name};
 
+use crate::socket_reason::{SocketReason, socket_reason};
 use macs_config::{Command, Refusal};
 use macs_control::{Answer, Asker, Connection, PatientStream};
 use macs_fields::Sci;
 use macs_journal::JournalFault;
+use macs_offline::check::commands_told;
 use macs_offline::{
-    DiskFault, Failure, Status, Stream, commands_of_file, outcome_line, print_octets, status_after,
+    DiskFault, Failure, Status, Stream, failure_told, outcome_line, print_octets, status_after,
 };
 use macs_requests::{Request, line_of_request};
 use macs_texts::{ended, refusal_name};
 use macs_words::Question;
 use std::alloc::{AllocError, Global};
+use std::io;
 use std::net::Net;
 use std::rt::Files;
 
@@ -46,13 +53,23 @@ const REFUSALS: [Refusal; 12] = [
 /// What the text of each endpoint begins with.
 const SCI_WORD: &[u8] = b"sci ";
 
-/// Who asks the relay that listens at a name. It fails as `Control`, where none does.
-fn asker_at<N: Net>(net: &N, path: &str) -> Result<Asker<PatientStream>, Failure>
-    ensures { IfErr result (λ failure. failure ≡ Failure.Control) }
+/// The failure that an error of a connection is: its reason is said, unless there is no memory.
+fn failure_of_connection(alloc: Global, path: &str, error: io::Error) -> Failure
+    ensures { Complains (Tells (codes "control") path.now
+        (socket_text (socket_reason (error_kind error)))) result }
+{
+    let reason = socket_reason(error.kind());
+    failure_told(alloc, "control", path, reason.text())
+}
+
+/// Who asks the relay that listens at a name. It fails as `Said` with the reason, where none does,
+/// and as `Memory`.
+fn asker_at<N: Net>(net: &N, alloc: Global, path: &str) -> Result<Asker<PatientStream>, Failure>
+    ensures { IfErr result (TellsOfSocket path.now) }
 {
     match PatientStream::connect(net, path) {
-        Some(stream) => Ok(Asker::over(stream)),
-        None => Err(Failure::Control),
+        Ok(stream) => Ok(Asker::over(stream)),
+        Err(error) => Err(failure_of_connection(alloc, path, error)),
     }
 }
 
@@ -108,7 +125,7 @@ fn ask_once<N: Net, W: Stream>(
 ) -> Result<Status, Failure>
     ensures { AsksForText W.contents W.failed out.old result out.new }
 {
-    let mut asker = asker_at(net, path)?;
+    let mut asker = asker_at(net, alloc, path)?;
     let answer = answer_to(alloc, &mut asker, &request)?;
     print_answer(&answer, out)
 }
@@ -122,7 +139,7 @@ fn ask_stop<N: Net, W: Stream>(
 ) -> Result<Status, Failure>
     ensures { AsksForText W.contents W.failed out.old result out.new }
 {
-    let mut asker = asker_at(net, path)?;
+    let mut asker = asker_at(net, alloc, path)?;
     let answer = answer_to(alloc, &mut asker, &Request::Stop)?;
     asker.outlast();
     print_answer(&answer, out)
@@ -303,7 +320,7 @@ fn apply_file<T: Files, S: Connection, W: Stream>(
     ensures own { IsForRelay T.File.remaining (unread_by S.link asker.old)
         (W.contents out.old) result (W.contents out.new) }
 {
-    let told = commands_of_file(rt, alloc, file)?;
+    let told = commands_told(rt, alloc, file)?;
     find_end(alloc, asker, told.end)?;
     apply_each(alloc, asker, told.commands.as_slice(), out)
 }
@@ -318,16 +335,16 @@ fn ask_apply<T: Files + Net, W: Stream>(
 ) -> Result<Status, Failure>
     ensures { HandsCommands W.contents W.failed out.old result out.new }
 {
-    let mut asker = asker_at(rt, path)?;
+    let mut asker = asker_at(rt, alloc, path)?;
     apply_file(rt, alloc, &mut asker, file, out)
 }
 
-/// `ask`: asks a running relay, and prints its answer. It fails first as `Control`, where no relay
-/// is at the socket; then for the command file, as `Commands`. A file that names its end is refused
-/// so too where the relay's endpoint has another SCI: before the first command the relay is asked
-/// for its text. Then it fails as `Disk` with `Stopped`, where the relay ended before it answered a
-/// command; and as `Control`, where it went away, or gave no answer that a relay gives.
-pub fn ask<T: Files + Net, W: Stream>(
+/// Asks a running relay, and prints its answer. It fails first as `Said`, where no relay is at the
+/// socket; then for the command file, as `Said`, and as `Commands` where the file names an end and
+/// the relay's endpoint has another SCI: before the first command the relay is asked for its text.
+/// Then it fails as `Disk` with `Stopped`, where the relay ended before it answered a command; and
+/// as `Control`, where it went away, or gave no answer that a relay gives.
+fn put_question<T: Files + Net, W: Stream>(
     rt: &T,
     alloc: Global,
     path: &str,
@@ -346,5 +363,47 @@ pub fn ask<T: Files + Net, W: Stream>(
         Question::Counters => ask_once(rt, alloc, path, Request::Counters, out),
         Question::Stop => ask_stop(rt, alloc, path, out),
         Question::Apply(file) => ask_apply(rt, alloc, path, file, out),
+    }
+}
+
+/// The failure that says of which socket or file it is, for one that does not.
+fn named_failure(alloc: Global, path: &str, question: Question, failure: Failure) -> Failure
+    ensures gone { failure ≡ Failure.Control
+        → Complains (Tells (codes "control") path.now (socket_text SocketReason.NoAnswer)) result }
+    ensures other_end { failure ≡ Failure.Commands → IsForOther question.entry result }
+    ensures same { failure ≢ Failure.Control → failure ≢ Failure.Commands
+        → result ≡ failure }
+{
+    match failure {
+        Failure::Control => { failure_told(alloc, "control", path, SocketReason::NoAnswer.text()) }
+        Failure::Commands => match question {
+            Question::Apply(file) => failure_told(alloc, "commands", file, "for another end"),
+            _ => Failure::Commands,
+        },
+        other => other,
+    }
+}
+
+/// `ask`: asks a running relay, and prints its answer. It fails as `Said`, with the reason, where
+/// no relay is at the socket, or gives no answer; where the command file cannot be read, has a
+/// fault, or names an end and the relay's endpoint has another SCI; as `Disk` with `Stopped`, where
+/// the relay ended before it answered a command; as `Memory`; and as `Output`.
+pub fn ask<T: Files + Net, W: Stream>(
+    rt: &T,
+    alloc: Global,
+    path: &str,
+    question: Question,
+    out: &mut W,
+) -> Result<Status, Failure>
+    ensures printed { IfOk result
+        (PrintsAnswer question.entry (W.contents out.old) (W.contents out.new)) }
+    ensures failed { IfErr result IsOfAsking }
+    ensures front { IfErr result (λ failure. failure ≢ Failure.Output
+        → PrintsFront question.entry (W.contents out.old) (W.contents out.new)) }
+    ensures broken { IfErr result (λ failure. failure ≡ Failure.Output → W.failed out.new ≡ true) }
+{
+    match put_question(rt, alloc, path, question, out) {
+        Ok(status) => Ok(status),
+        Err(failure) => Err(named_failure(alloc, path, question, failure)),
     }
 }

@@ -16,6 +16,7 @@ mod on_disk;
 pub mod overruns;
 mod relaying;
 pub mod run;
+mod socket_reason;
 mod watch;
 
 pub use input::{Input, InputText, ReadFailed, ReaderInput};

@@ -22,5 +22,6 @@ mod usage;
 pub use action::{Action, Question, UsageFault, WireEnds};
 pub use help::{Subcommand, Topic, topic_of};
 pub use pace::{Milliseconds, Pace, Running};
+pub use plain_text::printable;
 pub use plan_words::{PlanEnd, PlanStage};
 pub use usage::action_of;

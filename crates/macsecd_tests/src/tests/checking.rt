@@ -1,9 +1,11 @@
 //! Whether the commands of a file can be read.
 
 use super::captures::SENDER;
-use super::stories::Step::{Closing, Filled, Hex, Keeping, Mode, Run, Text};
+use super::stand_in::Broken::{Opening, Read};
+use super::stories::Step::{Closing, Failing, Filled, Hex, Keeping, Mode, Run, Text};
 use super::stories::{Step, play};
 use macsecd_fixtures::Outcome;
+use std::io::ErrorKind;
 use std::test::Fail;
 
 const CHECKED: &[Step] = &[
@@ -37,7 +39,29 @@ const CHECKED: &[Step] = &[
     ),
     Run(
         &["check", "story-check/missing"],
-        Outcome::Fault("macsecd: commands\n"),
+        Outcome::Fault("macsecd: commands: story-check/missing: no such file\n"),
+    ),
+    Run(
+        &["check", "story-check"],
+        Outcome::Fault("macsecd: commands: story-check: a folder\n"),
+    ),
+    Failing(
+        "story-check/two",
+        Opening(ErrorKind::PermissionDenied),
+        &["check", "story-check/two"],
+        Outcome::Fault("macsecd: commands: story-check/two: no permission\n"),
+    ),
+    Failing(
+        "story-check/two",
+        Read(1, ErrorKind::Other),
+        &["check", "story-check/two"],
+        Outcome::Fault("macsecd: commands: story-check/two: cannot be read\n"),
+    ),
+    Failing(
+        "story-check/two",
+        Read(1, ErrorKind::OutOfMemory),
+        &["check", "story-check/two"],
+        Outcome::Fault("macsecd: memory\n"),
     ),
     Closing(0, 0, &["check", "story-check/two"]),
 ];

@@ -5,11 +5,14 @@ use super::older_files::{GATE, HEAD, LAST_HEAD, SETTINGS, TX_INSTALL, TX_USE};
 use super::stand_in::Broken::{Opening, Printed, Read};
 use super::stories::Step::{
     Claimed, Closing, Failing, Filled, Folder, HasOctets, Hex, IsMissing, Keeping, Patch, Run,
-    Shared, Text, Zeros,
+    Shared, Symbolic, Text, Zeros,
 };
 use super::stories::{Step, play};
 use macsecd_fixtures::Outcome;
-use std::io::ErrorKind::{NotFound, Other, OutOfMemory};
+use std::io::ErrorKind::{
+    FilesystemLoop, IsADirectory, NotADirectory, NotFound, Other, OutOfMemory, PermissionDenied,
+    TooManyLinks, WouldBlock,
+};
 use std::test::Fail;
 
 const FORMATTED: Outcome = Outcome::Done("formatted\n");
@@ -250,7 +253,90 @@ const FAULTY: &str = "story-examine-faults/disk";
 
 const FAULTY_WORDS: &[&str] = &["examine", FAULTY];
 
-const NO_FILE: Outcome = Outcome::Disk("macsecd: disk file\n");
+const NO_FILE: Outcome = Outcome::Disk(
+    "macsecd: disk file: story-examine-faults/disk: no such file\n",
+);
+
+/// The reason, for each error of the system.
+const REASONS: &[Step] = &[
+    Text(REASON, ""),
+    Failing(
+        REASON,
+        Opening(NotFound),
+        REASON_WORDS,
+        Outcome::Disk("macsecd: disk file: story-reasons/disk: no such file\n"),
+    ),
+    Failing(
+        REASON,
+        Opening(NotADirectory),
+        REASON_WORDS,
+        Outcome::Disk("macsecd: disk file: story-reasons/disk: no such file\n"),
+    ),
+    Failing(
+        REASON,
+        Opening(PermissionDenied),
+        REASON_WORDS,
+        Outcome::Disk("macsecd: disk file: story-reasons/disk: no permission\n"),
+    ),
+    Failing(
+        REASON,
+        Opening(IsADirectory),
+        REASON_WORDS,
+        Outcome::Disk("macsecd: disk file: story-reasons/disk: a folder\n"),
+    ),
+    Failing(
+        REASON,
+        Opening(FilesystemLoop),
+        REASON_WORDS,
+        Outcome::Disk("macsecd: disk file: story-reasons/disk: too many links\n"),
+    ),
+    Failing(
+        REASON,
+        Opening(TooManyLinks),
+        REASON_WORDS,
+        Outcome::Disk("macsecd: disk file: story-reasons/disk: too many links\n"),
+    ),
+    Failing(
+        REASON,
+        Opening(WouldBlock),
+        REASON_WORDS,
+        Outcome::Disk("macsecd: disk file: story-reasons/disk: in use by another program\n"),
+    ),
+    Failing(
+        REASON,
+        Opening(Other),
+        REASON_WORDS,
+        Outcome::Disk("macsecd: disk file: story-reasons/disk: cannot be read\n"),
+    ),
+    // A name is shown without control characters.
+    Run(
+        &["examine", "story-reasons/no\x1b[1m\n"],
+        Outcome::Disk("macsecd: disk file: story-reasons/no?[1m?: no such file\n"),
+    ),
+    Symbolic("circle", "story-reasons/circle"),
+    Run(
+        &["examine", "story-reasons/circle"],
+        Outcome::Disk("macsecd: disk file: story-reasons/circle: too many links\n"),
+    ),
+    Run(
+        &["examine", "story-reasons/disk/disk"],
+        Outcome::Disk("macsecd: disk file: story-reasons/disk/disk: no such file\n"),
+    ),
+];
+
+const REASON: &str = "story-reasons/disk";
+
+const REASON_WORDS: &[&str] = &["examine", REASON];
+
+#[test]
+fn a_disk_that_is_not_opened_says_why(rt: HostRuntime) -> Result<(), Fail> {
+    play(&rt, rt.alloc(), "story-reasons", REASONS)
+}
+
+/// What standard output goes to.
+const PRINTED_TO: Outcome = Outcome::Disk(
+    "macsecd: disk file: story-examine-faults/disk: not a regular file, or standard output goes there\n",
+);
 
 const DISK_FAULT: Outcome = Outcome::Disk("macsecd: disk\n");
 
@@ -261,7 +347,10 @@ const FAULTS: &[Step] = &[
     Run(FAULTY_WORDS, NO_FILE),
     IsMissing(FAULTY),
     Folder("story-examine-faults/folder"),
-    Run(&["examine", "story-examine-faults/folder"], NO_FILE),
+    Run(
+        &["examine", "story-examine-faults/folder"],
+        Outcome::Disk("macsecd: disk file: story-examine-faults/folder: a folder\n"),
+    ),
     Filled(FAULTY, 0, 526_337),
     Run(FAULTY_WORDS, Outcome::Disk("macsecd: disk length\n")),
     Filled(FAULTY, 0, 100),
@@ -273,9 +362,13 @@ const FAULTS: &[Step] = &[
     Run(FAULTY_WORDS, Outcome::Disk("macsecd: not formatted\n")),
     Run(&["format", FAULTY, "12153524c0895e81", "1", "1"], FORMATTED),
     Run(FAULTY_WORDS, NEW),
-    Claimed(FAULTY, FAULTY_WORDS, NO_FILE),
+    Claimed(
+        FAULTY,
+        FAULTY_WORDS,
+        Outcome::Disk("macsecd: disk file: story-examine-faults/disk: in use by another program\n"),
+    ),
     // Standard output goes into the file.
-    Failing(FAULTY, Printed, FAULTY_WORDS, NO_FILE),
+    Failing(FAULTY, Printed, FAULTY_WORDS, PRINTED_TO),
     Failing(FAULTY, Opening(NotFound), FAULTY_WORDS, NO_FILE),
     Failing(
         FAULTY,

@@ -2,9 +2,11 @@
 //! 802.1AE-2018, Annex C, under integrity; the others were written down from 9.3 to 9.9 of the
 //! standard, octet by octet.
 
-use super::stories::Step::{Closing, Hex, Keeping, Run};
+use super::stand_in::Broken::{Opening, Read};
+use super::stories::Step::{Claimed, Closing, Failing, Hex, Keeping, Run};
 use super::stories::{Step, play};
 use macsecd_fixtures::Outcome;
+use std::io::ErrorKind;
 use std::test::Fail;
 
 /// Frames of a channel that is named by its SCI, as that of an end station, and not at all; one
@@ -35,16 +37,19 @@ const INSPECTED: &[Step] = &[
     Hex("story-inspect/cut", CUT),
     Run(
         &["inspect", "story-inspect/cut"],
-        Outcome::FaultBehind("1 no tag\n", "macsecd: capture\n"),
+        Outcome::FaultBehind(
+            "1 no tag\n",
+            "macsecd: capture: story-inspect/cut: ends inside a record\n",
+        ),
     ),
     Hex("story-inspect/none", "00"),
     Run(
         &["inspect", "story-inspect/none"],
-        Outcome::Fault("macsecd: capture\n"),
+        Outcome::Fault("macsecd: capture: story-inspect/none: ends inside its header\n"),
     ),
     Run(
         &["inspect", "story-inspect/missing"],
-        Outcome::Fault("macsecd: capture\n"),
+        Outcome::Fault("macsecd: capture: story-inspect/missing: no such file\n"),
     ),
     Closing(1, 0, &["inspect", "story-inspect/frames"]),
 ];
@@ -52,4 +57,94 @@ const INSPECTED: &[Step] = &[
 #[test]
 fn frames_are_inspected(rt: HostRuntime) -> Result<(), Fail> {
     play(&rt, rt.alloc(), "story-inspect", INSPECTED)
+}
+
+/// A capture of one octet order, up to its frames, and where a record begins.
+const SMALL: &str = "story-capture/small";
+
+const WORDS: &[&str] = &["inspect", SMALL];
+
+/// Each reason for which a capture is not read whole. The octets are those of the file formats:
+/// the section header of a pcapng file, and the header and the record header of a capture.
+const REASONS: &[Step] = &[
+    Hex(
+        SMALL,
+        "0a0d0d0a1c0000004d3c2b1a01000000ffffffffffffffff1c000000",
+    ),
+    Run(
+        WORDS,
+        Outcome::Fault(
+            "macsecd: capture: story-capture/small: a pcapng file (editcap -F pcap IN OUT)\n",
+        ),
+    ),
+    Hex(
+        SMALL,
+        "0a0d0d0b1c0000004d3c2b1a01000000ffffffffffffffff1c000000",
+    ),
+    Run(
+        WORDS,
+        Outcome::Fault("macsecd: capture: story-capture/small: not a capture\n"),
+    ),
+    Hex(SMALL, "d4c3b2a1020005000000000000000000000004000100000000"),
+    Run(
+        WORDS,
+        Outcome::Fault("macsecd: capture: story-capture/small: not of version 2.4\n"),
+    ),
+    Hex(SMALL, "d4c3b2a1020004000000000000000000000004006900000000"),
+    Run(
+        WORDS,
+        Outcome::Fault("macsecd: capture: story-capture/small: not of Ethernet frames\n"),
+    ),
+    Hex(
+        SMALL,
+        "d4c3b2a10200040000000000000000000000040001000000f15365000000003c00000040000000",
+    ),
+    Run(
+        WORDS,
+        Outcome::Fault("macsecd: capture: story-capture/small: ends inside a record\n"),
+    ),
+    Hex(
+        SMALL,
+        "d4c3b2a1020004000000000000000000000004000100000000f15365000000003c00000040000000",
+    ),
+    Run(
+        WORDS,
+        Outcome::Fault("macsecd: capture: story-capture/small: a record of a part of a frame\n"),
+    ),
+    Hex(
+        SMALL,
+        "d4c3b2a1020004000000000000000000000004000100000000f15365000000000100040001000400",
+    ),
+    Run(
+        WORDS,
+        Outcome::Fault(
+            "macsecd: capture: story-capture/small: a record of more than 262144 octets\n",
+        ),
+    ),
+    Run(
+        &["inspect", "story-capture"],
+        Outcome::Fault("macsecd: capture: story-capture: a folder\n"),
+    ),
+    Claimed(
+        SMALL,
+        WORDS,
+        Outcome::Fault("macsecd: capture: story-capture/small: in use by another program\n"),
+    ),
+    Failing(
+        SMALL,
+        Opening(ErrorKind::PermissionDenied),
+        WORDS,
+        Outcome::Fault("macsecd: capture: story-capture/small: no permission\n"),
+    ),
+    Failing(
+        SMALL,
+        Read(1, ErrorKind::Other),
+        WORDS,
+        Outcome::Fault("macsecd: capture: story-capture/small: cannot be read\n"),
+    ),
+];
+
+#[test]
+fn a_capture_that_is_not_read_says_why(rt: HostRuntime) -> Result<(), Fail> {
+    play(&rt, rt.alloc(), "story-capture", REASONS)
 }

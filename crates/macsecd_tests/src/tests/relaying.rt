@@ -287,11 +287,17 @@ const RELAYS: &[Step] = &[
         ],
         Fault("macsecd: control\n"),
     ),
-    Run(&["ask", CONTROL, "show"], Fault("macsecd: control\n")),
-    Run(&["ask", DISK, "stop"], Fault("macsecd: control\n")),
+    Run(
+        &["ask", CONTROL, "show"],
+        Fault("macsecd: control: story-relay/control: no such socket\n"),
+    ),
+    Run(
+        &["ask", DISK, "stop"],
+        Fault("macsecd: control: story-relay/disk: nobody listens\n"),
+    ),
     Run(
         &["ask", NO, "apply", "story-relay/none.toml"],
-        Fault("macsecd: control\n"),
+        Fault("macsecd: control: story-relay/no: no such socket\n"),
     ),
     Run(&["show", DISK], Done(SHOWN)),
     IsMissing(NO),

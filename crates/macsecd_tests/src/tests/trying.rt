@@ -147,20 +147,28 @@ const COMMANDS: &str = "story-trial-faults/two.toml";
 
 const TRY: &[&str] = &["check", COMMANDS, FAULTY];
 
-const NO_FILE: Outcome = Outcome::Disk("macsecd: disk file\n");
+const NO_FILE: Outcome = Outcome::Disk(
+    "macsecd: disk file: story-trial-faults/disk: no such file\n",
+);
 
 const DISK_FAULT: Outcome = Outcome::Disk("macsecd: disk\n");
 
 /// The command file is read first. Nothing is printed before a fault, and no file is made.
 const FAULTS: &[Step] = &[
-    Run(TRY, Outcome::Fault("macsecd: commands\n")),
+    Run(
+        TRY,
+        Outcome::Fault("macsecd: commands: story-trial-faults/two.toml: no such file\n"),
+    ),
     Text(COMMANDS, "[[command]]\ndo = 'tx-use'\nan = 4\n"),
     Run(TRY, Outcome::Fault("macsecd: command 1 an: not 0 to 3\n")),
     Text(COMMANDS, SENDER),
     Run(TRY, NO_FILE),
     IsMissing(FAULTY),
     Folder("story-trial-faults/folder"),
-    Run(&["check", COMMANDS, "story-trial-faults/folder"], NO_FILE),
+    Run(
+        &["check", COMMANDS, "story-trial-faults/folder"],
+        Outcome::Disk("macsecd: disk file: story-trial-faults/folder: a folder\n"),
+    ),
     Filled(FAULTY, 0, 526_337),
     Run(TRY, Outcome::Disk("macsecd: disk length\n")),
     Filled(FAULTY, 0, 512),
@@ -170,8 +178,19 @@ const FAULTS: &[Step] = &[
     Run(TRY, Outcome::Disk("macsecd: not formatted\n")),
     Run(&["format", FAULTY, "12153524c0895e81", "1", "1"], FORMATTED),
     Run(TRY, WOULD_BE_OK),
-    Claimed(FAULTY, TRY, NO_FILE),
-    Failing(FAULTY, Printed, TRY, NO_FILE),
+    Claimed(
+        FAULTY,
+        TRY,
+        Outcome::Disk("macsecd: disk file: story-trial-faults/disk: in use by another program\n"),
+    ),
+    Failing(
+        FAULTY,
+        Printed,
+        TRY,
+        Outcome::Disk(
+            "macsecd: disk file: story-trial-faults/disk: not a regular file, or standard output goes there\n",
+        ),
+    ),
     Failing(FAULTY, Opening(NotFound), TRY, NO_FILE),
     Failing(
         FAULTY,

@@ -23,7 +23,11 @@ const FAULTS: &[(&str, &str)] = &[
     ),
     (
         "[[command]]\ndo = 'rx-add'\n",
-        "macsecd: command 1 sci: not 16 hex digits\n",
+        "macsecd: command 1 sci: missing\n",
+    ),
+    (
+        "[[command]]\ndo = 'tx-use'\nan = 0\n[[command]]\ndo = 'rx-add'\nsci = 1\n",
+        "macsecd: command 2 sci: not 16 hex digits\n",
     ),
     (
         "[[command]]\ndo = 'set-validate'\nmode = 'explicit'\n",
@@ -47,6 +51,10 @@ const FURTHER_FAULTS: &[(&str, &str)] = &[
     ),
     (
         "[[command]]\ndo = 'tx-install'\nan = 0\nkey = 'ad7a2bd03eac835a6f620fdcb506b345'\nstart = 1\n",
+        "macsecd: command 1 confidential: missing\n",
+    ),
+    (
+        "[[command]]\ndo = 'tx-install'\nan = 0\nkey = 'ad7a2bd03eac835a6f620fdcb506b345'\nstart = 1\nconfidential = 1\n",
         "macsecd: command 1 confidential: not true or false\n",
     ),
     (
@@ -69,7 +77,15 @@ const FURTHER_FAULTS: &[(&str, &str)] = &[
         "key = '12153524c0895e81'\n",
         "macsecd: command file: not sci and tables [[command]] alone\n",
     ),
-    ("[[command]\n", "macsecd: command file: not TOML\n"),
+    (
+        "[[command]\n",
+        "macsecd: command file: line 1 column 11: not TOML\n",
+    ),
+    // Columns count characters.
+    (
+        "# \u{e9}\nsci = '\u{e9}' x\n",
+        "macsecd: command file: line 2 column 11: not TOML\n",
+    ),
 ];
 
 /// The same of files that name their end.
@@ -97,7 +113,7 @@ const END_FAULTS: &[(&str, &str)] = &[
     ),
     (
         "[[command]]\ndo = 'rx-add'\nsci = '12153524c0895e83'\nsci = '12153524c0895e81'\n",
-        "macsecd: command file: not TOML\n",
+        "macsecd: command file: line 4 column 1: not TOML\n",
     ),
 ];
 

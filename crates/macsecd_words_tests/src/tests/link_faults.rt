@@ -58,7 +58,7 @@ const FURTHER_FAULTS: &[(&str, &str)] = &[
         "name = 'a'\n[left]\nsci = '0200000000010001'\n[right]\nsci = '0200000000020001'\n[[key]]\n",
         "macsecd: link file: not [left], [right] and tables [[key]] alone\n",
     ),
-    ("[left\n", "macsecd: link file: not TOML\n"),
+    ("[left\n", "macsecd: link file: line 1 column 6: not TOML\n"),
 ];
 
 /// Links that are refused, and the line that says why.

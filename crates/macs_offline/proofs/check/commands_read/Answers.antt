@@ -1,6 +1,6 @@
-use Rattle.std.proofs.Common.{inr}
+use Rattle.std.proofs.Common.{codes, inl, inr}
 use Rattle.std.proofs.lemmas.Result.{IfErr-weaker, IfOk-weaker}
-use Rattle.macs_offline.proofs.Checked.{complains-read}
+use Rattle.macs_offline.proofs.Checked.{complains-read, unread-for}
 use Rattle.macs_offline.proofs.Commanded.{says-read}
 use Rattle.macs_offline.proofs.check.commands_read.Goals as goal
 
@@ -19,3 +19,9 @@ returns-in-Ok-clause-fault g c =
     (rw (c.take.ensures.limit, c.take.ensures.inner, c.new-octets.ensures.items) at c.in-Ok.ensures.bytes)
     (rw c.as_slice.ensures.value at complains)))
     c.commands_said.ensures.fault
+
+pub returns-clause-fault : goal.returns-clause-fault
+returns-clause-fault g c = inl (unread-for (codes "commands") c.args.name.now _ _ c.failure_at.ensures.reason)
+
+pub returns-clause-ended : goal.returns-clause-ended
+returns-clause-ended g c = inl (unread-for (codes "commands") c.args.name.now _ _ c.failure_at.ensures.reason)

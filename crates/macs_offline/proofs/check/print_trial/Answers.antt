@@ -13,7 +13,7 @@ returns-in_err-outcomes-clause-ended g c =
 pub returns-in_err-outcomes-clause-broken : goal.returns-in_err-outcomes-clause-broken
 returns-in_err-outcomes-clause-broken g c =
     let p = err_from_is_err_and c.from_residual.result c.from_residual.ensures.1 in
-    rw (p.1, p.2) (λ output. absurd (trial-no-output _ (of-trial _ _ _ _ c.in_err-outcomes.ensures.ended) output))
+    rw (p.1, p.2) (λ output. absurd (trial-no-output _ (of-trial _ _ _ _ _ c.in_err-outcomes.ensures.ended) output))
 
 pub returns-clause-printed : goal.returns-clause-printed
 returns-clause-printed g c = (

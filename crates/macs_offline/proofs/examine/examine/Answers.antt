@@ -1,7 +1,7 @@
 use Rattle.std.proofs.Common.{inr}
 use Rattle.std.proofs.lemmas.Result.{IfErr-weaker, IfOk-weaker, err_from_is_err_and}
 use Rattle.macs_offline.proofs.Examined.{of-examination, printed-so}
-use Rattle.macs_offline.proofs.Failures.{disk-no-output}
+use Rattle.macs_offline.proofs.Failures.{copy-no-output}
 use Rattle.macs_offline.proofs.examine.examine.Goals as goal
 
 pub returns-clause-printed : goal.returns-clause-printed
@@ -21,4 +21,4 @@ returns-in_err-said-clause-ended g c =
 pub returns-in_err-said-clause-broken : goal.returns-in_err-said-clause-broken
 returns-in_err-said-clause-broken g c =
     let p = err_from_is_err_and c.from_residual.result c.from_residual.ensures.1 in
-    rw (p.1, p.2) (λ output. absurd (disk-no-output _ (of-examination _ _ c.in_err-said.ensures.ended) output))
+    rw (p.1, p.2) (λ output. absurd (copy-no-output _ (of-examination _ _ _ c.in_err-said.ensures.ended) output))

@@ -1,4 +1,4 @@
-use Rattle.std.proofs.Common.{◌+◌, string_bytes, subst}
+use Rattle.std.proofs.Common.{◌+◌, ◌∙◌, string_bytes, subst}
 use Rattle.macs_edge.proofs.Behind.{read_as}
 use Rattle.macs_offline.specs.Inspecting.{IsLineOf}
 use Rattle.macs_offline.proofs.Printing.{prints-text}
@@ -18,5 +18,5 @@ returns-clause-next g c =
       read,
       string_bytes c.in_ok-line.line,
       said,
-      prints-text _ _ _ _ c.as_str.ensures.value c.in_ok-print.ensures.printed,
+      prints-text _ _ _ _ (c.as_bytes.ensures.value ∙ c.as_str.ensures.value) c.in_ok-print.ensures.printed,
     )

@@ -1,5 +1,7 @@
+use Rattle.std.proofs.Common.{codes, inl}
 use Rattle.std.proofs.lemmas.Result.{IfOk-weaker}
-use Rattle.macs_offline.proofs.Planned.{file-not-planned, link-not-opened}
+use Rattle.macs_offline.proofs.Checked.{unread-for}
+use Rattle.macs_offline.proofs.Planned.{file-not-planned}
 use Rattle.macs_offline.proofs.plan.planned_file.Goals as goal
 
 pub returns-in-Ok-clause-planned : goal.returns-in-Ok-clause-planned
@@ -8,9 +10,10 @@ returns-in-Ok-clause-planned g c =
 
 pub returns-in-Ok-clause-ended : goal.returns-in-Ok-clause-ended
 returns-in-Ok-clause-ended g c =
-    file-not-planned c.args.end c.args.stage _ c.in-Ok.file c.planned_read.result c.planned_read.ensures.fault
+    file-not-planned c.args.end c.args.stage _ c.args.path.now c.in-Ok.file c.planned_read.result
+    c.planned_read.ensures.fault
     c.planned_read.ensures.ended
 
 pub returns-in-Err-clause-ended : goal.returns-in-Err-clause-ended
 returns-in-Err-clause-ended g c =
-    link-not-opened c.args.end c.args.stage _ c.failure_of.result c.failure_of.ensures.either
+    inl (unread-for (codes "commands") c.args.path.now _ _ c.failure_at.ensures.reason)

@@ -1,5 +1,6 @@
-use Rattle.std.proofs.Common.{inr}
+use Rattle.std.proofs.Common.{inl, inr}
 use Rattle.std.proofs.lemmas.Result.{IfErr-weaker, IfOk-weaker}
+use Rattle.macs_offline.proofs.Failures.{not-read-for}
 use Rattle.macs_offline.proofs.trial.try_in.Goals as goal
 
 pub returns-in_ok-copy-in-Ok-clause-tried : goal.returns-in_ok-copy-in-Ok-clause-tried
@@ -23,3 +24,6 @@ returns-in_ok-copy-in-Ok-clause-ended g c =
       (λ behaves. (said.whole behaves, said.enough behaves, said.copied behaves)),
       ends,
     ))) c.try_on.ensures.ended
+
+pub returns-in-Err-clause-ended : goal.returns-in-Err-clause-ended
+returns-in-Err-clause-ended g c = inl (not-read-for c.args.path.now _ _ c.failure_at_disk.ensures.reason)

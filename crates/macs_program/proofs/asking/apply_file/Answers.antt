@@ -8,7 +8,7 @@ pub returns-in_err-told-clause-handed : goal.returns-in_err-told-clause-handed
 returns-in_err-told-clause-handed g c =
     let p = err_from_is_err_and c.from_residual.result c.from_residual.ensures.1 in
     not-handed _ _ _ c.in_err-told.field-0.0 p.0 c.from_residual.result p.1 p.2
-    (no-commands _ c.in_err-told.ensures.failed)
+    (no-commands c.args.file.now _ c.in_err-told.ensures.ended)
 
 pub returns-in_err-told-clause-own : goal.returns-in_err-told-clause-own
 returns-in_err-told-clause-own g c =

@@ -1,43 +1,28 @@
-use Rattle.std.proofs.Common.{ap}
-use Rattle.std.proofs.lemmas.Result.{IfErr-weaker}
+use Rattle.std.proofs.Common.{List, ℕ, codes}
+use Rattle.macs_offline.specs.Reasons.{Tells}
+use Rattle.macs_program.specs.Sockets.{socket_text}
+use Rattle.macs_program.specs.declared.socket_reason.SocketReason.TheVariants as reason
+use Rattle.macs_program.proofs.Told.{named-asking, named-output, output-named}
 use Rattle.macs_program.proofs.asking.ask.Goals as goal
 
-pub returns-in-Show : goal.returns-in-Show
-returns-in-Show g c =
-    let said = c.ask_once.ensures in record {
-      printed = rw c.in-Show.is said.printed;
-      failed = said.failed;
-      front = rw c.in-Show.is
-          (IfErr-weaker c.ask_once.result _ _ (λ failure same other. ap g.W.Stream.contents (same other)) said.silent);
-      broken = said.broken;
-    }
+-- what is said where no answer comes
+abbrev Gone : List ℕ → List ℕ → Type 0
+Gone name said = Tells (codes "control") name (socket_text reason.NoAnswer) said
 
-pub returns-in-Counters : goal.returns-in-Counters
-returns-in-Counters g c =
-    let said = c.ask_once-in-Counters.ensures in record {
-      printed = rw c.in-Counters.is said.printed;
-      failed = said.failed;
-      front = rw c.in-Counters.is
-          (IfErr-weaker c.ask_once-in-Counters.result _ _ (λ failure same other. ap g.W.Stream.contents (same other))
-          said.silent);
-      broken = said.broken;
-    }
+pub returns-in-Err-clause-failed : goal.returns-in-Err-clause-failed
+returns-in-Err-clause-failed g c =
+    let said = c.named_failure.ensures in
+    named-asking (Gone c.args.path.now) c.args.question c.in-Err.failure c.named_failure.result c.in-Err.ensures.failed
+    (record { gone = said.gone; other = said.other_end; same = said.same })
 
-pub returns-in-Stop : goal.returns-in-Stop
-returns-in-Stop g c =
-    let said = c.ask_stop.ensures in record {
-      printed = rw c.in-Stop.is said.printed;
-      failed = said.failed;
-      front = rw c.in-Stop.is
-          (IfErr-weaker c.ask_stop.result _ _ (λ failure same other. ap g.W.Stream.contents (same other)) said.silent);
-      broken = said.broken;
-    }
+pub returns-in-Err-clause-front : goal.returns-in-Err-clause-front
+returns-in-Err-clause-front g c =
+    let said = c.named_failure.ensures in
+    λ other. c.in-Err.ensures.front (named-output (Gone c.args.path.now) c.args.question c.in-Err.failure c.named_failure.result
+    (record { gone = said.gone; other = said.other_end; same = said.same }) other)
 
-pub returns-in-Apply : goal.returns-in-Apply
-returns-in-Apply g c =
-    let said = c.ask_apply.ensures in record {
-      printed = rw c.in-Apply.is said.printed;
-      failed = said.failed;
-      front = rw c.in-Apply.is said.front;
-      broken = said.broken;
-    }
+pub returns-in-Err-clause-broken : goal.returns-in-Err-clause-broken
+returns-in-Err-clause-broken g c =
+    let said = c.named_failure.ensures in
+    λ output. c.in-Err.ensures.broken (output-named (Gone c.args.path.now) c.args.question c.in-Err.failure c.named_failure.result
+    c.in-Err.ensures.failed (record { gone = said.gone; other = said.other_end; same = said.same }) output)

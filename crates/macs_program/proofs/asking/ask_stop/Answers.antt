@@ -1,12 +1,12 @@
-use Rattle.std.proofs.Common.{inl, inr}
 use Rattle.std.proofs.lemmas.Result.{err_from_is_err_and}
-use Rattle.macs_program.proofs.Told.{no-answer, not-asked}
+use Rattle.macs_program.proofs.Told.{no-answer, not-asked, not-reached}
 use Rattle.macs_program.proofs.asking.ask_stop.Goals as goal
 
 pub returns-in_err-asker : goal.returns-in_err-asker
 returns-in_err-asker g c =
     let p = err_from_is_err_and c.from_residual.result c.from_residual.ensures.1 in
-    not-asked _ _ _ c.in_err-asker.field-0.0 p.0 c.from_residual.result p.1 p.2 (inr (inl c.in_err-asker.ensures))
+    not-asked _ _ _ c.in_err-asker.field-0.0 p.0 c.from_residual.result p.1 p.2
+    (not-reached c.args.path.now _ c.in_err-asker.ensures)
 
 pub returns-in_err-answer : goal.returns-in_err-answer
 returns-in_err-answer g c =

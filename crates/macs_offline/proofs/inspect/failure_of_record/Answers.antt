@@ -1,0 +1,11 @@
+use Rattle.std.proofs.Common.{◌∙◌, List, ℕ, ap, codes, subst}
+use Rattle.macs_offline.specs.CaptureReasons.{capture_text}
+use Rattle.macs_offline.specs.Reasons.{Complains, Tells}
+use Rattle.macs_offline.proofs.inspect.failure_of_record.Goals as goal
+
+pub returns-in_default : goal.returns-in_default
+returns-in_default c = (
+  λ memory. absurd (c.in_default.not-Memory memory),
+  subst (λ (why : List ℕ). Complains (Tells (codes "capture") c.args.name.now why) c.failure_told.result)
+      (c.text.ensures ∙ ap capture_text c.of_record.ensures) c.failure_told.ensures,
+)

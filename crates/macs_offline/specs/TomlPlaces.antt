@@ -1,0 +1,33 @@
+-- Where a text stops to be TOML, and what is said of it.
+use Rattle.std.specs.Prelude.{◌≡◌, ◌≤◌, ◌+◌, ◌/◌, ◌==◌, ◌++◌, if◌then◌else◌, ℕ, List, [], ◌∷◌, length, take, codes}
+use Rattle.std.specs.Fmt.{decimal}
+use Rattle.macs_offline.specs.declared.toml_place.TextPlace.{TextPlace}
+
+-- the place after one octet more: after a line feed (10) a line begins, and an octet that goes on with a character,
+-- from 128 to 191, counts no column
+abbrev pub place_step : TextPlace → ℕ → TextPlace
+place_step place octet =
+    if octet == 10 then record { line = place.line + 1; column = 1 }
+    else (if octet / 64 == 2 then place else record { line = place.line; column = place.column + 1 })
+
+-- the place after octets, from this one on
+abbrev pub place_from : TextPlace → List ℕ → TextPlace
+place_from place [] = place
+place_from place (octet ∷ octets) = place_from (place_step place octet) octets
+
+-- and from the beginning of a text on
+abbrev pub place_after : List ℕ → TextPlace
+place_after octets = place_from (record { line = 1; column = 1 }) octets
+
+-- a place is that after some front of a text
+abbrev pub IsPlaceIn : List ℕ → TextPlace → Type 0
+IsPlaceIn text place = (at : ℕ) × (at ≤ length text) × (place ≡ place_after (take at text))
+
+-- what is said of a file that is not TOML from this place on
+abbrev pub not_toml_text : List ℕ → TextPlace → List ℕ
+not_toml_text file place = file ++ (codes ": line " ++ (decimal place.line ++ (codes " column "
+    ++ (decimal place.column ++ codes ": not TOML"))))
+
+-- this is said of a file with this text, that it is not TOML from some place on
+abbrev pub SaysNotToml : List ℕ → List ℕ → List ℕ → Type 0
+SaysNotToml file text said = (place : TextPlace) × IsPlaceIn text place × (said ≡ not_toml_text file place)

@@ -1,0 +1,85 @@
+//! Where a text stops to be TOML.
+
+ghost use Rattle.std.specs.Prelude.{◌≡◌, ◌⊎◌, ◌↔◌, ◌<◌, ◌^◌, ◌+◌, ℕ, List, length, IfOk, IfSome};
+ghost use Rattle.std.specs.Prelude.{IsNone, string_bytes};
+ghost use Rattle.toml.specs.Errors.{IsMemory, IsWithin};
+ghost use Rattle.macs_offline.specs.Reasons.{Complains};
+ghost use Rattle.macs_offline.specs.TomlPlaces.{IsPlaceIn, SaysNotToml, not_toml_text, place_after};
+ghost use Rattle.macs_offline.specs.TomlPlaces.{place_step};
+
+use crate::check::failure_saying;
+use crate::failure::Failure;
+use std::alloc::{AllocError, Global};
+
+/// A place in a text. Both numbers count from 1, columns in characters.
+#[derive(Clone, Copy, Debug, PartialEq, Eq)]
+pub struct TextPlace {
+    pub line: usize,
+    pub column: usize,
+}
+
+/// The place after one octet more of a text in UTF-8: of a character the first one counts.
+fn step(place: TextPlace, octet: u8) -> TextPlace
+    requires { (place.line + 1 < 2 ^ 64) × (place.column + 1 < 2 ^ 64) }
+    ensures { result ≡ place_step place octet }
+{
+    if octet == b'\n' {
+        TextPlace {
+            line: place.line + 1,
+            column: 1,
+        }
+    } else if octet / 64 == 2 {
+        place
+    } else {
+        TextPlace {
+            line: place.line,
+            column: place.column + 1,
+        }
+    }
+}
+
+/// The place after these octets of a text.
+fn place_after(front: &[u8]) -> TextPlace
+    requires { length front.now < 2 ^ 63 }
+    ensures { result ≡ place_after front.now }
+{
+    let mut place = TextPlace { line: 1, column: 1 };
+    for i in 0..front.len() {
+        place = step(place, front[i]);
+    }
+    place
+}
+
+/// The place of an error in a text, unless it is want of memory.
+pub fn place_of(text: &str, error: &toml::de::Error) -> Option<TextPlace>
+    requires { IsWithin text.now error.now }
+    ensures memory { IsNone result ↔ IsMemory error.now }
+    ensures place { IfSome result (IsPlaceIn text.now) }
+{
+    match error.span() {
+        Some(span) => Some(place_after(&text.as_bytes()[..span.start])),
+        None => None,
+    }
+}
+
+/// What is said of a file that is not TOML from this place on.
+pub fn not_toml_text(alloc: Global, file: &str, place: TextPlace) -> Result<String, AllocError>
+    ensures { IfOk result (λ text. string_bytes text ≡ not_toml_text file.now place) }
+{
+    let line = place.line;
+    let column = place.column;
+    format!(in alloc; "{file}: line {line} column {column}: not TOML")
+}
+
+/// The failure that an error in the text of a file is: its place is said, unless there is no
+/// memory.
+pub fn failure_of_toml(alloc: Global, file: &str, text: &str, error: &toml::de::Error) -> Failure
+    requires { IsWithin text.now error.now }
+    ensures { (result ≡ Failure.Memory)
+        ⊎ ((¬ IsMemory error.now) × Complains (SaysNotToml file.now text.now) result) }
+{
+    match place_of(text, error) {
+        Some(place) => failure_saying(not_toml_text(alloc, file, place)),
+        None => Failure::Memory,
+    }
+}
