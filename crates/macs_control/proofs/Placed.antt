@@ -1,11 +1,8 @@
--- Places that are kept when one gives way, and when a client comes.
-use Rattle.std.proofs.Common.{◌≡◌, ◌∙◌, ◌+◌, zero, suc, ℕ, Bool, true, false, not, cond, List, [], ◌∷◌, ◌++◌, Option}
-use Rattle.std.proofs.Common.{Some, None, arith, refl, sym, ap}
-use Rattle.std.specs.List.{filter, position, position_or_len, remove}
-use Rattle.std.proofs.lemmas.List.Elements.{filter-append}
-use Rattle.std.specs.Prelude.{◌-◌, ◌&&◌, ◌==◌, nat_le}
-use Rattle.macs_control.specs.Standings.{is_idle, new_standing}
-use Rattle.macs_control.specs.declared.standing.Standing.{Standing}
+-- Places that are left when the first that gives way is lost.
+use Rattle.std.proofs.Common.{◌≡◌, ◌∙◌, ◌+◌, zero, suc, ℕ, Bool, true, false, not, cond, List, [], ◌∷◌, ◌++◌}
+use Rattle.std.proofs.Common.{arith, refl, sym, ap}
+use Rattle.std.specs.List.{filter, list_any, position_or_len, remove}
+use Rattle.std.specs.Prelude.{◌||◌}
 
 module _ {X : Type 0} (t : X → Bool) where
   -- those that do not pass a test
@@ -22,32 +19,47 @@ module _ {X : Type 0} (t : X → Bool) where
   later-passes rest k true is = absurd (let wrong : 0 ≡ suc k = is in omega arith)
   later-passes rest k false is = let same : 1 + position_or_len t rest ≡ suc k = is in omega arith
 
-  -- the first that passes is taken out
-  at-others : (xs : List X) (k : ℕ) → position_or_len t xs ≡ k → others (remove xs k) ≡ others xs
+  -- where the first that passes is taken out, the others stay
+  pub at-others : (xs : List X) (k : ℕ) → position_or_len t xs ≡ k → others (remove xs k) ≡ others xs
   at-others [] zero is = refl
   at-others [] (suc k) is = refl
   at-others (x ∷ rest) zero is = first-passes x rest (t x) refl is
   at-others (x ∷ rest) (suc k) is =
       ap (λ (l : List X). cond (not (t x)) (x ∷ l) l) (at-others rest k (later-passes rest k (t x) is))
 
-  place_found : (c : Bool) (place at : ℕ) → cond c (Some place) None ≡ Some at → place ≡ at
-  place_found true place at is = ap (λ (o : Option ℕ). elim o [ None ↦ 0 | Some n ↦ n ]) is
-  place_found false place at is = absurd (let wrong : None ≡ Some at = is in cc)
+  first-fails : (b rest : Bool) → (b || rest) ≡ false → b ≡ false
+  first-fails true rest is = is
+  first-fails false rest is = refl
 
-  pub found-others : (xs slice new : List X) (found : Option ℕ) (at : ℕ) → found ≡ position t slice → slice ≡ xs
-      → found ≡ Some at → new ≡ remove xs at → others new ≡ others xs
-  found-others xs slice new found at is same some taken =
-      let place : position_or_len t xs ≡ at = place_found _ (position_or_len t xs) at
-      (sym (ap (position t) same) ∙ sym is ∙ some) in
-      ap others taken ∙ at-others xs at place
+  later-fail : (b rest : Bool) → (b || rest) ≡ false → rest ≡ false
+  later-fail true rest is = absurd (let wrong : true ≡ false = is in cc)
+  later-fail false rest is = is
 
-  -- one that does not pass comes last
-  pub one-more : (xs : List X) (x : X) → t x ≡ false → others (xs ++ x ∷ []) ≡ others xs ++ x ∷ []
-  one-more xs x is = filter-append (λ y. not (t y)) xs (x ∷ [])
-      ∙ ap (λ (b : Bool). others xs ++ cond (not b) (x ∷ []) []) is
+  -- those before the first that passes, and those behind it, stay in their order
+  pub at-first : (front : List X) (x : X) (rest : List X) → list_any t front ≡ false → t x ≡ true
+      → remove (front ++ x ∷ rest) (position_or_len t (front ++ x ∷ rest)) ≡ front ++ rest
+  at-first [] x rest none is =
+      ap (λ (b : Bool). remove (x ∷ rest) (cond (not b) (1 + position_or_len t rest) 0)) is
+  at-first (y ∷ front) x rest none is =
+      let later = later-fail (t y) (list_any t front) none in
+      let more : 1 + position_or_len t (front ++ x ∷ rest) ≡ suc (position_or_len t (front ++ x ∷ rest)) =
+      omega arith in
+      ap (λ (b : Bool). remove (y ∷ front ++ x ∷ rest) (cond (not b) (1 + position_or_len t (front ++ x ∷ rest)) 0))
+      (first-fails (t y) (list_any t front) none)
+      ∙ ap (λ (n : ℕ). remove (y ∷ front ++ x ∷ rest) n) more
+      ∙ ap (λ (l : List X). y ∷ l) (at-first front x rest later is)
 
--- a client that came in this second does not give way
-pub new-stays : (now : ℕ) (standing : Standing) → standing ≡ new_standing now → is_idle now standing ≡ false
-new-stays now standing is =
-    let none : now - now ≡ 0 = omega arith in
-    ap (is_idle now) is ∙ ap (λ (n : ℕ). (0 == 0) && nat_le 2 n) none
+  -- where none passes, all stay
+  pub at-none : (xs : List X) → list_any t xs ≡ false → remove xs (position_or_len t xs) ≡ xs
+  at-none [] none = refl
+  at-none (y ∷ rest) none =
+      let later = later-fail (t y) (list_any t rest) none in
+      let more : 1 + position_or_len t rest ≡ suc (position_or_len t rest) = omega arith in
+      ap (λ (b : Bool). remove (y ∷ rest) (cond (not b) (1 + position_or_len t rest) 0))
+      (first-fails (t y) (list_any t rest) none)
+      ∙ ap (λ (n : ℕ). remove (y ∷ rest) n) more
+      ∙ ap (λ (l : List X). y ∷ l) (at-none rest later)
+
+  pub spared : (xs : List X) (b : Bool) → others (cond b xs (remove xs (position_or_len t xs))) ≡ others xs
+  spared xs true = refl
+  spared xs false = at-others xs (position_or_len t xs) refl

@@ -1,5 +1,6 @@
 -- Clients that have places.
-use Rattle.std.specs.Prelude.{◌||◌, ℕ, Bool, List, length, not, filter, is_some}
+use Rattle.std.specs.List.{position_or_len, remove}
+use Rattle.std.specs.Prelude.{◌||◌, if◌then◌else◌, ℕ, Bool, List, length, not, filter, is_some}
 use Rattle.std.specs.Prelude.{position, nat_lt}
 use Rattle.macs_control.specs.Standings.{is_idle}
 use Rattle.macs_control.specs.declared.place.Place.{Place}
@@ -15,10 +16,11 @@ seat_in place = place.seat
 abbrev pub standing_in : {S : Type 0} → Place S → Standing
 standing_in place = place.standing
 
--- those that have a place, and the second it is
+-- those that have a place
 abbrev pub places_of : {S : Type 0} → Seats S → List (Place S)
 places_of seats = seats.places.items
 
+-- how many seconds ended
 abbrev pub second_of : {S : Type 0} → Seats S → ℕ
 second_of seats = seats.second
 
@@ -30,6 +32,10 @@ gives_way now place = is_idle now (standing_in place)
 abbrev pub kept : {S : Type 0} → ℕ → List (Place S) → List (Place S)
 kept now places = filter (λ place. not (gives_way now place)) places
 
--- there is a place to be had: there are four places, or one gives way
+-- those that are left before a newcomer: where four have places, the first that gives way loses its own
+abbrev pub left : {S : Type 0} → ℕ → List (Place S) → List (Place S)
+left now places = if nat_lt (length places) 4 then places else remove places (position_or_len (gives_way now) places)
+
+-- there is a place to be had: fewer than four are taken, or one of the four gives way
 abbrev pub has_room : {S : Type 0} → ℕ → List (Place S) → Bool
 has_room now places = nat_lt (length places) 4 || is_some (position (gives_way now) places)

@@ -1,8 +1,9 @@
 -- What is to be drawn of the words on how a client stands with its relay: which one loses its place, and when.
 use Rattle.std.specs.Prelude.{◌≡◌, ◌≢◌, ◌≤◌, ◌<◌, ◌+◌, ◌-◌, ◌^◌, ◌∷◌, ◌++◌, ℕ, true, false, List, [], length}
+use Rattle.std.specs.List.{list_any}
 use Rattle.std.specs.Prelude.{is_some, min, position}
 use Rattle.macs_requests.specs.Requests.{end_line}
-use Rattle.macs_control.specs.Places.{gives_way, has_room, kept, standing_in}
+use Rattle.macs_control.specs.Places.{gives_way, has_room, kept, left, standing_in}
 use Rattle.macs_control.specs.Standings.{after_answer, after_hearing, has_ended, is_idle, is_let_go, is_over}
 use Rattle.macs_control.specs.Standings.{after_saying, ends_answer, new_standing}
 use Rattle.macs_control.specs.declared.place.Place.{Place}
@@ -42,7 +43,8 @@ pub record StandingWords : Type 0 where
   pub fresh : (now : ℕ) (s : Standing) → now < s.since + 2 → is_idle now s ≡ false
   pub idle : (now : ℕ) (s : Standing) → s.due ≡ 0 → s.since + 2 ≤ now → is_idle now s ≡ true
 
--- the same of places
+-- The same of places. Before a newcomer all are left where there are fewer than four, or none gives way. Else the first
+-- that gives way is not, and all others are, in their order: nobody loses a place but one that gives way.
 pub record PlaceWords (S : Type 0) : Type 0 where
   pub way : (now : ℕ) (place : Place S) → gives_way now place ≡ is_idle now (standing_in place)
   pub none : (now : ℕ) → kept {S = S} now [] ≡ []
@@ -50,6 +52,13 @@ pub record PlaceWords (S : Type 0) : Type 0 where
       → kept now (place ∷ places) ≡ place ∷ kept now places
   pub goes : (now : ℕ) (place : Place S) (places : List (Place S)) → gives_way now place ≡ true
       → kept now (place ∷ places) ≡ kept now places
+  pub few : (now : ℕ) (places : List (Place S)) → length places < 4 → left now places ≡ places
+  pub none_goes : (now : ℕ) (places : List (Place S)) → list_any (gives_way now) places ≡ false
+      → left now places ≡ places
+  pub loses : (now : ℕ) (front : List (Place S)) (place : Place S) (rest : List (Place S))
+      → 4 ≤ length (front ++ place ∷ rest) → list_any (gives_way now) front ≡ false → gives_way now place ≡ true
+      → left now (front ++ place ∷ rest) ≡ front ++ rest
+  pub spares : (now : ℕ) (places : List (Place S)) → kept now (left now places) ≡ kept now places
   pub free : (now : ℕ) (places : List (Place S)) → length places < 4 → has_room now places ≡ true
   pub full : (now : ℕ) (places : List (Place S)) → 4 ≤ length places
       → has_room now places ≡ is_some (position (gives_way now) places)

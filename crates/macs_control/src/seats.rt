@@ -28,8 +28,10 @@ pub struct Seats<S> {
 
 impl<S: Connection> Seats<S> {
     ghost use Rattle.std.specs.Prelude.{◌≡◌, ◌<◌, ◌≤◌, ◌+◌, ◌-◌, ◌++◌, ◌∷◌, [], IfOk, IfSome};
-    ghost use Rattle.std.specs.Prelude.{IsTrue, length, min, true, false, ◌^◌};
-    ghost use Rattle.macs_control.specs.Places.{has_room, kept, places_of, seat_in, second_of};
+    ghost use Rattle.std.specs.Prelude.{IsTrue, Some, length, min, option_map, slice_get, true};
+    ghost use Rattle.std.specs.Prelude.{false};
+    ghost use Rattle.std.specs.Prelude.{◌^◌};
+    ghost use Rattle.macs_control.specs.Places.{has_room, left, places_of, seat_in, second_of};
     ghost use Rattle.macs_control.specs.Places.{standing_in};
     ghost use Rattle.macs_control.specs.Seats.{connection_of, seat_count};
     ghost use Rattle.macs_control.specs.Standings.{has_ended, new_standing};
@@ -57,6 +59,8 @@ impl<S: Connection> Seats<S> {
     /// The connection of a client, by its place.
     pub fn connection(&self, at: usize) -> &S
         requires { at < seat_count self.now }
+        ensures { Some result.now ≡ option_map (λ place. connection_of (seat_in place))
+            (slice_get (places_of self.now) at) }
     {
         self.places[at].connection()
     }
@@ -64,6 +68,8 @@ impl<S: Connection> Seats<S> {
     /// Whether the client at a place sends no more.
     pub fn has_ended(&self, at: usize) -> bool
         requires { at < seat_count self.now }
+        ensures { Some result ≡ option_map (λ place. has_ended (standing_in place))
+            (slice_get (places_of self.now) at) }
     {
         self.places[at].standing().has_ended()
     }
@@ -88,8 +94,7 @@ impl<S: Connection> Seats<S> {
     fn make_room(&mut self) -> bool
         ensures room { result ≡ has_room (second_of self.old) (places_of self.old) }
         ensures free { IsTrue result → length (places_of self.new) < 4 }
-        ensures kept { kept (second_of self.old) (places_of self.new)
-            ≡ kept (second_of self.old) (places_of self.old) }
+        ensures left { places_of self.new ≡ left (second_of self.old) (places_of self.old) }
         ensures second { second_of self.new ≡ second_of self.old }
     {
         if self.places.len() < MAX_CLIENTS {
@@ -110,11 +115,11 @@ impl<S: Connection> Seats<S> {
         ensures taken { IsTrue (has_room (second_of self.old) (places_of self.old))
             → (place : Place S) × (connection_of (seat_in place) ≡ connection)
             × (standing_in place ≡ new_standing (second_of self.old))
-            × (kept (second_of self.old) (places_of self.new)
-            ≡ kept (second_of self.old) (places_of self.old) ++ place ∷ []) }
+            × (places_of self.new
+            ≡ left (second_of self.old) (places_of self.old) ++ place ∷ []) }
         ensures full { has_room (second_of self.old) (places_of self.old) ≡ false
-            → kept (second_of self.old) (places_of self.new)
-            ≡ kept (second_of self.old) (places_of self.old) }
+            → places_of self.new ≡ places_of self.old }
+        ensures second { second_of self.new ≡ second_of self.old }
     {
         if !self.make_room() {
             return;

@@ -5,12 +5,14 @@ use Rattle.std.specs.declared.io.ErrorKind.TheVariants as system
 use Rattle.macs_program.specs.declared.socket_reason.SocketReason.{SocketReason}
 use Rattle.macs_program.specs.declared.socket_reason.SocketReason.TheVariants as reason
 
--- the reason that an error of a connection is, by its kind
+-- The reason that an error of a connection is, by its kind. A relay that took no connection in time gives no answer
 abbrev pub socket_reason : ErrorKind → SocketReason
 socket_reason system.NotFound = reason.Missing
 socket_reason system.NotADirectory = reason.Missing
 socket_reason system.PermissionDenied = reason.NoPermission
 socket_reason system.ConnectionRefused = reason.Refused
+socket_reason system.WouldBlock = reason.NoAnswer
+socket_reason system.TimedOut = reason.NoAnswer
 socket_reason kind = reason.NoSocket
 
 -- what is said of it

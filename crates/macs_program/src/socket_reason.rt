@@ -16,7 +16,8 @@ pub enum SocketReason {
     Refused,
     /// It cannot be connected to for another cause: it is no socket, or its name is too long.
     NoSocket,
-    /// It went away while it was asked, or what it answers is no answer of a relay.
+    /// No answer of a relay came from it: it did not take the connection in time, as where it is
+    /// stopped; it went away while it was asked, or what it answers is no answer of a relay.
     NoAnswer,
 }
 
@@ -38,7 +39,8 @@ impl SocketReason {
     }
 }
 
-/// The reason that an error of a connection is, by its kind.
+/// The reason that an error of a connection is, by its kind. A relay that took no connection in
+/// time gives no answer.
 pub fn socket_reason(kind: ErrorKind) -> SocketReason
     ensures { result ≡ socket_reason kind }
 {
@@ -46,6 +48,7 @@ pub fn socket_reason(kind: ErrorKind) -> SocketReason
         ErrorKind::NotFound | ErrorKind::NotADirectory => SocketReason::Missing,
         ErrorKind::PermissionDenied => SocketReason::NoPermission,
         ErrorKind::ConnectionRefused => SocketReason::Refused,
+        ErrorKind::WouldBlock | ErrorKind::TimedOut => SocketReason::NoAnswer,
         _ => SocketReason::NoSocket,
     }
 }

@@ -1,8 +1,7 @@
 use Rattle.std.proofs.Common.{◌≡◌, ◌∙◌, ◌++◌, ◌∷◌, [], List, ap, rules}
-use Rattle.macs_control.specs.Places.{gives_way, kept, standing_in}
+use Rattle.macs_control.specs.Places.{standing_in}
 use Rattle.macs_control.specs.Standings.{new_standing}
 use Rattle.macs_control.specs.declared.place.Place.{Place}
-use Rattle.macs_control.proofs.Placed.{new-stays, one-more}
 use Rattle.macs_control.proofs.seats.Seats.take_in.Goals as goal
 
 pub returns-clause-taken : goal.returns-clause-taken
@@ -11,12 +10,9 @@ returns-clause-taken g c = λ room.
     let second = c.if-not-make_room.ensures.second in
     let standing : standing_in place ≡ new_standing c.args.self.now.second =
     c.new-place.ensures.standing ∙ ap new_standing second in
-    let stays = new-stays c.args.self.now.second (standing_in place) standing in
     let put : c.push.new.self.items ≡ c.make_room.new.self.places.items ++ place ∷ [] = search rules in (
       place,
       c.new-place.ensures.connection,
       standing,
-      ap (kept c.args.self.now.second) put
-          ∙ one-more (gives_way c.args.self.now.second) c.make_room.new.self.places.items place stays
-          ∙ ap (λ (l : List (Place g.row.S.Denot)). l ++ place ∷ []) c.if-not-make_room.ensures.kept,
+      put ∙ ap (λ (l : List (Place g.row.S.Denot)). l ++ place ∷ []) c.if-not-make_room.ensures.left,
     )
