@@ -21,8 +21,8 @@ use Rattle.macs_offline.specs.Applying.{Applies, SaidByFile, SaysCommands, answe
 use Rattle.macs_offline.specs.Checking.{CheckEnds, IsSaidOfFile}
 use Rattle.macs_offline.proofs.Checked.{EndsOfFile}
 use Rattle.macs_offline.specs.Copying.{CopyFails}
-use Rattle.macs_offline.specs.Trying.{EndsOn, EndsTrial, TrialEnds, TrialFails, failure_in_memory, trial_line}
-use Rattle.macs_offline.specs.Trying.{trial_lines, trial_report}
+use Rattle.macs_offline.specs.Trying.{EndsOn, EndsTrial, LookFails, TrialEnds, TrialFails, failure_in_memory}
+use Rattle.macs_offline.specs.Trying.{trial_line, trial_lines, trial_report}
 use Rattle.macs_offline.specs.declared.failure.DiskFault.{DiskFault}
 use Rattle.macs_offline.specs.declared.failure.DiskFault.TheVariants as disk
 use Rattle.macs_offline.specs.declared.failure.Failure.{Failure}
@@ -175,18 +175,17 @@ of-trial state_of name end commands failure (inr (inr (file, copy, is_copy, ends
     ends-on _ copy end commands failure ends
 
 -- where no file says whom it is for, want of memory or a fault of the disk
-pub of-look : {F : Type 0} (state_of : F → FileState) (commands : List Command) (failure : Failure)
-    → TrialFails state_of None commands failure
+pub of-look : {F : Type 0} (state_of : F → FileState) (failure : Failure) → LookFails state_of failure
     → IsOfDisk failure
-of-look state_of commands failure (inl (fault, is, whole, device)) = of-file fault failure is
-of-look state_of commands failure (inr (inl (file, fails))) = copy-fails (state_of file) failure fails
-of-look state_of commands failure (inr (inr (file, copy, is_copy, inl (left, fault, refuses, is)))) =
+of-look state_of failure (inl (inl memory)) = inl memory
+of-look state_of failure (inl (inr unopened)) = inr (disk.File, unopened)
+of-look state_of failure (inr (inl (file, fails))) = copy-fails (state_of file) failure fails
+of-look state_of failure (inr (inr (file, copy, is_copy, inl (left, fault, refuses, is)))) =
     in-memory (disk.Journal fault) failure is
-of-look state_of commands failure (inr (inr (file, copy, is_copy, inr (old, opens, inl (other, named))))) =
+of-look state_of failure (inr (inr (file, copy, is_copy, inr (old, opens, inl (other, named))))) =
     absurd (let clash : true ≡ false = named in cc)
-of-look state_of commands failure (inr (inr (file, copy, is_copy, inr (old, opens, inr (own, inl memory))))) =
-    inl memory
-of-look state_of commands failure (inr (inr (file, copy, is_copy, inr (old, opens, inr (own, inr stops))))) =
+of-look state_of failure (inr (inr (file, copy, is_copy, inr (old, opens, inr (own, inl memory))))) = inl memory
+of-look state_of failure (inr (inr (file, copy, is_copy, inr (old, opens, inr (own, inr stops))))) =
     in-memory stops.ends.0 failure stops.ends.5
 
 -- what is to be printed of a trial is not

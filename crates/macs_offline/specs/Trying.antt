@@ -122,13 +122,22 @@ pub record TriesIn {F : Type 0} (state_of : F → FileState) (end : Option (List
   pub is_copy : IsCopyIn state_of file copy
   pub tries : TriesOn disk_of copy end commands outcomes
 
--- they are not, or not all of them: the file of this name is not opened; or there is no copy; or it has no endpoint, or
--- another one, or one of the commands ends the run
-abbrev pub TrialFails : {F : Type 0} → (F → FileState) → List ℕ → Option (List ℕ) → List Command → Failure → Type 0
-TrialFails {F} state_of name end commands failure =
-    IsNotRead name failure
-    ⊎ ((file : F) × CopyFails (state_of file) failure)
+-- they are not, or not all of them, with a file that is opened: there is no copy; or it has no endpoint, or another
+-- one, or one of the commands ends the run
+abbrev pub FailsIn : {F : Type 0} → (F → FileState) → Option (List ℕ) → List Command → Failure → Type 0
+FailsIn {F} state_of end commands failure =
+    ((file : F) × CopyFails (state_of file) failure)
     ⊎ ((file : F) × (copy : MemDisk Global) × IsCopyIn state_of file copy × EndsOn disk_of copy end commands failure)
+
+-- so it is, or the file of this name is not opened
+abbrev pub TrialFails : {F : Type 0} → (F → FileState) → List ℕ → Option (List ℕ) → List Command → Failure → Type 0
+TrialFails state_of name end commands failure = IsNotRead name failure ⊎ FailsIn state_of end commands failure
+
+-- A look at the disk in a file finds no endpoint: the file is not opened, or there is no memory; or it fails as a trial
+-- without commands does
+abbrev pub LookFails : {F : Type 0} → (F → FileState) → Failure → Type 0
+LookFails state_of failure =
+    ((failure ≡ failures.Memory) ⊎ (failure ≡ failures.Disk disk.File)) ⊎ FailsIn state_of None [] failure
 
 -- ---- whole
 

@@ -47,5 +47,5 @@ pub use opened::{Opened, answer_of};
 pub use output::{Line, append_count, append_text, print, print_last, print_octets};
 pub use status::Status;
 pub use stream::{PrintFailed, Stream, WriterStream};
-pub use trial::try_in;
+pub use trial::look_at;
 pub use values::{Given, ValueFault, given_by};

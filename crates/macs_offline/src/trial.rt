@@ -1,6 +1,6 @@
 //! `check FILE DISK`: what each command would be answered.
 
-ghost use Rattle.std.specs.Prelude.{◌≡◌, [], true, IfErr, IfOk, string_bytes};
+ghost use Rattle.std.specs.Prelude.{◌≡◌, [], true, None, IfErr, IfOk, OnOk, string_bytes};
 ghost use Rattle.std.specs.declared.alloc.Global.{Global};
 ghost use Rattle.macs_disk.specs.MemDisks.{disk_of};
 ghost use Rattle.macs_disk.specs.declared.memory.MemDisk.{MemDisk};
@@ -9,8 +9,8 @@ ghost use Rattle.macs_endpoint.specs.Opening.{IsOpening};
 ghost use Rattle.macs_endpoint.specs.State.{Commands, Ran};
 ghost use Rattle.macs_offline.specs.Applying.{Applies, answer_of, is_for, outcomes_status};
 ghost use Rattle.macs_offline.specs.Applying.{own_sci};
-ghost use Rattle.macs_offline.specs.Trying.{EndsOn, EndsTrial, TrialEnds, TrialFails, TriesIn};
-ghost use Rattle.macs_offline.specs.Trying.{OwnEnds, TriesOn};
+ghost use Rattle.macs_offline.specs.Trying.{EndsOn, EndsTrial, FailsIn, LookFails, OwnEnds};
+ghost use Rattle.macs_offline.specs.Trying.{TrialEnds, TrialFails, TriesIn, TriesOn};
 ghost use Rattle.macs_offline.specs.Trying.{failure_in_memory, trial_line, trial_lines};
 ghost use Rattle.macs_offline.specs.Trying.{trial_report, trial_text};
 
@@ -19,7 +19,7 @@ use crate::capture_file::CaptureFile;
 use crate::disk_copy::copy_of;
 use crate::failure::{DiskFault, Failure};
 use crate::file_reason::failure_at_disk;
-use crate::files::open_shared;
+use crate::files::{failure_of, open_shared};
 use crate::status::Status;
 use macs_config::{Command, Refusal};
 use macs_disk::{MemDisk, SectorDisk};
@@ -135,11 +135,26 @@ fn try_on(
     try_opened(alloc, Endpoint::open(copy), end, commands)
 }
 
+/// What these commands would be answered by the endpoint on the disk in an open file, which is read
+/// alone. It fails as `copy_of` does, as the opening of an endpoint does, as `OtherEnd` where the
+/// file that says them is for another end, and with `GenerationsSpent` where a command would be
+/// answered so; and as `Memory`.
+fn try_file<F: CaptureFile>(
+    alloc: Global,
+    file: &mut F,
+    end: Option<Sci>,
+    commands: &[Command],
+) -> Result<Vec<Option<Refusal>>, Failure>
+    ensures tried { IfOk result (λ outcomes. TriesIn F.file end commands.now outcomes.items) }
+    ensures ended { IfErr result (FailsIn F.file end commands.now) }
+{
+    let copy = copy_of(alloc, file)?;
+    try_on(alloc, copy, end, commands)
+}
+
 /// What these commands would be answered by the endpoint on the disk in a file, which is opened to
 /// be read alone. It fails as `DiskFile` with the reason where there is no regular file that can be
-/// opened, or a writer has claimed it; then as `copy_of` does, as the opening of an endpoint does,
-/// as `OtherEnd` where the file that says them is for another end, and with `GenerationsSpent`
-/// where a command would be answered so; and as `Memory`.
+/// opened, or a writer has claimed it; then as `try_file` does.
 pub fn try_in<T: Files>(
     rt: &T,
     alloc: Global,
@@ -153,11 +168,35 @@ where
     ensures ended { IfErr result (TrialFails T.File.file path.now end commands.now) }
 {
     match open_shared(rt, path) {
-        Ok(mut file) => {
-            let copy = copy_of(alloc, &mut file)?;
-            try_on(alloc, copy, end, commands)
-        }
+        Ok(mut file) => try_file(alloc, &mut file, end, commands),
         Err(error) => Err(failure_at_disk(alloc, path, error)),
+    }
+}
+
+/// Looks for an endpoint on the disk in an open file, which is read alone. It fails as `try_file`
+/// does.
+fn look_in<F: CaptureFile>(alloc: Global, file: &mut F) -> Result<(), Failure>
+    ensures found { OnOk result (TriesIn F.file None [] []) }
+    ensures ended { IfErr result (FailsIn F.file None []) }
+{
+    match try_file(alloc, file, None, &[]) {
+        Ok(_) => Ok(()),
+        Err(failure) => Err(failure),
+    }
+}
+
+/// Looks for an endpoint on the disk in a file, which is opened to be read alone. It fails as
+/// `Disk` with `File` where there is no regular file that can be opened, or a writer has claimed
+/// it; then as `try_file` does.
+pub fn look_at<T: Files>(rt: &T, alloc: Global, path: &str) -> Result<(), Failure>
+where
+    T::File: CaptureFile,
+    ensures found { OnOk result (TriesIn T.File.file None [] []) }
+    ensures ended { IfErr result (LookFails T.File.file) }
+{
+    match open_shared(rt, path) {
+        Ok(mut file) => look_in(alloc, &mut file),
+        Err(error) => Err(failure_of(error, Failure::Disk(DiskFault::File))),
     }
 }
 

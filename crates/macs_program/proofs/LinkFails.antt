@@ -208,7 +208,7 @@ not-unbound : {F : Type 0} (state_of : F → FileState) (refusal : LinkRefusal)
 not-unbound state_of refusal (inl (inl is, tries)) = no-memory refusal is
 not-unbound state_of refusal (inl (inr is, tries)) = no-wire refusal is
 not-unbound state_of refusal (inr fails) =
-    not-of-disk refusal (of-look state_of [] (failures.Link refusal) fails)
+    not-of-disk refusal (of-look state_of (failures.Link refusal) fails)
 
 inspects : (refusal : LinkRefusal) (name : List ℕ) (before after : Option (List ℕ))
     → InspectFails name before after (failures.Link refusal) → ⊥

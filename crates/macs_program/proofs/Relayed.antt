@@ -1,5 +1,6 @@
 -- What a relay comes to, between two wires that are new; and how it is refused for an address.
-use Rattle.std.proofs.Common.{◌≡◌, ◌≢◌, ◌↔◌, ◌⊎◌, ◌∙◌, ℕ, Bool, true, List, [], Option, Result, Ok, Err, IfErr, IfOk, inl}
+use Rattle.std.proofs.Common.{◌≡◌, ◌≢◌, ◌↔◌, ◌⊎◌, ◌∙◌, ℕ, Bool, true, List, [], Option, Result, Ok, Err, IfErr, IfOk}
+use Rattle.std.proofs.Common.{inl}
 use Rattle.std.proofs.Common.{inr, refl, subst, sym}
 use Rattle.std.specs.Io.KnownBytes.{Appends}
 use Rattle.macs_disk.specs.Disk.{Disk}
@@ -23,7 +24,8 @@ use Rattle.macs_offline.specs.Addresses.{AddressFaultHolds, SpellsBoth, address_
 use Rattle.macs_offline.specs.Openings.{OpeningFails}
 use Rattle.macs_offline.specs.Failing.{failure_of_refill, failure_status}
 use Rattle.macs_program.specs.Relaying.{ComesTo, Course, EndsRelay, IsAfterAddresses, IsOfRelay, IsRun, IsUnbound}
-use Rattle.macs_program.specs.Relaying.{RelayEndsIn, Relays, StopsRelay, attended, course_of, is_attended, new_wire, turns_of}
+use Rattle.macs_program.specs.Relaying.{RelayEndsIn, Relays, StopsRelay, attended, course_of, is_attended, new_wire}
+use Rattle.macs_program.specs.Relaying.{turns_of}
 use Rattle.macs_program.specs.Summing.{relay_line}
 use Rattle.macs_program.specs.Tasks.{DoesRelay, IsRunIn}
 use Rattle.macs_offline.specs.declared.addresses.AddressFault.{AddressFault}
@@ -157,7 +159,7 @@ unbound-behind : {F : Type 0} (file : F → FileState) (failure : Failure) → I
     → IsAfterAddresses failure
 unbound-behind file failure (inl (inl memory, tries)) = subst IsAfterAddresses (sym memory) tt
 unbound-behind file failure (inl (inr wire, tries)) = subst IsAfterAddresses (sym wire) tt
-unbound-behind file failure (inr fails) = elim (of-look file [] failure fails) [
+unbound-behind file failure (inr fails) = elim (of-look file failure fails) [
   | inl memory ↦ subst IsAfterAddresses (sym memory) tt
   | inr fault ↦ subst IsAfterAddresses (sym fault.1) tt
 ]
@@ -166,7 +168,7 @@ unbound-no-output : {F : Type 0} (file : F → FileState) (failure : Failure) �
     → failure ≢ failures.Output
 unbound-no-output file failure (inl (inl memory, tries)) is = let e = sym memory ∙ is in cc
 unbound-no-output file failure (inl (inr wire, tries)) is = let e = sym wire ∙ is in cc
-unbound-no-output file failure (inr fails) is = disk-no-output failure (of-look file [] failure fails) is
+unbound-no-output file failure (inr fails) is = disk-no-output failure (of-look file failure fails) is
 
 module _ {D W : Type 0} (disk_of : D → Disk) (contents : W → Option (List ℕ)) (has_failed : W → Bool) (course : Course)
     (old : EndpointValue D) (before : W) where

@@ -64,7 +64,8 @@ use Rattle.macs_offline.specs.Failing.{failure_text}
 use Rattle.macs_program.specs.Inputs.{InputRead}
 use Rattle.macs_program.specs.Judging.{EndsEach, JudgesCapture}
 use Rattle.macs_offline.specs.Lines.{line_at, lines, trimmed_line}
-use Rattle.macs_program.specs.NewDisks.{BlankFails, EndpointFails, FormatFails, Formats, IsTaken, MakesEndpoint, Permits}
+use Rattle.macs_program.specs.NewDisks.{BlankFails, EndpointFails, FormatFails, Formats, IsTaken, MakesEndpoint}
+use Rattle.macs_program.specs.NewDisks.{Permits}
 use Rattle.macs_offline.specs.OpenInput.{IsFourLines, Spells, SpellsKey, SpellsSci, offset_text}
 use Rattle.macs_program.specs.Run.{HasPrinted, OpenFails, Prints, PrintsUnlessFailed, complaint}
 use Rattle.macs_offline.specs.Statuses.{code_of}

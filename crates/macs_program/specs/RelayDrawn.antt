@@ -1,9 +1,12 @@
 -- What is to be drawn from words on relays of the program: how many turns one takes, who attends it, what it comes to
 -- and how it ends, of words that macs_edge has laws of.
-use Rattle.std.specs.Prelude.{◌≡◌, ◌≢◌, ◌⊎◌, ◌-◌, ◌^◌, ℕ, ℤ, pos, true, false, List, []}
+use Rattle.std.specs.Prelude.{◌≡◌, ◌≢◌, ◌≤◌, ◌⊎◌, ◌-◌, ◌/◌, ◌%◌, ◌^◌, ℕ, ℤ, pos, true, false, List, []}
 use Rattle.std.specs.Prelude.{None, Some, Result, Ok, Err}
 use Rattle.macs_disk.specs.FileDisks.{disk_in_file}
-use Rattle.macs_disk.specs.Files.{FileState}
+use Rattle.std.specs.declared.alloc.Global.{Global}
+use Rattle.macs_disk.specs.Files.{Behaves, FileState}
+use Rattle.macs_disk.specs.MemDisks.{disk_of}
+use Rattle.macs_disk.specs.declared.memory.MemDisk.{MemDisk}
 use Rattle.macs_disk.specs.declared.file.FileDisk.{FileDisk}
 use Rattle.macs_edge.specs.Attending.{IsAttended}
 use Rattle.macs_edge.specs.Relaying.{IsRelayed, empty_lane, relay_of}
@@ -18,7 +21,8 @@ use Rattle.macs_words.specs.declared.pace.Milliseconds.{Milliseconds}
 use Rattle.macs_words.specs.declared.pace.Running.{Running}
 use Rattle.macs_words.specs.declared.pace.Pace.TheVariants.{Sleepless, Waiting}
 use Rattle.macs_offline.specs.Openings.{IsEndpointIn}
-use Rattle.macs_offline.specs.Trying.{TrialFails, TriesIn}
+use Rattle.macs_offline.specs.Copying.{CopyFails, IsCopy}
+use Rattle.macs_offline.specs.Trying.{EndsOn, TriesIn}
 use Rattle.macs_offline.specs.Failing.{failure_of_refill}
 use Rattle.macs_program.specs.Relaying.{ComesTo, Course, IsUnbound, RelayEndsIn, course_of, turns_of}
 use Rattle.macs_program.specs.Watching.{asks}
@@ -47,7 +51,8 @@ RunsAs file course old result new controlled common =
 -- came to, in such a relay. While it waits the system is asked whether a wire can be read (POLLIN is 1). Where it ends
 -- otherwise, nothing was done with the endpoint, since the control socket is not bound, or there is no memory; or a
 -- step was answered with a fault, which has its name and is not Busy; or it came to its summary, and that is not
--- written.
+-- written. Where a wire is not bound, or there is no memory for it, an endpoint was opened on a copy of the disk in a
+-- file; or no file was opened, there is no copy of its disk, or no endpoint is opened on that, and this is the failure.
 pub record RelayWords {F : Type 0} (file : F → FileState) : Type 0 where
   pub sleepless : (turns : ℕ) → turns_of (Sleepless turns) ≡ turns
   pub waiting : (limit : Milliseconds) (turns : ℕ) → turns_of (Waiting limit (Some turns)) ≡ turns
@@ -71,7 +76,12 @@ pub record RelayWords {F : Type 0} (file : F → FileState) : Type 0 where
       × RunsAs file course old (Ok summary) new controlled common))
   pub unbound : (failure : Failure) → IsUnbound file failure
       → (((failure ≡ failures.Memory) ⊎ (failure ≡ failures.Wire)) × TriesIn file None [] [])
-      ⊎ TrialFails file None [] failure
+      ⊎ ((failure ≡ failures.Memory) ⊎ (failure ≡ failures.Disk disk.File))
+      ⊎ ((disk_file : F) × CopyFails (file disk_file) failure)
+      ⊎ ((disk_file : F) × (copy : MemDisk Global)
+      × (Behaves (file disk_file) → ((file disk_file).size % 512 ≡ 0) × (1028 ≤ (file disk_file).size / 512)
+      × IsCopy (file disk_file) (disk_of copy))
+      × EndsOn disk_of copy None [] failure)
   pub stopped : failure_of_refill refill.Stopped ≡ failures.Disk (disk.Journal journal.Stopped)
   pub never_busy : (course : Course) (old new : EndpointValue (FileDisk F)) (fault : RefillFault)
       (controlled common : WireState)

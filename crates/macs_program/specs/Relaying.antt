@@ -1,5 +1,6 @@
 -- What a relay of the program comes to, and how it ends.
-use Rattle.std.specs.Prelude.{◌≡◌, ◌⊎◌, ◌-◌, ◌^◌, ◌||◌, ⊤, ℕ, Bool, true, false, List, [], None, Some, is_some, Result, Ok}
+use Rattle.std.specs.Prelude.{◌≡◌, ◌⊎◌, ◌-◌, ◌^◌, ◌||◌, ⊤, ℕ, Bool, true, false, List, [], None, Some, is_some, Result}
+use Rattle.std.specs.Prelude.{Ok}
 use Rattle.std.specs.Prelude.{Err}
 use Rattle.macs_disk.specs.Disk.{Disk}
 use Rattle.macs_disk.specs.FileDisks.{disk_in_file}
@@ -17,7 +18,7 @@ use Rattle.macs_words.specs.declared.pace.Running.{Running}
 use Rattle.macs_words.specs.declared.pace.Pace.TheVariants.{Sleepless, Waiting}
 use Rattle.macs_offline.specs.Openings.{IsEndpointIn}
 use Rattle.macs_offline.specs.Failing.{failure_of_refill}
-use Rattle.macs_offline.specs.Trying.{TrialFails, TriesIn}
+use Rattle.macs_offline.specs.Trying.{LookFails, TriesIn}
 use Rattle.macs_offline.specs.declared.failure.Failure.{Failure}
 use Rattle.macs_offline.specs.declared.failure.Failure.TheVariants as failures
 
@@ -139,7 +140,7 @@ RelayEnds disk_of course old failure new =
 abbrev pub IsUnbound : {F : Type 0} → (F → FileState) → Failure → Type 0
 IsUnbound file failure =
     (((failure ≡ failures.Memory) ⊎ (failure ≡ failures.Wire)) × TriesIn file None [] [])
-    ⊎ TrialFails file None [] failure
+    ⊎ LookFails file failure
 
 -- so it ends with an endpoint on a disk in a file
 pub record RelayEndsIn {F : Type 0} (file : F → FileState) (course : Course) (failure : Failure) : Type 0 where

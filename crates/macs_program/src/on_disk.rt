@@ -27,7 +27,8 @@ ghost use Rattle.macs_offline.specs.Failing.{failure_status};
 ghost use Rattle.macs_program.specs.Judging.{DoesJudge, JudgesIn, JudgingEndsIn, PrintsVerdicts};
 ghost use Rattle.macs_program.specs.Judging.{verdict_lines};
 ghost use Rattle.macs_program.specs.NewDisks.{FormatFails, Formats, MakesDisk};
-ghost use Rattle.macs_program.specs.Relaying.{ComesTo, IsOfRelay, IsUnbound, RelayEndsIn, course_of};
+ghost use Rattle.macs_program.specs.Relaying.{ComesTo, IsOfRelay, IsUnbound, RelayEndsIn};
+ghost use Rattle.macs_program.specs.Relaying.{course_of};
 ghost use Rattle.macs_program.specs.Relaying.{is_attended, left_out, new_wire, turns_of};
 ghost use Rattle.macs_program.specs.Summing.{pass_status, relay_line, summary_line};
 ghost use Rattle.macs_program.specs.Tasks.{DoesApply, DoesPass, DoesRelay, DoesShow, Doing};
@@ -53,7 +54,7 @@ use macs_edge::{Side, UdpWire, Wire};
 use macs_endpoint::{Endpoint, OpenRefused};
 use macs_offline::{
     Addresses, CaptureFile, Failure, Given, Status, Stream, WireAddresses, addresses_of,
-    apply_commands, commands_of_file, given_by, is_own, open_disk, print, try_in,
+    apply_commands, commands_of_file, given_by, is_own, look_at, open_disk, print,
 };
 use macs_texts::show_lines;
 use macs_words::{Milliseconds, Pace, Running, WireEnds};
@@ -770,8 +771,8 @@ where
     requires { (failure ≡ Failure.Memory) ⊎ (failure ≡ Failure.Wire) }
     ensures { IsUnbound T.File.file result }
 {
-    match try_in(rt, alloc, disk, None, &[]) {
-        Ok(_) => failure,
+    match look_at(rt, alloc, disk) {
+        Ok(()) => failure,
         Err(fault) => fault,
     }
 }

@@ -18,11 +18,13 @@ returns-in-Err-clause-failed g c =
 pub returns-in-Err-clause-front : goal.returns-in-Err-clause-front
 returns-in-Err-clause-front g c =
     let said = c.named_failure.ensures in
-    λ other. c.in-Err.ensures.front (named-output (Gone c.args.path.now) c.args.question c.in-Err.failure c.named_failure.result
+    λ other. c.in-Err.ensures.front
+    (named-output (Gone c.args.path.now) c.args.question c.in-Err.failure c.named_failure.result
     (record { gone = said.gone; other = said.other_end; same = said.same }) other)
 
 pub returns-in-Err-clause-broken : goal.returns-in-Err-clause-broken
 returns-in-Err-clause-broken g c =
     let said = c.named_failure.ensures in
-    λ output. c.in-Err.ensures.broken (output-named (Gone c.args.path.now) c.args.question c.in-Err.failure c.named_failure.result
+    λ output. c.in-Err.ensures.broken
+    (output-named (Gone c.args.path.now) c.args.question c.in-Err.failure c.named_failure.result
     c.in-Err.ensures.failed (record { gone = said.gone; other = said.other_end; same = said.same }) output)

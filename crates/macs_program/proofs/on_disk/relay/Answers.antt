@@ -47,7 +47,8 @@ returns-in-Err g c =
     let all =
     unbound-in g.T.File.DiskFile.file g.W.Stream.contents g.W.Stream.failed c.args.controlled c.args.common
     (course_of c.args.running) c.args.out.now
-    c.addresses_of.result c.addresses_of.ensures.fault words.addresses c.unbound.result (Err c.unbound.result) words.was refl
+    c.addresses_of.result c.addresses_of.ensures.fault words.addresses c.unbound.result (Err c.unbound.result)
+    words.was refl
     c.unbound.ensures in
     record {
       printed = all.printed;

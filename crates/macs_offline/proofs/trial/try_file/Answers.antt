@@ -1,0 +1,25 @@
+use Rattle.std.proofs.Common.{inr}
+use Rattle.std.proofs.lemmas.Result.{IfErr-weaker, IfOk-weaker}
+use Rattle.macs_offline.proofs.trial.try_file.Goals as goal
+
+pub returns-in_ok-copy-clause-tried : goal.returns-in_ok-copy-clause-tried
+returns-in_ok-copy-clause-tried g c =
+    let said = c.in_ok-copy.ensures in
+    IfOk-weaker c.try_on.result _ _
+    (λ outcomes tries. record {
+      file = c.args.file.now;
+      copy = c.in_ok-copy.copy;
+      is_copy = λ behaves. (said.whole behaves, said.enough behaves, said.copied behaves);
+      tries = tries;
+    }) c.try_on.ensures.tried
+
+pub returns-in_ok-copy-clause-ended : goal.returns-in_ok-copy-clause-ended
+returns-in_ok-copy-clause-ended g c =
+    let said = c.in_ok-copy.ensures in
+    IfErr-weaker c.try_on.result _ _
+    (λ failure ends. inr (
+      c.args.file.now,
+      c.in_ok-copy.copy,
+      (λ behaves. (said.whole behaves, said.enough behaves, said.copied behaves)),
+      ends,
+    )) c.try_on.ensures.ended
