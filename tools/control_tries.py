@@ -377,7 +377,7 @@ def a_relay_that_stands_still():
             raise AssertionError("64 wait, and there is room for more")
         began = time.monotonic()
         asked = subprocess.run([PROGRAM, "ask", it.control, "show"], capture_output=True, text=True, timeout=90, check=False)
-        assert (asked.returncode, asked.stdout, asked.stderr) == (5, "", "macsecd: control\n"), asked
+        assert (asked.returncode, asked.stdout, asked.stderr) == (5, "", f"macsecd: control: {it.control}: no answer of a relay, or it went away\n"), asked
         assert 55 < time.monotonic() - began < 70
         it.left.send_signal(signal.SIGCONT)
         for client in waiting:
