@@ -18,6 +18,7 @@ pub mod Told
 mod WrittenOver
 mod ExamineDrawn
 mod PlanDrawn
+mod ReasonDrawn
 mod ContentDrawn
 mod Drawn
 mod RelayDrawn

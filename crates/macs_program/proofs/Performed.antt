@@ -9,7 +9,7 @@ use Rattle.macs_config.specs.declared.refusal.Refusal.{Refusal}
 use Rattle.macs_disk.specs.Files.{FileState}
 use Rattle.macs_program.specs.About.{about_text}
 use Rattle.macs_offline.specs.Applying.{outcome_lines, outcomes_status}
-use Rattle.macs_program.specs.Asking.{IsOfAsking, PrintsAnswer, PrintsFront}
+use Rattle.macs_program.specs.Asking.{AskFails, PrintsAnswer, PrintsFront}
 use Rattle.macs_offline.specs.Examining.{ExamineFails, PrintsExamined}
 use Rattle.macs_offline.specs.Failing.{failure_status}
 use Rattle.macs_offline.specs.Checking.{CheckEnds, CheckFails, Checks}
@@ -46,23 +46,13 @@ of-disk : (failure : Failure) → failure_status failure ≡ ends.Disk → failu
 of-disk failure disk is = let e = sym disk ∙ ap failure_status is in cc
 
 -- a failure of `ask` is no wrong usage
-asking-no-usage : (failure : Failure) → IsOfAsking failure → failure_status failure ≢ ends.Usage
-asking-no-usage (failures.Usage cause) is = absurd is
-asking-no-usage (failures.Value fault) is = absurd is
-asking-no-usage (failures.Address fault) is = absurd is
-asking-no-usage (failures.Disk fault) is = λ e. cc
-asking-no-usage failures.Capture is = absurd is
-asking-no-usage failures.Commands is = λ e. cc
-asking-no-usage failures.Wire is = absurd is
-asking-no-usage failures.Control is = λ e. cc
-asking-no-usage failures.Random is = absurd is
-asking-no-usage (failures.Said cause) is = λ e. cc
-asking-no-usage (failures.DiskFile cause) is = absurd is
-asking-no-usage failures.OtherEnd is = absurd is
-asking-no-usage (failures.Link refusal) is = absurd is
-asking-no-usage failures.Memory is = λ e. cc
-asking-no-usage (failures.Input fault) is = absurd is
-asking-no-usage failures.Output is = λ e. cc
+asking-no-usage : (name : List ℕ) (asked : Question) (failure : Failure) → AskFails name asked failure
+    → failure_status failure ≢ ends.Usage
+asking-no-usage name asked (failures.Disk fault) is = λ e. cc
+asking-no-usage name asked (failures.Said cause) is = λ e. cc
+asking-no-usage name asked failures.Memory is = λ e. cc
+asking-no-usage name asked failures.Output is = λ e. cc
+asking-no-usage name asked failure is = absurd is
 
 -- a failure of `key` is no wrong usage, and none of the disk
 key-no-usage : (failure : Failure) → IsOfKey failure
@@ -329,13 +319,14 @@ module _ {F W : Type 0} (state_of : F → FileState) (left_in : F → Option (Li
   answer-status (question.Apply file) status printed = applied-status printed.0 status printed.2
 
   pub asks : (path : Bor (List ℕ)) (asked : Question) → IfOk result (PrintsAnswer asked (contents old) (contents new))
-      → IfErr result IsOfAsking
+      → IfErr result (AskFails path.now asked)
       → IfErr result (λ failure. failure ≢ Output → PrintsFront asked (contents old) (contents new)) → Broken
       → Performs state_of left_in contents failed (Ask path asked) input old result new
   asks path asked done fails front broken = record {
     does = done;
     status = IfOk-weaker result _ _ (answer-status asked) done;
-    usage = IfErr-weaker result _ _ (λ failure is usage. absurd (asking-no-usage failure is usage)) fails;
+    usage =
+        IfErr-weaker result _ _ (λ failure is usage. absurd (asking-no-usage path.now asked failure is usage)) fails;
     disk = IfErr-weaker result _ _ (λ failure printed disk. ((λ is. absurd cc), printed (of-disk failure disk))) front;
     before = front;
     fails = fails;

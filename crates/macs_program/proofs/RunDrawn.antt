@@ -27,7 +27,9 @@ use Rattle.macs_pcap.specs.States.{SinkState, SourceState}
 use Rattle.macs_pcap.specs.declared.header.Header.{Header}
 use Rattle.macs_rxsc.specs.declared.verdict.Verdict.{Verdict}
 use Rattle.macs_offline.specs.Addresses.{AddressFaultHolds}
-use Rattle.macs_program.specs.Asking.{IsOfAsking}
+use Rattle.macs_program.specs.Asking.{AskFails, SaysOfAsking}
+use Rattle.macs_program.specs.Sockets.{socket_text}
+use Rattle.macs_program.specs.declared.socket_reason.SocketReason.{SocketReason}
 use Rattle.macs_offline.specs.Applying.{SaidByFile, SaysCommands, own_sci}
 use Rattle.macs_offline.specs.Checking.{CheckFails, IsSaidOfFile, PrintsCount, count_line}
 use Rattle.macs_program.specs.Capturing.{EndsPass, PassesCapture}
@@ -36,7 +38,7 @@ use Rattle.macs_program.specs.Endpoints.{PassEnds, PassesIn}
 use Rattle.macs_offline.specs.Openings.{IsEndpointIn}
 use Rattle.macs_offline.specs.FileModes.{mode_warning}
 use Rattle.macs_offline.specs.Inspecting.{AreLinesOf, InspectsCapture}
-use Rattle.macs_offline.specs.Reasons.{Complains, TellsOfFile}
+use Rattle.macs_offline.specs.Reasons.{Complains, Tells, TellsOfFile, reason_text}
 use Rattle.macs_program.proofs.LinkFails.{link-fails}
 use Rattle.macs_program.proofs.OwnEnds.{other-end, own-end}
 use Rattle.macs_program.specs.Judging.{EndsEach, JudgesCapture, JudgesIn, JudgingEnds, verdict_lines}
@@ -53,11 +55,14 @@ use Rattle.macs_offline.specs.declared.failure.DiskFault.TheVariants as disk
 use Rattle.macs_offline.specs.declared.failure.Failure.{Failure}
 use Rattle.macs_offline.specs.declared.failure.Failure.TheVariants as failures
 use Rattle.macs_offline.specs.declared.failure.LinkRefusal.{LinkRefusal}
+use Rattle.macs_offline.specs.declared.file_reason.FileReason.{FileReason}
 use Rattle.macs_offline.specs.declared.status.Status.{Status}
 use Rattle.macs_offline.specs.declared.status.Status.TheVariants as ends
 use Rattle.macs_offline.specs.declared.values.ValueFault.{ValueFault}
 use Rattle.macs_words.specs.declared.action.Action.{Action}
 use Rattle.macs_words.specs.declared.action.Action.TheVariants.{Format, Relay}
+use Rattle.macs_words.specs.declared.action.Question.{Question}
+use Rattle.macs_words.specs.declared.action.Question.TheVariants as question
 use Rattle.macs_words.specs.declared.action.WireEnds.{WireEnds}
 use Rattle.macs_words.specs.declared.pace.Running.{Running}
 use Rattle.macs_offline.proofs.Planned.{planned-of}
@@ -280,17 +285,27 @@ reply-words file left_in = record {
 
 -- ---- how it fails
 
-of_asking : (failure : Failure) → IsOfAsking failure
-    → (failure ≡ failures.Disk (disk.Journal journal.Stopped)) ⊎ (failure ≡ failures.Control)
-    ⊎ (failure ≡ failures.Commands) ⊎ (failure ≡ failures.Memory) ⊎ (failure ≡ failures.Output)
-    ⊎ ((said : _) × (failure ≡ failures.Said said))
-of_asking (failures.Disk (disk.Journal journal.Stopped)) is = inl refl
-of_asking failures.Control is = inr (inl refl)
-of_asking failures.Commands is = inr (inr (inl refl))
-of_asking failures.Memory is = inr (inr (inr (inl refl)))
-of_asking failures.Output is = inr (inr (inr (inr (inl refl))))
-of_asking (failures.Said text) is = inr (inr (inr (inr (inr (text, refl)))))
-of_asking other is = absurd is
+of_asking : (name : List ℕ) (asked : Question) (failure : Failure) → AskFails name asked failure
+    → (failure ≡ failures.Disk (disk.Journal journal.Stopped)) ⊎ (failure ≡ failures.Memory)
+    ⊎ (failure ≡ failures.Output)
+    ⊎ ((said : _) × (failure ≡ failures.Said said) × SaysOfAsking name asked (string_bytes said))
+of_asking name asked (failures.Disk (disk.Journal journal.Stopped)) is = inl refl
+of_asking name asked failures.Memory is = inr (inl refl)
+of_asking name asked failures.Output is = inr (inr (inl refl))
+of_asking name asked (failures.Said text) is = inr (inr (inr (text, refl, is)))
+of_asking name asked other is = absurd is
+
+asked-so : (name : List ℕ) (asked : Question) (said : List ℕ) → SaysOfAsking name asked said
+    → ((why : SocketReason) × Tells (codes "control") name (socket_text why) said)
+    ⊎ ((from : Bor Text) × (asked ≡ question.Apply from)
+    × (((why : FileReason) × Tells (codes "commands") from.now (reason_text why) said)
+    ⊎ ((octets : List ℕ) × IsSaidOfFile octets said)
+    ⊎ Tells (codes "commands") from.now (codes "for another end") said))
+asked-so name (question.Apply from) said (inl of_socket) = inl of_socket
+asked-so name (question.Apply from) said (inr of_file) = inr (from, refl, of_file)
+asked-so name question.Show said is = inl is
+asked-so name question.Counters said is = inl is
+asked-so name question.Stop said is = inl is
 
 of_key : (failure : Failure) → IsOfKey failure → (failure ≡ failures.Random) ⊎ (failure ≡ failures.Output)
 of_key failures.Random is = inl refl
@@ -362,7 +377,8 @@ fail-words file left_in = record {
   passing =
       λ side failure is. (is.old, is.new, is.endpoint, passing (disk_in_file file) side is.old failure is.new is.ends);
   of_relay = λ path controlled common running input before after failure is. is;
-  of_ask = λ path asked input before after failure is. of_asking failure is;
+  of_ask = λ path asked input before after failure is. of_asking path.now asked failure is;
+  asking = asked-so;
   of_key = λ is_long input before after failure is. of_key failure is;
   of_inspect = λ from input before after failure is. is;
   inspecting = λ old before stop new after is. elim is [

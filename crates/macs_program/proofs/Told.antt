@@ -5,17 +5,21 @@ use Rattle.std.proofs.Common.{◌↔◌, IsTrue, drop, length, Option, is_some, 
 use Rattle.std.specs.Io.KnownBytes.{Appends}
 use Rattle.std.proofs.KnownBytes.{Appends-nil, Appends-trans}
 use Rattle.std.proofs.lemmas.List.{length_push}
+use Rattle.std.proofs.lemmas.Result.{IfErr-weaker}
 use Rattle.macs_config.specs.declared.refusal.Refusal.{Refusal}
 use Rattle.macs_control.specs.Asking.{BeginsWithAnswer, unread}
 use Rattle.macs_control.specs.Links.{GivesOctets, Link}
 use Rattle.macs_offline.specs.Applying.{outcome_line, outcome_lines, outcomes_status}
-use Rattle.macs_program.specs.Asking.{AsksForText, BeginsWithOwn, HandsCommands, IsBeforeCommands, IsOfAsking}
-use Rattle.macs_program.specs.Asking.{IsForOther, TellsOfSocket, failure_in, failure_of_other, is_of_endpoint, sci_line}
+use Rattle.macs_program.specs.Asking.{AskFails, AsksForText, BeginsWithOwn, HandsCommands, IsBeforeCommands}
+use Rattle.macs_program.specs.Asking.{IsForOther, IsOfAsking, IsUnanswered, SaysNothing, SaysOfAsking, SaysOfCommands}
+use Rattle.macs_program.specs.Asking.{SaysOfSocket, TellsOfSocket, failure_in, failure_of_other, is_of_endpoint}
+use Rattle.macs_program.specs.Asking.{sci_line}
 use Rattle.macs_offline.specs.Checking.{IsSaidOfFile}
 use Rattle.macs_offline.specs.Reasons.{Complains, IsUnread, Tells, TellsOfFile}
 use Rattle.macs_program.specs.Sockets.{socket_text}
 use Rattle.macs_program.specs.declared.socket_reason.SocketReason.{SocketReason}
-use Rattle.std.proofs.Common.{codes}
+use Rattle.macs_program.specs.declared.socket_reason.SocketReason.TheVariants as reason
+use Rattle.std.proofs.Common.{codes, string_bytes}
 use Rattle.macs_words.specs.declared.action.Question.{Question}
 use Rattle.macs_words.specs.declared.action.Question.TheVariants as question
 use Rattle.macs_journal.specs.declared.fault.JournalFault.TheVariants as journal
@@ -93,25 +97,45 @@ own-shown all rest sci text status (Err failure) heard own = tt
 
 -- ---- what comes of it
 
--- no memory, no relay, no commands, or something that is said
-abbrev pub IsEarly : Failure → Type 0
-IsEarly failure =
-    (failure ≡ Memory) ⊎ (failure ≡ Control) ⊎ (failure ≡ Commands) ⊎ ((text : _) × (failure ≡ failures.Said text))
+-- no memory, no relay, no commands, or something that is said, for which this holds
+abbrev pub IsEarly : (List ℕ → Type 0) → Failure → Type 0
+IsEarly Says failure = (failure ≡ Memory) ⊎ (failure ≡ Control) ⊎ (failure ≡ Commands)
+    ⊎ ((text : _) × (failure ≡ failures.Said text) × Says (string_bytes text))
 
-early-asking : (failure : Failure) → IsEarly failure → IsOfAsking failure
-early-asking failure (inl memory) = subst IsOfAsking (sym memory) tt
-early-asking failure (inr (inl control)) = subst IsOfAsking (sym control) tt
-early-asking failure (inr (inr (inl commands))) = subst IsOfAsking (sym commands) tt
-early-asking failure (inr (inr (inr (text, said)))) = subst IsOfAsking (sym said) tt
+module _ (Says : List ℕ → Type 0) where
+  early-asking : (failure : Failure) → IsEarly Says failure → IsOfAsking Says failure
+  early-asking failure (inl memory) = subst (IsOfAsking Says) (sym memory) tt
+  early-asking failure (inr (inl control)) = subst (IsOfAsking Says) (sym control) tt
+  early-asking failure (inr (inr (inl commands))) = subst (IsOfAsking Says) (sym commands) tt
+  early-asking failure (inr (inr (inr (text, said, says)))) = subst (IsOfAsking Says) (sym said) says
 
-early-no-output : (failure : Failure) → IsEarly failure → failure ≢ Output
-early-no-output failure (inl memory) is = let e = sym memory ∙ is in cc
-early-no-output failure (inr (inl control)) is = let e = sym control ∙ is in cc
-early-no-output failure (inr (inr (inl commands))) is = let e = sym commands ∙ is in cc
-early-no-output failure (inr (inr (inr (text, said)))) is = let e = sym said ∙ is in cc
+  early-no-output : (failure : Failure) → IsEarly Says failure → failure ≢ Output
+  early-no-output failure (inl memory) is = let e = sym memory ∙ is in cc
+  early-no-output failure (inr (inl control)) is = let e = sym control ∙ is in cc
+  early-no-output failure (inr (inr (inl commands))) is = let e = sym commands ∙ is in cc
+  early-no-output failure (inr (inr (inr (text, said, says)))) is = let e = sym said ∙ is in cc
 
-pub before-commands : (failure : Failure) → IsEarly failure → IsBeforeCommands failure
-before-commands failure early = (early-asking failure early, early-no-output failure early)
+  -- what holds of all that is said
+  pub asking-more : (Others : List ℕ → Type 0) → ((said : List ℕ) → Says said → Others said) → (failure : Failure)
+      → IsOfAsking Says failure → IsOfAsking Others failure
+  asking-more Others more (failures.Disk (disk.Journal journal.Stopped)) is = tt
+  asking-more Others more Control is = tt
+  asking-more Others more Commands is = tt
+  asking-more Others more (failures.Said text) is = more (string_bytes text) is
+  asking-more Others more Memory is = tt
+  asking-more Others more Output is = tt
+  asking-more Others more other is = absurd is
+
+  pub early-more : (Others : List ℕ → Type 0) → ((said : List ℕ) → Says said → Others said) → (failure : Failure)
+      → IsEarly Says failure → IsEarly Others failure
+  early-more Others more failure (inl memory) = inl memory
+  early-more Others more failure (inr (inl control)) = inr (inl control)
+  early-more Others more failure (inr (inr (inl commands))) = inr (inr (inl commands))
+  early-more Others more failure (inr (inr (inr (text, said, says)))) =
+      inr (inr (inr (text, said, more (string_bytes text) says)))
+
+pub before-commands : (failure : Failure) → IsEarly SaysNothing failure → IsBeforeCommands failure
+before-commands failure early = (early-asking SaysNothing failure early, early-no-output SaysNothing failure early)
 
 by_status : (a b : Bool) → IsBeforeCommands
     (if a then failures.Disk (disk.Journal journal.Stopped) else (if b then Memory else Control))
@@ -142,38 +166,27 @@ pub of-endpoint : (text octets : List ℕ) (failure : Failure) → failure ≡ f
 of-endpoint text octets failure cause whole is =
     subst (λ (t : List ℕ). is_of_endpoint t ≡ true) whole (of_endpoint_by (is_of_endpoint octets) (sym cause ∙ is))
 
-pub no-answer : (failure : Failure) → (failure ≡ Memory) ⊎ (failure ≡ Control) → IsEarly failure
-no-answer failure (inl memory) = inl memory
-no-answer failure (inr control) = inr (inl control)
+pub no-answer : (Says : List ℕ → Type 0) (failure : Failure) → (failure ≡ Memory) ⊎ (failure ≡ Control)
+    → IsEarly Says failure
+no-answer Says failure (inl memory) = inl memory
+no-answer Says failure (inr control) = inr (inl control)
 
-pub complained : (Holds : List ℕ → Type 0) (failure : Failure) → Complains Holds failure → IsEarly failure
+pub complained : (Holds : List ℕ → Type 0) (failure : Failure) → Complains Holds failure → IsEarly Holds failure
 complained Holds failure (inl memory) = inl memory
-complained Holds failure (inr (text, is, holds)) = inr (inr (inr (text, is)))
+complained Holds failure (inr (text, is, holds)) = inr (inr (inr (text, is, holds)))
 
 pub no-commands : (name : List ℕ) (failure : Failure)
-    → IsUnread name failure ⊎ ((octets : List ℕ) × Complains (IsSaidOfFile octets) failure) → IsEarly failure
-no-commands name failure (inl unread) = complained (TellsOfFile (codes "commands") name) failure unread
-no-commands name failure (inr (octets, complains)) = complained (IsSaidOfFile octets) failure complains
-
-complained-asking : (Holds : List ℕ → Type 0) (failure : Failure) → Complains Holds failure → IsOfAsking failure
-complained-asking Holds failure complains = early-asking failure (complained Holds failure complains)
+    → IsUnread name failure ⊎ ((octets : List ℕ) × Complains (IsSaidOfFile octets) failure)
+    → IsEarly (SaysOfCommands name) failure
+no-commands name failure (inl unread) =
+    early-more (TellsOfFile (codes "commands") name) (SaysOfCommands name) (λ said is. inl is) failure
+    (complained (TellsOfFile (codes "commands") name) failure unread)
+no-commands name failure (inr (octets, complains)) =
+    early-more (IsSaidOfFile octets) (SaysOfCommands name) (λ said is. inr (inl (octets, is))) failure
+    (complained (IsSaidOfFile octets) failure complains)
 
 complained-no-output : (Holds : List ℕ → Type 0) (failure : Failure) → Complains Holds failure → failure ≢ Output
-complained-no-output Holds failure complains = early-no-output failure (complained Holds failure complains)
-
-other-asking : (asked : Question) (failure : Failure) → IsForOther asked failure → IsOfAsking failure
-other-asking question.Show failure is = subst IsOfAsking (sym is) tt
-other-asking question.Counters failure is = subst IsOfAsking (sym is) tt
-other-asking question.Stop failure is = subst IsOfAsking (sym is) tt
-other-asking (question.Apply file) failure complains =
-    complained-asking (Tells (codes "commands") file.now (codes "for another end")) failure complains
-
-other-no-output : (asked : Question) (failure : Failure) → IsForOther asked failure → failure ≢ Output
-other-no-output question.Show failure is = λ e. let f = sym is ∙ e in cc
-other-no-output question.Counters failure is = λ e. let f = sym is ∙ e in cc
-other-no-output question.Stop failure is = λ e. let f = sym is ∙ e in cc
-other-no-output (question.Apply file) failure complains =
-    complained-no-output (Tells (codes "commands") file.now (codes "for another end")) failure complains
+complained-no-output Holds failure complains = early-no-output Holds failure (complained Holds failure complains)
 
 -- nobody is asked, for this reason
 pub not-connected : (name : List ℕ) (why : SocketReason) (failure : Failure)
@@ -181,87 +194,129 @@ pub not-connected : (name : List ℕ) (why : SocketReason) (failure : Failure)
 not-connected name why failure (inl memory) = inl memory
 not-connected name why failure (inr (text, is, tells)) = inr (text, is, (why, tells))
 
-pub not-reached : (name : List ℕ) (failure : Failure) → TellsOfSocket name failure → IsEarly failure
-not-reached name failure (inl memory) = inl memory
-not-reached name failure (inr (text, is, tells)) = inr (inr (inr (text, is)))
+pub not-reached : (name : List ℕ) (failure : Failure) → TellsOfSocket name failure
+    → IsEarly (SaysOfSocket name) failure
+not-reached name failure fails = complained (SaysOfSocket name) failure fails
 
--- a failure says of which socket or file it is
-pub record Named (IsGone : List ℕ → Type 0) (asked : Question) (failure named : Failure) : Type 0 where
-  pub gone : failure ≡ Control → Complains IsGone named
-  pub other : failure ≡ Commands → IsForOther asked named
-  pub same : failure ≢ Control → failure ≢ Commands → named ≡ failure
+module _ (name : List ℕ) (asked : Question) where
+  -- a failure says of which socket or file it is
+  pub record Named (failure named : Failure) : Type 0 where
+    pub gone : failure ≡ Control → IsUnanswered name named
+    pub other : failure ≡ Commands → IsForOther name asked named
+    pub same : failure ≢ Control → failure ≢ Commands → named ≡ failure
 
-module _ (IsGone : List ℕ → Type 0) (asked : Question) where
-  pub named-asking : (failure named : Failure) → IsOfAsking failure → Named IsGone asked failure named
-      → IsOfAsking named
-  named-asking Control named ours is = complained-asking IsGone named (is.gone refl)
-  named-asking Commands named ours is = other-asking asked named (is.other refl)
-  named-asking (failures.Disk fault) named ours is =
-      subst IsOfAsking (sym (is.same (λ e. cc) (λ e. cc))) ours
-  named-asking (failures.Said text) named ours is = subst IsOfAsking (sym (is.same (λ e. cc) (λ e. cc))) ours
-  named-asking Memory named ours is = subst IsOfAsking (sym (is.same (λ e. cc) (λ e. cc))) ours
-  named-asking Output named ours is = subst IsOfAsking (sym (is.same (λ e. cc) (λ e. cc))) ours
-  named-asking failure named ours is = absurd ours
+  complained-so : (Holds : List ℕ → Type 0) → ((said : List ℕ) → Holds said → SaysOfAsking name asked said)
+      → (failure : Failure) → Complains Holds failure → AskFails name asked failure
+  complained-so Holds more failure (inl memory) = subst (AskFails name asked) (sym memory) tt
+  complained-so Holds more failure (inr (text, is, holds)) =
+      subst (AskFails name asked) (sym is) (more (string_bytes text) holds)
 
-  pub output-named : (failure named : Failure) → IsOfAsking failure → Named IsGone asked failure named
-      → named ≡ Output → failure ≡ Output
-  output-named Control named ours is e = absurd (complained-no-output IsGone named (is.gone refl) e)
-  output-named Commands named ours is e = absurd (other-no-output asked named (is.other refl) e)
+of-socket : (name : List ℕ) (asked : Question) (said : List ℕ) → SaysOfSocket name said → SaysOfAsking name asked said
+of-socket name question.Show said is = is
+of-socket name question.Counters said is = is
+of-socket name question.Stop said is = is
+of-socket name (question.Apply file) said is = inl is
+
+unanswered-so : (name : List ℕ) (asked : Question) (failure : Failure) → IsUnanswered name failure
+    → AskFails name asked failure
+unanswered-so name asked failure complains =
+    complained-so name asked (SaysOfSocket name) (of-socket name asked) failure
+    (not-connected name reason.NoAnswer failure complains)
+
+other-so : (name : List ℕ) (asked : Question) (failure : Failure) → IsForOther name asked failure
+    → AskFails name asked failure
+other-so name question.Show failure complains = unanswered-so name question.Show failure complains
+other-so name question.Counters failure complains = unanswered-so name question.Counters failure complains
+other-so name question.Stop failure complains = unanswered-so name question.Stop failure complains
+other-so name (question.Apply file) failure complains =
+    complained-so name (question.Apply file) (Tells (codes "commands") file.now (codes "for another end"))
+    (λ said is. inr (inr (inr is))) failure complains
+
+unanswered-no-output : (name : List ℕ) (failure : Failure) → IsUnanswered name failure → failure ≢ Output
+unanswered-no-output name failure complains =
+    complained-no-output (Tells (codes "control") name (socket_text reason.NoAnswer)) failure complains
+
+other-no-output : (name : List ℕ) (asked : Question) (failure : Failure) → IsForOther name asked failure
+    → failure ≢ Output
+other-no-output name question.Show failure complains = unanswered-no-output name failure complains
+other-no-output name question.Counters failure complains = unanswered-no-output name failure complains
+other-no-output name question.Stop failure complains = unanswered-no-output name failure complains
+other-no-output name (question.Apply file) failure complains =
+    complained-no-output (Tells (codes "commands") file.now (codes "for another end")) failure complains
+
+module _ (name : List ℕ) (asked : Question) where
+  pub named-fails : (failure named : Failure) → IsOfAsking (SaysOfAsking name asked) failure
+      → Named name asked failure named → AskFails name asked named
+  named-fails Control named ours is = unanswered-so name asked named (is.gone refl)
+  named-fails Commands named ours is = other-so name asked named (is.other refl)
+  named-fails (failures.Disk (disk.Journal journal.Stopped)) named ours is =
+      subst (AskFails name asked) (sym (is.same (λ e. cc) (λ e. cc))) tt
+  named-fails (failures.Said text) named ours is =
+      subst (AskFails name asked) (sym (is.same (λ e. cc) (λ e. cc))) ours
+  named-fails Memory named ours is = subst (AskFails name asked) (sym (is.same (λ e. cc) (λ e. cc))) tt
+  named-fails Output named ours is = subst (AskFails name asked) (sym (is.same (λ e. cc) (λ e. cc))) tt
+  named-fails failure named ours is = absurd ours
+
+  pub output-named : (failure named : Failure) → IsOfAsking (SaysOfAsking name asked) failure
+      → Named name asked failure named → named ≡ Output → failure ≡ Output
+  output-named Control named ours is e = absurd (unanswered-no-output name named (is.gone refl) e)
+  output-named Commands named ours is e = absurd (other-no-output name asked named (is.other refl) e)
   output-named (failures.Disk fault) named ours is e = sym (is.same (λ e. cc) (λ e. cc)) ∙ e
   output-named (failures.Said text) named ours is e = sym (is.same (λ e. cc) (λ e. cc)) ∙ e
   output-named Memory named ours is e = sym (is.same (λ e. cc) (λ e. cc)) ∙ e
   output-named Output named ours is e = refl
   output-named failure named ours is e = absurd ours
 
-  pub named-output : (failure named : Failure) → Named IsGone asked failure named → named ≢ Output → failure ≢ Output
+  pub named-output : (failure named : Failure) → Named name asked failure named → named ≢ Output → failure ≢ Output
   named-output failure named is other output =
       other (is.same (λ e. let f = sym output ∙ e in cc) (λ e. let f = sym output ∙ e in cc) ∙ output)
 
-module _ {W : Type 0} (contents : W → Option (List ℕ)) (has_failed : W → Bool) (before : W) where
+module _ {W : Type 0} (Says : List ℕ → Type 0) (contents : W → Option (List ℕ)) (has_failed : W → Bool)
+    (before : W) where
   -- no text comes, and nothing is printed
   pub not-asked : (fault failure : Failure) (result : Result Status Failure) → result ≡ Err failure → failure ≡ fault
-      → IsEarly fault → AsksForText contents has_failed before result before
+      → IsEarly Says fault → AsksForText Says contents has_failed before result before
   not-asked fault failure result is same early =
-      let named = subst IsEarly (sym same) early in
-      subst (λ (r : Result Status Failure). AsksForText contents has_failed before r before) (sym is) (record {
+      let named = subst (IsEarly Says) (sym same) early in
+      subst (λ (r : Result Status Failure). AsksForText Says contents has_failed before r before) (sym is) (record {
         printed = tt;
-        failed = early-asking failure named;
+        failed = early-asking Says failure named;
         silent = λ other. refl;
-        broken = λ output. absurd (early-no-output failure named output);
+        broken = λ output. absurd (early-no-output Says failure named output);
       })
 
   -- nothing is handed in, since the file is for another end, or the relay does not say
   pub not-found : (fault failure : Failure) (result : Result Status Failure) → result ≡ Err failure → failure ≡ fault
-      → IsBeforeCommands fault → HandsCommands contents has_failed before result before
+      → IsBeforeCommands fault → HandsCommands Says contents has_failed before result before
   not-found fault failure result is same early =
       let named = subst IsBeforeCommands (sym same) early in
-      subst (λ (r : Result Status Failure). HandsCommands contents has_failed before r before) (sym is) (record {
+      subst (λ (r : Result Status Failure). HandsCommands Says contents has_failed before r before) (sym is) (record {
         printed = tt;
-        failed = named.0;
+        failed = asking-more SaysNothing Says (λ said is. absurd is) failure named.0;
         front = λ other. ([], Appends-nil (contents before));
         broken = λ output. absurd (named.1 output);
       })
 
   -- nothing is handed in
   pub not-handed : (fault failure : Failure) (result : Result Status Failure) → result ≡ Err failure → failure ≡ fault
-      → IsEarly fault → HandsCommands contents has_failed before result before
+      → IsEarly Says fault → HandsCommands Says contents has_failed before result before
   not-handed fault failure result is same early =
-      let named = subst IsEarly (sym same) early in
-      subst (λ (r : Result Status Failure). HandsCommands contents has_failed before r before) (sym is) (record {
+      let named = subst (IsEarly Says) (sym same) early in
+      subst (λ (r : Result Status Failure). HandsCommands Says contents has_failed before r before) (sym is) (record {
         printed = tt;
-        failed = early-asking failure named;
+        failed = early-asking Says failure named;
         front = λ other. ([], Appends-nil (contents before));
-        broken = λ output. absurd (early-no-output failure named output);
+        broken = λ output. absurd (early-no-output Says failure named output);
       })
 
   -- a command is not answered
   pub stopped-handing : (known after : W) (count : ℕ) (status : Status) (fault failure : Failure)
       (result : Result Status Failure)
       → TellsSo (contents before) (contents known) count status → result ≡ Err failure → failure ≡ fault
-      → IsOfAsking fault → (fault ≢ Output → after ≡ known) → (fault ≡ Output → has_failed after ≡ true)
-      → HandsCommands contents has_failed before result after
+      → IsOfAsking Says fault → (fault ≢ Output → after ≡ known) → (fault ≡ Output → has_failed after ≡ true)
+      → HandsCommands Says contents has_failed before result after
   stopped-handing known after count status fault failure result so_far is same ours silent broken =
-      subst (λ (r : Result Status Failure). HandsCommands contents has_failed before r after)
+      subst (λ (r : Result Status Failure). HandsCommands Says contents has_failed before r after)
       (sym (is ∙ ap Err same)) (record {
         printed = tt;
         failed = ours;
@@ -272,6 +327,28 @@ module _ {W : Type 0} (contents : W → Option (List ℕ)) (has_failed : W → B
 
   -- all are answered
   pub all-handed : (after : W) (count : ℕ) (status : Status) → TellsSo (contents before) (contents after) count status
-      → HandsCommands contents has_failed before (Ok status) after
+      → HandsCommands Says contents has_failed before (Ok status) after
   all-handed after count status (outcomes, counted, printed, status_is) =
       record { printed = (outcomes, printed, status_is); failed = tt; front = tt; broken = tt }
+
+-- what else may be said
+module _ {W : Type 0} (Says Others : List ℕ → Type 0) (more : (said : List ℕ) → Says said → Others said)
+    (contents : W → Option (List ℕ)) (has_failed : W → Bool) (before : W) (result : Result Status Failure)
+    (after : W) where
+  pub text-more : AsksForText Says contents has_failed before result after
+      → AsksForText Others contents has_failed before result after
+  text-more is = record {
+    printed = is.printed;
+    failed = IfErr-weaker result _ _ (λ failure ours. asking-more Says Others more failure ours) is.failed;
+    silent = is.silent;
+    broken = is.broken;
+  }
+
+  pub hands-more : HandsCommands Says contents has_failed before result after
+      → HandsCommands Others contents has_failed before result after
+  hands-more is = record {
+    printed = is.printed;
+    failed = IfErr-weaker result _ _ (λ failure ours. asking-more Says Others more failure ours) is.failed;
+    front = is.front;
+    broken = is.broken;
+  }

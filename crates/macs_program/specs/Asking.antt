@@ -1,7 +1,7 @@
 -- What `ask` prints, and how it fails.
 use Rattle.std.specs.Prelude.{◌≡◌, ◌≢◌, ◌==◌, if◌then◌else◌, ⊤, ℕ, Bool, true, List, Option, Result, IfErr, IfOk}
 use Rattle.std.specs.Prelude.{◌⊎◌, ◌++◌, codes, Some, None, Err}
-use Rattle.std.specs.Prelude.{◌∷◌, [], nat_eq}
+use Rattle.std.specs.Prelude.{◌∷◌, [], nat_eq, string_bytes}
 use Rattle.std.specs.Io.KnownBytes.{Appends}
 use Rattle.std.specs.List.{starts_with}
 use Rattle.hex.specs.Hex.{encode_lower}
@@ -15,9 +15,11 @@ use Rattle.macs_record.specs.Sectors.{Begins}
 use Rattle.macs_words.specs.declared.action.Question.{Question}
 use Rattle.macs_words.specs.declared.action.Question.TheVariants.{Apply}
 use Rattle.macs_offline.specs.Applying.{SaidByFile, outcome_lines, outcomes_status}
-use Rattle.macs_offline.specs.Reasons.{Complains, Tells}
+use Rattle.macs_offline.specs.Checking.{IsSaidOfFile}
+use Rattle.macs_offline.specs.Reasons.{Complains, Tells, TellsOfFile}
 use Rattle.macs_program.specs.Sockets.{socket_text}
 use Rattle.macs_program.specs.declared.socket_reason.SocketReason.{SocketReason}
+use Rattle.macs_program.specs.declared.socket_reason.SocketReason.TheVariants as reason
 use Rattle.macs_offline.specs.declared.failure.DiskFault.TheVariants as disk
 use Rattle.macs_offline.specs.declared.failure.Failure.{Failure}
 use Rattle.macs_offline.specs.declared.failure.Failure.TheVariants as failures
@@ -39,30 +41,61 @@ PrintsFront (Apply file) before after = (outcomes : List (Option Refusal))
     × Appends before after (outcome_lines 1 outcomes)
 PrintsFront asked before after = after ≡ before
 
--- the failures of `ask`: nobody answers, or the relay ended; the command file, something that is said, memory and
+-- this is said of the socket of this name: why nobody is asked there, or that no answer came
+abbrev pub SaysOfSocket : List ℕ → List ℕ → Type 0
+SaysOfSocket name said = (why : SocketReason) × Tells (codes "control") name (socket_text why) said
+
+-- and this of the command file of this name: why it is not read, its first fault, or that it is for another end
+abbrev pub SaysOfCommands : List ℕ → List ℕ → Type 0
+SaysOfCommands name said = TellsOfFile (codes "commands") name said
+    ⊎ ((octets : List ℕ) × IsSaidOfFile octets said)
+    ⊎ Tells (codes "commands") name (codes "for another end") said
+
+-- this is said where such a question is put over the socket of this name
+abbrev pub SaysOfAsking : List ℕ → Question → List ℕ → Type 0
+SaysOfAsking name (Apply file) said = SaysOfSocket name said ⊎ SaysOfCommands file.now said
+SaysOfAsking name asked said = SaysOfSocket name said
+
+-- nothing is
+abbrev pub SaysNothing : List ℕ → Type 0
+SaysNothing said = ⊥
+
+-- the failures of `ask` before each says of which socket or file it is: nobody answers, or the relay ended; the command
+-- file, something that is said, for which this holds; memory and standard output
+abbrev pub IsOfAsking : (List ℕ → Type 0) → Failure → Type 0
+IsOfAsking Says (failures.Disk (disk.Journal journal.Stopped)) = ⊤
+IsOfAsking Says failures.Control = ⊤
+IsOfAsking Says failures.Commands = ⊤
+IsOfAsking Says (failures.Said text) = Says (string_bytes text)
+IsOfAsking Says failures.Memory = ⊤
+IsOfAsking Says failures.Output = ⊤
+IsOfAsking Says other = ⊥
+
+-- the failures of `ask`: the relay ended; what is said of the socket of this name, or of the command file; memory and
 -- standard output
-abbrev pub IsOfAsking : Failure → Type 0
-IsOfAsking (failures.Disk (disk.Journal journal.Stopped)) = ⊤
-IsOfAsking failures.Control = ⊤
-IsOfAsking failures.Commands = ⊤
-IsOfAsking (failures.Said text) = ⊤
-IsOfAsking failures.Memory = ⊤
-IsOfAsking failures.Output = ⊤
-IsOfAsking other = ⊥
+abbrev pub AskFails : List ℕ → Question → Failure → Type 0
+AskFails name asked (failures.Disk (disk.Journal journal.Stopped)) = ⊤
+AskFails name asked (failures.Said text) = SaysOfAsking name asked (string_bytes text)
+AskFails name asked failures.Memory = ⊤
+AskFails name asked failures.Output = ⊤
+AskFails name asked other = ⊥
 
 -- a failure says why nobody is asked at the socket of this name
 abbrev pub TellsOfSocket : List ℕ → Failure → Type 0
-TellsOfSocket name failure =
-    Complains (λ said. (why : SocketReason) × Tells (codes "control") name (socket_text why) said) failure
+TellsOfSocket name failure = Complains (SaysOfSocket name) failure
 
--- and that a command file is for another end
-abbrev pub IsForOther : Question → Failure → Type 0
-IsForOther (Apply file) failure = Complains (Tells (codes "commands") file.now (codes "for another end")) failure
-IsForOther asked failure = failure ≡ failures.Commands
+-- and that no answer came from there
+abbrev pub IsUnanswered : List ℕ → Failure → Type 0
+IsUnanswered name failure = Complains (Tells (codes "control") name (socket_text reason.NoAnswer)) failure
 
--- before a command is sent they are these, but for standard output
+-- and that a command file is for another end; where none is asked for, that no answer came
+abbrev pub IsForOther : List ℕ → Question → Failure → Type 0
+IsForOther name (Apply file) failure = Complains (Tells (codes "commands") file.now (codes "for another end")) failure
+IsForOther name asked failure = IsUnanswered name failure
+
+-- before a command is sent nothing is said, and nothing was printed
 abbrev pub IsBeforeCommands : Failure → Type 0
-IsBeforeCommands failure = IsOfAsking failure × (failure ≢ failures.Output)
+IsBeforeCommands failure = IsOfAsking SaysNothing failure × (failure ≢ failures.Output)
 
 -- the line with which the text of the endpoint with this SCI begins
 abbrev pub sci_line : List ℕ → List ℕ
@@ -102,21 +135,21 @@ IsForRelay remaining all before result after =
     × SaidByFile remaining end commands × BeginsWithEnd all end rest)
     ⊎ ((failure : Failure) × (result ≡ Err failure) × (after ≡ before))
 
--- a relay is asked for a text, which is printed; or that fails, with nothing printed
-pub record AsksForText {W : Type 0} (contents : W → Option (List ℕ)) (has_failed : W → Bool) (before : W)
-    (result : Result Status Failure) (after : W) : Type 0 where
+-- a relay is asked for a text, which is printed; or that fails, and then nothing is printed
+pub record AsksForText {W : Type 0} (Says : List ℕ → Type 0) (contents : W → Option (List ℕ)) (has_failed : W → Bool)
+    (before : W) (result : Result Status Failure) (after : W) : Type 0 where
   pub printed : IfOk result (λ status. (text : List ℕ) × Appends (contents before) (contents after) text
       × (status ≡ ends.Done))
-  pub failed : IfErr result IsOfAsking
+  pub failed : IfErr result (IsOfAsking Says)
   pub silent : IfErr result (λ failure. failure ≢ failures.Output → after ≡ before)
   pub broken : IfErr result (λ failure. failure ≡ failures.Output → has_failed after ≡ true)
 
 -- a relay is sent commands, and a line is printed for each; or that fails, after the lines of those before
-pub record HandsCommands {W : Type 0} (contents : W → Option (List ℕ)) (has_failed : W → Bool) (before : W)
-    (result : Result Status Failure) (after : W) : Type 0 where
+pub record HandsCommands {W : Type 0} (Says : List ℕ → Type 0) (contents : W → Option (List ℕ))
+    (has_failed : W → Bool) (before : W) (result : Result Status Failure) (after : W) : Type 0 where
   pub printed : IfOk result (λ status. (outcomes : List (Option Refusal))
       × Appends (contents before) (contents after) (outcome_lines 1 outcomes) × (status ≡ outcomes_status outcomes))
-  pub failed : IfErr result IsOfAsking
+  pub failed : IfErr result (IsOfAsking Says)
   pub front : IfErr result (λ failure. failure ≢ failures.Output → (outcomes : List (Option Refusal))
       × Appends (contents before) (contents after) (outcome_lines 1 outcomes))
   pub broken : IfErr result (λ failure. failure ≡ failures.Output → has_failed after ≡ true)

@@ -21,5 +21,6 @@ pub mod ShowTexts
 pub mod AskWords
 pub mod ExamineTexts
 pub mod PlanTexts
+pub mod ReasonTexts
 pub mod CaptureOctets
 pub mod Sockets

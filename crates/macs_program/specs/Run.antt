@@ -14,7 +14,7 @@ use Rattle.macs_edge.specs.declared.settling.Side.TheVariants.{Common, Controlle
 use Rattle.macs_program.specs.About.{about_text}
 use Rattle.macs_offline.specs.Addresses.{AddressFaultHolds, SpellsBoth, address_faults}
 use Rattle.macs_offline.specs.Opened.{Answers, answer_status, answer_text}
-use Rattle.macs_program.specs.Asking.{IsOfAsking, PrintsAnswer, PrintsFront}
+use Rattle.macs_program.specs.Asking.{AskFails, PrintsAnswer, PrintsFront}
 use Rattle.macs_offline.specs.Applying.{outcome_lines}
 use Rattle.macs_offline.specs.Checking.{CheckEnds, Checks}
 use Rattle.macs_fields.specs.First.{IsFirst}
@@ -154,7 +154,7 @@ FailsAs state_of left_in (Relay disk controlled common running) octets before af
     × IsFirst (AddressFaultHolds controlled common) address_faults fault)
     ⊎ IsUnbound state_of failure ⊎ OpeningFails state_of failure
     ⊎ RelayEndsIn state_of (course_of running) failure
-FailsAs state_of left_in (Ask path asked) octets before after failure = IsOfAsking failure
+FailsAs state_of left_in (Ask path asked) octets before after failure = AskFails path.now asked failure
 FailsAs state_of left_in (Key is_long) octets before after failure = IsOfKey failure
 FailsAs state_of left_in (Inspect from) octets before after failure = InspectFails from.now before after failure
 FailsAs state_of left_in (Check file disk) octets before after failure =

@@ -70,6 +70,10 @@ use Rattle.macs_words.specs.declared.action.WireEnds.{WireEnds}
 use Rattle.macs_words.specs.declared.help.Topic.{Topic}
 use Rattle.macs_words.specs.declared.pace.Running.{Running}
 use Rattle.macs_program.specs.About.{about_text}
+use Rattle.macs_program.specs.Asking.{SaysOfAsking}
+use Rattle.macs_program.specs.Sockets.{socket_text}
+use Rattle.macs_program.specs.declared.socket_reason.SocketReason.{SocketReason}
+use Rattle.macs_offline.specs.declared.file_reason.FileReason.{FileReason}
 use Rattle.macs_offline.specs.Addresses.{AddressFaultHolds, SpellsBoth, address_faults}
 use Rattle.macs_offline.specs.Opened.{Answers, answer_status, answer_text}
 use Rattle.macs_offline.specs.Applying.{Applies, SaidByFile, SaysCommands, commit_fault, outcome_lines}
@@ -85,7 +89,7 @@ use Rattle.macs_offline.specs.FileModes.{mode_warning}
 use Rattle.macs_offline.specs.FirstFault.{IsFirstFault}
 use Rattle.macs_program.specs.Inputs.{InputRead}
 use Rattle.macs_offline.specs.Inspecting.{AreLinesOf, FailsSo, InspectsCapture, RunsCapture, StopsCapture}
-use Rattle.macs_offline.specs.Reasons.{Complains, ComplainsOfDisk, TellsOfFile}
+use Rattle.macs_offline.specs.Reasons.{Complains, ComplainsOfDisk, Tells, TellsOfFile, reason_text}
 use Rattle.macs_program.specs.Judging.{EndsEach, JudgesCapture, JudgingEndsIn, verdict_lines}
 use Rattle.macs_offline.specs.Keys.{PrintsKey, key_octets}
 use Rattle.macs_program.specs.NewDisks.{FormatFails, MakesEndpoint, Permits}
@@ -344,9 +348,15 @@ pub record FailWords {F : Type 0} (file : F → FileState) (left_in : F → Opti
       ⊎ IsUnbound file failure ⊎ OpeningFails file failure ⊎ RelayEndsIn file (course_of running) failure
   pub of_ask : (path : Bor Text) (asked : Question) (input : InputRead) (before after : Option (List ℕ))
       (failure : Failure) → FailsAs file left_in (Ask path asked) input before after failure
-      → (failure ≡ failures.Disk (disk.Journal journal.Stopped)) ⊎ (failure ≡ failures.Control)
-      ⊎ (failure ≡ failures.Commands) ⊎ (failure ≡ failures.Memory) ⊎ (failure ≡ failures.Output)
-      ⊎ ((said : _) × (failure ≡ failures.Said said))
+      → (failure ≡ failures.Disk (disk.Journal journal.Stopped)) ⊎ (failure ≡ failures.Memory)
+      ⊎ (failure ≡ failures.Output)
+      ⊎ ((said : _) × (failure ≡ failures.Said said) × SaysOfAsking path.now asked (string_bytes said))
+  pub asking : (name : List ℕ) (asked : Question) (said : List ℕ) → SaysOfAsking name asked said
+      → ((why : SocketReason) × Tells (codes "control") name (socket_text why) said)
+      ⊎ ((from : Bor Text) × (asked ≡ question.Apply from)
+      × (((why : FileReason) × Tells (codes "commands") from.now (reason_text why) said)
+      ⊎ ((octets : List ℕ) × IsSaidOfFile octets said)
+      ⊎ Tells (codes "commands") from.now (codes "for another end") said))
   pub of_key : (is_long : Bool) (input : InputRead) (before after : Option (List ℕ)) (failure : Failure)
       → FailsAs file left_in (Key is_long) input before after failure
       → (failure ≡ failures.Random) ⊎ (failure ≡ failures.Output)

@@ -8,12 +8,15 @@ ghost use Rattle.macs_config.specs.declared.refusal.Refusal.{Refusal};
 ghost use Rattle.macs_control.specs.Asking.{BeginsWithAnswer};
 ghost use Rattle.macs_offline.specs.Applying.{outcome_line};
 ghost use Rattle.macs_offline.specs.Reasons.{Complains, Tells};
-ghost use Rattle.macs_program.specs.Asking.{AsksForText, BeginsWithEnd, BeginsWithOwn};
-ghost use Rattle.macs_program.specs.Asking.{IsForOther, TellsOfSocket};
+ghost use Rattle.macs_program.specs.Asking.{AskFails, AsksForText, BeginsWithEnd, BeginsWithOwn};
+ghost use Rattle.macs_program.specs.Asking.{HandsCommands, IsBeforeCommands, IsForOther};
+ghost use Rattle.macs_program.specs.Asking.{IsForRelay};
+ghost use Rattle.macs_program.specs.Asking.{IsOfAsking, IsUnanswered, PrintsAnswer, PrintsFront};
+ghost use Rattle.macs_program.specs.Asking.{SaysNothing, SaysOfAsking, SaysOfCommands};
+ghost use Rattle.macs_program.specs.Asking.{SaysOfSocket};
+ghost use Rattle.macs_program.specs.Asking.{TellsOfSocket, failure_in, failure_of_other};
+ghost use Rattle.macs_program.specs.Asking.{is_of_endpoint, sci_line, unread_by};
 ghost use Rattle.macs_program.specs.Sockets.{socket_reason, socket_text};
-ghost use Rattle.macs_program.specs.Asking.{HandsCommands, IsBeforeCommands, IsForRelay};
-ghost use Rattle.macs_program.specs.Asking.{IsOfAsking, PrintsAnswer, PrintsFront, failure_in};
-ghost use Rattle.macs_program.specs.Asking.{failure_of_other, is_of_endpoint, sci_line, unread_by};
 ghost use Rattle.macs_record.specs.Sectors.{Begins};
 ghost use Rattle.macs_texts.specs.Refusals.{refusal_name};
 
@@ -104,7 +107,7 @@ fn failure_in(status: u8) -> Failure
 
 /// Prints the text of an answer, if the request was done.
 fn print_answer<W: Stream>(answer: &Answer, out: &mut W) -> Result<Status, Failure>
-    ensures asked { AsksForText W.contents W.failed out.old result out.new }
+    ensures asked { AsksForText SaysNothing W.contents W.failed out.old result out.new }
     ensures text { IfOk result (λ status. (answer.now.status ≡ 0)
         × Appends (W.contents out.old) (W.contents out.new) answer.now.text.items) }
 {
@@ -123,7 +126,7 @@ fn ask_once<N: Net, W: Stream>(
     request: Request,
     out: &mut W,
 ) -> Result<Status, Failure>
-    ensures { AsksForText W.contents W.failed out.old result out.new }
+    ensures { AsksForText (SaysOfSocket path.now) W.contents W.failed out.old result out.new }
 {
     let mut asker = asker_at(net, alloc, path)?;
     let answer = answer_to(alloc, &mut asker, &request)?;
@@ -137,7 +140,7 @@ fn ask_stop<N: Net, W: Stream>(
     path: &str,
     out: &mut W,
 ) -> Result<Status, Failure>
-    ensures { AsksForText W.contents W.failed out.old result out.new }
+    ensures { AsksForText (SaysOfSocket path.now) W.contents W.failed out.old result out.new }
 {
     let mut asker = asker_at(net, alloc, path)?;
     let answer = answer_to(alloc, &mut asker, &Request::Stop)?;
@@ -196,7 +199,7 @@ fn apply_one<S: Connection, W: Stream>(
     ensures printed { IfOk result
         (λ refused. (outcome : Option Refusal) × (refused ≡ is_some outcome)
         × Appends (W.contents out.old) (W.contents out.new) (outcome_line at outcome)) }
-    ensures failed { IfErr result IsOfAsking }
+    ensures failed { IfErr result (IsOfAsking SaysNothing) }
     ensures silent { IfErr result (λ failure. failure ≢ Failure.Output → out.new ≡ out.old) }
     ensures broken { IfErr result (λ failure. failure ≡ Failure.Output → W.failed out.new ≡ true) }
 {
@@ -212,7 +215,7 @@ fn apply_each<S: Connection, W: Stream>(
     commands: &[Command],
     out: &mut W,
 ) -> Result<Status, Failure>
-    ensures { HandsCommands W.contents W.failed out.old result out.new }
+    ensures { HandsCommands SaysNothing W.contents W.failed out.old result out.new }
 {
     let mut status = Status::Done;
     for i in 0..commands.len() {
@@ -316,7 +319,8 @@ fn apply_file<T: Files, S: Connection, W: Stream>(
     file: &str,
     out: &mut W,
 ) -> Result<Status, Failure>
-    ensures handed { HandsCommands W.contents W.failed out.old result out.new }
+    ensures handed { HandsCommands (SaysOfCommands file.now) W.contents W.failed out.old result
+        out.new }
     ensures own { IsForRelay T.File.remaining (unread_by S.link asker.old)
         (W.contents out.old) result (W.contents out.new) }
 {
@@ -333,7 +337,8 @@ fn ask_apply<T: Files + Net, W: Stream>(
     file: &str,
     out: &mut W,
 ) -> Result<Status, Failure>
-    ensures { HandsCommands W.contents W.failed out.old result out.new }
+    ensures { HandsCommands (λ said. SaysOfSocket path.now said ⊎ SaysOfCommands file.now said)
+        W.contents W.failed out.old result out.new }
 {
     let mut asker = asker_at(rt, alloc, path)?;
     apply_file(rt, alloc, &mut asker, file, out)
@@ -353,7 +358,7 @@ fn put_question<T: Files + Net, W: Stream>(
 ) -> Result<Status, Failure>
     ensures printed { IfOk result
         (PrintsAnswer question.entry (W.contents out.old) (W.contents out.new)) }
-    ensures failed { IfErr result IsOfAsking }
+    ensures failed { IfErr result (IsOfAsking (SaysOfAsking path.now question.entry)) }
     ensures front { IfErr result (λ failure. failure ≢ Failure.Output
         → PrintsFront question.entry (W.contents out.old) (W.contents out.new)) }
     ensures broken { IfErr result (λ failure. failure ≡ Failure.Output → W.failed out.new ≡ true) }
@@ -366,19 +371,26 @@ fn put_question<T: Files + Net, W: Stream>(
     }
 }
 
-/// The failure that says of which socket or file it is, for one that does not.
+/// The failure that no answer of a relay came from a socket.
+fn unanswered(alloc: Global, path: &str) -> Failure
+    ensures { IsUnanswered path.now result }
+{
+    failure_told(alloc, "control", path, SocketReason::NoAnswer.text())
+}
+
+/// The failure that says of which socket or file it is, for one that does not. Only where commands
+/// are asked for a file is for another end.
 fn named_failure(alloc: Global, path: &str, question: Question, failure: Failure) -> Failure
-    ensures gone { failure ≡ Failure.Control
-        → Complains (Tells (codes "control") path.now (socket_text SocketReason.NoAnswer)) result }
-    ensures other_end { failure ≡ Failure.Commands → IsForOther question.entry result }
+    ensures gone { failure ≡ Failure.Control → IsUnanswered path.now result }
+    ensures other_end { failure ≡ Failure.Commands → IsForOther path.now question.entry result }
     ensures same { failure ≢ Failure.Control → failure ≢ Failure.Commands
         → result ≡ failure }
 {
     match failure {
-        Failure::Control => { failure_told(alloc, "control", path, SocketReason::NoAnswer.text()) }
+        Failure::Control => unanswered(alloc, path),
         Failure::Commands => match question {
             Question::Apply(file) => failure_told(alloc, "commands", file, "for another end"),
-            _ => Failure::Commands,
+            Question::Show | Question::Counters | Question::Stop => unanswered(alloc, path),
         },
         other => other,
     }
@@ -397,7 +409,7 @@ pub fn ask<T: Files + Net, W: Stream>(
 ) -> Result<Status, Failure>
     ensures printed { IfOk result
         (PrintsAnswer question.entry (W.contents out.old) (W.contents out.new)) }
-    ensures failed { IfErr result IsOfAsking }
+    ensures failed { IfErr result (AskFails path.now question.entry) }
     ensures front { IfErr result (λ failure. failure ≢ Failure.Output
         → PrintsFront question.entry (W.contents out.old) (W.contents out.new)) }
     ensures broken { IfErr result (λ failure. failure ≡ Failure.Output → W.failed out.new ≡ true) }

@@ -15,6 +15,7 @@ ghost use Rattle.macs_program.specs.ExamineTexts.{AboutTexts, ExamineTexts};
 ghost use Rattle.macs_program.specs.Inputs.{read_of};
 ghost use Rattle.macs_program.specs.NewDisks.{Permits};
 ghost use Rattle.macs_program.specs.PlanTexts.{PlanTexts};
+ghost use Rattle.macs_program.specs.ReasonTexts.{ReasonTexts};
 ghost use Rattle.macs_program.specs.RelayDrawn.{RelayWords};
 ghost use Rattle.macs_program.specs.RunWords.{BeforeWords, FailWords, ReplyWords};
 ghost use Rattle.macs_program.specs.ShowTexts.{ShowTexts};
@@ -105,6 +106,8 @@ pub fn texts()
     ensures checks { CheckTexts }
     // What `plan` says of a link's file.
     ensures plans { PlanTexts }
+    // Why a file, a capture or a socket does not serve.
+    ensures reasons { ReasonTexts }
     // What `show` prints of an endpoint.
     ensures shown { ShowTexts }
     // What `examine` prints of a journal.

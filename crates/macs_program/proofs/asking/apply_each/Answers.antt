@@ -1,4 +1,5 @@
 use Rattle.std.proofs.lemmas.Result.{err_from_is_err_and}
+use Rattle.macs_program.specs.Asking.{SaysNothing}
 use Rattle.macs_program.proofs.Told.{all-handed, one-told, stopped-handing}
 use Rattle.macs_program.proofs.asking.apply_each.Goals as goal
 
@@ -14,11 +15,12 @@ pub returns-in_err-is_refused : goal.returns-in_err-is_refused
 returns-in_err-is_refused g c =
     let p = err_from_is_err_and c.from_residual.result c.from_residual.ensures.1 in
     let said = c.in_err-is_refused.ensures in
-    stopped-handing g.W.Stream.contents g.W.Stream.failed c.args.out.now c.loop-i.out c.apply_one.new.out c.loop-i.i
+    stopped-handing SaysNothing g.W.Stream.contents g.W.Stream.failed c.args.out.now c.loop-i.out
+    c.apply_one.new.out c.loop-i.i
     c.loop-i.status c.in_err-is_refused.field-0.0 p.0 c.from_residual.result c.loop-i.invariant p.1 p.2 said.failed
     said.silent said.broken
 
 pub returns : goal.returns
 returns g c =
-    all-handed g.W.Stream.contents g.W.Stream.failed c.args.out.now c.loop-i.out c.loop-i.i c.loop-i.status
+    all-handed SaysNothing g.W.Stream.contents g.W.Stream.failed c.args.out.now c.loop-i.out c.loop-i.i c.loop-i.status
     c.loop-i.invariant

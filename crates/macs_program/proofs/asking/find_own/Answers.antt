@@ -1,12 +1,12 @@
 use Rattle.std.proofs.lemmas.Result.{err_from_is_err_and}
-use Rattle.macs_program.specs.Asking.{unread_by}
+use Rattle.macs_program.specs.Asking.{SaysNothing, unread_by}
 use Rattle.macs_program.proofs.Told.{before-commands, no-answer, own-shown}
 use Rattle.macs_program.proofs.asking.find_own.Goals as goal
 
 pub returns-in_err-answer-clause-failed : goal.returns-in_err-answer-clause-failed
 returns-in_err-answer-clause-failed g c =
     let p = err_from_is_err_and c.from_residual.result c.from_residual.ensures.1 in
-    rw (p.1, p.2) (before-commands _ (no-answer _ c.in_err-answer.ensures.failed))
+    rw (p.1, p.2) (before-commands _ (no-answer SaysNothing _ c.in_err-answer.ensures.failed))
 
 pub returns-clause-own : goal.returns-clause-own
 returns-clause-own g c =

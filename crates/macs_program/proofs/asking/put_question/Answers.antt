@@ -6,7 +6,7 @@ pub returns-in-Show : goal.returns-in-Show
 returns-in-Show g c =
     let said = c.ask_once.ensures in record {
       printed = rw c.in-Show.is said.printed;
-      failed = said.failed;
+      failed = rw c.in-Show.is said.failed;
       front = rw c.in-Show.is
           (IfErr-weaker c.ask_once.result _ _ (λ failure same other. ap g.W.Stream.contents (same other)) said.silent);
       broken = said.broken;
@@ -16,7 +16,7 @@ pub returns-in-Counters : goal.returns-in-Counters
 returns-in-Counters g c =
     let said = c.ask_once-in-Counters.ensures in record {
       printed = rw c.in-Counters.is said.printed;
-      failed = said.failed;
+      failed = rw c.in-Counters.is said.failed;
       front = rw c.in-Counters.is
           (IfErr-weaker c.ask_once-in-Counters.result _ _ (λ failure same other. ap g.W.Stream.contents (same other))
           said.silent);
@@ -27,7 +27,7 @@ pub returns-in-Stop : goal.returns-in-Stop
 returns-in-Stop g c =
     let said = c.ask_stop.ensures in record {
       printed = rw c.in-Stop.is said.printed;
-      failed = said.failed;
+      failed = rw c.in-Stop.is said.failed;
       front = rw c.in-Stop.is
           (IfErr-weaker c.ask_stop.result _ _ (λ failure same other. ap g.W.Stream.contents (same other)) said.silent);
       broken = said.broken;
@@ -37,7 +37,7 @@ pub returns-in-Apply : goal.returns-in-Apply
 returns-in-Apply g c =
     let said = c.ask_apply.ensures in record {
       printed = rw c.in-Apply.is said.printed;
-      failed = said.failed;
+      failed = rw c.in-Apply.is said.failed;
       front = rw c.in-Apply.is said.front;
       broken = said.broken;
     }

@@ -1,5 +1,6 @@
 use Rattle.macs_program.proofs.ExamineDrawn.{about-texts, examine-texts}
 use Rattle.macs_program.proofs.PlanDrawn.{plan-texts}
+use Rattle.macs_program.proofs.ReasonDrawn.{reason-texts}
 use Rattle.macs_program.proofs.TextDrawn.{capture-octets, check-texts, failure-texts, fault-orders, frame-texts}
 use Rattle.macs_program.proofs.TextDrawn.{line-texts, show-texts}
 use Rattle.macs_program.proofs.laws.texts.Goals as goal
@@ -21,6 +22,9 @@ returns-clause-checks c = check-texts
 
 pub returns-clause-plans : goal.returns-clause-plans
 returns-clause-plans c = plan-texts
+
+pub returns-clause-reasons : goal.returns-clause-reasons
+returns-clause-reasons c = reason-texts
 
 pub returns-clause-shown : goal.returns-clause-shown
 returns-clause-shown c = show-texts
