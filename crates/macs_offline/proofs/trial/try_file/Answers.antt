@@ -2,8 +2,8 @@ use Rattle.std.proofs.Common.{inr}
 use Rattle.std.proofs.lemmas.Result.{IfErr-weaker, IfOk-weaker}
 use Rattle.macs_offline.proofs.trial.try_file.Goals as goal
 
-pub returns-in_ok-copy-clause-tried : goal.returns-in_ok-copy-clause-tried
-returns-in_ok-copy-clause-tried g c =
+pub returns-clause-tried : goal.returns-clause-tried
+returns-clause-tried g c =
     let said = c.in_ok-copy.ensures in
     IfOk-weaker c.try_on.result _ _
     (λ outcomes tries. record {
@@ -13,8 +13,8 @@ returns-in_ok-copy-clause-tried g c =
       tries = tries;
     }) c.try_on.ensures.tried
 
-pub returns-in_ok-copy-clause-ended : goal.returns-in_ok-copy-clause-ended
-returns-in_ok-copy-clause-ended g c =
+pub returns-clause-ended : goal.returns-clause-ended
+returns-clause-ended g c =
     let said = c.in_ok-copy.ensures in
     IfErr-weaker c.try_on.result _ _
     (λ failure ends. inr (
