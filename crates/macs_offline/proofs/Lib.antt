@@ -20,3 +20,4 @@ pub mod SpelledWires
 pub mod Spelling
 pub mod TextLines
 pub mod Tried
+pub mod KeyLists

@@ -27,12 +27,14 @@ const OWNER_ALONE: u32 = 0o600;
 /// The list beside a disk file: NAME.spent. A line has what stands for a key, 64 hex digits, or is
 /// `formatted`: the keys before such a line are those of endpoints that are gone. It only grows.
 ///
-/// Only who has claimed the disk file reads and writes it.
-#[derive(Drop)]
+/// Only who has claimed the disk file reads and writes it. Where the name is a link, the list is
+/// beside the file that this leads to.
+#[derive(Clone, Copy)]
 pub struct KeyList<'a, T> {
-    rt: &'a T,
-    alloc: Global,
-    name: String,
+    pub rt: &'a T,
+    pub alloc: Global,
+    /// The path of the disk file.
+    pub disk: &'a str,
 }
 
 /// Why keys are not noted.
@@ -108,8 +110,8 @@ fn digits_of(alloc: Global, command: &Command) -> Result<Option<String>, AllocEr
 fn has_spent(list: &str, digits: &str) -> bool
     ensures { IsTrue result ↔ HasSpent list.now digits.now }
 {
-    match list.rsplit_once(FORMATTED) {
-        Some((gone, _)) => gone.contains(digits),
+    match list.split_once(digits) {
+        Some((_, behind)) => behind.contains(FORMATTED),
         None => false,
     }
 }
@@ -161,7 +163,8 @@ pub fn note_keys<T: Files>(
 ) -> Result<(), Failure>
     ensures { IfErr result (λ failure. (failure ≡ Failure.Memory) ⊎ (failure ≡ Failure.Commands)) }
 {
-    KeyList::of(rt, alloc, disk)?.note(commands)?;
+    let list = KeyList { rt, alloc, disk };
+    list.note(commands)?;
     Ok(())
 }
 
@@ -173,33 +176,36 @@ fn folder_of(path: &str) -> &str {
     }
 }
 
-impl<'a, T: Files> KeyList<'a, T> {
-    /// The list beside the disk file at a path.
-    pub fn of(rt: &'a T, alloc: Global, disk: &str) -> Result<KeyList<'a, T>, AllocError> {
-        let name = format!(in alloc; "{disk}.spent")?;
-        Ok(KeyList { rt, alloc, name })
+/// What a list has: nothing where there is none.
+fn read_list<T: Files>(rt: &T, alloc: Global, name: &str) -> io::Result<String> {
+    match fs::read_to_string(&(rt, alloc), name) {
+        Err(error) if error.kind() == io::ErrorKind::NotFound => Ok(String::new(alloc)),
+        read => read,
     }
+}
 
-    /// What it has: nothing where there is none.
-    fn read(&self) -> io::Result<String> {
-        match fs::read_to_string(&(self.rt, self.alloc), self.name.as_str()) {
-            Err(error) if error.kind() == io::ErrorKind::NotFound => Ok(String::new(self.alloc)),
-            read => read,
-        }
-    }
+/// Puts lines behind what a list has, durably, and makes its name durable too.
+fn append<T: Files>(rt: &T, name: &str, lines: &str) -> io::Result<()> {
+    let mut list = how_to_append().open(rt, name)?;
+    list.write_all(lines.as_bytes())?;
+    list.sync_all()?;
+    fs::open(rt, folder_of(name))?.sync_all()
+}
 
-    /// Puts lines behind what it has, durably, and its name too.
-    fn append(&self, lines: &str) -> io::Result<()> {
-        let mut list = how_to_append().open(self.rt, self.name.as_str())?;
-        list.write_all(lines.as_bytes())?;
-        list.sync_all()?;
-        fs::open(self.rt, folder_of(self.name.as_str()))?.sync_all()
+impl<T: Files> KeyList<'_, T> {
+    /// Its path.
+    fn name(&self) -> Result<String, KeyFault> {
+        let place = self.rt.canonicalize(self.alloc, self.disk)?;
+        let disk = place.as_str();
+        let name = format!(in self.alloc; "{disk}.spent")?;
+        Ok(name)
     }
 
     /// The number of the first of these commands, from 0 on, that installs a key of an endpoint
     /// that is gone.
     pub fn first_spent(&self, commands: &[Command]) -> Result<Option<usize>, KeyFault> {
-        let list = self.read()?;
+        let name = self.name()?;
+        let list = read_list(self.rt, self.alloc, name.as_str())?;
         let found = first_spent(self.alloc, list.as_str(), commands)?;
         Ok(found)
     }
@@ -214,16 +220,20 @@ impl<'a, T: Files> KeyList<'a, T> {
         if self.first_spent(commands)?.is_some() {
             return Err(KeyFault::Spent);
         }
-        self.append(lines.as_str())?;
+        append(self.rt, self.name()?.as_str(), lines.as_str())?;
         Ok(())
     }
 
     /// Notes that the endpoint of these keys is gone, durably, where there is a list.
-    pub fn close(&self) -> io::Result<()> {
-        match self.rt.metadata(self.name.as_str()) {
-            Ok(_) => self.append(FORMATTED),
+    pub fn close(&self) -> Result<(), KeyFault> {
+        let name = self.name()?;
+        match self.rt.metadata(name.as_str()) {
             Err(error) if error.kind() == io::ErrorKind::NotFound => Ok(()),
-            Err(error) => Err(error),
+            known => {
+                known?;
+                append(self.rt, name.as_str(), FORMATTED)?;
+                Ok(())
+            }
         }
     }
 }

@@ -344,6 +344,8 @@ pub fn ask<T: Files + Net, W: Stream>(
     match question {
         Question::Show => ask_once(rt, alloc, path, Request::Show, out),
         Question::Counters => ask_once(rt, alloc, path, Request::Counters, out),
+        Question::Keys => ask_once(rt, alloc, path, Request::Keys, out),
+        Question::About => ask_once(rt, alloc, path, Request::About, out),
         Question::Stop => ask_stop(rt, alloc, path, out),
         Question::Apply(file) => ask_apply(rt, alloc, path, file, out),
     }

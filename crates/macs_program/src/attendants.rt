@@ -49,7 +49,7 @@ fn clients_for<'a, T: Files + Net + Clock>(
 fn desk_over<'a, T: Files + Net + Clock>(
     rt: &'a T,
     alloc: Global,
-    disk: &str,
+    disk: &'a str,
     running: &Running<'a>,
     wires: Wires,
     metrics: MetricsPlace<'a, T>,
@@ -58,7 +58,7 @@ fn desk_over<'a, T: Files + Net + Clock>(
 {
     let clients = clients_for(rt, alloc, running, wires)?;
     let program = this_program(rt, alloc)?;
-    let keys = KeyList::of(rt, alloc, disk)?;
+    let keys = KeyList { rt, alloc, disk };
     let system = RelaySystem {
         rt,
         alloc,
@@ -90,7 +90,7 @@ fn place_for<'a, T: Files + Clock>(
 pub fn desk_for<'a, T: Files + Net + Clock>(
     rt: &'a T,
     alloc: Global,
-    disk: &str,
+    disk: &'a str,
     running: &Running<'a>,
     wires: Wires,
 ) -> Result<SystemDesk<'a, T>, Failure>

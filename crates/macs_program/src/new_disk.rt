@@ -17,7 +17,7 @@ use macs_config::Identity;
 use macs_disk::{ClaimedFile, DiskFile, FileDisk, FileFault, Layout, Renewal, make_file};
 use macs_journal::JournalFault;
 use macs_offline::{
-    Contents, DiskFault, Failure, KeyList, contents_of, failure_of, is_printed_to,
+    Contents, DiskFault, Failure, KeyFault, KeyList, contents_of, failure_of, is_printed_to,
 };
 use std::alloc::Global;
 use std::fs::OpenFile;
@@ -133,8 +133,16 @@ fn close_keys<T: Files>(rt: &T, alloc: Global, path: &str) -> Result<(), Failure
     ensures { IfErr result
         (λ failure. (failure ≡ Failure.Memory) ⊎ (failure ≡ Failure.Disk disk.File)) }
 {
-    let list = KeyList::of(rt, alloc, path)?;
-    of_file(list.close())
+    let list = KeyList {
+        rt,
+        alloc,
+        disk: path,
+    };
+    match list.close() {
+        Ok(()) => Ok(()),
+        Err(KeyFault::Memory) => Err(Failure::Memory),
+        Err(KeyFault::Spent | KeyFault::File) => Err(Failure::Disk(DiskFault::File)),
+    }
 }
 
 /// Makes the file of a new endpoint in place of a claimed one, under its name.
