@@ -49,11 +49,7 @@ fn say_report<C: Clients>(clients: &mut C, client: Client, report: Result<String
 }
 
 /// Answers a request with a report, and says what the desk wants then: that the relay goes on.
-fn tell<C: Clients>(
-    clients: &mut C,
-    client: Client,
-    report: Result<String, AllocError>,
-) -> Order
+fn tell<C: Clients>(clients: &mut C, client: Client, report: Result<String, AllocError>) -> Order
     ensures { (text : List ℕ) → IfOk report (λ told. string_bytes told ≡ text)
         → (talk : List Talk) × (Tells client text talk × (result ≡ Go))
         × (C.talk clients.new ≡ with_talk (C.talk clients.old) talk) }
