@@ -7,7 +7,7 @@ ghost use Rattle.macs_texts.specs.KeyTexts.{channel_keys, key_words, keys_text, 
 ghost use Rattle.macs_texts.specs.KeyTexts.{rx_key_text, tx_key_line, tx_key_text};
 ghost use Rattle.macs_texts.specs.Showing.{association_numbers};
 
-use crate::key_digest::key_id;
+use crate::key_names::key_id;
 use crate::lines::{ended, joined};
 use macs_aes::KeyOctets;
 use macs_config::Config;

@@ -3,7 +3,7 @@
 
 mod build;
 mod counting;
-mod key_digest;
+mod key_names;
 mod keys;
 pub mod laws;
 mod lines;
@@ -17,7 +17,7 @@ mod words;
 
 pub use build::Build;
 pub use counting::{RX_VERDICTS, counter_lines};
-pub use key_digest::key_digest;
+pub use key_names::key_digest;
 pub use keys::keys_lines;
 pub use lines::{ended, joined};
 pub use measuring::metric_lines;
