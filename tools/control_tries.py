@@ -8,6 +8,7 @@ have it. The status is 0 where each went as it is to go. It needs nothing but Py
 """
 
 import contextlib
+import hashlib
 import os
 import signal
 import socket
@@ -230,6 +231,58 @@ def commands_are_applied_in_order():
         assert (asked.returncode, asked.stdout) == (3, "1 ok\n2 refused SlotTaken\n3 ok\n4 refused KeySpent\n"), asked
         it.stop()
         assert "encoding 1\n" in run("show", it.disk).stdout
+
+
+@a_try
+def keys_are_named_and_not_shown():
+    with link() as it:
+        assert it.ask("apply", command_file(it.folder, install(1, KEYS[0]))).stdout == "1 ok\n"
+        name = hashlib.sha256(b"macsecd key " + bytes.fromhex(KEYS[0])).hexdigest()[:8]
+        keys = it.ask("keys").stdout
+        assert f"tx 1 key 128 id {name}\n" in keys and KEYS[0] not in keys, keys
+        # Each line but that of the new key is of a key that the other end has too.
+        it.right.terminate()
+        it.right.communicate()
+        right = it.start([], os.path.join(it.folder, "right.disk"), it.right_words, ["--wait", "1000", "--control", it.control + "2"], None)
+        until(lambda: os.path.exists(it.control + "2") or right.poll() is not None)
+        ids = [sorted(line.split()[-1] for line in text.splitlines()) for text in (keys, run("ask", it.control + "2", "keys").stdout)]
+        assert ids[0] == sorted([*ids[1], name]) and len(ids[1]) == 2, ids
+
+
+@a_try
+def a_relay_says_which_program_it_is():
+    with link() as it:
+        words = dict(line.split() for line in it.ask("about").stdout.splitlines())
+        assert list(words) == ["macsecd", "commit", "proved", "started"], words
+        assert abs(int(words["started"]) - time.time()) < 60, words
+        assert run("--version").stdout == f"macsecd {words['macsecd']}\n"
+
+
+@a_try
+def a_key_of_a_disk_that_is_gone():
+    with link() as it:
+        file = command_file(it.folder, install(1, KEYS[0]))
+        assert it.ask("apply", file).stdout == "1 ok\n"
+        it.stop()
+        os.remove(it.disk)
+        assert run("format", it.disk, "0200000000010001", 1024, 16).returncode == 0
+        it.left = it.start([], it.disk, it.left_words, ["--wait", "1000", "--control", it.control], None)
+        until(lambda: os.path.exists(it.control) or it.left.poll() is not None)
+        asked = it.ask("apply", command_file(it.folder, install(1, KEYS[0]), install(1, KEYS[1]), install(1, KEYS[0])))
+        assert (asked.returncode, asked.stdout) == (3, "1 refused KeySpent\n2 ok\n3 refused KeySpent\n"), asked
+
+
+@a_try
+def keys_that_cannot_be_noted():
+    with link() as it:
+        name = it.disk + ".spent"
+        if os.path.exists(name):
+            os.remove(name)
+        os.mkdir(name)
+        asked = it.ask("apply", command_file(it.folder, install(1, KEYS[0])))
+        assert asked.returncode == 4 and asked.stdout == "", asked
+        assert it.ask("apply", command_file(it.folder, {"do": '"set-replay"', "on": "true", "window": 7})).stdout == "1 ok\n"
+        it.stop()
 
 
 @a_try

@@ -29,10 +29,18 @@ PAGES = ("macsecd.1", "macsecd-link.5")
 
 # What is read of the documents.
 
+# A paragraph, or an item of a list, that begins so is of the repository's files, which are not installed.
+OF_A_CHECKOUT = re.compile(r"^(?:\*\*In a checkout\*\*.*\n(?:.+\n)*\n*|- \*\*In a checkout\*\*.*\n(?:  .*\n)*)", re.M)
+
+
+def installed(page):
+    """A page as it is where the program is installed: without what is of a checkout, and with the program as it is called there."""
+    return OF_A_CHECKOUT.sub("", page).replace("./macsecd ", "macsecd ")
+
+
 def document(name):
-    """A page of docs, with the program as it is called where it is installed."""
     with open(f"{TOP}/{name}", encoding="utf-8") as text:
-        return text.read().replace("./macsecd ", "macsecd ")
+        return installed(text.read())
 
 
 # The key in an example that is installed: no command takes it.
@@ -108,12 +116,12 @@ def verbatim(lines):
 def row_of(heading, row):
     """A row of a table as a paragraph with a tag: the line that is printed, the refusal, or the first cell."""
     if heading[0] == "status":
-        tag, rest = row[1], [f"Status {row[0]}: {row[2]}", *map(capital, row[3:])]
+        tag, rest = row[1], [f"Status {row[0]}: {row[2]}", *(f"{capital(label)}: {cell}" for label, cell in zip(heading[3:], row[3:]) if cell)]
     elif heading[0] == "order":
         tag, rest = f"{row[0]} {row[1]}", [capital(f"{heading[2]} {row[2]}")]
     else:
         tag, rest = f"{heading[0]} {row[0]}" if heading[0].isupper() else row[0], [capital(f"{label}: {cell}" if len(row) > 2 else cell) for label, cell in zip(heading[1:], row[1:])]
-    return [".TP", inline(f"**{tag.replace('`', '')}**"), inline(" ".join(f"{it.rstrip('.')}." for it in rest if it))]
+    return [".TP", inline(f"**{tag.replace('`', '')}**"), inline(" ".join(it if it.endswith((".", "?")) else f"{it}." for it in rest))]
 
 
 def capital(text):
@@ -170,12 +178,15 @@ def head(name, number, title, version):
     return [note, f'.TH {name} {number} "" "macsecd {version}" "{title}"', ".nh", ".ad l"]
 
 
+EXAMPLES_ARE_THERE = "The folder `examples` is in `/usr/share/doc/macsecd`. Its command files have no keys, and are refused."
+
 # How the lines of a help begin that are printed as they are.
 AS_IT_IS = ("  ", "usage:", "example:")
 
 
 def help_text(text):
-    """A text of the help: running text as paragraphs; indented lines, the usage and an example as they are."""
+    """A text of the help: running text as paragraphs; indented lines, the usage and an example as they are. `status:` may go on in an indented line."""
+    text = re.sub(r"^(status: .*)\n +", r"\1\n", text, flags=re.M)
     for as_it_is, lines in itertools.groupby(text.splitlines(), key=lambda it: it.startswith(AS_IT_IS)):
         if as_it_is:
             yield from verbatim(textwrap.dedent("\n".join(lines)).splitlines())
@@ -206,20 +217,22 @@ def page_of_program(given):
         head("MACSECD", 1, "User Commands", given.version),
         [".SH NAME", r"macsecd \- a MACsec endpoint in user space that uses no packet number twice", ".SH SYNOPSIS", *list(synopsis(given))[1:]],
         [".SH DESCRIPTION", *roff(section("docs/PACKAGE.md", "## What it is")), *help_text(given.text)],
-        [".SH SUBCOMMANDS"],
+        [".SH SUBCOMMANDS", *roff(EXAMPLES_ARE_THERE)],
         *([f".SS {it.word}", *help_text(it.text)] for it in given.subcommands),
         [".SH A LINK AS A SERVICE", *roff(service)],
         [".SH LINES THAT ARE PRINTED", *roff(printed)],
         [".SH EXIT STATUS"],
         *([".TP", rf"\fB{status}\fR", escaped(meaning)] for status, meaning in given.statuses()),
-        [".SH A LINK BETWEEN TWO NETWORKS", *roff(without(section("docs/OPERATIONS.md", "## A link between two networks"), "| example"))],
+        [".SH CAPTURES", *roff(section("docs/OPERATIONS.md", "## Captures"))],
+        [".SH A LINK BETWEEN TWO NETWORKS", *roff(section("docs/OPERATIONS.md", "## A link between two networks"))],
         [".SH A LINK THAT RUNS FOR YEARS", *roff(section("docs/OPERATIONS.md", "## A link that runs for years"))],
         [".SH CHANGING KEYS", *roff(section("docs/OPERATIONS.md", "### Changing keys"))],
         [".SH CHANGING KEYS BY PLAN", *roff(section("docs/OPERATIONS.md", "### Changing keys by plan"))],
         [".SH CHOOSING BLOCKS", *roff(section("docs/OPERATIONS.md", "## Choosing blocks"))],
-        [".SH AFTER A POWER LOSS", *roff(without(section("docs/OPERATIONS.md", "### After a power loss"), "**Tried.**", "- Each time the", "Neither shows"))],
-        [".SH A FILE OF AN OLDER PROGRAM", *roff(without(section("docs/OPERATIONS.md", "### A file of an older program"), "**Tried.**"))],
+        [".SH AFTER A POWER LOSS", *roff(section("docs/OPERATIONS.md", "### After a power loss"))],
+        [".SH A FILE OF AN OLDER PROGRAM", *roff(section("docs/OPERATIONS.md", "### A file of an older program"))],
         [".SH A FAILED SYNC", *roff(section("docs/OPERATIONS.md", "### A failed sync"))],
+        [".SH EACH OPENING MAKES THE FILE ANEW", *roff(section("docs/OPERATIONS.md", "### Each opening makes the file anew"))],
         [".SH DISK FILES", *roff(section("docs/OPERATIONS.md", "### Devices and file systems"))],
         [".SH OCTETS THAT ROT", *roff(section("docs/OPERATIONS.md", "### Octets that rot"))],
         [".SH WHAT NEVER TO DO WITH A DISK FILE", *roff(section("docs/OPERATIONS.md", "### What never to do with a disk file"))],
@@ -231,6 +244,9 @@ def page_of_program(given):
     return [line for part in parts for line in part]
 
 
+CLAUSES = "Numbers in brackets are clauses of IEEE Std 802.1AE-2018."
+
+
 def page_of_link(given):
     apply = next(it for it in given.subcommands if it.word == "apply")
     examples = [[f".SS {end} end", *verbatim(example(end.lower()).splitlines())] for end in ("Left", "Right")]
@@ -238,8 +254,8 @@ def page_of_link(given):
         head("MACSECD-LINK", 5, "File Formats", given.version),
         [".SH NAME", r"macsecd\-link \- command files and the settings of a link of macsecd"],
         [".SH DESCRIPTION", *roff(section("docs/PACKAGE.md", "## What a link is made of")), *help_text(apply.text)],
-        [".SH COMMANDS", *roff(without(section("docs/MACSEC.md", "### Commands"), "The first edition"))],
-        [".SH CONFIGURATION", *roff(without(section("docs/MACSEC.md", "## The configuration").split("\n### ")[0], "It holds no"))],
+        [".SH COMMANDS", *roff(section("docs/MACSEC.md", "### Commands"))],
+        [".SH CONFIGURATION", *roff(CLAUSES), *roff(section("docs/MACSEC.md", "## The configuration").split("\n### ")[0].replace(" (own)", ""))],
         [".SH CHANGING KEYS", *roff(section("docs/OPERATIONS.md", "### Changing keys"))],
         [".SH CHANGING KEYS BY PLAN", *roff(section("docs/OPERATIONS.md", "### Changing keys by plan"))],
         [".SH SETTINGS OF A SERVICE", *roff(section("docs/PACKAGE.md", "## Settings of a service"))],

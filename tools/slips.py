@@ -173,6 +173,9 @@ def may_change(words, own, printed):
             names.add(own)
     elif words[0] in ("apply", "relay"):
         names.add(own)
+        if words[0] == "apply" and words[2] == COMMANDS:
+            # The list of keys, beside the file that a link leads to.
+            names.add((DISK if own == LINK else own) + ".spent")
     if names & set(OWN):
         names |= set(OWN)
     return names

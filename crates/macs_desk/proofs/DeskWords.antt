@@ -1,6 +1,6 @@
 -- All that is to be drawn of the words on a desk.
 use Rattle.std.proofs.Common.{◌≡◌, ◌≢◌, inl, inr, ◌++◌, ℕ, Bool, true, false, List, [], ◌∷◌, length, Option}
-use Rattle.std.proofs.Common.{Some, None, Ok, Err, if◌then◌else◌, refl, sym, ap, subst, arith}
+use Rattle.std.proofs.Common.{Some, None, Result, Ok, Err, ◌∙◌, if◌then◌else◌, refl, sym, ap, subst, arith}
 use Rattle.std.specs.Prelude.{get_or}
 use Rattle.std.proofs.lemmas.Bool.{eq-eqb, ne_eqb}
 use Rattle.macs_disk.specs.Disk.{Disk}
@@ -11,7 +11,8 @@ use Rattle.macs_endpoint.specs.declared.fault.CommandFault.TheVariants as faults
 use Rattle.macs_requests.specs.Talks.{Talk, Looked}
 use Rattle.macs_requests.specs.declared.clients.Client.{Client}
 use Rattle.macs_desk.specs.DeskWords.{AnswerWords, ListenWords, QueueWords, ReportWords}
-use Rattle.macs_desk.specs.Listening.{ListensUnless, Looks, Reports, said_to}
+use Rattle.macs_desk.specs.Listening.{HandsIn, IsKnown, ListensUnless, Looks, Reports, said_to}
+use Rattle.macs_desk.specs.declared.key_notes.NoteFault.{NoteFault}
 use Rattle.macs_desk.specs.Replies.{done_text, ended_text, failed_text}
 
 -- ---- answers
@@ -34,6 +35,7 @@ answer-words = record {
   ok_only = ok_only;
   refused = λ refusal. refl;
   not_kept = refl;
+  not_noted = (refl, refl);
   ended = λ answer. (refl, refl);
   taken = λ client ticket. refl;
   not_taken = λ client fault. refl;
@@ -80,6 +82,11 @@ asks : (is_full : Bool) (reports : Reports) (old new : Client) (talk : List Talk
 asks is_full reports old new talk order (inl (is, end, same)) = (true, [], is)
 asks is_full reports old new talk order (inr (more, is, listens)) = (false, more, is)
 
+-- what is answered is what it is known to be
+told_as : {A : Type 0} (known : Option A) (is answer : A) → known ≡ Some is → IsKnown known answer → answer ≡ is
+told_as None is answer same answers = absurd cc
+told_as (Some found) is answer same answers = answers ∙ cc
+
 pub listen-words : ListenWords
 listen-words = record {
   ended = ended;
@@ -91,8 +98,14 @@ listen-words = record {
   no_request = λ text request is utf8 asked. is request utf8 asked;
   show = λ reports client talk order is. is;
   counters = λ reports client talk order is. is;
+  keys = λ reports client talk order is. is;
+  about = λ reports client talk order is. is;
   stop = λ reports client talk order is. is;
-  apply = λ reports client command talk order is. is;
+  apply = λ reports client command talk order noted known is.
+      subst (λ (n : Result (Unit {0}) NoteFault). HandsIn client command n talk order)
+      (told_as (reports.noted command) noted is.0 known is.1) is.2;
+  noted = λ client command talk order is. is;
+  not_noted = λ client command fault talk order is. is;
   times = λ was_quiet left. refl;
   between = λ command. (refl, refl, refl);
   left = λ turns order. (refl, refl);
@@ -107,8 +120,10 @@ listen-words = record {
 
 pub report-words : {D : Type 0} (disk_of : D → Disk) → ReportWords disk_of
 report-words disk_of = record {
-  shown = λ known endpoint controlled common. refl;
-  counted = λ known endpoint controlled common dropped. refl;
-  dropped = λ known endpoint controlled common. refl;
+  shown = λ program known noted endpoint controlled common. refl;
+  keys = λ program known noted endpoint controlled common. refl;
+  about = λ program known noted endpoint controlled common. refl;
+  counted = λ program known noted endpoint controlled common dropped. refl;
+  answers = λ program known noted endpoint controlled common. (refl, refl);
   measured = λ build endpoint controlled common dropped. refl;
 }

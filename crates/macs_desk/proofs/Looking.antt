@@ -1,5 +1,6 @@
 -- What a desk does where it is time to look after its clients.
-use Rattle.std.proofs.Common.{◌≡◌, ◌∙◌, ◌++◌, ℕ, Bool, true, List, Option, ap, refl, subst}
+use Rattle.std.proofs.Common.{◌≡◌, ◌∙◌, ◌++◌, ℕ, Bool, true, List, Option, Result, ap, refl, subst}
+use Rattle.macs_config.specs.declared.command.Command.{Command}
 use Rattle.macs_edge.specs.declared.attending.Order.{Order}
 use Rattle.macs_edge.specs.declared.counts.WireCounts.{WireCounts}
 use Rattle.macs_endpoint.specs.Value.{EndpointValue}
@@ -7,16 +8,19 @@ use Rattle.macs_edge.proofs.Flowing.{gained-more}
 use Rattle.macs_requests.specs.Talks.{Note, Talk, with_notes, with_talk}
 use Rattle.macs_requests.specs.declared.clients.Client.{Client}
 use Rattle.macs_texts.specs.declared.build.Build.{Build}
+use Rattle.macs_texts.specs.declared.program.Program.{Program}
+use Rattle.macs_desk.specs.declared.key_notes.NoteFault.{NoteFault}
 use Rattle.macs_desk.specs.declared.overruns.Dropped.{Dropped}
 use Rattle.macs_desk.specs.Listening.{Looks, LooksIf, Measures, MeasuresIf, Reports, measured_of, reports_of}
 use Rattle.macs_desk.specs.Listening.{sleep_after}
 
 -- reports of the same counts
-pub same-reports : {D : Type 0} (known : Option Dropped) (endpoint : EndpointValue D) (a b c d : WireCounts) → a ≡ b
-    → c ≡ d → reports_of known endpoint a c ≡ reports_of known endpoint b d
-same-reports known endpoint a b c d first second =
-    ap (λ (w : WireCounts). reports_of known endpoint w c) first
-    ∙ ap (λ (w : WireCounts). reports_of known endpoint b w) second
+pub same-reports : {D : Type 0} (program : Program) (known : Option Dropped)
+    (noted : Command → Option (Result (Unit {0}) NoteFault)) (endpoint : EndpointValue D) (a b c d : WireCounts) → a ≡ b
+    → c ≡ d → reports_of program known noted endpoint a c ≡ reports_of program known noted endpoint b d
+same-reports program known noted endpoint a b c d first second =
+    ap (λ (w : WireCounts). reports_of program known noted endpoint w c) first
+    ∙ ap (λ (w : WireCounts). reports_of program known noted endpoint b w) second
 
 -- and what is measured of them
 pub same-measured : {D : Type 0} (build : Build) (endpoint : EndpointValue D) (a b c d : WireCounts) → a ≡ b → c ≡ d

@@ -22,13 +22,14 @@ use Rattle.macs_requests.specs.Talks.{Talk}
 use Rattle.macs_requests.specs.declared.clients.Client.{Client}
 use Rattle.macs_requests.specs.declared.clients.Heard.{Heard as HeardLine}
 use Rattle.macs_requests.specs.declared.requests.Request.{Request}
-use Rattle.macs_requests.specs.declared.requests.Request.TheVariants.{Apply, Counters, Show, Stop}
-use Rattle.macs_desk.specs.Listening.{Answers, Listens, ListensUnless, Looks, LooksIf, Reads, Reports, Tells}
+use Rattle.macs_requests.specs.declared.requests.Request.TheVariants.{About, Apply, Counters, Keys, Show, Stop}
+use Rattle.macs_desk.specs.Listening.{Answers, HandsIn, Listens, ListensUnless, Looks, LooksIf, Reads, Reports, Tells}
 use Rattle.macs_desk.specs.Listening.{said_to, sleep_after}
 use Rattle.macs_desk.specs.Replies.{ended_text}
 use Rattle.macs_desk.specs.Serving.{ClientsAreTold, DeskState, Speaks, SpeaksAt, Told, asking_after, ended_in}
 use Rattle.macs_desk.specs.Serving.{endings, givers, saying}
 use Rattle.macs_desk.specs.UnderWay.{client_of, is_full, joined, without}
+use Rattle.macs_desk.specs.declared.key_notes.NoteFault.{NoteFault}
 use Rattle.macs_desk.specs.declared.under_way.UnderWay.{UnderWay as Entry}
 use Rattle.macs_desk.proofs.Queued.{Queues, attended-queue, with_taken}
 
@@ -39,12 +40,20 @@ tells-asks : (client asked : Client) (text : List ℕ) (talk : List Talk) → Te
 tells-asks client asked text talk (inl is) = ap (asking_after asked) is
 tells-asks client asked text talk (inr is) = ap (asking_after asked) is
 
+hands-asks : (client asked : Client) (command : Command) (noted : Result (Unit {0}) NoteFault) (talk : List Talk)
+    (order : Order) → HandsIn client command noted talk order → asking_after asked talk ≡ asked
+hands-asks client asked command (Ok noted) talk order is = ap (asking_after asked) is.0
+hands-asks client asked command (Err fault) talk order is = ap (asking_after asked) is.0
+
 answers-asks : (reports : Reports) (client asked : Client) (request : Request) (talk : List Talk) (order : Order)
     → Answers reports client request talk order → asking_after asked talk ≡ asked
 answers-asks reports client asked Show talk order is = tells-asks client asked reports.shown talk is.0
 answers-asks reports client asked Counters talk order is = tells-asks client asked (reports.counted is.0) talk is.2
+answers-asks reports client asked Keys talk order is = tells-asks client asked reports.keys talk is.0
+answers-asks reports client asked About talk order is = tells-asks client asked reports.about talk is.0
 answers-asks reports client asked Stop talk order is = ap (asking_after asked) is.0
-answers-asks reports client asked (Apply command) talk order is = ap (asking_after asked) is.0
+answers-asks reports client asked (Apply command) talk order is =
+    hands-asks client asked command is.0 talk order is.2
 
 reads-asks : (reports : Reports) (heard : HeardLine) (asked : Client) (talk : List Talk) (order : Order)
     → Reads reports heard talk order → asking_after asked talk ≡ asked

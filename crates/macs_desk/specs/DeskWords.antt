@@ -22,25 +22,31 @@ use Rattle.macs_requests.specs.Talks.{Talk, Heard, Said, Slept, Looked, Note, As
 use Rattle.macs_requests.specs.declared.clients.Client.{Client}
 use Rattle.macs_requests.specs.declared.clients.Heard.{Heard as HeardLine}
 use Rattle.macs_requests.specs.declared.requests.Request.{Request}
-use Rattle.macs_requests.specs.declared.requests.Request.TheVariants.{Apply, Counters, Show, Stop}
+use Rattle.macs_requests.specs.declared.requests.Request.TheVariants.{About, Apply, Counters, Keys, Show, Stop}
 use Rattle.macs_rxsc.specs.Value as rxsc
 use Rattle.macs_txsc.specs.Value as txsc
 use Rattle.macs_texts.specs.Counting.{counters_text}
+use Rattle.macs_texts.specs.KeyTexts.{keys_text}
 use Rattle.macs_texts.specs.Measuring.{metrics_text}
+use Rattle.macs_texts.specs.Programs.{about_text}
 use Rattle.macs_texts.specs.declared.build.Build.{Build}
+use Rattle.macs_texts.specs.declared.program.Program.{Program}
 use Rattle.macs_texts.specs.Refusals.{refusal_name}
 use Rattle.macs_texts.specs.Showing.{show_text}
-use Rattle.macs_desk.specs.Listening.{Answers, IsNoRequest, ListensUnless, Looks, LooksIf, Measures, MeasuresIf, Reads}
+use Rattle.macs_desk.specs.Listening.{Answers, HandsIn, IsNoRequest, ListensUnless, Looks, LooksIf, Measures, MeasuresIf, Reads}
 use Rattle.macs_desk.specs.Listening.{IsKnown, Reports, is_time, measured_of, reports_of, said_of_ending}
 use Rattle.macs_desk.specs.Listening.{said_of_taking, sleep_after}
 use Rattle.macs_desk.specs.Listening.{turns_between, turns_left}
-use Rattle.macs_desk.specs.Replies.{done_text, end_text, ended_text, submit_fault_name}
+use Rattle.macs_desk.specs.Replies.{done_text, end_text, ended_text, not_noted_text, submit_fault_name}
 use Rattle.macs_desk.specs.UnderWay.{client_of, is_full, joined, without}
+use Rattle.macs_desk.specs.declared.key_notes.NoteFault.{NoteFault}
+use Rattle.macs_desk.specs.declared.key_notes.NoteFault.TheVariants as note
 use Rattle.macs_desk.specs.declared.overruns.Dropped.{Dropped}
 use Rattle.macs_desk.specs.declared.under_way.UnderWay.{UnderWay as Entry}
 
 -- The last line of an answer has a status. `ok` is said of a command that is kept, and of no other; of one that is
--- refused its refusal, with 3; of any other 4. Of one that is taken nothing is said yet, of one that is not, why. What
+-- refused its refusal, with 3, and so of one whose key is spent; of any other 4, and so of one whose key cannot be noted.
+-- Of one that is taken nothing is said yet, of one that is not, why. What
 -- became of a command is said to the client that gave it, where there is one.
 pub record AnswerWords : Type 0 where
   pub ends : (status : ℕ) → end_text status ≡ (codes "end" ++ (codes " " ++ decimal status)) ++ 10 ∷ []
@@ -50,6 +56,8 @@ pub record AnswerWords : Type 0 where
       ≡ ((codes "refused " ++ refusal_name refusal) ++ 10 ∷ []) ++ end_text 3
   pub not_kept : map done_text (Err faults.Stopped ∷ Err faults.Busy ∷ Err faults.GenerationsSpent
       ∷ Err faults.Disk ∷ []) ≡ replicate 4 (end_text 4)
+  pub not_noted : (not_noted_text note.Spent ≡ (codes "refused KeySpent" ++ 10 ∷ []) ++ end_text 3)
+      × (not_noted_text note.Failed ≡ end_text 4)
   pub ended : (answer : Result (Unit {0}) CommandFault) → (ended_text (Done answer) ≡ done_text answer)
       × (ended_text Failed ≡ end_text 4)
   pub taken : (client : Client) (ticket : ℕ) → said_of_taking client (Ok ticket) ≡ []
@@ -81,9 +89,9 @@ pub record QueueWords : Type 0 where
 -- The desk looks after a quiet turn, and once 63 turns have passed without it, and before each turn after a command. It
 -- sleeps after a quiet turn alone. Where it looks it asks first whether the process was asked to end; where that is so,
 -- the relay ends, too. It listens unless 16 commands
--- are under way. A line is a request's, and answered so, or no request's, with 2; or memory is refused, with 5. `show`
--- and `counters` are answered with their reports, `stop` with 0 and the end of the relay; a command is handed in.
--- Metrics are written where that is due, unless memory is refused.
+-- are under way. A line is a request's, and answered so, or no request's, with 2; or memory is refused, with 5. `show`,
+-- `counters`, `keys` and `about` are answered with their reports, `stop` with 0 and the end of the relay. A command is
+-- handed in where its key is noted, or there is none to note; else it is answered that it is not. Metrics are written where that is due, unless memory is refused.
 pub record ListenWords : Type 0 where
   pub ended : (is_full : Bool) (reports : Reports) (old new : Client) (more : List Talk) (order : Order)
       → Looks is_full reports old (Looked true ∷ more) order new → (more ≡ []) × (order ≡ End) × (new ≡ old)
@@ -115,11 +123,25 @@ pub record ListenWords : Type 0 where
       → (dropped : Dropped) × IsKnown reports.known dropped
       × ((talk ≡ Said client (reports.counted dropped) ∷ Said client (end_text 0) ∷ [])
       ⊎ (talk ≡ Said client (end_text 5) ∷ [])) × (order ≡ Go)
+  pub keys : (reports : Reports) (client : Client) (talk : List Talk) (order : Order)
+      → Answers reports client Keys talk order
+      → ((talk ≡ Said client reports.keys ∷ Said client (end_text 0) ∷ []) ⊎ (talk ≡ Said client (end_text 5) ∷ []))
+      × (order ≡ Go)
+  pub about : (reports : Reports) (client : Client) (talk : List Talk) (order : Order)
+      → Answers reports client About talk order
+      → ((talk ≡ Said client reports.about ∷ Said client (end_text 0) ∷ []) ⊎ (talk ≡ Said client (end_text 5) ∷ []))
+      × (order ≡ Go)
   pub known : (is dropped : Dropped) → IsKnown (Some is) dropped → dropped ≡ is
   pub stop : (reports : Reports) (client : Client) (talk : List Talk) (order : Order)
       → Answers reports client Stop talk order → (talk ≡ Said client (end_text 0) ∷ []) × (order ≡ End)
   pub apply : (reports : Reports) (client : Client) (command : Command) (talk : List Talk) (order : Order)
-      → Answers reports client (Apply command) talk order → (talk ≡ []) × (order ≡ Submit command)
+      (noted : Result (Unit {0}) NoteFault) → reports.noted command ≡ Some noted
+      → Answers reports client (Apply command) talk order → HandsIn client command noted talk order
+  pub noted : (client : Client) (command : Command) (talk : List Talk) (order : Order)
+      → HandsIn client command (Ok tt) talk order → (talk ≡ []) × (order ≡ Submit command)
+  pub not_noted : (client : Client) (command : Command) (fault : NoteFault) (talk : List Talk) (order : Order)
+      → HandsIn client command (Err fault) talk order
+      → (talk ≡ Said client (not_noted_text fault) ∷ []) × (order ≡ Go)
   pub times : (was_quiet : Bool) (left : ℕ) → is_time was_quiet left ≡ (was_quiet || left == 0)
   pub between : (command : Command) → (turns_between (Submit command) ≡ 0) × (turns_between Go ≡ 63)
       × (turns_between End ≡ 63)
@@ -139,18 +161,30 @@ pub record ListenWords : Type 0 where
   pub unmeasured : (is : Option Dropped) (text : Dropped → List ℕ) (notes : List Note)
       → MeasuresIf false is text notes → notes ≡ []
 
--- A report is that of the endpoint's state, of its counters, and of both wires with what was dropped of each, the
+-- A report is that of the endpoint's state, its keys, the program, or its counters, and of both wires with what was dropped of each, the
 -- controlled one first.
 pub record ReportWords {D : Type 0} (disk_of : D → Disk) : Type 0 where
-  pub shown : (known : Option Dropped) (endpoint : EndpointValue D) (controlled common : WireCounts)
-      → (reports_of known endpoint controlled common).shown ≡ show_text (state_of endpoint no_logs)
-  pub counted : (known : Option Dropped) (endpoint : EndpointValue D) (controlled common : WireCounts)
-      (dropped : Dropped) → (reports_of known endpoint controlled common).counted dropped
+  pub shown : (program : Program) (known : Option Dropped) (noted : Command → Option (Result (Unit {0}) NoteFault))
+      (endpoint : EndpointValue D) (controlled common : WireCounts)
+      → (reports_of program known noted endpoint controlled common).shown ≡ show_text (state_of endpoint no_logs)
+  pub keys : (program : Program) (known : Option Dropped) (noted : Command → Option (Result (Unit {0}) NoteFault))
+      (endpoint : EndpointValue D) (controlled common : WireCounts)
+      → (reports_of program known noted endpoint controlled common).keys
+      ≡ keys_text (state_of endpoint no_logs).config
+  pub about : (program : Program) (known : Option Dropped) (noted : Command → Option (Result (Unit {0}) NoteFault))
+      (endpoint : EndpointValue D) (controlled common : WireCounts)
+      → (reports_of program known noted endpoint controlled common).about
+      ≡ about_text program.build program.started
+  pub counted : (program : Program) (known : Option Dropped) (noted : Command → Option (Result (Unit {0}) NoteFault))
+      (endpoint : EndpointValue D) (controlled common : WireCounts)
+      (dropped : Dropped) → (reports_of program known noted endpoint controlled common).counted dropped
       ≡ counters_text (state_of endpoint no_logs) (txsc.counters_of endpoint.tx) (rxsc.counters_of endpoint.rx)
       (rxsc.channel_counters_of endpoint.rx) (record { counts = controlled; overrun = dropped.controlled })
       (record { counts = common; overrun = dropped.common })
-  pub dropped : (known : Option Dropped) (endpoint : EndpointValue D) (controlled common : WireCounts)
-      → (reports_of known endpoint controlled common).known ≡ known
+  pub answers : (program : Program) (known : Option Dropped) (noted : Command → Option (Result (Unit {0}) NoteFault))
+      (endpoint : EndpointValue D) (controlled common : WireCounts)
+      → ((reports_of program known noted endpoint controlled common).known ≡ known)
+      × ((reports_of program known noted endpoint controlled common).noted ≡ noted)
   pub measured : (build : Build) (endpoint : EndpointValue D) (controlled common : WireCounts) (dropped : Dropped)
       → measured_of build endpoint controlled common dropped
       ≡ metrics_text build (state_of endpoint no_logs) (txsc.counters_of endpoint.tx) (rxsc.counters_of endpoint.rx)

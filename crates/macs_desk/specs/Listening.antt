@@ -2,6 +2,7 @@
 use Rattle.std.specs.Prelude.{◌≡◌, ◌≢◌, ◌⊎◌, ◌==◌, ◌-◌, ◌++◌, ◌||◌, ⊤, ℕ, Bool, true, false, List, [], ◌∷◌}
 use Rattle.std.specs.Prelude.{Option, Some, None, Result, Ok, Err}
 use Rattle.std.specs.Str.{IsUtf8}
+use Rattle.macs_config.specs.declared.command.Command.{Command}
 use Rattle.macs_edge.specs.declared.attending.CommandEnd.{CommandEnd}
 use Rattle.macs_edge.specs.declared.attending.Order.{Order}
 use Rattle.macs_edge.specs.declared.attending.Order.TheVariants.{Go, Submit, End}
@@ -14,41 +15,56 @@ use Rattle.macs_requests.specs.Talks.{Talk, Heard, Said, Slept, Looked, Note, As
 use Rattle.macs_requests.specs.declared.clients.Client.{Client}
 use Rattle.macs_requests.specs.declared.clients.Heard.{Heard as HeardLine}
 use Rattle.macs_requests.specs.declared.requests.Request.{Request}
-use Rattle.macs_requests.specs.declared.requests.Request.TheVariants.{Apply, Counters, Show, Stop}
+use Rattle.macs_requests.specs.declared.requests.Request.TheVariants.{About, Apply, Counters, Keys, Show, Stop}
 use Rattle.macs_rxsc.specs.Value as rxsc
 use Rattle.macs_txsc.specs.Value as txsc
 use Rattle.macs_texts.specs.Counting.{counters_text, reported}
+use Rattle.macs_texts.specs.KeyTexts.{keys_text}
 use Rattle.macs_texts.specs.Measuring.{metrics_text}
+use Rattle.macs_texts.specs.Programs.{about_text}
 use Rattle.macs_texts.specs.Showing.{show_text}
 use Rattle.macs_texts.specs.declared.build.Build.{Build}
-use Rattle.macs_desk.specs.Replies.{end_text, ended_text, not_taken_text}
+use Rattle.macs_texts.specs.declared.program.Program.{Program}
+use Rattle.macs_desk.specs.Replies.{end_text, ended_text, not_noted_text, not_taken_text}
 use Rattle.macs_desk.specs.UnderWay.{client_of, joined}
+use Rattle.macs_desk.specs.declared.key_notes.NoteFault.{NoteFault}
 use Rattle.macs_desk.specs.declared.overruns.Dropped.{Dropped}
 use Rattle.macs_desk.specs.declared.under_way.UnderWay.{UnderWay as Entry}
 
 -- ---- reports
 
--- an answer to what was dropped, where it is known what is answered
-abbrev pub IsKnown : Option Dropped → Dropped → Type 0
-IsKnown None dropped = ⊤
-IsKnown (Some known) dropped = dropped ≡ known
+-- an answer of the system, where it is known what it answers
+abbrev pub IsKnown : {A : Type 0} → Option A → A → Type 0
+IsKnown None answer = ⊤
+IsKnown (Some known) answer = answer ≡ known
 
--- what clients are told of an endpoint and its wires: the configuration and the numbers, and the counters with what was
--- dropped, of which may be known what it is
+-- What clients are told of an endpoint and its wires: the configuration and the numbers, which keys are installed, which
+-- program runs, and the counters with what was dropped. Of that it may be known what it is, and so of whether the key of
+-- a command is noted
 pub record Reports : Type 0 where
   pub shown : List ℕ
+  pub keys : List ℕ
+  pub about : List ℕ
   pub counted : Dropped → List ℕ
   pub known : Option Dropped
+  pub noted : Command → Option (Result (Unit {0}) NoteFault)
+
+-- the counters, with what was dropped
+abbrev pub counted_of : {D : Type 0} → EndpointValue D → WireCounts → WireCounts → Dropped → List ℕ
+counted_of endpoint controlled common dropped =
+    counters_text (state_of endpoint no_logs) (txsc.counters_of endpoint.tx) (rxsc.counters_of endpoint.rx)
+    (rxsc.channel_counters_of endpoint.rx) (reported controlled dropped.controlled) (reported common dropped.common)
 
 -- what they report now
-abbrev pub reports_of : {D : Type 0} → Option Dropped → EndpointValue D → WireCounts → WireCounts → Reports
-reports_of known endpoint controlled common = record {
+abbrev pub reports_of : {D : Type 0} → Program → Option Dropped → (Command → Option (Result (Unit {0}) NoteFault))
+    → EndpointValue D → WireCounts → WireCounts → Reports
+reports_of program known noted endpoint controlled common = record {
   shown = show_text (state_of endpoint no_logs);
-  counted = λ dropped.
-      counters_text (state_of endpoint no_logs) (txsc.counters_of endpoint.tx) (rxsc.counters_of endpoint.rx)
-      (rxsc.channel_counters_of endpoint.rx) (reported controlled dropped.controlled)
-      (reported common dropped.common);
+  keys = keys_text (state_of endpoint no_logs).config;
+  about = about_text program.build program.started;
+  counted = counted_of endpoint controlled common;
   known = known;
+  noted = noted;
 }
 
 -- and what a collector of metrics is told by this program
@@ -73,13 +89,22 @@ abbrev pub Tells : Client → List ℕ → List Talk → Type 0
 Tells client text talk = (talk ≡ Said client text ∷ Said client (end_text 0) ∷ [])
     ⊎ (talk ≡ Said client (end_text 5) ∷ [])
 
--- What a request is answered at once, and what the desk wants then. A command is answered when it is done
+-- A command is handed in once its key is noted, and is answered when it is done. Where the key may not be installed it
+-- is answered so at once
+abbrev pub HandsIn : Client → Command → Result (Unit {0}) NoteFault → List Talk → Order → Type 0
+HandsIn client command (Ok noted) talk order = (talk ≡ []) × (order ≡ Submit command)
+HandsIn client command (Err fault) talk order = (talk ≡ Said client (not_noted_text fault) ∷ []) × (order ≡ Go)
+
+-- what a request is answered at once, and what the desk wants then
 abbrev pub Answers : Reports → Client → Request → List Talk → Order → Type 0
 Answers reports client Show talk order = Tells client reports.shown talk × (order ≡ Go)
 Answers reports client Counters talk order = (dropped : Dropped) × IsKnown reports.known dropped
     × Tells client (reports.counted dropped) talk × (order ≡ Go)
+Answers reports client Keys talk order = Tells client reports.keys talk × (order ≡ Go)
+Answers reports client About talk order = Tells client reports.about talk × (order ≡ Go)
 Answers reports client Stop talk order = (talk ≡ Said client (end_text 0) ∷ []) × (order ≡ End)
-Answers reports client (Apply command) talk order = (talk ≡ []) × (order ≡ Submit command)
+Answers reports client (Apply command) talk order = (noted : Result (Unit {0}) NoteFault)
+    × IsKnown (reports.noted command) noted × HandsIn client command noted talk order
 
 -- a line is read: it is a request's, or none's, or memory is refused
 abbrev pub Reads : Reports → HeardLine → List Talk → Order → Type 0

@@ -1,5 +1,6 @@
 -- What clients are answered: lines, the last of which has the exit status of the program that asked.
 use Rattle.std.specs.Prelude.{ℕ, ◌++◌, List, codes, Result, Ok, Err}
+use Rattle.macs_config.specs.declared.refusal.Refusal.TheVariants.{KeySpent}
 use Rattle.macs_edge.specs.declared.attending.CommandEnd.{CommandEnd}
 use Rattle.macs_edge.specs.declared.attending.CommandEnd.TheVariants.{Done, Failed}
 use Rattle.macs_endpoint.specs.declared.fault.CommandFault.{CommandFault}
@@ -9,6 +10,8 @@ use Rattle.macs_endpoint.specs.declared.fault.SubmitFault.TheVariants.{Stopped, 
 use Rattle.macs_requests.specs.Requests.{end_line}
 use Rattle.macs_texts.specs.Lines.{line}
 use Rattle.macs_texts.specs.Refusals.{refusal_name}
+use Rattle.macs_desk.specs.declared.key_notes.NoteFault.{NoteFault}
+use Rattle.macs_desk.specs.declared.key_notes.NoteFault.TheVariants as note
 
 -- the last line of an answer: 0 where the request is done, 2 where there is none, 3 where a command is refused, 4
 -- where the disk failed, 5 where memory is refused
@@ -18,6 +21,11 @@ end_text status = line (end_line status)
 -- a command is refused, by this name
 abbrev pub refused_line : List ℕ → List ℕ
 refused_line name = line (codes "refused " ++ name)
+
+-- the key of a command may not be installed: it is spent, or cannot be noted
+abbrev pub not_noted_text : NoteFault → List ℕ
+not_noted_text note.Spent = refused_line (refusal_name KeySpent) ++ end_text 3
+not_noted_text note.Failed = end_text 4
 
 -- a command is not kept
 abbrev pub failed_text : CommandFault → List ℕ

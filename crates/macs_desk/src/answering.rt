@@ -1,20 +1,25 @@
 //! What a line of a client comes to.
 
-ghost use Rattle.std.specs.Prelude.{◌≡◌, ℕ, List, IfOk, string_bytes};
+ghost use Rattle.std.specs.Prelude.{◌≡◌, ℕ, List, Result, IfOk, string_bytes};
 ghost use Rattle.std.specs.Str.{IsUtf8};
+ghost use Rattle.macs_edge.specs.declared.attending.Order.TheVariants.{Go};
 ghost use Rattle.macs_requests.specs.Requests.{IsAsked, request_line};
 ghost use Rattle.macs_requests.specs.Talks.{Talk, with_talk};
 ghost use Rattle.macs_requests.specs.declared.requests.Request.{Request};
-ghost use Rattle.macs_desk.specs.Listening.{Answers, IsKnown, IsRead, Reads, Tells, reports_of};
+ghost use Rattle.macs_desk.specs.Listening.{Answers, HandsIn, IsKnown, IsRead, Reads, Tells};
+ghost use Rattle.macs_desk.specs.Listening.{counted_of, reports_of};
+ghost use Rattle.macs_desk.specs.declared.key_notes.NoteFault.{NoteFault};
 ghost use Rattle.macs_desk.specs.declared.overruns.Dropped.{Dropped};
 
+use crate::key_notes::KeyNotes;
 use crate::overruns::{Dropped, Overruns};
-use crate::replies::{DONE, NO_MEMORY, NO_REQUEST};
+use crate::replies::{DONE, NO_MEMORY, NO_REQUEST, not_noted};
+use macs_config::Command;
 use macs_disk::SectorDisk;
 use macs_edge::{Order, WireCounts};
 use macs_endpoint::Endpoint;
 use macs_requests::{Client, Clients, Heard, Request, request_of_line};
-use macs_texts::{counter_lines, reported, show_lines};
+use macs_texts::{Program, about_lines, counter_lines, keys_lines, reported, show_lines};
 use std::alloc::{AllocError, Global};
 
 /// The request of a line, `None` where it is no text, or the line of no request. It fails only
@@ -29,7 +34,7 @@ fn request_of(alloc: Global, line: &[u8]) -> Result<Option<Request>, AllocError>
 }
 
 /// Says a report to a client, with the end of the answer; or that there is no memory for it.
-fn tell<C: Clients>(clients: &mut C, client: Client, report: Result<String, AllocError>)
+fn say_report<C: Clients>(clients: &mut C, client: Client, report: Result<String, AllocError>)
     ensures { (text : List ℕ) → IfOk report (λ told. string_bytes told ≡ text)
         → (talk : List Talk) × Tells client text talk
         × (C.talk clients.new ≡ with_talk (C.talk clients.old) talk) }
@@ -43,6 +48,16 @@ fn tell<C: Clients>(clients: &mut C, client: Client, report: Result<String, Allo
     }
 }
 
+/// Answers a request with a report, and says what the desk wants then: that the relay goes on.
+fn tell<C: Clients>(clients: &mut C, client: Client, report: Result<String, AllocError>) -> Order
+    ensures { (text : List ℕ) → IfOk report (λ told. string_bytes told ≡ text)
+        → (talk : List Talk) × (Tells client text talk × (result ≡ Go))
+        × (C.talk clients.new ≡ with_talk (C.talk clients.old) talk) }
+{
+    say_report(clients, client, report);
+    Order::Go
+}
+
 /// The counters, with what the system dropped.
 fn counted<D: SectorDisk, O: Overruns>(
     alloc: Global,
@@ -53,8 +68,7 @@ fn counted<D: SectorDisk, O: Overruns>(
 ) -> Result<String, AllocError>
     ensures { (dropped : Dropped) × IsKnown (O.known overruns.now) dropped
         × IfOk result (λ text. string_bytes text
-        ≡ (reports_of (O.known overruns.now) endpoint.now controlled.now common.now).counted
-        dropped) }
+        ≡ counted_of endpoint.now controlled.now common.now dropped) }
 {
     let Dropped {
         controlled: first,
@@ -65,59 +79,81 @@ fn counted<D: SectorDisk, O: Overruns>(
     counter_lines(alloc, endpoint, &controlled, &common)
 }
 
+/// Hands in a command once its key is noted, and says what the desk wants then.
+fn hand_in<K: KeyNotes, C: Clients>(
+    notes: &K,
+    client: Client,
+    command: Command,
+    clients: &mut C,
+) -> Order
+    ensures { (noted : Result (Unit {0}) NoteFault) × IsKnown (K.answers notes.now command) noted
+        × (talk : List Talk) × HandsIn client command noted talk result
+        × (C.talk clients.new ≡ with_talk (C.talk clients.old) talk) }
+{
+    match notes.note(&command) {
+        Ok(()) => Order::Submit(command),
+        Err(fault) => {
+            clients.say(client, not_noted(fault).as_slice());
+            Order::Go
+        }
+    }
+}
+
 /// Answers a request, where it is answered at once, and says what the desk wants then.
-fn answer<D: SectorDisk, O: Overruns, C: Clients>(
+fn answer<D: SectorDisk, S: Overruns + KeyNotes, C: Clients>(
     alloc: Global,
+    program: &Program,
     endpoint: &Endpoint<D>,
     controlled: &WireCounts,
     common: &WireCounts,
-    overruns: &O,
+    system: &S,
     client: Client,
     request: Request,
     clients: &mut C,
 ) -> Order
     ensures { (talk : List Talk)
-        × Answers (reports_of (O.known overruns.now) endpoint.now controlled.now common.now)
+        × Answers (reports_of program.now (S.known system.now) (S.answers system.now) endpoint.now
+        controlled.now common.now)
         client request talk result
         × (C.talk clients.new ≡ with_talk (C.talk clients.old) talk) }
 {
     match request {
-        Request::Show => {
-            tell(clients, client, show_lines(alloc, endpoint));
-            Order::Go
-        }
+        Request::Show => tell(clients, client, show_lines(alloc, endpoint)),
+        Request::Keys => tell(clients, client, keys_lines(alloc, endpoint.config())),
+        Request::About => tell(clients, client, about_lines(alloc, program)),
         Request::Counters => {
-            let report = counted(alloc, endpoint, controlled, common, overruns);
-            tell(clients, client, report);
-            Order::Go
+            let report = counted(alloc, endpoint, controlled, common, system);
+            tell(clients, client, report)
         }
         Request::Stop => {
             clients.say(client, DONE.as_bytes());
             Order::End
         }
-        Request::Apply(command) => Order::Submit(command),
+        Request::Apply(command) => hand_in(system, client, command, clients),
     }
 }
 
 /// Reads a line, and says what the desk wants then.
-pub fn read<D: SectorDisk, O: Overruns, C: Clients>(
+pub fn read<D: SectorDisk, S: Overruns + KeyNotes, C: Clients>(
     alloc: Global,
+    program: &Program,
     endpoint: &Endpoint<D>,
     controlled: &WireCounts,
     common: &WireCounts,
-    overruns: &O,
+    system: &S,
     heard: &Heard,
     clients: &mut C,
 ) -> Order
     ensures { (talk : List Talk)
-        × Reads (reports_of (O.known overruns.now) endpoint.now controlled.now common.now)
+        × Reads (reports_of program.now (S.known system.now) (S.answers system.now) endpoint.now
+        controlled.now common.now)
         heard.now talk result
         × (C.talk clients.new ≡ with_talk (C.talk clients.old) talk) }
 {
     let client = heard.client;
     match request_of(alloc, heard.line.as_slice()) {
         Ok(Some(request)) => answer(
-            alloc, endpoint, controlled, common, overruns, client, request, clients,
+            alloc, program, endpoint, controlled, common, system, client, request, clients,
         ),
         Ok(None) => {
             clients.say(client, NO_REQUEST.as_bytes());

@@ -7,6 +7,7 @@ ghost use Rattle.macs_desk.specs.Listening.{said_of_ending, said_of_taking, turn
 ghost use Rattle.macs_desk.specs.Listening.{under_way_after};
 ghost use Rattle.macs_desk.specs.UnderWay.{entries_of, is_full, without};
 
+use crate::key_notes::KeyNotes;
 use crate::listening::{TURNS_BETWEEN, is_time, look, rest, turns_between};
 use crate::metrics::measure;
 use crate::overruns::Overruns;
@@ -16,25 +17,25 @@ use macs_disk::SectorDisk;
 use macs_edge::{CommandEnd, Counted, Desk, Order, Wire};
 use macs_endpoint::{Endpoint, SubmitFault, Ticket};
 use macs_requests::{Client, Clients, Metrics};
-use macs_texts::Build;
+use macs_texts::Program;
 use std::alloc::Global;
 
 /// A desk that serves clients. It listens to them after a quiet turn, before which it sleeps, and
 /// else at each 64th turn, and takes one line then; after a command it listens again before the
-/// next turn. `show` and `counters` are answered at once. A command is handed in, and its client is
-/// answered once it is done: `ok` after it is kept, and not before. Up to 16 commands are under
+/// next turn. Reports are answered at once. A command is handed in once its key is noted, and its
+/// client is answered once it is done: `ok` after it is kept, and not before. Up to 16 commands are under
 /// way; while they are, no line is taken. `stop` ends the relay, and so does the wish to end the
 /// process.
 ///
 /// What clients do never holds a frame: no call waits for one of them. A client that goes away
 /// loses its answers, and none of its commands that were taken.
 #[derive(Drop)]
-pub struct ControlDesk<C, M, O> {
+pub struct ControlDesk<C, M, S> {
     alloc: Global,
-    build: Build,
+    program: Program,
     clients: C,
     metrics: M,
-    overruns: O,
+    system: S,
     under_way: Queue,
     /// The client whose line was taken last.
     asking: Client,
@@ -42,28 +43,28 @@ pub struct ControlDesk<C, M, O> {
     turns_left: u8,
 }
 
-impl<C: Clients, M: Metrics, O: Overruns> ControlDesk<C, M, O> {
-    /// A desk of this build of the program, with no command under way.
+impl<C: Clients, M: Metrics, S: Overruns + KeyNotes> ControlDesk<C, M, S> {
+    /// A desk of this run of the program, with no command under way.
     pub fn new(
         alloc: Global,
-        build: Build,
+        program: Program,
         clients: C,
         metrics: M,
-        overruns: O,
-    ) -> ControlDesk<C, M, O>
-        ensures build { result.build ≡ build }
+        system: S,
+    ) -> ControlDesk<C, M, S>
+        ensures program { result.program ≡ program }
         ensures clients { result.clients ≡ clients }
         ensures metrics { result.metrics ≡ metrics }
-        ensures overruns { result.overruns ≡ overruns }
+        ensures system { result.system ≡ system }
         ensures none { entries_of result.under_way ≡ [] }
         ensures turns { result.turns_left ≡ 63 }
     {
         ControlDesk {
             alloc,
-            build,
+            program,
             clients,
             metrics,
-            overruns,
+            system,
             under_way: Queue::new(),
             asking: Client::default(),
             turns_left: TURNS_BETWEEN,
@@ -71,7 +72,7 @@ impl<C: Clients, M: Metrics, O: Overruns> ControlDesk<C, M, O> {
     }
 }
 
-impl<C, M, O: Drop> ControlDesk<C, M, O> {
+impl<C, M, S: Drop> ControlDesk<C, M, S> {
     /// The clients, and where the metrics are written.
     pub fn into_parts(self) -> (C, M)
         ensures clients { result.0 ≡ self.clients }
@@ -86,27 +87,30 @@ impl<C, M, O: Drop> ControlDesk<C, M, O> {
     }
 }
 
-impl<D: SectorDisk, P: Wire + Counted, W: Wire + Counted, C: Clients, M: Metrics, O: Overruns> Desk<
-    D,
-    P,
-    W,
-> for ControlDesk<C, M, O> {
+impl<
+    D: SectorDisk,
+    P: Wire + Counted,
+    W: Wire + Counted,
+    C: Clients,
+    M: Metrics,
+    S: Overruns + KeyNotes,
+> Desk<D, P, W> for ControlDesk<C, M, S> {
     fn next(&mut self, endpoint: &Endpoint<D>, controlled: &P, common: &W, was_quiet: bool) -> Order
         ensures talk { (talk : List Talk)
             × LooksIf (is_time was_quiet self.old.turns_left) was_quiet
             (is_full (entries_of self.old.under_way))
-            (reports_of (O.known self.old.overruns) endpoint.now (P.wire_counts controlled.now)
-            (W.wire_counts common.now))
+            (reports_of self.old.program (S.known self.old.system) (S.answers self.old.system)
+            endpoint.now (P.wire_counts controlled.now) (W.wire_counts common.now))
             self.old.asking talk result self.new.asking
             × (C.talk self.new.clients ≡ with_talk (C.talk self.old.clients) talk) }
         ensures notes { (notes : List Note)
-            × MeasuresIf (is_time was_quiet self.old.turns_left) (O.known self.old.overruns)
-            (measured_of self.old.build endpoint.now (P.wire_counts controlled.now)
+            × MeasuresIf (is_time was_quiet self.old.turns_left) (S.known self.old.system)
+            (measured_of self.old.program.build endpoint.now (P.wire_counts controlled.now)
             (W.wire_counts common.now))
             notes
             × (M.notes self.new.metrics ≡ with_notes (M.notes self.old.metrics) notes) }
-        ensures build { self.new.build ≡ self.old.build }
-        ensures overruns { self.new.overruns ≡ self.old.overruns }
+        ensures program { self.new.program ≡ self.old.program }
+        ensures system { self.new.system ≡ self.old.system }
         ensures under_way { entries_of self.new.under_way ≡ entries_of self.old.under_way }
         ensures turns { self.new.turns_left
             ≡ turns_left (is_time was_quiet self.old.turns_left) self.old.turns_left result }
@@ -120,19 +124,20 @@ impl<D: SectorDisk, P: Wire + Counted, W: Wire + Counted, C: Clients, M: Metrics
         rest(was_quiet, &mut self.clients);
         measure(
             self.alloc,
-            &self.build,
+            &self.program.build,
             endpoint,
             &controlled,
             &common,
-            &self.overruns,
+            &self.system,
             &mut self.metrics,
         );
         let order = look(
             self.alloc,
+            &self.program,
             endpoint,
             &controlled,
             &common,
-            &self.overruns,
+            &self.system,
             self.under_way.is_full(),
             &mut self.clients,
             &mut self.asking,
@@ -144,8 +149,8 @@ impl<D: SectorDisk, P: Wire + Counted, W: Wire + Counted, C: Clients, M: Metrics
     fn took(&mut self, answer: Result<Ticket, SubmitFault>)
         ensures talk { C.talk self.new.clients
             ≡ with_talk (C.talk self.old.clients) (said_of_taking self.old.asking answer) }
-        ensures build { self.new.build ≡ self.old.build }
-        ensures overruns { self.new.overruns ≡ self.old.overruns }
+        ensures program { self.new.program ≡ self.old.program }
+        ensures system { self.new.system ≡ self.old.system }
         ensures metrics { self.new.metrics ≡ self.old.metrics }
         ensures under_way { entries_of self.new.under_way
             ≡ under_way_after (entries_of self.old.under_way) self.old.asking answer }
@@ -164,8 +169,8 @@ impl<D: SectorDisk, P: Wire + Counted, W: Wire + Counted, C: Clients, M: Metrics
         ensures talk { C.talk self.new.clients
             ≡ with_talk (C.talk self.old.clients)
             (said_of_ending (entries_of self.old.under_way) ticket end) }
-        ensures build { self.new.build ≡ self.old.build }
-        ensures overruns { self.new.overruns ≡ self.old.overruns }
+        ensures program { self.new.program ≡ self.old.program }
+        ensures system { self.new.system ≡ self.old.system }
         ensures metrics { self.new.metrics ≡ self.old.metrics }
         ensures under_way { entries_of self.new.under_way
             ≡ without (entries_of self.old.under_way) ticket }

@@ -6,11 +6,13 @@ ghost use Rattle.macs_desk.specs.Listening.{Listens, Looks, is_time, reports_of,
 ghost use Rattle.macs_desk.specs.Listening.{turns_between};
 
 use crate::answering::read;
+use crate::key_notes::KeyNotes;
 use crate::overruns::Overruns;
 use macs_disk::SectorDisk;
 use macs_edge::{Order, WireCounts};
 use macs_endpoint::Endpoint;
 use macs_requests::{Client, Clients};
+use macs_texts::Program;
 use std::alloc::Global;
 
 /// How many turns pass without a look at the clients, if none of them is quiet.
@@ -44,17 +46,19 @@ pub fn rest<C: Clients>(was_quiet: bool, clients: &mut C)
 }
 
 /// Takes the next line of a client, where there is one, and reads it. Who asks is its client then.
-fn listen<D: SectorDisk, O: Overruns, C: Clients>(
+fn listen<D: SectorDisk, S: Overruns + KeyNotes, C: Clients>(
     alloc: Global,
+    program: &Program,
     endpoint: &Endpoint<D>,
     controlled: &WireCounts,
     common: &WireCounts,
-    overruns: &O,
+    system: &S,
     clients: &mut C,
     asking: &mut Client,
 ) -> Order
     ensures { (talk : List Talk)
-        × Listens (reports_of (O.known overruns.now) endpoint.now controlled.now common.now)
+        × Listens (reports_of program.now (S.known system.now) (S.answers system.now) endpoint.now
+        controlled.now common.now)
         asking.old talk result asking.new
         × (C.talk clients.new ≡ with_talk (C.talk clients.old) talk) }
 {
@@ -62,7 +66,7 @@ fn listen<D: SectorDisk, O: Overruns, C: Clients>(
         Some(heard) => {
             *asking = heard.client;
             read(
-                alloc, endpoint, controlled, common, overruns, &heard, clients,
+                alloc, program, endpoint, controlled, common, system, &heard, clients,
             )
         }
         None => Order::Go,
@@ -70,18 +74,20 @@ fn listen<D: SectorDisk, O: Overruns, C: Clients>(
 }
 
 /// Looks whether the process was asked to end, and listens, unless 16 commands are under way.
-pub fn look<D: SectorDisk, O: Overruns, C: Clients>(
+pub fn look<D: SectorDisk, S: Overruns + KeyNotes, C: Clients>(
     alloc: Global,
+    program: &Program,
     endpoint: &Endpoint<D>,
     controlled: &WireCounts,
     common: &WireCounts,
-    overruns: &O,
+    system: &S,
     is_full: bool,
     clients: &mut C,
     asking: &mut Client,
 ) -> Order
     ensures { (talk : List Talk)
-        × Looks is_full (reports_of (O.known overruns.now) endpoint.now controlled.now common.now)
+        × Looks is_full (reports_of program.now (S.known system.now) (S.answers system.now) endpoint.now
+        controlled.now common.now)
         asking.old talk result asking.new
         × (C.talk clients.new ≡ with_talk (C.talk clients.old) talk) }
 {
@@ -92,6 +98,6 @@ pub fn look<D: SectorDisk, O: Overruns, C: Clients>(
         return Order::Go;
     }
     listen(
-        alloc, endpoint, controlled, common, overruns, clients, asking,
+        alloc, program, endpoint, controlled, common, system, clients, asking,
     )
 }

@@ -21,20 +21,3 @@ pub trait Overruns {
     fn dropped(&self) -> Dropped
         ensures { IsKnown (known self.now) result };
 }
-
-/// Nobody: of no wire it is known.
-#[derive(Drop)]
-pub struct NoOverruns;
-
-impl Overruns for NoOverruns {
-    ghost use Rattle.std.specs.Prelude.{Some, None};
-
-    ghost known = { λ _. Some (record { controlled = None; common = None }) };
-
-    fn dropped(&self) -> Dropped {
-        Dropped {
-            controlled: None,
-            common: None,
-        }
-    }
-}

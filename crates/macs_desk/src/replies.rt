@@ -1,10 +1,13 @@
 //! What clients are answered.
 
 ghost use Rattle.std.specs.Prelude.{◌≡◌, ◌≤◌, ◌++◌, codes, length};
-ghost use Rattle.macs_desk.specs.Replies.{done_text, ended_text, failed_text, not_taken_text};
+ghost use Rattle.macs_desk.specs.Replies.{done_text, ended_text, failed_text, not_noted_text};
+ghost use Rattle.macs_desk.specs.Replies.{not_taken_text};
 ghost use Rattle.macs_desk.specs.Replies.{refused_line, submit_fault_name};
 
+use crate::key_notes::NoteFault;
 use arrayvec::ArrayVec;
+use macs_config::Refusal;
 use macs_edge::CommandEnd;
 use macs_endpoint::{CommandFault, SubmitFault};
 use macs_texts::refusal_name;
@@ -43,6 +46,16 @@ fn refused(name: &str, end: &str) -> Reply
     reply.push(b'\n');
     reply.try_extend_from_slice(end.as_bytes()).unwrap();
     reply
+}
+
+/// The answer where the key of a command may not be installed.
+pub fn not_noted(fault: NoteFault) -> Reply
+    ensures { result.items ≡ not_noted_text fault }
+{
+    match fault {
+        NoteFault::Spent => refused(refusal_name(Refusal::KeySpent), "end 3\n"),
+        NoteFault::Failed => reply_of("end 4\n"),
+    }
 }
 
 /// The answer where a command is not kept.

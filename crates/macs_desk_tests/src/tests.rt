@@ -10,13 +10,16 @@ use macs_disk::{MemDisk, SectorDisk};
 use macs_edge::{Desk, MemWire, attend};
 use macs_endpoint::{Endpoint, format};
 use macs_frame::Sci;
-use macs_texts::Build;
+use macs_texts::{Build, Program};
 use std::alloc::Global;
 use std::process::Abort;
 
-/// A build of no program.
-fn build(rt: &impl Abort, alloc: Global) -> Build {
-    Build::new(alloc, "7.8.9", "abc", "no").expect(rt, "memory")
+/// A run of no program.
+fn program(rt: &impl Abort, alloc: Global) -> Program {
+    Program {
+        build: Build::new(alloc, "7.8.9", "abc", "no").expect(rt, "memory"),
+        started: Some(1_234_567_890),
+    }
 }
 
 /// The disk of a new endpoint.

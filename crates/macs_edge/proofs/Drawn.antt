@@ -328,13 +328,13 @@ either (Some socket) old new is = either_so socket.waiting old new is
 
 pub count-words : CountWords
 count-words = record {
-  frame = λ socket old new is. (is.taken, is.strangers, is.sent);
-  too_long = λ socket old new is. (is.taken, is.strangers, is.sent);
-  none = λ socket old new is. (is.taken, either socket old.strangers new.strangers is.strangers, is.sent);
+  frame = λ socket old new is. (is.taken, is.strangers, is.sent, is.too_long);
+  too_long = λ socket old new is. (is.taken, is.strangers, is.sent, is.too_long);
+  none = λ socket old new is. (is.taken, either socket old.strangers new.strangers is.strangers, is.sent, is.too_long);
   empty = λ socket old new is none. strangers_by socket.waiting old.strangers new.strangers is.strangers none;
   stranger = λ socket first rest old new is waits.
       one_stranger socket.waiting rest first old.strangers new.strangers is.strangers waits;
-  failed = λ socket cause old new is. (is.taken, is.strangers, is.sent);
+  failed = λ socket cause old new is. (is.taken, is.strangers, is.sent, is.too_long);
   sent = λ c. refl;
   not_sent = λ cause c. refl;
   kept = λ socket answer old new is. is.buffer;

@@ -10,13 +10,26 @@ use Rattle.macs_edge.specs.declared.wire.WireFault.{WireFault}
 
 -- before its first call
 abbrev pub no_counts : WireCounts
-no_counts = record { strangers = 0; taken = 0; sent = 0; failed_receives = 0; failed_sends = 0; buffer = None }
+no_counts = record {
+  strangers = 0;
+  taken = 0;
+  too_long = 0;
+  sent = 0;
+  failed_receives = 0;
+  failed_sends = 0;
+  buffer = None;
+}
 
 -- a frame is taken off a wire by this answer, also where it is too long
 abbrev pub takes_one : Result Got WireFault → Bool
 takes_one (Ok Frame) = true
 takes_one (Ok TooLong) = true
 takes_one answer = false
+
+-- one that is too long is
+abbrev pub is_too_long : Result Got WireFault → Bool
+is_too_long (Ok TooLong) = true
+is_too_long answer = false
 
 -- one more where this is so
 abbrev pub counted_if : Bool → ℕ → ℕ
@@ -34,11 +47,13 @@ CountsStrangers (Ok Nothing) None old new = (new ≡ old) ⊎ (new ≡ saturated
 CountsStrangers (Ok Nothing) (Some socket) old new = CountsWaiting socket.waiting old new
 CountsStrangers answer socket old new = new ≡ old
 
--- what a receive counts, besides its failure: a frame that is taken, or a stranger's datagram; what is kept stays
+-- what a receive counts, besides its failure: a frame that is taken, and whether it is too long, or a stranger's
+-- datagram; what is kept stays
 pub record CountsReceive (socket : Option SocketState) (answer : Result Got WireFault) (old new : WireCounts) : Type 0
   where
     pub strangers : CountsStrangers answer socket old.strangers new.strangers
     pub taken : new.taken ≡ counted_if (takes_one answer) old.taken
+    pub too_long : new.too_long ≡ counted_if (is_too_long answer) old.too_long
     pub sent : new.sent ≡ old.sent
     pub buffer : new.buffer ≡ old.buffer
 
@@ -55,5 +70,6 @@ counts_after_send (Err fault) c = record c { failed_sends = saturated (c.failed_
 abbrev pub counts_after_receive : Result Got WireFault → WireCounts → WireCounts
 counts_after_receive (Ok Nothing) c = c
 counts_after_receive (Ok Frame) c = record c { taken = saturated (c.taken + 1) }
-counts_after_receive (Ok TooLong) c = record c { taken = saturated (c.taken + 1) }
+counts_after_receive (Ok TooLong) c =
+    record c { taken = saturated (c.taken + 1); too_long = saturated (c.too_long + 1) }
 counts_after_receive (Err fault) c = record c { failed_receives = saturated (c.failed_receives + 1) }

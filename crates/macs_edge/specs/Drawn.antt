@@ -254,17 +254,19 @@ pub record SocketWords : Type 0 where
       → SendsDatagram peer (Some old) new frame false
       → new ≡ Some (record old { failed_sends = old.failed_sends + 1 })
 
--- What a wire over UDP counts of an answer: a frame that is taken, too long or not; a stranger's datagram, where
--- nothing is answered though one waits; a frame that is sent; and a send that failed. Nothing else. How much is kept
--- for it stays, but where that is noted.
+-- What a wire over UDP counts of an answer: a frame that is taken, and again one that is too long; a stranger's
+-- datagram, where nothing is answered though one waits; a frame that is sent; and a send that failed. Nothing else. How
+-- much is kept for it stays, but where that is noted.
 pub record CountWords : Type 0 where
   pub frame : (socket : Option SocketState) (old new : WireCounts) → CountsReceive socket (Ok Frame) old new
       → (new.taken ≡ saturated (old.taken + 1)) × (new.strangers ≡ old.strangers) × (new.sent ≡ old.sent)
+      × (new.too_long ≡ old.too_long)
   pub too_long : (socket : Option SocketState) (old new : WireCounts) → CountsReceive socket (Ok TooLong) old new
       → (new.taken ≡ saturated (old.taken + 1)) × (new.strangers ≡ old.strangers) × (new.sent ≡ old.sent)
+      × (new.too_long ≡ saturated (old.too_long + 1))
   pub none : (socket : Option SocketState) (old new : WireCounts) → CountsReceive socket (Ok Nothing) old new
       → (new.taken ≡ old.taken) × ((new.strangers ≡ old.strangers) ⊎ (new.strangers ≡ saturated (old.strangers + 1)))
-      × (new.sent ≡ old.sent)
+      × (new.sent ≡ old.sent) × (new.too_long ≡ old.too_long)
   pub empty : (socket : SocketState) (old new : WireCounts) → CountsReceive (Some socket) (Ok Nothing) old new
       → socket.waiting ≡ []
       → new.strangers ≡ old.strangers
@@ -274,6 +276,7 @@ pub record CountWords : Type 0 where
   pub failed : (socket : Option SocketState) (cause : WireFault) (old new : WireCounts)
       → CountsReceive socket (Err cause) old new
       → (new.taken ≡ old.taken) × (new.strangers ≡ old.strangers) × (new.sent ≡ old.sent)
+      × (new.too_long ≡ old.too_long)
   pub sent : (c : WireCounts) → counts_after_send (Ok tt) c ≡ record c { sent = saturated (c.sent + 1) }
   pub not_sent : (cause : WireFault) (c : WireCounts)
       → counts_after_send (Err cause) c ≡ record c { failed_sends = saturated (c.failed_sends + 1) }

@@ -30,6 +30,7 @@ abbrev pub mem_wire_counts : {A : Type 0} → MemWire A → WireCounts
 mem_wire_counts wire = record {
   strangers = 0;
   taken = wire.frames_taken;
+  too_long = wire.frames_too_long;
   sent = wire.frames_sent;
   failed_receives = 0;
   failed_sends = wire.failed_sends;

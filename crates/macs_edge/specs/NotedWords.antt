@@ -17,8 +17,8 @@ use Rattle.macs_edge.specs.declared.wire.Got.TheVariants.{Frame, Nothing, TooLon
 use Rattle.macs_edge.specs.declared.wire.WireFault.{WireFault}
 
 -- Events are noted behind all that were noted before them, and sleeps are added to those before, where these are known.
--- A wire without strangers counts a frame that is taken, too long or not, or a receive that failed. A wire that fails
--- calls itself counts these with those of the wire behind it, and all else as that does.
+-- A wire without strangers counts a frame that is taken, and again one that is too long, or a receive that failed. A
+-- wire that fails calls itself counts these with those of the wire behind it, and all else as that does.
 pub record NotedWords : Type 0 where
   pub events : (before more : List DeskEvent) → with_events (Some before) more ≡ Some (before ++ more)
   pub no_events : (more : List DeskEvent) → with_events None more ≡ None
@@ -26,12 +26,14 @@ pub record NotedWords : Type 0 where
   pub no_sleeps : (more : ℕ) → with_sleeps None more ≡ None
   pub none : (c : WireCounts) → counts_after_receive (Ok Nothing) c ≡ c
   pub frame : (c : WireCounts) → counts_after_receive (Ok Frame) c ≡ record c { taken = saturated (c.taken + 1) }
-  pub too_long : (c : WireCounts) → counts_after_receive (Ok TooLong) c ≡ record c { taken = saturated (c.taken + 1) }
+  pub too_long : (c : WireCounts) → counts_after_receive (Ok TooLong) c
+      ≡ record c { taken = saturated (c.taken + 1); too_long = saturated (c.too_long + 1) }
   pub failed : (cause : WireFault) (c : WireCounts)
       → counts_after_receive (Err cause) c ≡ record c { failed_receives = saturated (c.failed_receives + 1) }
   pub fails : (counts : ℕ → WireCounts) (w : FaultWireValue ℕ) → fault_wire_counts counts w ≡ record {
     strangers = (counts w.inner).strangers;
     taken = (counts w.inner).taken;
+    too_long = (counts w.inner).too_long;
     sent = (counts w.inner).sent;
     failed_receives = saturated ((counts w.inner).failed_receives + failed_among w.receives);
     failed_sends = saturated ((counts w.inner).failed_sends + failed_among w.sends);

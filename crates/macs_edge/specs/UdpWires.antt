@@ -23,6 +23,7 @@ abbrev pub counts_of : {A S : Type 0} → UdpWire A S → WireCounts
 counts_of wire = record {
   strangers = wire.strangers;
   taken = wire.frames_taken;
+  too_long = wire.frames_too_long;
   sent = wire.frames_sent;
   failed_receives = wire.failed_receives;
   failed_sends = wire.failed_sends;

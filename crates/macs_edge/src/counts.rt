@@ -1,7 +1,7 @@
 //! What a wire counts.
 
 ghost use Rattle.std.specs.Prelude.{◌≡◌};
-ghost use Rattle.macs_edge.specs.Counts.{takes_one};
+ghost use Rattle.macs_edge.specs.Counts.{is_too_long, takes_one};
 
 use crate::wire::{Got, WireFault};
 
@@ -12,6 +12,8 @@ pub struct WireCounts {
     pub strangers: u64,
     /// Frames that were taken, with those of more than 9,216 octets.
     pub taken: u64,
+    /// Those of more than 9,216 octets among them. They are dropped.
+    pub too_long: u64,
     /// Frames that were sent.
     pub sent: u64,
     pub failed_receives: u64,
@@ -41,5 +43,15 @@ pub(crate) fn takes_one(answer: &Result<Got, WireFault>) -> bool
     match answer {
         Ok(Got::Frame | Got::TooLong) => true,
         Ok(Got::Nothing) | Err(_) => false,
+    }
+}
+
+/// Whether a frame that is too long is taken off a wire by this answer.
+pub(crate) fn is_too_long(answer: &Result<Got, WireFault>) -> bool
+    ensures { result ≡ is_too_long answer.now }
+{
+    match answer {
+        Ok(Got::TooLong) => true,
+        Ok(Got::Frame | Got::Nothing) | Err(_) => false,
     }
 }

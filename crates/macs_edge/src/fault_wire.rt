@@ -116,6 +116,7 @@ impl<W: Counted> Counted for FaultWire<W> {
         WireCounts {
             strangers: counts.strangers,
             taken: counts.taken,
+            too_long: counts.too_long,
             sent: counts.sent,
             failed_receives: counts
                 .failed_receives

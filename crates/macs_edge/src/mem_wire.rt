@@ -20,6 +20,7 @@ pub struct MemWire<A: Allocator + Copy> {
     waiting: VecDeque<Vec<u8, A>, A>,
     sent: Vec<Vec<u8, A>, A>,
     frames_taken: u64,
+    frames_too_long: u64,
     frames_sent: u64,
     failed_sends: u64,
 }
@@ -40,6 +41,7 @@ impl<A: Allocator + Copy> Wire for MemWire<A> {
         };
         self.frames_taken = self.frames_taken.saturating_add(1);
         if frame.len() > MAX_FRAME || into.try_extend_from_slice(&frame).is_err() {
+            self.frames_too_long = self.frames_too_long.saturating_add(1);
             return Ok(Got::TooLong);
         }
         Ok(Got::Frame)
@@ -67,6 +69,7 @@ impl<A: Allocator + Copy> Counted for MemWire<A> {
         WireCounts {
             strangers: 0,
             taken: self.frames_taken,
+            too_long: self.frames_too_long,
             sent: self.frames_sent,
             failed_receives: 0,
             failed_sends: self.failed_sends,
@@ -93,6 +96,7 @@ impl<A: Allocator + Copy> MemWire<A> {
             waiting: VecDeque::new(alloc),
             sent: Vec::new(alloc),
             frames_taken: 0,
+            frames_too_long: 0,
             frames_sent: 0,
             failed_sends: 0,
         }

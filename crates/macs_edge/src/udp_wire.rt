@@ -5,7 +5,7 @@ ghost use Rattle.macs_edge.specs.Counts.{CountsStrangers};
 ghost use Rattle.macs_edge.specs.WireDatagrams.{IsGiven, ReceivesDatagram, SendsDatagram};
 ghost use Rattle.macs_edge.specs.Wires.{FillsBuffer, saturated};
 
-use crate::counts::{Counted, WireCounts, takes_one};
+use crate::counts::{Counted, WireCounts, is_too_long, takes_one};
 use crate::datagrams::Datagrams;
 use crate::spared_sockets::SparedSocket;
 use crate::wire::{Got, Wire, WireFault};
@@ -39,6 +39,7 @@ pub struct UdpWire<A: Allocator, S = UdpSocket> {
     room: Vec<u8, A>,
     strangers: u64,
     frames_taken: u64,
+    frames_too_long: u64,
     frames_sent: u64,
     failed_receives: u64,
     failed_sends: u64,
@@ -183,6 +184,7 @@ impl<A: Allocator, S: Datagrams> UdpWire<A, S> {
             room,
             strangers: 0,
             frames_taken: 0,
+            frames_too_long: 0,
             frames_sent: 0,
             failed_receives: 0,
             failed_sends: 0,
@@ -215,6 +217,7 @@ impl<A: Allocator, S: Datagrams> UdpWire<A, S> {
             room,
             strangers,
             frames_taken,
+            frames_too_long,
             frames_sent,
             failed_receives,
             failed_sends,
@@ -227,6 +230,7 @@ impl<A: Allocator, S: Datagrams> UdpWire<A, S> {
             room,
             strangers,
             frames_taken,
+            frames_too_long,
             frames_sent,
             failed_receives,
             failed_sends,
@@ -241,6 +245,7 @@ impl<A: Allocator, S: Datagrams> UdpWire<A, S> {
         WireCounts {
             strangers: self.strangers,
             taken: self.frames_taken,
+            too_long: self.frames_too_long,
             sent: self.frames_sent,
             failed_receives: self.failed_receives,
             failed_sends: self.failed_sends,
@@ -300,6 +305,9 @@ impl<A: Allocator, S: Datagrams> Wire for UdpWire<A, S> {
         }
         if takes_one(&answer) {
             self.frames_taken = self.frames_taken.saturating_add(1);
+        }
+        if is_too_long(&answer) {
+            self.frames_too_long = self.frames_too_long.saturating_add(1);
         }
         answer
     }

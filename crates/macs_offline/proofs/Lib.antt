@@ -21,3 +21,4 @@ pub mod Spelling
 pub mod TextLines
 pub mod TomlPlaces
 pub mod Tried
+pub mod KeyLists

@@ -21,3 +21,4 @@ pub mod Checking
 pub mod Plans
 pub mod Openings
 pub mod Statuses
+pub mod KeyLists

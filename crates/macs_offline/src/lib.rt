@@ -19,6 +19,7 @@ mod four_lines;
 mod hex_text;
 pub mod inspect;
 pub mod key;
+mod key_list;
 mod open_input;
 mod opened;
 mod output;
@@ -42,6 +43,7 @@ pub use files::{
     CaptureSink, CaptureSource, commands_of_file, failure_of, is_printed_to, make_capture,
     open_capture, open_disk,
 };
+pub use key_list::{KeyFault, KeyList, note_keys};
 pub use open_input::{InputFault, OpenInput};
 pub use opened::{Opened, answer_of};
 pub use output::{Line, append_count, append_text, print, print_last, print_octets};

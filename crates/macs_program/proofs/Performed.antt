@@ -315,6 +315,8 @@ module _ {F W : Type 0} (state_of : F → FileState) (left_in : F → Option (Li
       → (status ≡ ends.Done) ⊎ (status ≡ ends.Refused)
   answer-status question.Show status printed = inl printed.2
   answer-status question.Counters status printed = inl printed.2
+  answer-status question.Keys status printed = inl printed.2
+  answer-status question.About status printed = inl printed.2
   answer-status question.Stop status printed = inl printed.2
   answer-status (question.Apply file) status printed = applied-status printed.0 status printed.2
 

@@ -214,6 +214,8 @@ reply-words file left_in = record {
   asked_apply = λ path from input before after status is. is;
   asked_show = λ path input before after status is. is;
   asked_counters = λ path input before after status is. is;
+  asked_keys = λ path input before after status is. is;
+  asked_about = λ path input before after status is. is;
   asked_stop = λ path input before after status is. is;
   key = λ input before after status ((octets, is), done). (octets, is.count, is.printed, done);
   long_key = λ input before after status ((octets, is), done). (octets, is.count, is.printed, done);
@@ -457,7 +459,9 @@ before-words = record {
   asked = λ path before after is. elim is [
     | inl shown ↦ shown
     | inr (inl counted) ↦ counted
-    | inr (inr stopped) ↦ stopped
+    | inr (inr (inl keys)) ↦ keys
+    | inr (inr (inr (inl about))) ↦ about
+    | inr (inr (inr (inr stopped))) ↦ stopped
   ];
   inspected = λ from before after (records, (text, lines, printed)). (records, text, lines, printed);
   judged = λ path from to is_all before after is. is;

@@ -214,6 +214,8 @@ module _ (name : List ℕ) (asked : Question) where
 of-socket : (name : List ℕ) (asked : Question) (said : List ℕ) → SaysOfSocket name said → SaysOfAsking name asked said
 of-socket name question.Show said is = is
 of-socket name question.Counters said is = is
+of-socket name question.Keys said is = is
+of-socket name question.About said is = is
 of-socket name question.Stop said is = is
 of-socket name (question.Apply file) said is = inl is
 
@@ -227,6 +229,8 @@ other-so : (name : List ℕ) (asked : Question) (failure : Failure) → IsForOth
     → AskFails name asked failure
 other-so name question.Show failure complains = unanswered-so name question.Show failure complains
 other-so name question.Counters failure complains = unanswered-so name question.Counters failure complains
+other-so name question.Keys failure complains = unanswered-so name question.Keys failure complains
+other-so name question.About failure complains = unanswered-so name question.About failure complains
 other-so name question.Stop failure complains = unanswered-so name question.Stop failure complains
 other-so name (question.Apply file) failure complains =
     complained-so name (question.Apply file) (Tells (codes "commands") file.now (codes "for another end"))
@@ -240,6 +244,8 @@ other-no-output : (name : List ℕ) (asked : Question) (failure : Failure) → I
     → failure ≢ Output
 other-no-output name question.Show failure complains = unanswered-no-output name failure complains
 other-no-output name question.Counters failure complains = unanswered-no-output name failure complains
+other-no-output name question.Keys failure complains = unanswered-no-output name failure complains
+other-no-output name question.About failure complains = unanswered-no-output name failure complains
 other-no-output name question.Stop failure complains = unanswered-no-output name failure complains
 other-no-output name (question.Apply file) failure complains =
     complained-no-output (Tells (codes "commands") file.now (codes "for another end")) failure complains

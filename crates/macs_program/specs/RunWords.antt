@@ -207,6 +207,12 @@ pub record ReplyWords {F : Type 0} (file : F → FileState) (left_in : F → Opt
   pub asked_counters : (path : Bor Text) (input : InputRead) (before after : Option (List ℕ)) (status : Status)
       → Does file left_in (Ask path question.Counters) input before after status
       → (text : List ℕ) × Appends before after text × (status ≡ ends.Done)
+  pub asked_keys : (path : Bor Text) (input : InputRead) (before after : Option (List ℕ)) (status : Status)
+      → Does file left_in (Ask path question.Keys) input before after status
+      → (text : List ℕ) × Appends before after text × (status ≡ ends.Done)
+  pub asked_about : (path : Bor Text) (input : InputRead) (before after : Option (List ℕ)) (status : Status)
+      → Does file left_in (Ask path question.About) input before after status
+      → (text : List ℕ) × Appends before after text × (status ≡ ends.Done)
   pub asked_stop : (path : Bor Text) (input : InputRead) (before after : Option (List ℕ)) (status : Status)
       → Does file left_in (Ask path question.Stop) input before after status
       → (text : List ℕ) × Appends before after text × (status ≡ ends.Done)
@@ -440,6 +446,7 @@ pub record BeforeWords : Type 0 where
       → (outcomes : List (Option Refusal)) × Appends before after (outcome_lines 1 outcomes)
   pub asked : (path : Bor Text) (before after : Option (List ℕ))
       → HasPrinted (Ask path question.Show) before after ⊎ HasPrinted (Ask path question.Counters) before after
+      ⊎ HasPrinted (Ask path question.Keys) before after ⊎ HasPrinted (Ask path question.About) before after
       ⊎ HasPrinted (Ask path question.Stop) before after → after ≡ before
   pub inspected : (from : Bor Text) (before after : Option (List ℕ)) → HasPrinted (Inspect from) before after
       → (records : List CaptureRecord) × (text : List ℕ) × AreLinesOf 1 records text × Appends before after text

@@ -366,6 +366,8 @@ fn put_question<T: Files + Net, W: Stream>(
     match question {
         Question::Show => ask_once(rt, alloc, path, Request::Show, out),
         Question::Counters => ask_once(rt, alloc, path, Request::Counters, out),
+        Question::Keys => ask_once(rt, alloc, path, Request::Keys, out),
+        Question::About => ask_once(rt, alloc, path, Request::About, out),
         Question::Stop => ask_stop(rt, alloc, path, out),
         Question::Apply(file) => ask_apply(rt, alloc, path, file, out),
     }
@@ -390,7 +392,11 @@ fn named_failure(alloc: Global, path: &str, question: Question, failure: Failure
         Failure::Control => unanswered(alloc, path),
         Failure::Commands => match question {
             Question::Apply(file) => failure_told(alloc, "commands", file, "for another end"),
-            Question::Show | Question::Counters | Question::Stop => unanswered(alloc, path),
+            Question::Show
+            | Question::Counters
+            | Question::Keys
+            | Question::About
+            | Question::Stop => unanswered(alloc, path),
         },
         other => other,
     }

@@ -2,12 +2,12 @@
 
 ghost use Rattle.std.specs.Prelude.{◌≡◌, ◌⊎◌, IfErr};
 
-use crate::build::this_build;
+use crate::build::this_program;
 use crate::counters_name::refuse_other_file;
-use crate::overruns::SystemOverruns;
+use crate::relay_system::RelaySystem;
 use macs_control::{ControlSocket, MetricsPlace, Wires, remove_name};
 use macs_desk::ControlDesk;
-use macs_offline::Failure;
+use macs_offline::{Failure, KeyList};
 use macs_words::{Pace, Running};
 use std::alloc::Global;
 use std::net::Net;
@@ -17,7 +17,7 @@ use std::rt::{Clock, Files};
 pub type SystemDesk<'a, T> = ControlDesk<
     ControlSocket<'a, T>,
     MetricsPlace<'a, T>,
-    SystemOverruns<'a, T>,
+    RelaySystem<'a, T>,
 >;
 
 /// How long a sleep of a relay is at most, in milliseconds: 0 where it does not sleep.
@@ -43,12 +43,13 @@ fn clients_for<'a, T: Files + Net + Clock>(
     Ok(clients)
 }
 
-/// A desk over the sockets of both wires, over this place of the counters, and over the control
-/// socket, where there is to be one. It fails as `Memory`; and as `Control`, where the control
-/// socket cannot be bound.
+/// A desk over the sockets of both wires, over this place of the counters, over the control socket,
+/// where there is to be one, and over the list of keys beside a disk file. It fails as `Memory`; and
+/// as `Control`, where the control socket cannot be bound.
 fn desk_over<'a, T: Files + Net + Clock>(
     rt: &'a T,
     alloc: Global,
+    disk: &'a str,
     running: &Running<'a>,
     wires: Wires,
     metrics: MetricsPlace<'a, T>,
@@ -56,9 +57,15 @@ fn desk_over<'a, T: Files + Net + Clock>(
     ensures { IfErr result (λ failure. (failure ≡ Failure.Memory) ⊎ (failure ≡ Failure.Control)) }
 {
     let clients = clients_for(rt, alloc, running, wires)?;
-    let build = this_build(alloc)?;
-    let overruns = SystemOverruns { rt, alloc, wires };
-    Ok(ControlDesk::new(alloc, build, clients, metrics, overruns))
+    let program = this_program(rt, alloc)?;
+    let keys = KeyList { rt, alloc, disk };
+    let system = RelaySystem {
+        rt,
+        alloc,
+        wires,
+        keys,
+    };
+    Ok(ControlDesk::new(alloc, program, clients, metrics, system))
 }
 
 /// Where the counters are written to, if they are. It fails as `Memory`; and as `Control`, where
@@ -77,19 +84,20 @@ fn place_for<'a, T: Files + Clock>(
     Ok(place)
 }
 
-/// A desk over the sockets of both wires, and over the control socket and the file of counters,
-/// where there are to be ones. It fails as `Memory`; and as `Control`, where the control socket
+/// A desk over the sockets of both wires, over the control socket and the file of counters, where
+/// there are to be ones, and over the list of keys beside a disk file. It fails as `Memory`; and as `Control`, where the control socket
 /// cannot be bound, or another file has the name of that of the counters.
 pub fn desk_for<'a, T: Files + Net + Clock>(
     rt: &'a T,
     alloc: Global,
+    disk: &'a str,
     running: &Running<'a>,
     wires: Wires,
 ) -> Result<SystemDesk<'a, T>, Failure>
     ensures { IfErr result (λ failure. (failure ≡ Failure.Memory) ⊎ (failure ≡ Failure.Control)) }
 {
     let metrics = place_for(rt, alloc, running.metrics)?;
-    desk_over(rt, alloc, running, wires, metrics)
+    desk_over(rt, alloc, disk, running, wires, metrics)
 }
 
 /// Leaves the control socket: its name is removed.

@@ -5,8 +5,10 @@
 ghost use Rattle.std.specs.Prelude.{IfOk};
 ghost use Rattle.macs_program.specs.About.{IsThisBuild};
 
-use macs_texts::Build;
+use macs_texts::{Build, Program};
 use std::alloc::{AllocError, Global};
+use std::rt::Clock;
+use std::time::{SystemTime, UNIX_EPOCH};
 
 /// The version, as `--version` has it.
 pub const VERSION: &str = "0.1.0";
@@ -28,4 +30,20 @@ pub fn this_build(alloc: Global) -> Result<Build, AllocError>
     ensures { IfOk result IsThisBuild }
 {
     Build::new(alloc, VERSION, COMMIT, PROVED)
+}
+
+/// How many seconds the clock is past the beginning of 1970 (UTC), where it can be read.
+fn seconds_now(clock: &impl Clock) -> Option<u64> {
+    let now = SystemTime::now(clock).ok()?;
+    let since = now.duration_since(UNIX_EPOCH).ok()?;
+    Some(since.as_secs())
+}
+
+/// This program, which begins now.
+pub fn this_program(clock: &impl Clock, alloc: Global) -> Result<Program, AllocError>
+    ensures { IfOk result (λ program. IsThisBuild program.build) }
+{
+    let build = this_build(alloc)?;
+    let started = seconds_now(clock);
+    Ok(Program { build, started })
 }

@@ -14,6 +14,7 @@ pub mod laws;
 mod new_disk;
 mod on_disk;
 pub mod overruns;
+mod relay_system;
 mod relaying;
 pub mod run;
 mod socket_reason;

@@ -16,7 +16,9 @@ ghost use Rattle.macs_offline.specs.declared.failure.DiskFault.TheVariants as di
 use macs_config::Identity;
 use macs_disk::{ClaimedFile, DiskFile, FileDisk, FileFault, Layout, Renewal, make_file};
 use macs_journal::JournalFault;
-use macs_offline::{Contents, DiskFault, Failure, contents_of, failure_of, is_printed_to};
+use macs_offline::{
+    Contents, DiskFault, Failure, KeyFault, KeyList, contents_of, failure_of, is_printed_to,
+};
 use std::alloc::Global;
 use std::fs::OpenFile;
 use std::io;
@@ -125,6 +127,24 @@ fn of_file<V>(answer: io::Result<V>) -> Result<V, Failure>
     }
 }
 
+/// Notes that the endpoint with the keys in the list beside a disk file is gone, where there is a
+/// list. It fails as `Memory`, or as `Disk` with `File`.
+fn close_keys<T: Files>(rt: &T, alloc: Global, path: &str) -> Result<(), Failure>
+    ensures { IfErr result
+        (λ failure. (failure ≡ Failure.Memory) ⊎ (failure ≡ Failure.Disk disk.File)) }
+{
+    let list = KeyList {
+        rt,
+        alloc,
+        disk: path,
+    };
+    match list.close() {
+        Ok(()) => Ok(()),
+        Err(KeyFault::Memory) => Err(Failure::Memory),
+        Err(KeyFault::Spent | KeyFault::File) => Err(Failure::Disk(DiskFault::File)),
+    }
+}
+
 /// Makes the file of a new endpoint in place of a claimed one, under its name.
 fn replace<T: Files>(
     rt: &T,
@@ -159,8 +179,9 @@ where
 /// Makes the file at a path that of a new endpoint. Where there is no file it is made. A new file
 /// is formatted, and takes the name of the one that is there. It fails as `Memory`, or as `Disk`
 /// with the first fault: `File` where there is no regular file, or standard output goes there; then
-/// as the file is not free for it; `File` where no new file can be made beside it; then as the new
-/// one cannot be written or synced; `File` where it cannot take the name, durably.
+/// as the file is not free for it; `File` where the list of keys beside it cannot be written, or no
+/// new file can be made beside it; then as the new one cannot be written or synced; `File` where it
+/// cannot take the name, durably.
 pub fn format_disk<T: Files>(
     rt: &T,
     alloc: Global,
@@ -177,5 +198,6 @@ where
 {
     let file = of_file(open_file(rt, path))?;
     let old = claim_free(file, how.is_over)?;
+    close_keys(rt, alloc, path)?;
     replace(rt, alloc, path, &old.file, how.layout, identity)
 }

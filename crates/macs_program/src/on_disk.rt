@@ -54,7 +54,7 @@ use macs_edge::{Side, UdpWire, Wire};
 use macs_endpoint::{Endpoint, OpenRefused};
 use macs_offline::{
     Addresses, CaptureFile, Failure, Given, Status, Stream, WireAddresses, addresses_of,
-    apply_commands, commands_of_file, given_by, is_own, look_at, open_disk, print,
+    apply_commands, commands_of_file, given_by, is_own, look_at, note_keys, open_disk, print,
 };
 use macs_texts::show_lines;
 use macs_words::{Milliseconds, Pace, Running, WireEnds};
@@ -187,6 +187,7 @@ fn with_opened<F: DiskFile, K: Task<FileDisk<F>, W>, W: Stream>(
 struct ApplyFile<'a, T> {
     rt: &'a T,
     alloc: Global,
+    disk: &'a str,
     path: &'a str,
 }
 
@@ -199,18 +200,20 @@ impl<T: Files, D: SectorDisk, W: Stream> Task<D, W> for ApplyFile<'_, T> {
         if !is_own(endpoint, told.end) {
             return Err(Failure::Commands);
         }
+        note_keys(self.rt, self.alloc, self.disk, told.commands.as_slice())?;
         apply_commands(endpoint, told.commands.as_slice(), out)
     }
 }
 
 /// `apply`: applies the commands of a file that is for the endpoint. Once the endpoint is opened it
 /// fails as `Commands`, with nothing applied, where the file cannot be read, says no commands or is
-/// for another end; and then as `apply_commands` does.
+/// for another end, or its keys cannot be noted beside the disk file; and then as `apply_commands`
+/// does.
 #[inline(never)]
 pub fn apply<'a, T: Files, W: Stream>(
     rt: &'a T,
     alloc: Global,
-    disk: &str,
+    disk: &'a str,
     file: &'a str,
     out: &mut W,
 ) -> Result<Status, Failure>
@@ -230,6 +233,7 @@ where
     let task = ApplyFile {
         rt,
         alloc,
+        disk,
         path: file,
     };
     with_file(rt, alloc, disk, task, out)
@@ -650,6 +654,7 @@ impl Wires {
         self,
         rt: &T,
         alloc: Global,
+        disk: &str,
         endpoint: &mut Endpoint<D>,
         running: Running,
         turns: u64,
@@ -661,7 +666,7 @@ impl Wires {
         ensures { DoesRelay D.disk W.contents W.failed (attended turns) endpoint.old out.old result
             endpoint.new out.new }
     {
-        let mut desk = desk_for(rt, alloc, &running, self.sockets())?;
+        let mut desk = desk_for(rt, alloc, disk, &running, self.sockets())?;
         let notifier = Notifier::of_environment(rt, alloc);
         notifier.ready();
         let result = self.relay_attended(endpoint, &mut desk, left_out(running.pace), turns, out);
@@ -695,6 +700,7 @@ impl Wires {
         self,
         rt: &T,
         alloc: Global,
+        disk: &str,
         endpoint: &mut Endpoint<D>,
         running: Running,
         out: &mut W,
@@ -707,7 +713,7 @@ impl Wires {
     {
         let turns = turns_of(running.pace);
         if is_attended(&running) {
-            self.attend(rt, alloc, endpoint, running, turns, out)
+            self.attend(rt, alloc, disk, endpoint, running, turns, out)
         } else {
             self.relay_unattended(endpoint, running.pace, turns, out)
         }
@@ -740,6 +746,7 @@ fn is_attended(running: &Running) -> bool
 struct RelayWires<'a, T> {
     rt: &'a T,
     alloc: Global,
+    disk: &'a str,
     wires: Wires,
     running: Running<'a>,
     ghost new_controlled: { ⟦<UdpWire<Global, UdpSocket> as Wire>⟧.state wires.controlled
@@ -755,10 +762,11 @@ impl<T: Files + Net + Clock + Env, D: SectorDisk, W: Stream> Task<D, W> for Rela
         let RelayWires {
             rt,
             alloc,
+            disk,
             wires,
             running,
         } = self;
-        wires.run(rt, alloc, endpoint, running, out)
+        wires.run(rt, alloc, disk, endpoint, running, out)
     }
 }
 
@@ -781,7 +789,7 @@ where
 pub fn relay<'a, T: Files + Net + Clock + Env, W: Stream>(
     rt: &'a T,
     alloc: Global,
-    disk: &str,
+    disk: &'a str,
     controlled: WireEnds,
     common: WireEnds,
     running: Running<'a>,
@@ -815,6 +823,7 @@ where
             let task = RelayWires {
                 rt,
                 alloc,
+                disk,
                 wires,
                 running,
             };

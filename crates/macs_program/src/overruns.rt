@@ -4,8 +4,6 @@ ghost use Rattle.std.specs.Prelude.{◌≡◌, IfOk, IfSome, string_bytes};
 ghost use Rattle.macs_program.specs.Overruns.{HasDigits, IsBehind, IsLastColumn, SaysDropped};
 ghost use Rattle.macs_program.specs.Overruns.{mark_of};
 
-use macs_control::Wires;
-use macs_desk::{Dropped, Overruns};
 use std::alloc::{AllocError, Global};
 use std::fs;
 use std::os::fd::RawFd;
@@ -100,29 +98,12 @@ fn mark_for<T: Files>(rt: &T, alloc: Global, socket: RawFd) -> Option<String> {
 
 /// How many datagrams the system dropped at a socket of UDP, since there was no room for them. It
 /// is not known where that cannot be read, or where memory is refused.
-fn dropped_at<T: Files>(rt: &T, alloc: Global, socket: RawFd) -> Option<u64> {
+pub(crate) fn dropped_at<T: Files>(rt: &T, alloc: Global, socket: RawFd) -> Option<u64> {
     let Some(mark) = mark_for(rt, alloc, socket) else {
         return None;
     };
     match dropped_by(rt, alloc, SOCKETS, mark.as_str()) {
         Some(count) => Some(count),
         None => dropped_by(rt, alloc, SOCKETS_OF_SIX, mark.as_str()),
-    }
-}
-
-/// Linux, of the sockets of both wires.
-#[derive(Drop)]
-pub struct SystemOverruns<'a, T> {
-    pub rt: &'a T,
-    pub alloc: Global,
-    pub wires: Wires,
-}
-
-impl<T: Files> Overruns for SystemOverruns<'_, T> {
-    fn dropped(&self) -> Dropped {
-        Dropped {
-            controlled: dropped_at(self.rt, self.alloc, self.wires.controlled),
-            common: dropped_at(self.rt, self.alloc, self.wires.common),
-        }
     }
 }

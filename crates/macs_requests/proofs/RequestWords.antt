@@ -6,7 +6,7 @@ use Rattle.macs_requests.proofs.Told.{named}
 
 pub line-words : LineWords
 line-words = record {
-  plain = (refl, refl, refl);
+  plain = (refl, refl, refl, refl, refl);
   set_validate = λ mode. refl;
   set_replay = λ on window. refl;
   set_sci_mode = λ mode. refl;
@@ -36,7 +36,7 @@ field-words = record {
   keys = λ sci an key start confidential offset long. (long, long);
   no_keys = λ validate on window mode sci an. (tt, tt, tt, tt, tt, tt, tt, tt);
   asked = λ command is. is;
-  asked_plain = (tt, tt, tt);
+  asked_plain = (tt, tt, tt, tt, tt);
 }
 
 pub talk-words : TalkWords

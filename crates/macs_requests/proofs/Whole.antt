@@ -9,7 +9,7 @@ use Rattle.macs_config.specs.declared.command.Command.TheVariants.{RxAdd, RxDrop
 use Rattle.macs_requests.specs.Lines.{IsTold, command_line}
 use Rattle.macs_requests.specs.Requests.{IsAsked, plain_request, request_line}
 use Rattle.macs_requests.specs.declared.requests.Request.{Request}
-use Rattle.macs_requests.specs.declared.requests.Request.TheVariants.{Apply, Counters, Show, Stop}
+use Rattle.macs_requests.specs.declared.requests.Request.TheVariants.{About, Apply, Counters, Keys, Show, Stop}
 use Rattle.macs_requests.proofs.Values.{some_same}
 
 -- ---- one form
@@ -46,6 +46,8 @@ pub plain_read : (line : List ℕ) (found request : Request) → Some found ≡ 
     → line ≡ request_line request → found ≡ request
 plain_read line found Show e is = some_same found Show (e ∙ ap (λ (l : List ℕ). plain_request l) is)
 plain_read line found Counters e is = some_same found Counters (e ∙ ap (λ (l : List ℕ). plain_request l) is)
+plain_read line found Keys e is = some_same found Keys (e ∙ ap (λ (l : List ℕ). plain_request l) is)
+plain_read line found About e is = some_same found About (e ∙ ap (λ (l : List ℕ). plain_request l) is)
 plain_read line found Stop e is = some_same found Stop (e ∙ ap (λ (l : List ℕ). plain_request l) is)
 plain_read line found (Apply command) e is =
     let both : Some found ≡ None = e ∙ ap (λ (l : List ℕ). plain_request l) is ∙ command_no_word command in absurd cc
@@ -58,6 +60,10 @@ command_taken line taken Show e read asked is =
     let both : None ≡ Some Show = e ∙ ap (λ (l : List ℕ). plain_request l) is in absurd cc
 command_taken line taken Counters e read asked is =
     let both : None ≡ Some Counters = e ∙ ap (λ (l : List ℕ). plain_request l) is in absurd cc
+command_taken line taken Keys e read asked is =
+    let both : None ≡ Some Keys = e ∙ ap (λ (l : List ℕ). plain_request l) is in absurd cc
+command_taken line taken About e read asked is =
+    let both : None ≡ Some About = e ∙ ap (λ (l : List ℕ). plain_request l) is in absurd cc
 command_taken line taken Stop e read asked is =
     let both : None ≡ Some Stop = e ∙ ap (λ (l : List ℕ). plain_request l) is in absurd cc
 command_taken line taken (Apply command) e read asked is = ap (λ (x : Command). Apply x) (read command asked is)

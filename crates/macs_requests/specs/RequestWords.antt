@@ -19,12 +19,13 @@ use Rattle.macs_requests.specs.Inboxes.{HasNoFeed, TakesLine}
 use Rattle.macs_requests.specs.CommandWords.{command_word_of, word_read}
 use Rattle.macs_requests.specs.Lines.{HasItsKey, IsTold, word_of}
 use Rattle.macs_requests.specs.Requests.{IsAsked, end_line, request_line}
-use Rattle.macs_requests.specs.declared.requests.Request.TheVariants.{Apply, Counters, Show, Stop}
+use Rattle.macs_requests.specs.declared.requests.Request.TheVariants.{About, Apply, Counters, Keys, Show, Stop}
 
 -- The line of a request has its word, and where that is a command its fields in this order, with one blank before each.
 -- The end of an answer has its status. A line is what comes before the first line feed, 10, of a text.
 pub record LineWords : Type 0 where
   pub plain : (request_line Show ≡ codes "show") × (request_line Counters ≡ codes "counters")
+      × (request_line Keys ≡ codes "keys") × (request_line About ≡ codes "about")
       × (request_line Stop ≡ codes "stop")
   pub set_validate : (mode : Validate)
       → request_line (Apply (SetValidate mode)) ≡ codes "set-validate" ++ (codes " " ++ validate_word mode)
@@ -75,4 +76,4 @@ pub record FieldWords : Type 0 where
       × HasItsKey (TxUse an) × HasItsKey (TxRemove an) × HasItsKey (RxAdd sci) × HasItsKey (RxDrop sci)
       × HasItsKey (RxRemove sci an)
   pub asked : (command : Command) → IsTold command → IsAsked (Apply command)
-  pub asked_plain : IsAsked Show × IsAsked Counters × IsAsked Stop
+  pub asked_plain : IsAsked Show × IsAsked Counters × IsAsked Keys × IsAsked About × IsAsked Stop

@@ -5,7 +5,7 @@ use Rattle.std.specs.Str.{bytes_eq}
 use Rattle.macs_requests.specs.Cutting.{spaced}
 use Rattle.macs_requests.specs.Lines.{IsTold, command_line}
 use Rattle.macs_requests.specs.declared.requests.Request.{Request}
-use Rattle.macs_requests.specs.declared.requests.Request.TheVariants.{Apply, Counters, Show, Stop}
+use Rattle.macs_requests.specs.declared.requests.Request.TheVariants.{About, Apply, Counters, Keys, Show, Stop}
 
 -- a request whose command, where it has one, is in the ranges that its types keep
 abbrev pub IsAsked : Request → Type 0
@@ -16,8 +16,17 @@ IsAsked request = Unit {0}
 abbrev pub request_line : Request → List ℕ
 request_line Show = codes "show"
 request_line Counters = codes "counters"
+request_line Keys = codes "keys"
+request_line About = codes "about"
 request_line Stop = codes "stop"
 request_line (Apply command) = command_line command
+
+-- the request on the program or its keys that a word alone names
+abbrev pub own_request : List ℕ → Option Request
+own_request line =
+    if bytes_eq line (codes "keys") then Some Keys
+    else if bytes_eq line (codes "about") then Some About
+    else None
 
 -- the request that a word alone names
 abbrev pub plain_request : List ℕ → Option Request
@@ -25,7 +34,7 @@ plain_request line =
     if bytes_eq line (codes "show") then Some Show
     else if bytes_eq line (codes "counters") then Some Counters
     else if bytes_eq line (codes "stop") then Some Stop
-    else None
+    else own_request line
 
 -- the last line of an answer, without its end: the exit status of the program that asked
 abbrev pub end_line : ℕ → List ℕ

@@ -1,7 +1,7 @@
 //! What a client asks for.
 
 ghost use Rattle.std.specs.Prelude.{◌≡◌, Some, IfOk, IfSome, string_bytes};
-ghost use Rattle.macs_requests.specs.Requests.{IsAsked, plain_request, request_line};
+ghost use Rattle.macs_requests.specs.Requests.{IsAsked, own_request, plain_request, request_line};
 ghost use Rattle.macs_requests.specs.declared.requests.Request.{Request};
 
 use crate::commands_of_lines::taken_for;
@@ -16,6 +16,10 @@ pub enum Request {
     Show,
     /// `counters`: what the endpoint and its wires counted.
     Counters,
+    /// `keys`: which keys are installed, by their identifiers.
+    Keys,
+    /// `about`: which program runs the relay, and since when.
+    About,
     /// `stop`: that the relay ends.
     Stop,
     /// A command, which is to be applied.
@@ -30,6 +34,8 @@ pub fn line_of_request(alloc: Global, request: &Request) -> Result<String, Alloc
     match request {
         Request::Show => String::from_str(alloc, "show"),
         Request::Counters => String::from_str(alloc, "counters"),
+        Request::Keys => String::from_str(alloc, "keys"),
+        Request::About => String::from_str(alloc, "about"),
         Request::Stop => String::from_str(alloc, "stop"),
         Request::Apply(command) => line_of_command(alloc, command),
     }
@@ -45,6 +51,19 @@ fn plain_request(line: &str) -> Option<Request>
         Some(Request::Counters)
     } else if line == "stop" {
         Some(Request::Stop)
+    } else {
+        own_request(line)
+    }
+}
+
+/// The same of the words on the program and its keys.
+fn own_request(line: &str) -> Option<Request>
+    ensures { result ≡ own_request line.now }
+{
+    if line == "keys" {
+        Some(Request::Keys)
+    } else if line == "about" {
+        Some(Request::About)
     } else {
         None
     }

@@ -4,7 +4,7 @@
 use crate::desks::Orders;
 use crate::endpoint::Played;
 use crate::talks::Talks;
-use macs_desk::{ControlDesk, NoOverruns};
+use macs_desk::{ControlDesk, NoSystem};
 use macs_edge::{
     FaultWire, Got, Idle, MemWire, RelaySummary, Wire, WireFault, attend, relay, relay_resting,
 };
@@ -12,7 +12,7 @@ use macs_endpoint::RefillFault;
 use macs_frame::FrameBuf;
 use macs_requests::NoMetrics;
 use macs_story_text::{Answer, Words, filled, frame_at, octets_of, tell_frame, tell_sent, whole};
-use macs_texts::Build;
+use macs_texts::Program;
 use std::alloc::Global;
 use std::mem::replace;
 
@@ -375,7 +375,7 @@ fn served(
     alloc: Global,
 ) -> Result<RelaySummary, RefillFault> {
     let clients = replace(talks, Talks::new(alloc));
-    let mut desk = ControlDesk::new(alloc, Build::none(alloc), clients, NoMetrics, NoOverruns);
+    let mut desk = ControlDesk::new(alloc, Program::none(alloc), clients, NoMetrics, NoSystem);
     let told = attend(
         endpoint,
         &mut wires.controlled.front,

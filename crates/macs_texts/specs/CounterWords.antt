@@ -21,10 +21,11 @@ use Rattle.macs_texts.specs.declared.wire_report.WireReport.{WireReport}
 use Rattle.macs_texts.specs.Lines.{count_line, count_line_of}
 
 -- A line says of what it is, which count, and the number, in decimal. Each fault and each verdict has its own word, and
--- its own number on the line of that word, of each channel for those that name it; a wire, what it took, sent, took
--- from strangers, how often it failed, and what is kept for it and was dropped before it, where that is known. What is
--- left are the packet numbers below 2^32 of each association that has a next one, and the keys of each side. Frames
--- that were sent come first, then those received, by channels next, then the wires, and last what is left.
+-- its own number on the line of that word, of each channel for those that name it; a wire, what it took, how much of
+-- that was too long, what it sent, took from strangers, how often it failed, and what is kept for it and was dropped
+-- before it, where that is known. What is left are the packet
+-- numbers below 2^32 of each association that has a next one, and the keys of each side. Frames that were sent come
+-- first, then those received, by channels next, then the wires, and last what is left.
 pub record CounterWords : Type 0 where
   pub faults : map fault_words (tx.Runt ∷ tx.TooLong ∷ tx.ForeignSource ∷ tx.NoEncodingSa ∷ tx.Exhausted ∷ tx.NoNumber
       ∷ [])
@@ -59,10 +60,10 @@ pub record CounterWords : Type 0 where
       ∷ Delivered kind.Invalid ∷ Delivered kind.UnusedSa ∷ Discarded reason.NotUsingSa ∷ Discarded reason.Late
       ∷ Discarded reason.NotValid ∷ []))
   pub wire : (side : List ℕ) (c : WireCounts) → wire_text side c ≡ count_line side (codes "taken") c.taken
-      ++ (count_line side (codes "sent") c.sent
+      ++ (count_line side (codes "too-long") c.too_long ++ (count_line side (codes "sent") c.sent
       ++ (count_line side (codes "strangers") c.strangers
       ++ (count_line side (codes "failed-receives") c.failed_receives
-      ++ (count_line side (codes "failed-sends") c.failed_sends ++ count_line_of side (codes "buffer") c.buffer))))
+      ++ (count_line side (codes "failed-sends") c.failed_sends ++ count_line_of side (codes "buffer") c.buffer)))))
   pub report : (side : List ℕ) (c : WireCounts) (dropped : ℕ)
       → report_text side (reported c (Some dropped)) ≡ wire_text side c ++ count_line side (codes "overrun") dropped
   pub no_overrun : (side : List ℕ) (c : WireCounts) → report_text side (reported c None) ≡ wire_text side c ++ []

@@ -105,11 +105,12 @@ channel_text table sci = concat (map (channel_line table sci) channel_verdicts)
 abbrev pub wire_text : List ℕ → WireCounts → List ℕ
 wire_text side c =
     count_line side (codes "taken") c.taken
+    ++ (count_line side (codes "too-long") c.too_long
     ++ (count_line side (codes "sent") c.sent
     ++ (count_line side (codes "strangers") c.strangers
     ++ (count_line side (codes "failed-receives") c.failed_receives
     ++ (count_line side (codes "failed-sends") c.failed_sends
-    ++ count_line_of side (codes "buffer") c.buffer))))
+    ++ count_line_of side (codes "buffer") c.buffer)))))
 
 -- the report of a wire that counted this, of which so many datagrams were dropped, where that is known
 abbrev pub reported : WireCounts → Option ℕ → WireReport

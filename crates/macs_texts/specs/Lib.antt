@@ -5,3 +5,5 @@ pub mod Counting
 pub mod CounterWords
 pub mod Measuring
 pub mod MetricWords
+pub mod KeyTexts
+pub mod Programs

@@ -154,6 +154,8 @@ overrun_metric own controlled common =
 abbrev pub wires_metrics : List ℕ → WireCounts → WireCounts → List ℕ
 wires_metrics own controlled common =
     wire_metric own (codes "macsec_wire_taken_total") (codes "Frames taken off a wire.") controlled.taken common.taken
+    ++ (wire_metric own (codes "macsec_wire_too_long_total")
+    (codes "Frames taken off a wire that were too long, and dropped.") controlled.too_long common.too_long
     ++ (wire_metric own (codes "macsec_wire_sent_total") (codes "Frames sent on a wire.") controlled.sent common.sent
     ++ (wire_metric own (codes "macsec_wire_strangers_total") (codes "Datagrams of another address than the peer's.")
     controlled.strangers common.strangers
@@ -161,7 +163,7 @@ wires_metrics own controlled common =
     controlled.failed_receives common.failed_receives
     ++ (wire_metric own (codes "macsec_wire_failed_sends_total") (codes "Sends that failed.")
     controlled.failed_sends common.failed_sends
-    ++ buffer_metric own controlled.buffer common.buffer))))
+    ++ buffer_metric own controlled.buffer common.buffer)))))
 
 -- and what was dropped of them
 abbrev pub report_metrics : List ℕ → WireReport → WireReport → List ℕ

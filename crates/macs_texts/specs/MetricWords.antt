@@ -26,11 +26,11 @@ use Rattle.macs_texts.specs.Measuring.{sample, sample_of, tx_metric, wire_metric
 
 -- A line has a name, the SCI of the endpoint, its other labels, and the number, in decimal; of a number that is absent
 -- there is none. Before the numbers of a name are two lines: what they are, and of which kind. Each answer to a plain
--- frame and each verdict has its own word and its own number; a wire, what it took, sent, took from strangers, how
--- often it failed, and what is kept for it and was dropped before it, where that is known: wire 1 is the controlled
--- one. What is left are the packet numbers below 2^32 of each association that has a next one, and the keys of each
--- side. Frames that were sent come first, then those received, by channels next, then the wires, what is left, and last
--- which program reports.
+-- frame and each verdict has its own word and its own number; a wire, what it took, how much of that was too long, what
+-- it sent, took from strangers, how often it failed, and what is kept for it and was dropped before it, where that is
+-- known: wire 1 is the controlled one. What is left are the packet numbers below 2^32 of each association that has a
+-- next one, and the keys of each side. Frames that were sent come first, then those received, by channels next, then
+-- the wires, what is left, and last which program reports.
 pub record MetricWords : Type 0 where
   pub labelled : (name value : List ℕ) → label name value ≡ name ++ (codes "=\"" ++ (value ++ codes "\""))
   pub line : (own name labels : List ℕ) (n : ℕ) → sample own name labels n
@@ -92,6 +92,8 @@ pub record MetricWords : Type 0 where
   pub counts : (own : List ℕ) (controlled common : WireCounts) → wires_metrics own controlled common
       ≡ wire_metric own (codes "macsec_wire_taken_total")
       (codes "Frames taken off a wire.") controlled.taken common.taken
+      ++ (wire_metric own (codes "macsec_wire_too_long_total")
+      (codes "Frames taken off a wire that were too long, and dropped.") controlled.too_long common.too_long
       ++ (wire_metric own (codes "macsec_wire_sent_total")
       (codes "Frames sent on a wire.") controlled.sent common.sent
       ++ (wire_metric own (codes "macsec_wire_strangers_total")
@@ -100,7 +102,7 @@ pub record MetricWords : Type 0 where
       (codes "Receives that failed.") controlled.failed_receives common.failed_receives
       ++ (wire_metric own (codes "macsec_wire_failed_sends_total")
       (codes "Sends that failed.") controlled.failed_sends common.failed_sends
-      ++ (buffer_metric own controlled.buffer common.buffer)))))
+      ++ (buffer_metric own controlled.buffer common.buffer))))))
   pub left : (own : List ℕ) (s : State) (an next : ℕ) → s.next an ≡ Some next → left_sample own s an
       ≡ sample own (codes "macsec_tx_numbers_left") (label (codes "an") (decimal an)) (2 ^ 32 - next)
   pub none_left : (own : List ℕ) (s : State) (an : ℕ) → s.next an ≡ None → left_sample own s an ≡ []

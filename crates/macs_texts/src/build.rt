@@ -46,13 +46,4 @@ impl Build {
             proved,
         })
     }
-
-    /// A build of no program: its texts are empty.
-    pub fn none(alloc: Global) -> Build {
-        Build {
-            version: String::new(alloc),
-            commit: String::new(alloc),
-            proved: String::new(alloc),
-        }
-    }
 }

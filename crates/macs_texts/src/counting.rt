@@ -175,6 +175,7 @@ fn wire_lines(alloc: Global, side: &str, counts: &WireCounts) -> Result<String, 
     let text = joined(receives, text);
     let text = joined(count_line(alloc, side, "strangers", counts.strangers), text);
     let text = joined(count_line(alloc, side, "sent", counts.sent), text);
+    let text = joined(count_line(alloc, side, "too-long", counts.too_long), text);
     joined(count_line(alloc, side, "taken", counts.taken), text)
 }
 

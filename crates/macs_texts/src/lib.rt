@@ -3,9 +3,12 @@
 
 mod build;
 mod counting;
+mod key_names;
+mod keys;
 pub mod laws;
 mod lines;
 mod measuring;
+mod program;
 mod refusals;
 mod samples;
 mod showing;
@@ -14,8 +17,11 @@ mod words;
 
 pub use build::Build;
 pub use counting::{RX_VERDICTS, counter_lines};
+pub use key_names::key_digest;
+pub use keys::keys_lines;
 pub use lines::{ended, joined};
 pub use measuring::metric_lines;
+pub use program::{Program, about_lines};
 pub use refusals::refusal_name;
 pub use showing::show_lines;
 pub use wire_report::{WireReport, reported};

@@ -371,6 +371,15 @@ fn wires_metrics(
     let more = wire_metric(
         alloc,
         own,
+        "macsec_wire_too_long_total",
+        "Frames taken off a wire that were too long, and dropped.",
+        controlled.too_long,
+        common.too_long,
+    );
+    let text = joined(more, text);
+    let more = wire_metric(
+        alloc,
+        own,
         "macsec_wire_taken_total",
         "Frames taken off a wire.",
         controlled.taken,

@@ -13,6 +13,8 @@ pub plain-read : (rows : List Row) (word : Text) (found : Option Question) → f
 plain-read rows word None there none exactly = tt
 plain-read rows word (Some question.Show) there none exactly = (there ∙ (exactly question.Show).0 refl, none)
 plain-read rows word (Some question.Counters) there none exactly = (there ∙ (exactly question.Counters).0 refl, none)
+plain-read rows word (Some question.Keys) there none exactly = (there ∙ (exactly question.Keys).0 refl, none)
+plain-read rows word (Some question.About) there none exactly = (there ∙ (exactly question.About).0 refl, none)
 plain-read rows word (Some question.Stop) there none exactly = (there ∙ (exactly question.Stop).0 refl, none)
 plain-read rows word (Some (question.Apply file)) there none exactly = let e = (exactly (question.Apply file)).0 refl in
     cc
@@ -25,6 +27,10 @@ plain-found rows word found there none exactly question.Show has = let e =
     (exactly question.Show).1 (sym there ∙ has.0) in cc
 plain-found rows word found there none exactly question.Counters has = let e =
     (exactly question.Counters).1 (sym there ∙ has.0) in cc
+plain-found rows word found there none exactly question.Keys has = let e =
+    (exactly question.Keys).1 (sym there ∙ has.0) in cc
+plain-found rows word found there none exactly question.About has = let e =
+    (exactly question.About).1 (sym there ∙ has.0) in cc
 plain-found rows word found there none exactly question.Stop has = let e =
     (exactly question.Stop).1 (sym there ∙ has.0) in cc
 plain-found rows word found there none exactly (question.Apply file) has = let e = sym none ∙ has.1 in cc

@@ -492,16 +492,21 @@ asks rows word there = go (first_of (codes "FILE") rows) refl
         → (asked : Question) → HasQuestion rows asked → ⊥
     none-with file given other question.Show has = let e = sym given ∙ has.1 in cc
     none-with file given other question.Counters has = let e = sym given ∙ has.1 in cc
+    none-with file given other question.Keys has = let e = sym given ∙ has.1 in cc
+    none-with file given other question.About has = let e = sym given ∙ has.1 in cc
     none-with file given other question.Stop has = let e = sym given ∙ has.1 in cc
     none-with file given other (question.Apply name) has = differs (codes "apply") other has.0
 
     none-alone : first_of (codes "FILE") rows ≡ None → bytes_eq word (codes "show") ≡ false
-        → bytes_eq word (codes "counters") ≡ false
+        → bytes_eq word (codes "counters") ≡ false → bytes_eq word (codes "keys") ≡ false
+        → bytes_eq word (codes "about") ≡ false
         → bytes_eq word (codes "stop") ≡ false → (asked : Question) → HasQuestion rows asked → ⊥
-    none-alone none first second third question.Show has = differs (codes "show") first has.0
-    none-alone none first second third question.Counters has = differs (codes "counters") second has.0
-    none-alone none first second third question.Stop has = differs (codes "stop") third has.0
-    none-alone none first second third (question.Apply name) has = let e = sym none ∙ has.1 in cc
+    none-alone none first second third fourth fifth question.Show has = differs (codes "show") first has.0
+    none-alone none first second third fourth fifth question.Counters has = differs (codes "counters") second has.0
+    none-alone none first second third fourth fifth question.Keys has = differs (codes "keys") third has.0
+    none-alone none first second third fourth fifth question.About has = differs (codes "about") fourth has.0
+    none-alone none first second third fourth fifth question.Stop has = differs (codes "stop") fifth has.0
+    none-alone none first second third fourth fifth (question.Apply name) has = let e = sym none ∙ has.1 in cc
 
     with-file : (file : Text) → first_of (codes "FILE") rows ≡ Some file → (applies : Bool)
         → bytes_eq word (codes "apply") ≡ applies
@@ -509,18 +514,29 @@ asks rows word there = go (first_of (codes "FILE") rows) refl
     with-file file given true equal = inl (question.Apply (text_of file), (is (codes "apply") equal, given))
     with-file file given false other = inr (none-with file given other)
 
-    alone : first_of (codes "FILE") rows ≡ None → (shows counts stops : Bool) → bytes_eq word (codes "show") ≡ shows
-        → bytes_eq word (codes "counters") ≡ counts → bytes_eq word (codes "stop") ≡ stops
+    alone : first_of (codes "FILE") rows ≡ None → (shows counts keys abouts stops : Bool)
+        → bytes_eq word (codes "show") ≡ shows → bytes_eq word (codes "counters") ≡ counts
+        → bytes_eq word (codes "keys") ≡ keys → bytes_eq word (codes "about") ≡ abouts
+        → bytes_eq word (codes "stop") ≡ stops
         → ((asked : Question) × HasQuestion rows asked) ⊎ ((asked : Question) → ¬ HasQuestion rows asked)
-    alone none true counts stops equal second third = inl (question.Show, (is (codes "show") equal, none))
-    alone none false true stops first equal third = inl (question.Counters, (is (codes "counters") equal, none))
-    alone none false false true first second equal = inl (question.Stop, (is (codes "stop") equal, none))
-    alone none false false false first second third = inr (none-alone none first second third)
+    alone none true counts keys abouts stops equal second third fourth fifth =
+        inl (question.Show, (is (codes "show") equal, none))
+    alone none false true keys abouts stops first equal third fourth fifth =
+        inl (question.Counters, (is (codes "counters") equal, none))
+    alone none false false true abouts stops first second equal fourth fifth =
+        inl (question.Keys, (is (codes "keys") equal, none))
+    alone none false false false true stops first second third equal fifth =
+        inl (question.About, (is (codes "about") equal, none))
+    alone none false false false false true first second third fourth equal =
+        inl (question.Stop, (is (codes "stop") equal, none))
+    alone none false false false false false first second third fourth fifth =
+        inr (none-alone none first second third fourth fifth)
 
     go : (found : Option Text) → first_of (codes "FILE") rows ≡ found
         → ((asked : Question) × HasQuestion rows asked) ⊎ ((asked : Question) → ¬ HasQuestion rows asked)
     go None none = alone none (bytes_eq word (codes "show")) (bytes_eq word (codes "counters"))
-        (bytes_eq word (codes "stop")) refl refl refl
+        (bytes_eq word (codes "keys")) (bytes_eq word (codes "about")) (bytes_eq word (codes "stop")) refl refl refl
+        refl refl
     go (Some file) given = with-file file given (bytes_eq word (codes "apply")) refl
 
 ask-named : IsNamed (shape_at 7)

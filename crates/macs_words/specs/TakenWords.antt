@@ -146,6 +146,10 @@ pub record TakenWords : Type 0 where
       → first_of (codes "FILE") values ≡ None → HasQuestion values question.Show
   pub counted : (values : List Row) → first_of (codes "WORD") values ≡ Some (codes "counters")
       → first_of (codes "FILE") values ≡ None → HasQuestion values question.Counters
+  pub keys : (values : List Row) → first_of (codes "WORD") values ≡ Some (codes "keys")
+      → first_of (codes "FILE") values ≡ None → HasQuestion values question.Keys
+  pub about : (values : List Row) → first_of (codes "WORD") values ≡ Some (codes "about")
+      → first_of (codes "FILE") values ≡ None → HasQuestion values question.About
   pub stopped : (values : List Row) → first_of (codes "WORD") values ≡ Some (codes "stop")
       → first_of (codes "FILE") values ≡ None → HasQuestion values question.Stop
   pub applied : (values : List Row) (file : Bor Text) → first_of (codes "WORD") values ≡ Some (codes "apply")

@@ -171,6 +171,8 @@ MayHaveRoom values name (Some octets) = HasNumber values name octets × IsRoom o
 abbrev pub plain_word : Question → Option Text
 plain_word question.Show = Some (codes "show")
 plain_word question.Counters = Some (codes "counters")
+plain_word question.Keys = Some (codes "keys")
+plain_word question.About = Some (codes "about")
 plain_word question.Stop = Some (codes "stop")
 plain_word (question.Apply file) = None
 

@@ -104,6 +104,10 @@ pub enum Question<'a> {
     Show,
     /// For all that was counted: `counters`.
     Counters,
+    /// Which keys are installed, by their identifiers: `keys`.
+    Keys,
+    /// Which program runs it, and since when: `about`.
+    About,
     /// To end: `stop`.
     Stop,
     /// To apply the commands of a file: `apply FILE`.

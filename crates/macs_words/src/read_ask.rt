@@ -17,6 +17,8 @@ fn plain_question<'a>(word: &str) -> Option<Question<'a>>
     match word {
         "show" => Some(Question::Show),
         "counters" => Some(Question::Counters),
+        "keys" => Some(Question::Keys),
+        "about" => Some(Question::About),
         "stop" => Some(Question::Stop),
         _ => None,
     }

@@ -67,7 +67,10 @@ fn missing_cause(alloc: Global, matches: &ArgMatches) -> Result<String, AllocErr
     ensures { IfOk result (λ cause. IsPrintable (string_bytes cause)) }
 {
     match matches.subcommand() {
-        Some(("ask", _)) => printable(alloc, "ask PATH show, counters, stop, or apply FILE"),
+        Some(("ask", _)) => printable(
+            alloc,
+            "ask PATH show, counters, keys, about, stop, or apply FILE",
+        ),
         Some(("plan", _)) => printable(
             alloc,
             "plan FILE left or right, then first, receive, send or remove",

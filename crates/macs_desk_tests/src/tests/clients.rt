@@ -1,6 +1,6 @@
 //! A client that asks, and keeps what is said to it.
 
-use macs_desk::{ControlDesk, NoOverruns};
+use macs_desk::{ControlDesk, NoSystem};
 use macs_requests::{Client, Clients, Heard, Line, NoMetrics};
 use std::alloc::Global;
 use std::process::Abort;
@@ -56,9 +56,9 @@ impl<R: Abort> Clients for Asker<'_, R> {
 }
 
 /// What a desk has said to its client is this text.
-pub(super) fn expect_told<R: Abort>(
+pub(super) fn expect_told<R: Abort, S: Drop>(
     rt: &R,
-    desk: ControlDesk<Asker<'_, R>, NoMetrics, NoOverruns>,
+    desk: ControlDesk<Asker<'_, R>, NoMetrics, S>,
     told: &str,
 ) {
     let (asker, _metrics) = desk.into_parts();

@@ -1,8 +1,9 @@
 //! Metrics that are due each time, and keep what is written.
 
 use super::clients::Asker;
-use super::{attended, build};
-use macs_desk::{ControlDesk, Dropped, Overruns};
+use super::{attended, program};
+use macs_config::Command;
+use macs_desk::{ControlDesk, Dropped, KeyNotes, NoteFault, Overruns};
 use macs_requests::Metrics;
 use std::process::Abort;
 
@@ -40,6 +41,12 @@ impl Overruns for FirstLost {
     }
 }
 
+impl KeyNotes for FirstLost {
+    fn note(&self, _command: &Command) -> Result<(), NoteFault> {
+        Ok(())
+    }
+}
+
 /// What is written of a new endpoint, by hand.
 const NEW: &str = "\
 # HELP macsec_tx_frames_total Plain frames by what was answered.
@@ -74,6 +81,10 @@ macsec_rx_frames_total{sci=\"0200000000010001\",verdict=\"not-valid\"} 0
 # TYPE macsec_wire_taken_total counter
 macsec_wire_taken_total{sci=\"0200000000010001\",wire=\"1\"} 0
 macsec_wire_taken_total{sci=\"0200000000010001\",wire=\"2\"} 0
+# HELP macsec_wire_too_long_total Frames taken off a wire that were too long, and dropped.
+# TYPE macsec_wire_too_long_total counter
+macsec_wire_too_long_total{sci=\"0200000000010001\",wire=\"1\"} 0
+macsec_wire_too_long_total{sci=\"0200000000010001\",wire=\"2\"} 0
 # HELP macsec_wire_sent_total Frames sent on a wire.
 # TYPE macsec_wire_sent_total counter
 macsec_wire_sent_total{sci=\"0200000000010001\",wire=\"1\"} 0
@@ -126,7 +137,7 @@ fn metrics_are_written_where_they_are_due(rt: HostRuntime) {
     };
     let mut desk = ControlDesk::new(
         rt.alloc(),
-        build(&rt, rt.alloc()),
+        program(&rt, rt.alloc()),
         Asker::new(&rt, rt.alloc(), "show"),
         metrics,
         FirstLost,

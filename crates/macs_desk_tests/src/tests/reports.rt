@@ -1,8 +1,8 @@
 //! What is reported of a new endpoint, by hand.
 
 use super::clients::{Asker, expect_told};
-use super::{attended, build};
-use macs_desk::{ControlDesk, NoOverruns};
+use super::{attended, program};
+use macs_desk::{ControlDesk, NoSystem};
 use macs_requests::NoMetrics;
 use std::alloc::Global;
 use std::process::Abort;
@@ -13,6 +13,11 @@ const CASES: &[(&str, &str)] = &[
         "show",
         "5 sci 0200000000010001\nblocks tx 4 rx 4\nvalidate strict\nreplay on window 0\n\
 sci-mode explicit\nencoding none\nspent tx 0 rx 0\n5 end 0\n",
+    ),
+    ("keys", "5 5 end 0\n"),
+    (
+        "about",
+        "5 macsecd 7.8.9\ncommit abc\nproved no\nstarted 1234567890\n5 end 0\n",
     ),
     ("stop", "5 end 0\n"),
     ("", "5 end 2\n"),
@@ -25,10 +30,10 @@ sci-mode explicit\nencoding none\nspent tx 0 rx 0\n5 end 0\n",
 fn answers(rt: &impl Abort, alloc: Global, line: &'static str, told: &str) {
     let mut desk = ControlDesk::new(
         alloc,
-        build(rt, alloc),
+        program(rt, alloc),
         Asker::new(rt, alloc, line),
         NoMetrics,
-        NoOverruns,
+        NoSystem,
     );
     attended(rt, alloc, &mut desk, 8);
     expect_told(rt, desk, told);

@@ -36,6 +36,8 @@ fn an_of(rt: &impl Abort, number: u8) -> An {
 fn words(rt: HostRuntime) {
     stands_as(&rt, rt.alloc(), Request::Show, "show");
     stands_as(&rt, rt.alloc(), Request::Counters, "counters");
+    stands_as(&rt, rt.alloc(), Request::Keys, "keys");
+    stands_as(&rt, rt.alloc(), Request::About, "about");
     stands_as(&rt, rt.alloc(), Request::Stop, "stop");
 }
 

@@ -1,7 +1,7 @@
 //! A disk that is formatted, commands, and what is shown then.
 
 use super::captures::SENDER;
-use super::stories::Step::{Closing, Filled, Folder, Run, Text};
+use super::stories::Step::{Closing, Filled, Folder, Holds, IsMissing, Run, Text, Zeros};
 use super::stories::{Step, play};
 use macsecd_fixtures::Outcome;
 use std::test::Fail;
@@ -348,4 +348,114 @@ const FILES: &[Step] = &[
 #[test]
 fn a_wrong_command_file_is_commands(rt: HostRuntime) -> Result<(), Fail> {
     play(&rt, rt.alloc(), "story-files", FILES)
+}
+
+/// A key for the transmit side.
+const KEY: &str = "[[command]]
+do = 'tx-install'
+an = 0
+key = '000102030405060708090a0b0c0d0e0f'
+start = 1
+confidential = true
+offset = 0
+";
+
+const OTHER_KEY: &str = "[[command]]
+do = 'rx-add'
+sci = '0200000000020001'
+
+[[command]]
+do = 'rx-install'
+sci = '0200000000020001'
+an = 0
+key = '0f0e0d0c0b0a09080706050403020100'
+start = 1
+offset = 0
+";
+
+/// The SHA-256 of `macsecd key ` and the key, in hex digits, and a line feed; as octets.
+const NOTED: &str =
+    "3563633231366136613431623866353966636632653438363930313836303961626665333035343738306335\
+36396233633032613962393461313766613562630a";
+
+/// With the line `formatted` behind it.
+const CLOSED: &str =
+    "3563633231366136613431623866353966636632653438363930313836303961626665333035343738306335\
+36396233633032613962393461313766613562630a666f726d61747465640a";
+
+/// With the other key behind that.
+const NOTED_AGAIN: &str =
+    "3563633231366136613431623866353966636632653438363930313836303961626665333035343738306335\
+36396233633032613962393461313766613562630a666f726d61747465640a39383232376661373661626231\
+6163313565323135653230646366646462663035396165613961333234613361363132353463303932333434\
+623639643539620a";
+
+const SPENT_FORMAT: &[&str] = &["format", "story-spent/disk", "0200000000010001", "4", "4"];
+
+const APPLY_KEY: &[&str] = &["apply", "story-spent/disk", "story-spent/key.toml"];
+
+const APPLY_OTHER: &[&str] = &["apply", "story-spent/disk", "story-spent/other.toml"];
+
+/// A disk file is lost, and a new one gets its name.
+const LOST: &[Step] = &[
+    Text("story-spent/key.toml", KEY),
+    Text("story-spent/other.toml", OTHER_KEY),
+    Run(SPENT_FORMAT, FORMATTED),
+    IsMissing("story-spent/disk.spent"),
+    Run(APPLY_KEY, Outcome::Done("1 ok\n")),
+    Holds("story-spent/disk.spent", NOTED),
+    Zeros("story-spent/disk", 0),
+    Run(SPENT_FORMAT, FORMATTED),
+    Holds("story-spent/disk.spent", CLOSED),
+    Run(APPLY_KEY, Outcome::Fault("macsecd: commands\n")),
+    Holds("story-spent/disk.spent", CLOSED),
+    Run(APPLY_OTHER, Outcome::Done("1 ok\n2 ok\n")),
+    Holds("story-spent/disk.spent", NOTED_AGAIN),
+    Run(SPENT_FORMAT, Outcome::Disk("macsecd: already formatted\n")),
+    Holds("story-spent/disk.spent", NOTED_AGAIN),
+    Run(
+        APPLY_OTHER,
+        Outcome::Refused("1 refused ChannelTaken\n2 refused SlotTaken\n"),
+    ),
+];
+
+#[test]
+fn no_key_of_a_lost_disk_is_applied(rt: HostRuntime) -> Result<(), Fail> {
+    play(&rt, rt.alloc(), "story-spent", LOST)
+}
+
+/// A folder has the name of the list of keys.
+const UNLISTED: &[Step] = &[
+    Text("story-unlisted/key.toml", KEY),
+    Run(
+        &[
+            "format",
+            "story-unlisted/disk",
+            "0200000000010001",
+            "4",
+            "4",
+        ],
+        FORMATTED,
+    ),
+    Folder("story-unlisted/disk.spent"),
+    Run(
+        &["apply", "story-unlisted/disk", "story-unlisted/key.toml"],
+        Outcome::Fault("macsecd: commands\n"),
+    ),
+    Zeros("story-unlisted/disk", 0),
+    Run(
+        &[
+            "format",
+            "story-unlisted/disk",
+            "0200000000010001",
+            "4",
+            "4",
+        ],
+        Outcome::Disk("macsecd: disk file\n"),
+    ),
+];
+
+#[test]
+fn no_key_is_applied_that_is_not_noted(rt: HostRuntime) -> Result<(), Fail> {
+    play(&rt, rt.alloc(), "story-unlisted", UNLISTED)
 }

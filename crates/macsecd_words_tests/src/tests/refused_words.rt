@@ -201,7 +201,7 @@ const WORDS_TOO_FEW: &[Row] = &[
 
 /// Words that ask nothing that a relay is asked, and the line that says what it is asked.
 const NO_QUESTION: Outcome = Outcome::Usage(
-    "macsecd: ask PATH show, counters, stop, or apply FILE\n",
+    "macsecd: ask PATH show, counters, keys, about, stop, or apply FILE\n",
 );
 
 const WORDS_OF_NO_QUESTION: &[&[&str]] = &[

@@ -6,15 +6,19 @@ use Rattle.macs_desk.proofs.Talking.{says}
 use Rattle.macs_desk.proofs.answering.answer.Goals as goal
 
 pub returns-in-Show : goal.returns-in-Show
-returns-in-Show g c =
-    let told = c.tell.ensures _ c.show_lines.ensures in
-    rw c.in-Show.is (told.0, (told.1, refl), told.2)
+returns-in-Show g c = rw c.in-Show.is (c.tell.ensures _ c.show_lines.ensures)
+
+pub returns-in-Keys : goal.returns-in-Keys
+returns-in-Keys g c = rw c.in-Keys.is (c.tell-in-Keys.ensures _ c.keys_lines.ensures)
+
+pub returns-in-About : goal.returns-in-About
+returns-in-About g c = rw c.in-About.is (c.tell-in-About.ensures _ c.about_lines.ensures)
 
 pub returns-in-Counters : goal.returns-in-Counters
 returns-in-Counters g c =
     let report = c.counted-report.ensures in
     let told = c.tell-in-Counters.ensures _ report.2 in
-    rw c.in-Counters.is (told.0, (report.0, report.1, told.1, refl), told.2)
+    rw c.in-Counters.is (told.0, (report.0, report.1, told.1), told.2)
 
 pub returns-in-Stop : goal.returns-in-Stop
 returns-in-Stop g c = rw c.in-Stop.is (
@@ -23,3 +27,8 @@ returns-in-Stop g c = rw c.in-Stop.is (
   says (g.C.Clients.talk c.args.clients.now) (g.C.Clients.talk c.say.new.self) c.args.client
       c.as_bytes.result.now (end_text 0) (c.as_bytes.ensures.value ∙ end-0) c.say.ensures,
 )
+
+pub returns-in-Apply : goal.returns-in-Apply
+returns-in-Apply g c =
+    let handed = c.hand_in.ensures in
+    rw c.in-Apply.is (handed.2, (handed.0, handed.1, handed.3), handed.4)

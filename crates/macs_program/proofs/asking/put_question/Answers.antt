@@ -23,6 +23,28 @@ returns-in-Counters g c =
       broken = said.broken;
     }
 
+pub returns-in-Keys : goal.returns-in-Keys
+returns-in-Keys g c =
+    let said = c.ask_once-in-Keys.ensures in record {
+      printed = rw c.in-Keys.is said.printed;
+      failed = rw c.in-Keys.is said.failed;
+      front = rw c.in-Keys.is
+          (IfErr-weaker c.ask_once-in-Keys.result _ _ (λ failure same other. ap g.W.Stream.contents (same other))
+          said.silent);
+      broken = said.broken;
+    }
+
+pub returns-in-About : goal.returns-in-About
+returns-in-About g c =
+    let said = c.ask_once-in-About.ensures in record {
+      printed = rw c.in-About.is said.printed;
+      failed = rw c.in-About.is said.failed;
+      front = rw c.in-About.is
+          (IfErr-weaker c.ask_once-in-About.result _ _ (λ failure same other. ap g.W.Stream.contents (same other))
+          said.silent);
+      broken = said.broken;
+    }
+
 pub returns-in-Stop : goal.returns-in-Stop
 returns-in-Stop g c =
     let said = c.ask_stop.ensures in record {

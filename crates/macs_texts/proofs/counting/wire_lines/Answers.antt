@@ -6,4 +6,5 @@ returns c =
     let with_failed = c.joined-text-2.ensures _ _ c.count_line-receives.ensures with_sends in
     let with_strangers = c.joined-text-3.ensures _ _ c.count_line.ensures with_failed in
     let with_sent = c.joined-text-4.ensures _ _ c.count_line-2.ensures with_strangers in
-    c.joined.ensures _ _ c.count_line-3.ensures with_sent
+    let with_long = c.joined-text-5.ensures _ _ c.count_line-3.ensures with_sent in
+    c.joined.ensures _ _ c.count_line-4.ensures with_long

@@ -11,7 +11,8 @@ returns-clause-talk g c =
     looks-in-time _ c.args.was_quiet (is_full (entries_of c.args.self.now.under_way)) c.is_full.result _ _ _ _ _
     (g.C.Clients.talk c.args.self.now.clients) (g.C.Clients.talk c.rest.new.clients)
     (g.C.Clients.talk c.look-order.new.clients) time c.is_full.ensures.full
-    (same-reports (g.O.Overruns.known c.args.self.now.overruns) c.args.endpoint.now _ _ _ _ c.counts-controlled.ensures
+    (same-reports c.args.self.now.program (g.S.Overruns.known c.args.self.now.system)
+    (g.S.KeyNotes.answers c.args.self.now.system) c.args.endpoint.now _ _ _ _ c.counts-controlled.ensures
     c.counts-common.ensures)
     c.rest.ensures c.look-order.ensures
 
@@ -19,7 +20,7 @@ pub returns-clause-notes : goal.returns-clause-notes
 returns-clause-notes g c =
     let time : is_time c.args.was_quiet c.args.self.now.turns_left ≡ true =
     sym c.is_time.ensures ∙ c.if-not-is_time.false in
-    measures-in-time _ (g.O.Overruns.known c.args.self.now.overruns) _ _ (g.M.Metrics.notes c.args.self.now.metrics)
+    measures-in-time _ (g.S.Overruns.known c.args.self.now.system) _ _ (g.M.Metrics.notes c.args.self.now.metrics)
     (g.M.Metrics.notes c.measure.new.metrics) time
-    (same-measured c.args.self.now.build c.args.endpoint.now _ _ _ _ c.counts-controlled.ensures
+    (same-measured c.args.self.now.program.build c.args.endpoint.now _ _ _ _ c.counts-controlled.ensures
     c.counts-common.ensures) c.measure.ensures

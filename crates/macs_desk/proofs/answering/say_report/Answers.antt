@@ -1,7 +1,7 @@
 use Rattle.std.proofs.Common.{◌∙◌}
 use Rattle.macs_desk.proofs.EndTexts.{end-0, end-5}
 use Rattle.macs_desk.proofs.Talking.{reported, unreported}
-use Rattle.macs_desk.proofs.answering.tell.Goals as goal
+use Rattle.macs_desk.proofs.answering.say_report.Goals as goal
 
 pub returns-in-Ok : goal.returns-in-Ok
 returns-in-Ok g c = λ text known.

@@ -1,0 +1,33 @@
+//! A system of which nothing is known.
+
+use crate::key_notes::{KeyNotes, NoteFault};
+use crate::overruns::{Dropped, Overruns};
+use macs_config::Command;
+
+/// A system of which nothing is known: what it dropped of either wire is not, and each key may be
+/// installed.
+#[derive(Drop)]
+pub struct NoSystem;
+
+impl Overruns for NoSystem {
+    ghost use Rattle.std.specs.Prelude.{Some, None};
+
+    ghost known = { λ _. Some (record { controlled = None; common = None }) };
+
+    fn dropped(&self) -> Dropped {
+        Dropped {
+            controlled: None,
+            common: None,
+        }
+    }
+}
+
+impl KeyNotes for NoSystem {
+    ghost use Rattle.std.specs.Prelude.{Some, Ok};
+
+    ghost answers = { λ _ _. Some (Ok tt) };
+
+    fn note(&self, _command: &Command) -> Result<(), NoteFault> {
+        Ok(())
+    }
+}

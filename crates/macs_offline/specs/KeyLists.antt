@@ -1,0 +1,37 @@
+-- The list of the keys that the endpoints of a disk's name were given.
+use Rattle.std.specs.Prelude.{◌≡◌, ◌++◌, ℕ, List, codes, string_bytes, Option, Some, None}
+use Rattle.std.specs.Option.{option_map}
+use Rattle.hex.specs.Hex.{encode_lower}
+use Rattle.macs_aes.specs.Keys.{octets_of_key}
+use Rattle.macs_config.specs.declared.command.Command.{Command}
+use Rattle.macs_config.specs.declared.command.Command.TheVariants.{TxInstall, RxInstall}
+use Rattle.macs_texts.specs.KeyTexts.{key_digest}
+use Rattle.macs_offline.specs.declared.failure.Failure.{Failure}
+use Rattle.macs_offline.specs.declared.failure.Failure.TheVariants as failures
+use Rattle.macs_offline.specs.declared.key_list.KeyFault.{KeyFault}
+use Rattle.macs_offline.specs.declared.key_list.KeyFault.TheVariants as key
+
+-- the octets of the key that a command installs
+abbrev pub key_in : Command → Option (List ℕ)
+key_in (TxInstall an key start confidential offset) = Some (octets_of_key key)
+key_in (RxInstall sci an key start offset) = Some (octets_of_key key)
+key_in command = None
+
+-- what stands for it, in hex digits
+abbrev pub digits_of : Command → Option (List ℕ)
+digits_of command = option_map (λ key. encode_lower (key_digest key)) (key_in command)
+
+-- the line behind the keys of an endpoint that is gone
+abbrev pub formatted : List ℕ
+formatted = codes "formatted\n"
+
+-- these digits are somewhere before such a line
+abbrev pub HasSpent : List ℕ → List ℕ → Type 0
+HasSpent list digits = (before between after : List ℕ)
+    × (list ≡ before ++ (digits ++ (between ++ (formatted ++ after))))
+
+-- where the keys of its commands are not noted, a command file says nothing that can be applied
+abbrev pub failure_of_keys : KeyFault → Failure
+failure_of_keys key.Spent = failures.Commands
+failure_of_keys key.File = failures.Commands
+failure_of_keys key.Memory = failures.Memory

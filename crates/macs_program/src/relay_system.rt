@@ -1,0 +1,38 @@
+//! What the desk of a relay asks of the system.
+
+use crate::overruns::dropped_at;
+use macs_config::Command;
+use macs_control::Wires;
+use macs_desk::{Dropped, KeyNotes, NoteFault, Overruns};
+use macs_offline::{KeyFault, KeyList};
+use std::alloc::Global;
+use std::rt::Files;
+use std::slice;
+
+/// Linux, of the sockets of both wires, and the list of keys beside the disk file.
+#[derive(Drop)]
+pub struct RelaySystem<'a, T> {
+    pub rt: &'a T,
+    pub alloc: Global,
+    pub wires: Wires,
+    pub keys: KeyList<'a, T>,
+}
+
+impl<T: Files> Overruns for RelaySystem<'_, T> {
+    fn dropped(&self) -> Dropped {
+        Dropped {
+            controlled: dropped_at(self.rt, self.alloc, self.wires.controlled),
+            common: dropped_at(self.rt, self.alloc, self.wires.common),
+        }
+    }
+}
+
+impl<T: Files> KeyNotes for RelaySystem<'_, T> {
+    fn note(&self, command: &Command) -> Result<(), NoteFault> {
+        match self.keys.note(slice::from_ref(command)) {
+            Ok(()) => Ok(()),
+            Err(KeyFault::Spent) => Err(NoteFault::Spent),
+            Err(KeyFault::File | KeyFault::Memory) => Err(NoteFault::Failed),
+        }
+    }
+}

@@ -1,0 +1,60 @@
+//! Which program runs, and since when.
+
+ghost use Rattle.std.specs.Prelude.{◌≡◌, IfOk, string_bytes};
+ghost use Rattle.macs_texts.specs.Programs.{about_text, started_line, word_line};
+
+use crate::build::Build;
+use crate::lines::{ended, joined};
+use std::alloc::{AllocError, Global};
+
+/// A run of the program.
+#[derive(Drop)]
+pub struct Program {
+    pub build: Build,
+    /// When it began, in seconds since the beginning of 1970 (UTC), where the clock could be read.
+    pub started: Option<u64>,
+}
+
+impl Program {
+    /// A run of no program: its texts are empty.
+    pub fn none(alloc: Global) -> Program {
+        let build = Build {
+            version: String::new(alloc),
+            commit: String::new(alloc),
+            proved: String::new(alloc),
+        };
+        Program {
+            build,
+            started: None,
+        }
+    }
+}
+
+/// The line of a word: what it is, and which.
+fn word_line(alloc: Global, name: &str, word: &str) -> Result<String, AllocError>
+    ensures { IfOk result (λ text. string_bytes text ≡ word_line name.now word.now) }
+{
+    ended(format!(in alloc; "{name} {word}")?)
+}
+
+/// When a run began, where that is known.
+fn started_line(alloc: Global, started: Option<u64>) -> Result<String, AllocError>
+    ensures { IfOk result (λ text. string_bytes text ≡ started_line started) }
+{
+    match started {
+        Some(seconds) => ended(format!(in alloc; "started {seconds}")?),
+        None => Ok(String::new(alloc)),
+    }
+}
+
+/// Which program runs, and since when, a line each. It fails only where memory is refused.
+pub fn about_lines(alloc: Global, program: &Program) -> Result<String, AllocError>
+    ensures { IfOk result
+        (λ text. string_bytes text ≡ about_text program.now.build program.now.started) }
+{
+    let build = &program.build;
+    let text = started_line(alloc, program.started);
+    let text = joined(word_line(alloc, "proved", build.proved.as_str()), text);
+    let text = joined(word_line(alloc, "commit", build.commit.as_str()), text);
+    joined(word_line(alloc, "macsecd", build.version.as_str()), text)
+}
