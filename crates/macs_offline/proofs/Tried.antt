@@ -17,6 +17,7 @@ use Rattle.macs_endpoint.specs.Calls.{IsCall}
 use Rattle.macs_endpoint.specs.State.{Commands, Ran}
 use Rattle.macs_endpoint.specs.Value.{EndpointValue}
 use Rattle.macs_journal.specs.declared.fault.JournalFault.TheVariants as journal
+use Rattle.macs_offline.specs.KeyLists.{SaysSpent}
 use Rattle.macs_offline.specs.Applying.{Applies, SaidByFile, SaysCommands, answer_of, outcomes_status}
 use Rattle.macs_offline.specs.Checking.{CheckEnds, IsSaidOfFile}
 use Rattle.macs_offline.proofs.Checked.{EndsOfFile}
@@ -194,12 +195,13 @@ pub trial-ended : {F : Type 0} (state_of : F → FileState) (left_in : F → Opt
     (octets : List ℕ) (end : Option (List ℕ)) (commands : List Command) (failure : Failure)
     → SaysCommands octets end commands → SaidByFile left_in end commands
     → (failure ≡ Output) ⊎ (failure ≡ Memory) ⊎ TrialFails state_of given.now end commands failure
+    ⊎ SaysSpent commands failure
     → CheckEnds state_of left_in name (Some given) failure
 trial-ended state_of left_in name given octets end commands failure says by_file (inl output) = inl (inr (inl output))
 trial-ended state_of left_in name given octets end commands failure says by_file (inr (inl memory)) =
     inl (inr (inr (octets, inl memory, inl memory)))
-trial-ended state_of left_in name given octets end commands failure says by_file (inr (inr fails)) =
-    inr (octets, end, commands, says, by_file, fails)
+trial-ended state_of left_in name given octets end commands failure says by_file (inr (inr stops)) =
+    inr (octets, end, commands, says, by_file, stops)
 
 -- the command file is not read, or has a fault
 pub told-ended : {F : Type 0} (state_of : F → FileState) (left_in : F → Option (List ℕ)) (name : List ℕ)
@@ -209,3 +211,13 @@ told-ended state_of left_in name None failure (inl unread) = inl unread
 told-ended state_of left_in name None failure (inr said) = inr (inr said)
 told-ended state_of left_in name (Some given) failure (inl unread) = inl (inl unread)
 told-ended state_of left_in name (Some given) failure (inr said) = inl (inr (inr said))
+
+-- what is said of a spent key is no failed output and no wrong usage
+pub spent-no-output : (commands : List Command) (failure : Failure) → SaysSpent commands failure → failure ≢ Output
+spent-no-output commands failure (inl memory) is = let e = sym memory ∙ is in cc
+spent-no-output commands failure (inr (text, said, holds)) is = let e = sym said ∙ is in cc
+
+pub spent-no-usage : (commands : List Command) (failure : Failure) → SaysSpent commands failure
+    → failure_status failure ≢ Usage
+spent-no-usage commands failure (inl memory) is = let e = ap failure_status (sym memory) ∙ is in cc
+spent-no-usage commands failure (inr (text, said, holds)) is = let e = ap failure_status (sym said) ∙ is in cc

@@ -1,11 +1,13 @@
 -- The list of the keys that the endpoints of a disk's name were given.
-use Rattle.std.specs.Prelude.{◌≡◌, ◌++◌, ℕ, List, codes, string_bytes, Option, Some, None}
+use Rattle.std.specs.Prelude.{◌≡◌, ◌⊎◌, ◌<◌, ◌+◌, ◌++◌, ℕ, List, codes, length, Option, Some, None}
+use Rattle.std.specs.Fmt.{decimal}
 use Rattle.std.specs.Option.{option_map}
 use Rattle.hex.specs.Hex.{encode_lower}
 use Rattle.macs_aes.specs.Keys.{octets_of_key}
 use Rattle.macs_config.specs.declared.command.Command.{Command}
 use Rattle.macs_config.specs.declared.command.Command.TheVariants.{TxInstall, RxInstall}
 use Rattle.macs_texts.specs.KeyTexts.{key_digest}
+use Rattle.macs_offline.specs.Reasons.{Complains}
 use Rattle.macs_offline.specs.declared.failure.Failure.{Failure}
 use Rattle.macs_offline.specs.declared.failure.Failure.TheVariants as failures
 use Rattle.macs_offline.specs.declared.key_list.KeyFault.{KeyFault}
@@ -29,6 +31,16 @@ formatted = codes "formatted\n"
 abbrev pub HasSpent : List ℕ → List ℕ → Type 0
 HasSpent list digits = (before between after : List ℕ)
     × (list ≡ before ++ (digits ++ (between ++ (formatted ++ after))))
+
+-- what is said of the command with this number, counted from 1
+abbrev pub spent_text : ℕ → List ℕ
+spent_text at = codes "command " ++ (decimal at ++ codes " key: an earlier disk file of this name had it")
+
+-- a failure says so of one of these commands, or that the list is not read
+abbrev pub SaysSpent : List Command → Failure → Type 0
+SaysSpent commands failure =
+    Complains (λ said. ((at : ℕ) × (at < length commands) × (said ≡ spent_text (at + 1)))
+    ⊎ (said ≡ codes "key list: cannot be read")) failure
 
 -- where the keys of its commands are not noted, a command file says nothing that can be applied
 abbrev pub failure_of_keys : KeyFault → Failure

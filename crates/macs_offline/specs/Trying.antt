@@ -26,6 +26,7 @@ use Rattle.macs_offline.specs.Applying.{own_sci}
 use Rattle.macs_offline.specs.Copying.{CopyFails, IsCopy}
 use Rattle.macs_offline.specs.FileModes.{mode_warning}
 use Rattle.macs_offline.specs.Reasons.{IsNotRead}
+use Rattle.macs_offline.specs.KeyLists.{SaysSpent}
 use Rattle.macs_offline.specs.declared.failure.DiskFault.{DiskFault}
 use Rattle.macs_offline.specs.declared.failure.DiskFault.TheVariants as disk
 use Rattle.macs_offline.specs.declared.failure.Failure.{Failure}
@@ -160,4 +161,4 @@ pub record PrintsTrial {F : Type 0} (state_of : F → FileState) (left_in : F �
 abbrev pub TrialStops : {F : Type 0} → (F → FileState) → (F → Option (List ℕ)) → List ℕ → Failure → Type 0
 TrialStops state_of left_in name failure =
     (octets : List ℕ) × (end : Option (List ℕ)) × (commands : List Command) × SaysCommands octets end commands
-    × SaidByFile left_in end commands × TrialFails state_of name end commands failure
+    × SaidByFile left_in end commands × (TrialFails state_of name end commands failure ⊎ SaysSpent commands failure)

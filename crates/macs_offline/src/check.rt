@@ -20,6 +20,7 @@ ghost use Rattle.macs_offline.specs.Checking.{count_line, fault_text, file_fault
 ghost use Rattle.macs_offline.specs.Checking.{key_reason, key_word, lacks};
 ghost use Rattle.macs_offline.specs.FileModes.{mode_warning};
 ghost use Rattle.macs_offline.specs.Reasons.{Complains, IsUnread};
+ghost use Rattle.macs_offline.specs.KeyLists.{SaysSpent, spent_text};
 ghost use Rattle.macs_offline.specs.Trying.{TrialFails, TriesIn, trial_report};
 
 use crate::applying::{MAX_FILE, MAX_READ};
@@ -27,6 +28,7 @@ use crate::capture_file::CaptureFile;
 use crate::failure::Failure;
 use crate::file_mode::{mode_of, print_mode};
 use crate::file_reason::failure_at;
+use crate::key_list::{KeyFault, KeyList};
 use crate::output::{Line, append_count, print, print_octets};
 use crate::status::Status;
 use crate::stream::Stream;
@@ -298,9 +300,40 @@ fn print_count<W: Stream>(count: usize, mode: Option<u32>, out: &mut W) -> Resul
     Ok(Status::Done)
 }
 
+/// What is said of the command with this number, from 0 on, whose key an endpoint that is gone had.
+fn spent_text(alloc: Global, at: usize) -> Result<String, AllocError>
+    requires { at < 2 ^ 64 - 1 }
+    ensures { IfOk result (λ text. string_bytes text ≡ spent_text (at + 1)) }
+{
+    let number = at + 1;
+    format!(in alloc; "command {number} key: an earlier disk file of this name had it")
+}
+
+/// Looks for the keys of these commands in the list beside a disk file. It fails as `Said`, where
+/// an endpoint that is gone had one of them, or the list cannot be read; or as `Memory`.
+fn refuse_spent<T: Files>(
+    rt: &T,
+    alloc: Global,
+    disk: &str,
+    commands: &[Command],
+) -> Result<(), Failure>
+    ensures { IfErr result (SaysSpent commands.now) }
+{
+    let list = KeyList { rt, alloc, disk };
+    match list.first_spent(commands) {
+        Ok(None) => Ok(()),
+        Ok(Some(at)) => Err(failure_saying(spent_text(alloc, at))),
+        Err(KeyFault::Memory) => Err(Failure::Memory),
+        Err(KeyFault::Spent | KeyFault::File) => {
+            let text = String::from_str(alloc, "key list: cannot be read");
+            Err(failure_saying(text))
+        }
+    }
+}
+
 /// Prints what these commands of a file would be answered by the endpoint on the disk in another,
 /// which is the end that they are for, and what is said of the mode of their file. It fails as
-/// `try_in` does, and as `Memory`, with nothing printed before.
+/// `try_in` does, then as `refuse_spent`, and as `Memory`, with nothing printed before.
 fn print_trial<T: Files, W: Stream>(
     rt: &T,
     alloc: Global,
@@ -319,11 +352,13 @@ where
         (trial_report outcomes ++ mode_warning mode)
         × (status ≡ outcomes_status outcomes)) }
     ensures ended { IfErr result (λ failure. (failure ≡ Failure.Output) ⊎ (failure ≡ Failure.Memory)
-        ⊎ TrialFails T.File.file disk.now end commands.now failure) }
+        ⊎ TrialFails T.File.file disk.now end commands.now failure
+        ⊎ SaysSpent commands.now failure) }
     ensures silent { IfErr result (λ failure. failure ≢ Failure.Output → out.new ≡ out.old) }
     ensures broken { IfErr result (λ failure. failure ≡ Failure.Output → W.failed out.new ≡ true) }
 {
     let outcomes = try_in(rt, alloc, disk, end, commands)?;
+    refuse_spent(rt, alloc, disk, commands)?;
     let text = trial_report(alloc, outcomes.as_slice())?;
     print(out, text.as_str())?;
     print_mode(mode, out)?;
@@ -333,8 +368,9 @@ where
 /// `check`: prints how many commands a file says, or what each of them would be answered by the
 /// endpoint on the disk in a file, and the mode of the command file where others can read it.
 /// Neither file is changed. It fails as `Said`, with the reason where the command file cannot be
-/// opened or read, else with its first fault; then, with a disk, as `try_in` does; and as `Memory`,
-/// and as `Output` where a line cannot be printed.
+/// opened or read, else with its first fault; then, with a disk, as `try_in` does, and as `Said`,
+/// where an endpoint that is gone had a key of its commands; and as `Memory`, and as `Output` where
+/// a line cannot be printed.
 pub fn check<T: Files, W: Stream>(
     rt: &T,
     alloc: Global,

@@ -3,7 +3,8 @@
 //! A new disk file does not know which keys the one before it had. Where that was lost, the list is
 //! what is left of them: no command that installs one of them is given to the new endpoint.
 
-ghost use Rattle.std.specs.Prelude.{◌≡◌, ◌↔◌, ◌⊎◌, IfErr, IfOk, IfSome, IsTrue, string_bytes};
+ghost use Rattle.std.specs.Prelude.{◌≡◌, ◌↔◌, ◌⊎◌, ◌<◌, IfErr, IfOk, IfSome, IsTrue, length};
+ghost use Rattle.std.specs.Prelude.{string_bytes};
 ghost use Rattle.std.specs.Option.{option_map};
 ghost use Rattle.macs_offline.specs.KeyLists.{HasSpent, digits_of, key_in};
 
@@ -122,7 +123,9 @@ fn first_spent(
     alloc: Global,
     list: &str,
     commands: &[Command],
-) -> Result<Option<usize>, AllocError> {
+) -> Result<Option<usize>, AllocError>
+    ensures { IfOk result (λ found. IfSome found (λ at. at < length commands.now)) }
+{
     for (at, command) in commands.iter().enumerate() {
         match digits_of(alloc, command)? {
             Some(digits) if has_spent(list, digits.as_str()) => return Ok(Some(at)),
@@ -193,6 +196,8 @@ fn append<T: Files>(rt: &T, name: &str, lines: &str) -> io::Result<()> {
 }
 
 impl<T: Files> KeyList<'_, T> {
+    ghost use Rattle.std.specs.Prelude.{◌<◌, IfOk, IfSome, length};
+
     /// Its path.
     fn name(&self) -> Result<String, KeyFault> {
         let place = self.rt.canonicalize(self.alloc, self.disk)?;
@@ -203,7 +208,9 @@ impl<T: Files> KeyList<'_, T> {
 
     /// The number of the first of these commands, from 0 on, that installs a key of an endpoint
     /// that is gone.
-    pub fn first_spent(&self, commands: &[Command]) -> Result<Option<usize>, KeyFault> {
+    pub fn first_spent(&self, commands: &[Command]) -> Result<Option<usize>, KeyFault>
+        ensures { IfOk result (λ found. IfSome found (λ at. at < length commands.now)) }
+    {
         let name = self.name()?;
         let list = read_list(self.rt, self.alloc, name.as_str())?;
         let found = first_spent(self.alloc, list.as_str(), commands)?;

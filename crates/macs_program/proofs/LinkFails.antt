@@ -35,6 +35,7 @@ use Rattle.macs_offline.proofs.Examined.{of-examination}
 use Rattle.macs_offline.proofs.Failures.{IsOfCopy, IsOfDisk, of-file, of-opening}
 use Rattle.macs_offline.proofs.Inspected.{of-inspecting}
 use Rattle.macs_offline.proofs.Tried.{IsOfTrial, of-look, of-trial}
+use Rattle.macs_offline.specs.KeyLists.{SaysSpent}
 use Rattle.macs_offline.specs.Applying.{EndsRun}
 use Rattle.macs_program.specs.Capturing.{EndsPass, EndsWith}
 use Rattle.macs_offline.specs.Checking.{CheckFails}
@@ -100,6 +101,11 @@ not-of-disk refusal (inr (fault, is)) = no-disk refusal fault is
 not-of-copy : (refusal : LinkRefusal) → IsOfCopy (failures.Link refusal) → ⊥
 not-of-copy refusal (inl ours) = not-of-disk refusal ours
 not-of-copy refusal (inr (text, is)) = let wrong : failures.Link refusal ≡ failures.DiskFile text = is in cc
+
+not-spent : (refusal : LinkRefusal) (commands : List Command) → SaysSpent commands (failures.Link refusal) → ⊥
+not-spent refusal commands (inl memory) = no-memory refusal memory
+not-spent refusal commands (inr (text, said, holds)) =
+    let wrong : failures.Link refusal ≡ failures.Said text = said in cc
 
 not-of-trial : (refusal : LinkRefusal) → IsOfTrial (failures.Link refusal) → ⊥
 not-of-trial refusal (inl ours) = not-of-copy refusal ours
@@ -267,8 +273,10 @@ module _ {F : Type 0} (state_of : F → FileState) (left_in : F → Option (List
   planned (Inspect taken) fails = absurd (inspects refusal taken.now before after fails)
   planned (Check file None) fails = absurd (checks left_in file.now refusal fails)
   planned (Check file (Some disk)) (inl fails) = absurd (checks left_in file.now refusal fails)
-  planned (Check file (Some disk)) (inr (octets, end, commands, says, by_file, fails)) =
+  planned (Check file (Some disk)) (inr (octets, end, commands, says, by_file, inl fails)) =
       absurd (not-of-trial refusal (of-trial state_of disk.now end commands (failures.Link refusal) fails))
+  planned (Check file (Some disk)) (inr (octets, end, commands, says, by_file, inr spent)) =
+      absurd (not-spent refusal commands spent)
   planned (Plan file end stage) fails = (file, end, stage, refl)
   planned (Examine disk) (inl is) = absurd (no-output refusal is)
   planned (Examine disk) (inr fails) =

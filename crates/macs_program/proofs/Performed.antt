@@ -39,7 +39,7 @@ use Rattle.macs_words.specs.declared.action.Question.TheVariants as question
 use Rattle.macs_words.specs.declared.pace.Running.{Running}
 use Rattle.macs_offline.proofs.Examined.{examining-no-usage, said-status}
 use Rattle.macs_offline.proofs.Failures.{disk-no-usage, output-no-usage}
-use Rattle.macs_offline.proofs.Tried.{of-trial, trial-no-usage}
+use Rattle.macs_offline.proofs.Tried.{of-trial, spent-no-usage, trial-no-usage}
 
 -- a failure of the disk is not one of the output
 of-disk : (failure : Failure) → failure_status failure ≡ ends.Disk → failure ≢ Output
@@ -376,8 +376,10 @@ module _ {F W : Type 0} (state_of : F → FileState) (left_in : F → Option (Li
       → failure_status failure ≢ ends.Usage
   check-no-usage name None failure is = (checking-no-usage left_in name failure is).0
   check-no-usage name (Some disk) failure (inl is) = (checking-no-usage left_in name failure is).0
-  check-no-usage name (Some disk) failure (inr (octets, end, commands, says, by_file, fails)) =
+  check-no-usage name (Some disk) failure (inr (octets, end, commands, says, by_file, inl fails)) =
       trial-no-usage failure (of-trial state_of disk.now end commands failure fails)
+  check-no-usage name (Some disk) failure (inr (octets, end, commands, says, by_file, inr spent)) =
+      spent-no-usage commands failure spent
 
   pub checks : (file : Bor (List ℕ)) (disk : Option (Bor (List ℕ)))
       → IfOk result (Checks state_of left_in disk (contents old) (contents new))

@@ -307,6 +307,8 @@ asked-so name (question.Apply from) said (inl of_socket) = inl of_socket
 asked-so name (question.Apply from) said (inr of_file) = inr (from, refl, of_file)
 asked-so name question.Show said is = inl is
 asked-so name question.Counters said is = inl is
+asked-so name question.Keys said is = inl is
+asked-so name question.About said is = inl is
 asked-so name question.Stop said is = inl is
 
 of_key : (failure : Failure) → IsOfKey failure → (failure ≡ failures.Random) ⊎ (failure ≡ failures.Output)

@@ -409,6 +409,10 @@ const LOST: &[Step] = &[
     Holds("story-spent/disk.spent", CLOSED),
     Run(APPLY_KEY, Outcome::Fault("macsecd: commands\n")),
     Holds("story-spent/disk.spent", CLOSED),
+    Run(
+        &["check", "story-spent/key.toml", "story-spent/disk"],
+        Outcome::Fault("macsecd: command 1 key: an earlier disk file of this name had it\n"),
+    ),
     Run(APPLY_OTHER, Outcome::Done("1 ok\n2 ok\n")),
     Holds("story-spent/disk.spent", NOTED_AGAIN),
     Run(SPENT_FORMAT, Outcome::Disk("macsecd: already formatted\n")),

@@ -1,6 +1,6 @@
-use Rattle.std.proofs.Common.{◌∙◌, ap, inr}
+use Rattle.std.proofs.Common.{◌∙◌, ap, inl, inr}
 use Rattle.std.proofs.lemmas.Result.{err_from_is_err_and}
-use Rattle.macs_offline.proofs.Tried.{both-printed, of-trial, trial-no-output}
+use Rattle.macs_offline.proofs.Tried.{both-printed, of-trial, spent-no-output, trial-no-output}
 use Rattle.macs_offline.specs.Applying.{outcomes_status}
 use Rattle.macs_offline.specs.Trying.{trial_report}
 use Rattle.macs_offline.proofs.check.print_trial.Goals as goal
@@ -8,12 +8,22 @@ use Rattle.macs_offline.proofs.check.print_trial.Goals as goal
 pub returns-in_err-outcomes-clause-ended : goal.returns-in_err-outcomes-clause-ended
 returns-in_err-outcomes-clause-ended g c =
     let p = err_from_is_err_and c.from_residual.result c.from_residual.ensures.1 in
-    rw (p.1, p.2) (inr (inr c.in_err-outcomes.ensures.ended))
+    rw (p.1, p.2) (inr (inr (inl c.in_err-outcomes.ensures.ended)))
 
 pub returns-in_err-outcomes-clause-broken : goal.returns-in_err-outcomes-clause-broken
 returns-in_err-outcomes-clause-broken g c =
     let p = err_from_is_err_and c.from_residual.result c.from_residual.ensures.1 in
     rw (p.1, p.2) (λ output. absurd (trial-no-output _ (of-trial _ _ _ _ _ c.in_err-outcomes.ensures.ended) output))
+
+pub returns-in_err-refuse_spent-clause-ended : goal.returns-in_err-refuse_spent-clause-ended
+returns-in_err-refuse_spent-clause-ended g c =
+    let p = err_from_is_err_and c.from_residual-2.result c.from_residual-2.ensures.1 in
+    rw (p.1, p.2) (inr (inr (inr c.in_err-refuse_spent.ensures)))
+
+pub returns-in_err-refuse_spent-clause-broken : goal.returns-in_err-refuse_spent-clause-broken
+returns-in_err-refuse_spent-clause-broken g c =
+    let p = err_from_is_err_and c.from_residual-2.result c.from_residual-2.ensures.1 in
+    rw (p.1, p.2) (λ output. absurd (spent-no-output _ _ c.in_err-refuse_spent.ensures output))
 
 pub returns-clause-printed : goal.returns-clause-printed
 returns-clause-printed g c = (
