@@ -84,9 +84,9 @@ pub record ActionWords : Type 0 where
       → (first_of (codes "WORD") values ≡ Some (codes "show")) × (first_of (codes "FILE") values ≡ None)
   pub counted : (values : List Row) → HasQuestion values question.Counters
       → (first_of (codes "WORD") values ≡ Some (codes "counters")) × (first_of (codes "FILE") values ≡ None)
-  pub keys : (values : List Row) → HasQuestion values question.Keys
+  pub asked_keys : (values : List Row) → HasQuestion values question.Keys
       → (first_of (codes "WORD") values ≡ Some (codes "keys")) × (first_of (codes "FILE") values ≡ None)
-  pub about : (values : List Row) → HasQuestion values question.About
+  pub asked_about : (values : List Row) → HasQuestion values question.About
       → (first_of (codes "WORD") values ≡ Some (codes "about")) × (first_of (codes "FILE") values ≡ None)
   pub stopped : (values : List Row) → HasQuestion values question.Stop
       → (first_of (codes "WORD") values ≡ Some (codes "stop")) × (first_of (codes "FILE") values ≡ None)

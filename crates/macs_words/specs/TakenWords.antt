@@ -146,9 +146,9 @@ pub record TakenWords : Type 0 where
       → first_of (codes "FILE") values ≡ None → HasQuestion values question.Show
   pub counted : (values : List Row) → first_of (codes "WORD") values ≡ Some (codes "counters")
       → first_of (codes "FILE") values ≡ None → HasQuestion values question.Counters
-  pub keys : (values : List Row) → first_of (codes "WORD") values ≡ Some (codes "keys")
+  pub asked_keys : (values : List Row) → first_of (codes "WORD") values ≡ Some (codes "keys")
       → first_of (codes "FILE") values ≡ None → HasQuestion values question.Keys
-  pub about : (values : List Row) → first_of (codes "WORD") values ≡ Some (codes "about")
+  pub asked_about : (values : List Row) → first_of (codes "WORD") values ≡ Some (codes "about")
       → first_of (codes "FILE") values ≡ None → HasQuestion values question.About
   pub stopped : (values : List Row) → first_of (codes "WORD") values ≡ Some (codes "stop")
       → first_of (codes "FILE") values ≡ None → HasQuestion values question.Stop

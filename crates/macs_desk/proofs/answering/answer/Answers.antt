@@ -1,5 +1,7 @@
-use Rattle.std.proofs.Common.{◌∙◌, [], ◌∷◌, refl}
+use Rattle.std.proofs.Common.{◌∙◌, [], ◌∷◌, ap, refl}
+use Rattle.std.proofs.lemmas.Result.{IfOk-weaker}
 use Rattle.macs_requests.specs.Talks.{Said}
+use Rattle.macs_texts.specs.KeyTexts.{keys_text}
 use Rattle.macs_desk.specs.Replies.{end_text}
 use Rattle.macs_desk.proofs.EndTexts.{end-0}
 use Rattle.macs_desk.proofs.Talking.{says}
@@ -9,7 +11,8 @@ pub returns-in-Show : goal.returns-in-Show
 returns-in-Show g c = rw c.in-Show.is (c.tell.ensures _ c.show_lines.ensures)
 
 pub returns-in-Keys : goal.returns-in-Keys
-returns-in-Keys g c = rw c.in-Keys.is (c.tell-in-Keys.ensures _ c.keys_lines.ensures)
+returns-in-Keys g c = rw c.in-Keys.is (c.tell-in-Keys.ensures _ (IfOk-weaker c.keys_lines.result _ _
+    (λ text is. is ∙ ap keys_text c.config.ensures.config) c.keys_lines.ensures))
 
 pub returns-in-About : goal.returns-in-About
 returns-in-About g c = rw c.in-About.is (c.tell-in-About.ensures _ c.about_lines.ensures)
@@ -18,7 +21,7 @@ pub returns-in-Counters : goal.returns-in-Counters
 returns-in-Counters g c =
     let report = c.counted-report.ensures in
     let told = c.tell-in-Counters.ensures _ report.2 in
-    rw c.in-Counters.is (told.0, (report.0, report.1, told.1), told.2)
+    rw c.in-Counters.is (told.0, (report.0, report.1, told.1.0, told.1.1), told.2)
 
 pub returns-in-Stop : goal.returns-in-Stop
 returns-in-Stop g c = rw c.in-Stop.is (
