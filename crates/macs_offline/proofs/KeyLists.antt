@@ -1,11 +1,14 @@
 -- The first place of a text in another one, and what is after it.
 use Rattle.std.proofs.Common.{◌≡◌, ◌≢◌, ◌∙◌, ◌↔◌, ◌+◌, ◌<◌, ◌≤◌, ◌++◌, ℕ, Bool, true, false, List, length, take, drop}
-use Rattle.std.proofs.Common.{arith, ap, sym, append_assoc}
+use Rattle.std.proofs.Common.{arith, ap, codes, inl, inr, sym, append_assoc}
 use Rattle.std.proofs.Math.Seq.{drop-append_seam}
 use Rattle.std.proofs.lemmas.List.{drop-append-le, length-append, take-append-drop}
 use Rattle.std.specs.Str.Iter.{HasSubslice}
 use Rattle.std.specs.Str.Pattern.{HasTextAt, LacksTextAt}
-use Rattle.macs_offline.specs.KeyLists.{HasSpent, formatted}
+use Rattle.macs_config.specs.declared.command.Command.{Command}
+use Rattle.macs_offline.specs.KeyLists.{HasSpent, SaysSpent, formatted, spent_text}
+use Rattle.macs_offline.specs.Reasons.{Complains}
+use Rattle.macs_offline.specs.declared.failure.Failure.{Failure}
 
 module _ (list digits behind : List ℕ) (i j : ℕ) (has : HasTextAt digits list i j) (is : behind ≡ drop j list) where
   -- what is behind the first place is what is behind any later one, and something before it
@@ -45,3 +48,14 @@ unspent list digits r fails none = (
   λ holds. absurd (let wrong : false ≡ true = sym fails ∙ holds in cc),
   λ spent. absurd (none spent.0 (spent.1 ++ (formatted ++ spent.2)) spent.3),
 )
+
+-- a key that is spent is said to be, or that the list is not read
+pub spent-said : (commands : List Command) (failure : Failure) (at : ℕ) → 1 ≤ at → at ≤ length commands
+    → Complains (λ said. said ≡ spent_text at) failure → SaysSpent commands failure
+spent-said commands failure at first last (inl memory) = inl memory
+spent-said commands failure at first last (inr (text, is, says)) = inr (text, is, inl (at, first, last, says))
+
+pub list-unread : (commands : List Command) (failure : Failure)
+    → Complains (λ said. said ≡ codes "key list: cannot be read") failure → SaysSpent commands failure
+list-unread commands failure (inl memory) = inl memory
+list-unread commands failure (inr (text, is, says)) = inr (text, is, inr says)

@@ -1,5 +1,5 @@
 -- The list of the keys that the endpoints of a disk's name were given.
-use Rattle.std.specs.Prelude.{◌≡◌, ◌⊎◌, ◌<◌, ◌+◌, ◌++◌, ℕ, List, codes, length, Option, Some, None}
+use Rattle.std.specs.Prelude.{◌≡◌, ◌⊎◌, ◌≤◌, ◌++◌, ℕ, List, codes, length, Option, Some, None}
 use Rattle.std.specs.Fmt.{decimal}
 use Rattle.std.specs.Option.{option_map}
 use Rattle.hex.specs.Hex.{encode_lower}
@@ -39,7 +39,7 @@ spent_text at = codes "command " ++ (decimal at ++ codes " key: an earlier disk 
 -- a failure says so of one of these commands, or that the list is not read
 abbrev pub SaysSpent : List Command → Failure → Type 0
 SaysSpent commands failure =
-    Complains (λ said. ((at : ℕ) × (at < length commands) × (said ≡ spent_text (at + 1)))
+    Complains (λ said. ((at : ℕ) × (1 ≤ at) × (at ≤ length commands) × (said ≡ spent_text at))
     ⊎ (said ≡ codes "key list: cannot be read")) failure
 
 -- where the keys of its commands are not noted, a command file says nothing that can be applied

@@ -300,13 +300,11 @@ fn print_count<W: Stream>(count: usize, mode: Option<u32>, out: &mut W) -> Resul
     Ok(Status::Done)
 }
 
-/// What is said of the command with this number, from 0 on, whose key an endpoint that is gone had.
+/// What is said of the command with this number, from 1 on, whose key an endpoint that is gone had.
 fn spent_text(alloc: Global, at: usize) -> Result<String, AllocError>
-    requires { at < 2 ^ 64 - 1 }
-    ensures { IfOk result (λ text. string_bytes text ≡ spent_text (at + 1)) }
+    ensures { IfOk result (λ text. string_bytes text ≡ spent_text at) }
 {
-    let number = at + 1;
-    format!(in alloc; "command {number} key: an earlier disk file of this name had it")
+    format!(in alloc; "command {at} key: an earlier disk file of this name had it")
 }
 
 /// Looks for the keys of these commands in the list beside a disk file. It fails as `Said`, where

@@ -3,7 +3,7 @@
 //! A new disk file does not know which keys the one before it had. Where that was lost, the list is
 //! what is left of them: no command that installs one of them is given to the new endpoint.
 
-ghost use Rattle.std.specs.Prelude.{◌≡◌, ◌↔◌, ◌⊎◌, ◌<◌, IfErr, IfOk, IfSome, IsTrue, length};
+ghost use Rattle.std.specs.Prelude.{◌≡◌, ◌↔◌, ◌⊎◌, ◌≤◌, IfErr, IfOk, IfSome, IsTrue, length};
 ghost use Rattle.std.specs.Prelude.{string_bytes};
 ghost use Rattle.std.specs.Option.{option_map};
 ghost use Rattle.macs_offline.specs.KeyLists.{HasSpent, digits_of, key_in};
@@ -51,8 +51,9 @@ pub enum KeyFault {
 
 impl From<AllocError> for KeyFault {
     ghost use Rattle.std.specs.Prelude.{◌≡◌};
+    ghost use Rattle.macs_offline.specs.declared.key_list.KeyFault.TheVariants.{Memory};
 
-    ghost from_gives = { λ _ fault. fault ≡ KeyFault.Memory };
+    ghost from_gives = { λ _ fault. fault ≡ Memory };
 
     fn from(_error: AllocError) -> KeyFault {
         KeyFault::Memory
@@ -61,8 +62,9 @@ impl From<AllocError> for KeyFault {
 
 impl From<io::Error> for KeyFault {
     ghost use Rattle.std.specs.Prelude.{◌≡◌, ◌⊎◌};
+    ghost use Rattle.macs_offline.specs.declared.key_list.KeyFault.TheVariants.{File, Memory};
 
-    ghost from_gives = { λ _ fault. (fault ≡ KeyFault.Memory) ⊎ (fault ≡ KeyFault.File) };
+    ghost from_gives = { λ _ fault. (fault ≡ Memory) ⊎ (fault ≡ File) };
 
     fn from(error: io::Error) -> KeyFault {
         match error.kind() {
@@ -89,7 +91,7 @@ impl From<KeyFault> for Failure {
 
 /// The octets of the key that a command installs, 16 or 32, if it installs one.
 fn key_in(command: &Command) -> Option<&[u8]>
-    ensures { IfSome result (λ octets. key_in command.now ≡ Some octets.now) }
+    ensures { option_map (λ octets. octets.now) result ≡ key_in command.now }
 {
     match command {
         Command::TxInstall { key, .. } | Command::RxInstall { key, .. } => Some(key.as_slice()),
@@ -117,18 +119,15 @@ fn has_spent(list: &str, digits: &str) -> bool
     }
 }
 
-/// The number of the first of these commands, from 0 on, that installs a key of an endpoint that is
+/// The number of the first of these commands, from 1 on, that installs a key of an endpoint that is
 /// gone, by a list.
-fn first_spent(
-    alloc: Global,
-    list: &str,
-    commands: &[Command],
-) -> Result<Option<usize>, AllocError>
-    ensures { IfOk result (λ found. IfSome found (λ at. at < length commands.now)) }
+fn first_spent(alloc: Global, list: &str, commands: &[Command]) -> Result<Option<usize>, AllocError>
+    ensures { IfOk result (λ found.
+        IfSome found (λ at. (1 ≤ at) × (at ≤ length commands.now))) }
 {
     for (at, command) in commands.iter().enumerate() {
         match digits_of(alloc, command)? {
-            Some(digits) if has_spent(list, digits.as_str()) => return Ok(Some(at)),
+            Some(digits) if has_spent(list, digits.as_str()) => return Ok(Some(at + 1)),
             _ => {}
         }
     }
@@ -196,7 +195,7 @@ fn append<T: Files>(rt: &T, name: &str, lines: &str) -> io::Result<()> {
 }
 
 impl<T: Files> KeyList<'_, T> {
-    ghost use Rattle.std.specs.Prelude.{◌<◌, IfOk, IfSome, length};
+    ghost use Rattle.std.specs.Prelude.{◌≤◌, IfOk, IfSome, length};
 
     /// Its path.
     fn name(&self) -> Result<String, KeyFault> {
@@ -206,10 +205,11 @@ impl<T: Files> KeyList<'_, T> {
         Ok(name)
     }
 
-    /// The number of the first of these commands, from 0 on, that installs a key of an endpoint
+    /// The number of the first of these commands, from 1 on, that installs a key of an endpoint
     /// that is gone.
     pub fn first_spent(&self, commands: &[Command]) -> Result<Option<usize>, KeyFault>
-        ensures { IfOk result (λ found. IfSome found (λ at. at < length commands.now)) }
+        ensures { IfOk result (λ found.
+            IfSome found (λ at. (1 ≤ at) × (at ≤ length commands.now))) }
     {
         let name = self.name()?;
         let list = read_list(self.rt, self.alloc, name.as_str())?;
