@@ -9,8 +9,8 @@ use Rattle.macs_offline.specs.Failing.{failure_of_file, failure_status}
 use Rattle.macs_offline.specs.declared.failure.DiskFault.{DiskFault}
 use Rattle.macs_offline.specs.declared.failure.DiskFault.TheVariants as disk_faults
 use Rattle.macs_offline.specs.declared.failure.Failure.{Failure}
-use Rattle.macs_offline.specs.declared.failure.Failure.TheVariants.{Capture, Commands, Control, Disk, DiskFile, Memory}
-use Rattle.macs_offline.specs.declared.failure.Failure.TheVariants.{Output, Wire}
+use Rattle.macs_offline.specs.declared.failure.Failure.TheVariants.{Capture, Commands, Disk, DiskFile, Memory}
+use Rattle.macs_offline.specs.declared.failure.Failure.TheVariants.{Output}
 use Rattle.macs_offline.specs.Reasons.{ComplainsOfDisk, IsNotRead, Tells, reason_text}
 use Rattle.macs_offline.specs.declared.file_reason.FileReason.{FileReason}
 use Rattle.std.proofs.Common.{codes}

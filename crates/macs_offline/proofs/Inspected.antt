@@ -14,7 +14,6 @@ use Rattle.macs_pcap.specs.Reading.{HoldsOfLeft, ReadsHeader, ReadsRecord}
 use Rattle.macs_pcap.specs.Records.{CaptureRecord}
 use Rattle.macs_pcap.specs.States.{SourceState}
 use Rattle.macs_pcap.specs.declared.fault.PcapFault.{PcapFault}
-use Rattle.macs_pcap.specs.declared.fault.PcapFault.TheVariants as pcap
 use Rattle.macs_pcap.specs.declared.header.Header.{Header}
 use Rattle.macs_edge.proofs.Behind.{left-more, longer}
 use Rattle.macs_offline.specs.Inspecting.{AreLinesOf, FailsSo, HasInspected, InspectFails, InspectsNext}

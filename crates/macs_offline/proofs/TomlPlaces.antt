@@ -1,7 +1,7 @@
 -- Places in a text, octet after octet.
 use Rattle.std.proofs.Common.{◌≡◌, ◌∙◌, ◌+◌, ◌<◌, ◌≤◌, ◌==◌, ◌/◌, if◌then◌else◌, ℕ, suc, Bool, true, false, List, []}
 use Rattle.std.proofs.Common.{◌∷◌}
-use Rattle.std.proofs.Common.{length, drop, get_or, ap, sym, arith, refl}
+use Rattle.std.proofs.Common.{length, drop, get_or, ap, sym, arith}
 use Rattle.std.proofs.Math.Seq.{drop-cons}
 use Rattle.std.proofs.lemmas.List.{drop_all}
 use Rattle.macs_offline.specs.TomlPlaces.{place_from, place_step}

@@ -1,6 +1,6 @@
 use Rattle.std.proofs.Common.{inl, inr, refl}
 use Rattle.std.proofs.lemmas.Result.{err_from_is_err_and}
-use Rattle.macs_offline.proofs.Inspected.{of-inspecting, of-stop, stop-front, stop-output, unopened-front}
+use Rattle.macs_offline.proofs.Inspected.{of-stop, stop-front, stop-output}
 use Rattle.macs_offline.proofs.inspect.inspect.Goals as goal
 
 pub returns-in-Ok-clause-printed : goal.returns-in-Ok-clause-printed

@@ -1,4 +1,4 @@
-use Rattle.std.proofs.Common.{inr, List, ℕ}
+use Rattle.std.proofs.Common.{inr}
 use Rattle.macs_offline.specs.TomlPlaces.{SaysNotToml}
 use Rattle.macs_offline.proofs.Checked.{complains-weaker}
 use Rattle.macs_offline.proofs.toml_place.failure_of_toml.Goals as goal
