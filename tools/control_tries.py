@@ -4,7 +4,7 @@
     python3 tools/control_tries.py PROGRAM [WORD]
 
 Each try sets up a link of two relays over loopback, with a control socket at the left one, and prints a line. With WORD those run whose names
-have it. The status is 0 where each went as it is to go. It needs nothing but Python, and `env` with --block-signal (coreutils 9).
+have it. The status is 0 where each went as it is to go. It needs Python, `env` with --block-signal (coreutils 9), and a C compiler for one of them.
 """
 
 import contextlib
@@ -173,6 +173,16 @@ def until_end(it):
         more = it.recv(65536)
         if not more:
             break
+        got += more
+    return got
+
+
+def until_ends(it, count):
+    """What a connection says up to the end of so many answers."""
+    got = b""
+    while got.count(b"end ") < count or not got.endswith(b"\n"):
+        more = it.recv(65536)
+        assert more, got
         got += more
     return got
 
@@ -557,17 +567,14 @@ def a_relay_that_is_killed_with_sixteen_under_way():
             assert kept == wanted[:len(kept)] and told <= len(kept) <= told + 1, (answers, kept)
 
 
-# Mounts a small file system of its own, puts a copy of the left disk file on it, as sparse as can be, fills what is left but for one page, and
-# goes on with the words that follow. The name stays, so it is that of the copy.
+# Mounts a file system of its own that has no room for a second copy of the disk file, and shows what is in the first.
 ON_A_FULL_DISK = """
-cp "$0" "$0.copy"
 mkdir "$0.room"
-mount -t tmpfs -o size=256k none "$0.room"
-cp --sparse=always "$0.copy" "$0.room/disk"
-dd if=/dev/zero of="$0.room/rest" bs=4096 2>/dev/null || true
-truncate -s -4096 "$0.room/rest"
-mount --bind "$0.room/disk" "$0"
-exec "$@"
+mount -t tmpfs -o size=768k none "$0.room"
+cp "$0" "$0.room/disk"
+"$1" show "$0.room/disk"
+echo "status $?"
+cmp "$0" "$0.room/disk" && ls "$0.room"
 """
 
 
@@ -580,19 +587,53 @@ def a_disk_that_is_full():
     assert can_mount(), "this user may not mount in a namespace of its own"
     with tempfile.TemporaryDirectory() as folder:
         disk = os.path.join(folder, "left.disk")
-        it = Link(folder, before=["unshare", "-rm", "sh", "-c", ON_A_FULL_DISK, disk])
+        assert run("format", disk, "0200000000010001", 1024, 16).returncode == 0
+        shown = subprocess.run(["unshare", "-rm", "sh", "-c", ON_A_FULL_DISK, disk, PROGRAM], capture_output=True, text=True, check=False)
+        assert (shown.stdout, shown.stderr) == ("status 4\ndisk\n", "macsecd: disk file\n"), shown
+
+
+# Each sync fails while a file of this name is there.
+FAILING_SYNCS = """
+#include <errno.h>
+#include <stdlib.h>
+#include <sys/syscall.h>
+#include <unistd.h>
+
+int fdatasync(int file) {
+    if (access(getenv("SYNCS_FAIL"), F_OK) == 0) {
+        errno = EIO;
+        return -1;
+    }
+    return syscall(SYS_fdatasync, file);
+}
+"""
+
+
+@a_try
+def a_disk_that_fails():
+    assert has("cc"), "a C compiler is needed for this"
+    with tempfile.TemporaryDirectory() as folder:
+        library, mark = os.path.join(folder, "syncs.so"), os.path.join(folder, "fail")
+        subprocess.run(["cc", "-shared", "-fPIC", "-x", "c", "-o", library, "-"], input=FAILING_SYNCS, text=True, check=True)
+        it = Link(folder, env={"LD_PRELOAD": library, "SYNCS_FAIL": mark})
         try:
             it.passes()
             client = it.connect()
-            # Each takes a sector or two, and a page of the file system has eight: soon one is needed that is not there.
-            send_channels(client, sixteen(0x400))
+            first, rest = sixteen(0x400)[:3], sixteen(0x400)[3:]
+            send_channels(client, first)
+            until_ends(client, len(first))
+            with open(mark, "w", encoding="ascii"):
+                pass
+            send_channels(client, rest)
             answers = read_all(client)[0].decode().splitlines()
             out, err = it.left.communicate(timeout=10)
             assert (it.left.returncode, out, err) == (4, "", "macsecd: disk\n"), (it.left.returncode, out, err)
             assert not os.path.exists(it.control), "the socket is left behind"
-            told, failed = answers.count("ok"), answers.count("end 4")
-            assert failed > 0 and told + failed == 16, answers
-            assert answers == ["ok", "end 0"] * told + ["end 4"] * failed, answers
+            # Those that were taken by then; the relay reads no further line.
+            assert answers == ["end 4"] * len(answers) and 1 <= len(answers) <= len(rest), answers
+            os.remove(mark)
+            kept = channels_of(it.disk)
+            assert kept[:len(first)] == first and len(kept) <= len(first) + 1, kept
         finally:
             it.close()
 
