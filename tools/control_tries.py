@@ -535,9 +535,12 @@ def send_channels(client, channels):
     client.sendall("".join(f"rx-add {sci}\n" for sci in channels).encode())
 
 
+def channels_in(shown):
+    return [line.split()[1] for line in shown.splitlines() if line.startswith("channel ") and line != "channel 0200000000020001"]
+
+
 def channels_of(disk):
-    lines = run("show", disk).stdout.splitlines()
-    return [line.split()[1] for line in lines if line.startswith("channel ") and line != "channel 0200000000020001"]
+    return channels_in(run("show", disk).stdout)
 
 
 @a_try
@@ -549,8 +552,8 @@ def one_that_goes_away_with_commands_under_way():
         assert it.passes() < 1
         shown = it.ask("show").stdout
         it.stop()
-        kept = channels_of(it.disk)
-        assert kept == wanted[:len(kept)] and all(f"channel {sci}\n" in shown for sci in kept[:-1]), (kept, shown)
+        kept, then = channels_of(it.disk), channels_in(shown)
+        assert kept == wanted[:len(kept)] and then == kept[:len(then)], (kept, then)
 
 
 @a_try
