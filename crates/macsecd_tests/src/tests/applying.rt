@@ -485,8 +485,11 @@ fn a_key_of_a_lost_disk_is_told_by_its_command(rt: HostRuntime) -> Result<(), Fa
     play(&rt, rt.alloc(), "story-third", THIRD)
 }
 
-/// A command file for the other end.
+const NOT_OWN_FORMAT: &[&str] = &["format", "story-not-own/own", "0200000000020001", "4", "4"];
+
+/// A command file for the other end, and then that end: both of its keys are noted.
 const NOT_OWN: &[Step] = &[
+    Text("story-not-own/key.toml", KEY),
     Text("story-not-own/end.toml", OTHER_END),
     Run(
         &["format", "story-not-own/disk", "0200000000010001", "4", "4"],
@@ -497,10 +500,26 @@ const NOT_OWN: &[Step] = &[
         Outcome::Fault("macsecd: commands\n"),
     ),
     IsMissing("story-not-own/disk.spent"),
+    Run(NOT_OWN_FORMAT, FORMATTED),
+    Run(
+        &["apply", "story-not-own/own", "story-not-own/end.toml"],
+        Outcome::Done("1 ok\n2 ok\n3 ok\n"),
+    ),
+    HasOctets("story-not-own/own.spent", 130),
+    Zeros("story-not-own/own", 0),
+    Run(NOT_OWN_FORMAT, FORMATTED),
+    Run(
+        &["check", "story-not-own/end.toml", "story-not-own/own"],
+        Outcome::Fault("macsecd: command 2 key: an earlier disk file of this name had it\n"),
+    ),
+    Run(
+        &["check", "story-not-own/key.toml", "story-not-own/own"],
+        Outcome::Fault("macsecd: command 1 key: an earlier disk file of this name had it\n"),
+    ),
 ];
 
 #[test]
-fn no_key_of_another_end_is_noted(rt: HostRuntime) -> Result<(), Fail> {
+fn the_keys_of_the_own_end_are_noted(rt: HostRuntime) -> Result<(), Fail> {
     play(&rt, rt.alloc(), "story-not-own", NOT_OWN)
 }
 
