@@ -38,7 +38,7 @@ use Rattle.macs_words.specs.declared.action.Question.{Question}
 use Rattle.macs_words.specs.declared.action.Question.TheVariants as question
 use Rattle.macs_words.specs.declared.pace.Running.{Running}
 use Rattle.macs_offline.proofs.Examined.{examining-no-usage, said-status}
-use Rattle.macs_offline.proofs.Failures.{disk-no-usage, output-no-usage}
+use Rattle.macs_offline.proofs.Failures.{output-no-usage}
 use Rattle.macs_offline.proofs.Tried.{of-trial, spent-no-usage, trial-no-usage}
 
 -- a failure of the disk is not one of the output

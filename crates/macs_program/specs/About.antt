@@ -1,14 +1,10 @@
 -- What `about` says of the program.
 use Rattle.std.specs.Prelude.{◌≡◌, ◌++◌, ℕ, List, codes, string_bytes}
-use Rattle.macs_texts.specs.Lines.{line}
+use Rattle.macs_texts.specs.Programs.{word_line}
 use Rattle.macs_texts.specs.declared.build.Build.{Build}
 use Rattle.macs_words.specs.Help.{topic_text}
 use Rattle.macs_words.specs.declared.help.Topic.TheVariants.{Version}
 use Rattle.macs_program.specs.declared.build.TheConstants.{COMMIT, LEVEL, PROVED, TOOLCHAIN, VERSION}
-
--- the line of a word: what it is, and which
-abbrev pub word_line : List ℕ → List ℕ → List ℕ
-word_line name word = line (name ++ (codes " " ++ word))
 
 -- the formats of the journal that it writes and reads
 abbrev pub formats_text : List ℕ

@@ -31,7 +31,6 @@ use Rattle.macs_edge.specs.declared.capture_runs.Summary.{Summary}
 use Rattle.macs_edge.specs.declared.settling.Side.{Side}
 use Rattle.macs_edge.specs.declared.settling.Side.TheVariants.{Common}
 use Rattle.macs_endpoint.specs.Calls.{IsCall}
-use Rattle.macs_endpoint.specs.Formatting.{IsFormat}
 use Rattle.macs_endpoint.specs.Opening.{Opens, RefusesOpening}
 use Rattle.macs_endpoint.specs.State.{Commands, Ran, no_logs}
 use Rattle.macs_endpoint.specs.Value.{EndpointValue, state_of}

@@ -20,7 +20,8 @@ use Rattle.macs_store.specs.Replay.{migrates, reads}
 use Rattle.macs_store.specs.Standing.{Standing}
 use Rattle.macs_words.specs.Help.{topic_text}
 use Rattle.macs_words.specs.declared.help.Topic.TheVariants.{Version}
-use Rattle.macs_program.specs.About.{about_text, word_line}
+use Rattle.macs_program.specs.About.{about_text}
+use Rattle.macs_texts.specs.Programs.{word_line}
 use Rattle.macs_offline.specs.Examining.{block_of, channel_ceilings_text, end_text, examined_text, fault_line}
 use Rattle.macs_offline.specs.Examining.{figures_of, figures_text, number_line, part_line}
 use Rattle.macs_offline.specs.Examining.{rx_ceiling_text, tx_ceiling_text}

@@ -3,6 +3,7 @@
 use Rattle.std.specs.Prelude.{◌≡◌, ◌≢◌, ◌⊎◌, ◌<◌, ◌≤◌, ◌/◌, ◌%◌, ◌++◌, ◌∷◌, [], true, false, ℕ, Bool, List, length}
 use Rattle.std.specs.Prelude.{take, codes}
 use Rattle.std.specs.Prelude.{string_bytes, Option, option_map, Some, None, IfSome, Ok, Err}
+use Rattle.std.specs.Fmt.{decimal}
 use Rattle.std.specs.Borrow.{Bor}
 use Rattle.std.specs.Io.KnownBytes.{Appends}
 use Rattle.std.specs.declared.alloc.Global.{Global}
@@ -31,7 +32,6 @@ use Rattle.macs_edge.specs.declared.relaying.RelaySummary.{RelaySummary}
 use Rattle.macs_edge.specs.declared.settling.Side.{Side}
 use Rattle.macs_edge.specs.declared.settling.Side.TheVariants.{Common, Controlled}
 use Rattle.macs_endpoint.specs.Calls.{IsCall}
-use Rattle.macs_endpoint.specs.Formatting.{IsFormat}
 use Rattle.macs_endpoint.specs.Opening.{Opens, RefusesOpening}
 use Rattle.macs_endpoint.specs.State.{Commands, Ran, no_logs}
 use Rattle.macs_endpoint.specs.Value.{EndpointValue, state_of}
@@ -408,12 +408,15 @@ pub record FailWords {F : Type 0} (file : F → FileState) (left_in : F → Opti
       → FailsAs file left_in (Check from (Some path)) input before after failure
       → FailsAs file left_in (Check from None) input before after failure
       ⊎ ((octets : List ℕ) × (end : Option (List ℕ)) × (commands : List Command) × SaysCommands octets end commands
-      × SaidByFile left_in end commands × (ComplainsOfDisk (TellsOfFile (codes "disk file") path.now) failure
+      × SaidByFile left_in end commands × ((ComplainsOfDisk (TellsOfFile (codes "disk file") path.now) failure
       ⊎ ((disk_file : F) × CopyFails (file disk_file) failure)
       ⊎ ((disk_file : F) × (copy : MemDisk Global)
       × (Behaves (file disk_file) → ((file disk_file).size % 512 ≡ 0) × (1028 ≤ (file disk_file).size / 512)
       × IsCopy (file disk_file) (disk_of copy))
-      × EndsOn disk_of copy end commands failure)))
+      × EndsOn disk_of copy end commands failure))
+      ⊎ Complains (λ said. ((at : ℕ) × (1 ≤ at) × (at ≤ length commands) × (said ≡ codes "command " ++ (decimal at
+      ++ codes " key: an earlier disk file of this name had it")))
+      ⊎ (said ≡ codes "key list: cannot be read")) failure))
   pub copying : (disk_file : FileState) (failure : Failure) → CopyFails disk_file failure
       → ((fault : FileFault) × (failure ≡ failure_of_file fault)
       × (fault ≡ file_fault.Length → Behaves disk_file → disk_file.size % 512 ≢ 0))

@@ -2,20 +2,13 @@
 
 ghost use Rattle.std.specs.Prelude.{◌≡◌, ◌≢◌, ◌⊎◌, true, IfErr, IfOk, string_bytes};
 ghost use Rattle.std.specs.Io.KnownBytes.{Appends};
-ghost use Rattle.macs_program.specs.About.{about_text, formats_text, word_line};
+ghost use Rattle.macs_program.specs.About.{about_text, formats_text};
 
 use crate::build::{COMMIT, LEVEL, TOOLCHAIN};
 use macs_offline::{Failure, Status, Stream, print_last};
-use macs_texts::{ended, joined};
+use macs_texts::{joined, word_line};
 use macs_words::Topic;
 use std::alloc::{AllocError, Global};
-
-/// The line of a word: what it is, and which.
-fn word_line(alloc: Global, name: &str, word: &str) -> Result<String, AllocError>
-    ensures { IfOk result (λ text. string_bytes text ≡ word_line name.now word.now) }
-{
-    ended(format!(in alloc; "{name} {word}")?)
-}
 
 /// Which formats of the journal the program writes and reads.
 fn formats_text(alloc: Global) -> Result<String, AllocError>

@@ -200,8 +200,9 @@ impl<T: Files, D: SectorDisk, W: Stream> Task<D, W> for ApplyFile<'_, T> {
         if !is_own(endpoint, told.end) {
             return Err(Failure::Commands);
         }
-        note_keys(self.rt, self.alloc, self.disk, told.commands.as_slice())?;
-        apply_commands(endpoint, told.commands.as_slice(), out)
+        let commands = told.commands.as_slice();
+        note_keys(self.rt, self.alloc, self.disk, commands)?;
+        apply_commands(endpoint, commands, out)
     }
 }
 

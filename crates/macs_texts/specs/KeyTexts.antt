@@ -31,19 +31,21 @@ abbrev pub rx_key_line : List ℕ → ℕ → List ℕ → List ℕ
 rx_key_line sci an key =
     line (codes "rx " ++ (encode_lower sci ++ (codes " " ++ (decimal an ++ (codes " " ++ key_words key)))))
 
--- the line where there is such an association
+-- the line where there is such a transmit association
 abbrev pub tx_key_text_of : ℕ → Option TxSa → List ℕ
 tx_key_text_of an None = []
 tx_key_text_of an (Some sa) = tx_key_line an sa.key
 
+-- the same of a receive association
 abbrev pub rx_key_text_of : List ℕ → ℕ → Option RxSa → List ℕ
 rx_key_text_of sci an None = []
 rx_key_text_of sci an (Some sa) = rx_key_line sci an sa.key
 
--- the same of the association with this number
+-- the same of the transmit association with this number
 abbrev pub tx_key_text : Config → ℕ → List ℕ
 tx_key_text c an = tx_key_text_of an (c.tx an)
 
+-- and of the receive association with this number
 abbrev pub rx_key_text : Config → List ℕ → ℕ → List ℕ
 rx_key_text c sci an = rx_key_text_of sci an (c.rx sci an)
 

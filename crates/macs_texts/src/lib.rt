@@ -21,7 +21,7 @@ pub use key_names::key_digest;
 pub use keys::keys_lines;
 pub use lines::{ended, joined};
 pub use measuring::metric_lines;
-pub use program::{Program, about_lines};
+pub use program::{Program, about_lines, word_line};
 pub use refusals::refusal_name;
 pub use showing::show_lines;
 pub use wire_report::{WireReport, reported};

@@ -31,7 +31,7 @@ impl Program {
 }
 
 /// The line of a word: what it is, and which.
-fn word_line(alloc: Global, name: &str, word: &str) -> Result<String, AllocError>
+pub fn word_line(alloc: Global, name: &str, word: &str) -> Result<String, AllocError>
     ensures { IfOk result (λ text. string_bytes text ≡ word_line name.now word.now) }
 {
     ended(format!(in alloc; "{name} {word}")?)

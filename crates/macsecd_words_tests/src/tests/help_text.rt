@@ -10,7 +10,7 @@ pub const HELP_TEXT: &str = "usage: macsecd [SUBCOMMAND VALUES..]
   validate DISK INPUT OUTPUT   validates the frames of a capture
   relay DISK OWN1 PEER1 OWN2 PEER2 --turns n
                                relays frames between two wires of UDP
-  ask PATH show|counters|stop|apply FILE
+  ask PATH show|counters|keys|about|stop|apply FILE
                                asks a running relay over its control socket
   key                          prints a fresh key
   inspect INPUT                prints what the SecTAG of each frame says
@@ -159,6 +159,8 @@ status: 0 done, 2 usage, 4 disk, 5 wire, control, output or memory
 
 pub const ASK_TEXT: &str = "usage: macsecd ask PATH show
        macsecd ask PATH counters
+       macsecd ask PATH keys
+       macsecd ask PATH about
        macsecd ask PATH apply FILE
        macsecd ask PATH stop
 
@@ -166,6 +168,9 @@ Asks a running relay over its control socket, and prints its answer.
   PATH         the socket: what the relay was given as --control
   show         the configuration and the packet numbers, as they are now
   counters     each counter of the endpoint and of both wires, a line each
+  keys         the length and an identifier of each installed key, by which two
+               ends compare them: 'tx 0 key 128 id 3f0a91c2'
+  about        the program that runs it, and since when, in seconds since 1970
   apply FILE   applies the commands of a TOML file, as 'macsecd apply' does: a
                line for each once it is kept, '1 ok', '2 refused KeySpent';
                none of a file that names another end: 'commands', status 5

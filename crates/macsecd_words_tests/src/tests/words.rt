@@ -132,6 +132,14 @@ const TAKEN: &[(&[&str], Parts<'static>)] = &[
         ("ask counters", ["show", "", "", "", ""], [0, 0]),
     ),
     (
+        &["ask", "p", "keys"],
+        ("ask keys", ["p", "", "", "", ""], [0, 0]),
+    ),
+    (
+        &["ask", "p", "about"],
+        ("ask about", ["p", "", "", "", ""], [0, 0]),
+    ),
+    (
         &["ask", "p", "stop"],
         ("ask stop", ["p", "", "", "", ""], [0, 0]),
     ),
@@ -410,6 +418,8 @@ fn question_parts<'a>(question: Question<'a>) -> (&'static str, &'a str) {
     match question {
         Question::Show => ("ask show", ""),
         Question::Counters => ("ask counters", ""),
+        Question::Keys => ("ask keys", ""),
+        Question::About => ("ask about", ""),
         Question::Stop => ("ask stop", ""),
         Question::Apply(file) => ("ask apply", file),
     }

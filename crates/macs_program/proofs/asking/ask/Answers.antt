@@ -1,4 +1,4 @@
-use Rattle.macs_program.proofs.Told.{Named, named-fails, named-output, output-named}
+use Rattle.macs_program.proofs.Told.{named-fails, named-output, output-named}
 use Rattle.macs_program.proofs.asking.ask.Goals as goal
 
 pub returns-in-Err-clause-failed : goal.returns-in-Err-clause-failed

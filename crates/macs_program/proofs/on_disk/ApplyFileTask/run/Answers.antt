@@ -12,10 +12,17 @@ returns-in_err-told g c =
 pub returns-then-not-is_own : goal.returns-then-not-is_own
 returns-then-not-is_own g c = other-applied _ _ _ _ _ _
 
+pub returns-in_err-note_keys : goal.returns-in_err-note_keys
+returns-in_err-note_keys g c =
+    let p = err_from_is_err_and c.from_residual-in_err-note_keys.result
+    c.from_residual-in_err-note_keys.ensures.1 in
+    none-applied _ _ _ _ _ _ c.in_err-note_keys.field-0.0 p.0 c.from_residual-in_err-note_keys.result p.1 p.2
+    c.in_err-note_keys.ensures
+
 pub returns : goal.returns
 returns g c =
     let said = c.apply_commands.ensures in
-    file-applied _ _ _ _ _ _ _ _ c.in_ok-told.told.end c.in_ok-told.told.commands.items c.as_slice.result.now
+    file-applied _ _ _ _ _ _ _ _ c.in_ok-told.told.end c.in_ok-told.told.commands.items c.as_slice-commands.result.now
     c.apply_commands.result c.in_ok-told.ensures.spelled c.in_ok-told.ensures.said
     (sym c.is_own.ensures ∙ c.if-not-is_own.false)
-    c.as_slice.ensures.value said.applied said.ended said.broken
+    c.as_slice-commands.ensures.value said.applied said.ended said.broken
