@@ -10,6 +10,7 @@ have it. The status is 0 where each went as it is to go. It needs Python, `env` 
 import contextlib
 import hashlib
 import os
+import resource
 import signal
 import socket
 import stat
@@ -244,6 +245,31 @@ def commands_are_applied_in_order():
 
 
 @a_try
+def each_refusal_is_told():
+    with link() as it:
+        own, peer, other = "0200000000010001", "0200000000020001", "0200000000030001"
+
+        def rx(do, sci, **more):
+            return {"do": f'"rx-{do}"', "sci": f'"{sci}"', **more}
+
+        def tx(key, **more):
+            return {**install(2, key), **more}
+
+        key = {"an": 3, "key": f'"{KEYS[3]}"', "start": 1, "offset": 0}
+        wrong = [(tx(KEYS[0], start=0), "StartRange"), (tx(KEYS[0], offset=31), "OffsetChoice"), (rx("add", own), "OwnSci"),
+                 (rx("install", other, **key), "NoChannel"), (rx("add", peer), "ChannelTaken"), (install(0, KEYS[0]), "SlotTaken"),
+                 ({"do": '"tx-use"', "an": 3}, "SlotEmpty"), ({"do": '"tx-remove"', "an": 0}, "InUse")]
+        # The peer's channel is there, and a key of each side is spent.
+        full = [rx("add", f"02000000000400{n:02x}") for n in range(32)]
+        spent = [command for n in range(512) for command in (tx(KEYS[n]), {"do": '"tx-remove"', "an": 2})]
+        asked = it.ask("apply", command_file(it.folder, *(command for command, _ in wrong), *full, *spent))
+        told = [line.split(" ", 1)[1] for line in asked.stdout.splitlines()]
+        ends = [f"refused {name}" for _, name in wrong] + ["ok"] * 31 + ["refused ChannelsFull"] + ["ok"] * 1022
+        assert asked.returncode == 3 and told == [*ends, "refused SpentFull", "refused SlotEmpty"], (asked.stderr, told)
+        it.stop()
+
+
+@a_try
 def keys_are_named_and_not_shown():
     with link() as it:
         assert it.ask("apply", command_file(it.folder, install(1, KEYS[0]))).stdout == "1 ok\n"
@@ -345,6 +371,20 @@ def the_one_that_was_silent_longest_makes_room():
 
 
 @a_try
+def one_that_said_a_line_is_not_the_first_to_make_room():
+    with link() as it:
+        clients = [it.connect() for _ in range(4)]
+        until(lambda: it.passes() < 1)
+        clients[0].sendall(b"show\n")
+        assert until_end(clients[0]).endswith(b"\nend 0\n")
+        time.sleep(4)
+        fifth = it.connect()
+        until(lambda: not is_open(clients[1]))
+        assert all(is_open(client) for client in (clients[0], *clients[2:], fifth))
+        it.stop()
+
+
+@a_try
 def clients_that_end_and_say_nothing():
     with link() as it:
         clients = [it.connect() for _ in range(4)]
@@ -427,6 +467,8 @@ def sixteen_that_ask_at_once():
 def a_relay_that_stands_still():
     with link() as it:
         it.left.send_signal(signal.SIGSTOP)
+        first = subprocess.Popen([PROGRAM, "ask", it.control, "show"], stdout=subprocess.PIPE, stderr=subprocess.PIPE, text=True)
+        time.sleep(1)
         waiting = []
         for _ in range(64):
             client = socket.socket(socket.AF_UNIX, socket.SOCK_STREAM)
@@ -438,10 +480,15 @@ def a_relay_that_stands_still():
                 break
         else:
             raise AssertionError("64 wait, and there is room for more")
+        # Besides the first one 16 wait, and this one found no room.
+        assert len(waiting) == 17, len(waiting)
         began = time.monotonic()
         asked = subprocess.run([PROGRAM, "ask", it.control, "show"], capture_output=True, text=True, timeout=90, check=False)
         assert (asked.returncode, asked.stdout, asked.stderr) == (5, "", f"macsecd: control: {it.control}: no answer of a relay, or it went away\n"), asked
         assert 55 < time.monotonic() - began < 70
+        # The first one was connected, and its line was taken: no answer comes.
+        out, err = first.communicate(timeout=10)
+        assert (first.returncode, out, err) == (5, "", asked.stderr), (first.returncode, out, err)
         it.left.send_signal(signal.SIGCONT)
         for client in waiting:
             client.close()
@@ -871,6 +918,22 @@ def metrics_go_to_no_other_file():
             until(lambda: os.path.isfile(file))
             it.stop()
             assert run("show", it.disk).returncode == 0
+
+
+@a_try
+def metrics_that_are_cut_take_no_name():
+    with tempfile.TemporaryDirectory() as folder:
+        file = os.path.join(folder, "macsecd.prom")
+        with link(["--metrics", file], wait="5", before=["env", "--ignore-signal=XFSZ"]) as it:
+            until(lambda: os.path.exists(file))
+            # No file takes more octets than these, which is less than the metrics have.
+            resource.prlimit(it.left.pid, resource.RLIMIT_FSIZE, (512, 512))
+            time.sleep(2.5)
+            with open(file, encoding="ascii") as metrics:
+                text = metrics.read()
+            assert len(text) > 512 and text.endswith("\n"), text[-80:]
+            assert os.path.getsize(file + ".new") == 512
+            assert it.passes() < 2
 
 
 @a_try

@@ -230,3 +230,10 @@ fn short_moves_are_finished(rt: HostRuntime) {
         );
     }
 }
+
+/// The copy ends where the file does, and no more is waited for.
+#[test]
+fn a_file_that_has_less_than_it_says_is_no_disk(rt: HostRuntime) {
+    let calls = Calls::new(0, ErrorKind::Other);
+    assert!(rt; live(&rt, &calls, 2_560, 2_048) == NO_DEVICE);
+}

@@ -44,6 +44,7 @@ fn a_file_that_ends_with_the_mark_is_spaced(rt: HostRuntime) {
     let folder = folder(&rt, rt.alloc(), SPACED);
     write(&rt, &folder, MARK_PLACE, &marked());
     assert!(rt; sectors(&rt, &folder, 0) == 1_028);
+    assert!(rt; sectors(&rt, &folder, 1_028) == 1_028);
 }
 
 #[test]

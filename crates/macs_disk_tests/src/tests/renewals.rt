@@ -147,6 +147,8 @@ enum Oddity {
     Swaps(&'static str),
     /// A rename is answered as done, and is not.
     RenamesNothing,
+    /// A file that is removed is there again at once.
+    RemovesNothing,
 }
 
 /// The system, but for its oddity and the call that fails.
@@ -199,7 +201,10 @@ impl<'a, R: Files<File = File>> Files for Counted<'a, R> {
 
     fn remove_file(&self, path: &str) -> io::Result<()> {
         self.calls.make()?;
-        self.system.remove_file(path)
+        match self.oddity {
+            Oddity::RemovesNothing => Ok(()),
+            _ => self.system.remove_file(path),
+        }
     }
 
     fn create_dir(&self, path: &str) -> io::Result<()> {
@@ -308,17 +313,36 @@ const CALLS: [FileFault; 20] = [
     FileFault::Open,
 ];
 
+/// Which of them is the rename.
+const RENAME: u64 = 18;
+
 /// Opens the disk where this call fails, with this fault. The name is that of a file with all
-/// octets then.
+/// octets then: of the new one only once the file was renamed.
 fn fail<R: Abort + Files<File = File> + AllocGlobal>(
     rt: &R,
     calls: &Calls,
     fault: FileFault,
 ) -> Result<(), Fail> {
     make(rt, DISK, &octets(3, 4))?;
+    let before = fs::metadata(rt, DISK)?;
     let answer = open(rt, calls, Oddity::Nothing, DISK);
     assert!(rt; answer == Err(fault), "call {}", calls.failing);
     assert!(rt; has(rt, DISK, &octets(3, 4))?, "call {}", calls.failing);
+    let is_new = fs::metadata(rt, DISK)?.ino() != before.ino();
+    assert!(rt;
+        is_new == (calls.failing > RENAME),
+        "call {}",
+        calls.failing
+    );
+    expect_private(rt, before.uid())
+}
+
+/// What lies beside the disk is for its owner alone, unless that is the owner of the disk.
+fn expect_private<R: Abort + Files<File = File>>(rt: &R, owner: u32) -> Result<(), Fail> {
+    if fs::exists(rt, NEW)? {
+        let about = fs::metadata(rt, NEW)?;
+        assert!(rt; about.uid() == owner || about.mode() & 0o077 == 0);
+    }
     Ok(())
 }
 
@@ -414,5 +438,20 @@ fn a_name_that_is_not_the_new_files_is_refused(rt: HostRuntime) -> Result<(), Fa
     assert!(rt; has(&rt, "kept-disk", &octets(3, 4))?);
     let _ = fs::remove_file(&rt, "kept-disk.new");
     fs::remove_file(&rt, "kept-disk")?;
+    Ok(())
+}
+
+/// What has the name of the new file again is not written: neither file is touched.
+#[test]
+fn what_lies_beside_is_not_written(rt: HostRuntime) -> Result<(), Fail> {
+    make(&rt, "beside-disk", &octets(3, 4))?;
+    make(&rt, "beside-disk.new", &octets(5, 6))?;
+    let odd = Oddity::RemovesNothing;
+    let answer = open(&rt, &Calls::all_done(), odd, "beside-disk");
+    assert!(rt; answer == Err(FileFault::Open));
+    assert!(rt; has(&rt, "beside-disk", &octets(3, 4))?);
+    assert!(rt; has(&rt, "beside-disk.new", &octets(5, 6))?);
+    fs::remove_file(&rt, "beside-disk.new")?;
+    fs::remove_file(&rt, "beside-disk")?;
     Ok(())
 }

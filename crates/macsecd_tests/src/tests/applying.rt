@@ -1,7 +1,11 @@
 //! A disk that is formatted, commands, and what is shown then.
 
 use super::captures::SENDER;
-use super::stories::Step::{Closing, Filled, Folder, Holds, IsMissing, Run, Text, Zeros};
+use super::stand_in::Broken::Folder as FolderSync;
+use super::stories::Step::{
+    Closing, Failing, Filled, Folder, HasMode, HasOctets, Holds, IsMissing, Run, Symbolic, Text,
+    Zeros,
+};
 use super::stories::{Step, play};
 use macsecd_fixtures::Outcome;
 use std::test::Fail;
@@ -373,6 +377,30 @@ start = 1
 offset = 0
 ";
 
+/// Commands for the other end of the link, of which the third installs the same key.
+const OTHER_END: &str = "sci = '0200000000020001'
+
+[[command]]
+do = 'rx-add'
+sci = '0200000000010001'
+
+[[command]]
+do = 'rx-install'
+sci = '0200000000010001'
+an = 0
+key = '0f0e0d0c0b0a09080706050403020100'
+start = 1
+offset = 0
+
+[[command]]
+do = 'tx-install'
+an = 0
+key = '000102030405060708090a0b0c0d0e0f'
+start = 1
+confidential = true
+offset = 0
+";
+
 /// The SHA-256 of `macsecd key ` and the key, in hex digits, and a line feed; as octets.
 const NOTED: &str =
     "3563633231366136613431623866353966636632653438363930313836303961626665333035343738306335\
@@ -428,6 +456,117 @@ fn no_key_of_a_lost_disk_is_applied(rt: HostRuntime) -> Result<(), Fail> {
     play(&rt, rt.alloc(), "story-spent", LOST)
 }
 
+const OTHER_FORMAT: &[&str] = &["format", "story-third/disk", "0200000000020001", "4", "4"];
+
+/// The third command of a file has the key of a disk file that was lost. The disk file has a second
+/// name, beside which there is no list.
+const THIRD: &[Step] = &[
+    Text("story-third/key.toml", KEY),
+    Text("story-third/end.toml", OTHER_END),
+    Folder("story-third/folder"),
+    Symbolic("../disk", "story-third/folder/link"),
+    Run(OTHER_FORMAT, FORMATTED),
+    Run(
+        &["apply", "story-third/folder/link", "story-third/key.toml"],
+        Outcome::Done("1 ok\n"),
+    ),
+    Holds("story-third/disk.spent", NOTED),
+    IsMissing("story-third/folder/link.spent"),
+    Zeros("story-third/disk", 0),
+    Run(OTHER_FORMAT, FORMATTED),
+    Run(
+        &["check", "story-third/end.toml", "story-third/folder/link"],
+        Outcome::Fault("macsecd: command 3 key: an earlier disk file of this name had it\n"),
+    ),
+];
+
+#[test]
+fn a_key_of_a_lost_disk_is_told_by_its_command(rt: HostRuntime) -> Result<(), Fail> {
+    play(&rt, rt.alloc(), "story-third", THIRD)
+}
+
+const NOT_OWN_FORMAT: &[&str] = &["format", "story-not-own/own", "0200000000020001", "4", "4"];
+
+/// A command file for the other end, and then that end: both of its keys are noted.
+const NOT_OWN: &[Step] = &[
+    Text("story-not-own/key.toml", KEY),
+    Text("story-not-own/end.toml", OTHER_END),
+    Run(
+        &["format", "story-not-own/disk", "0200000000010001", "4", "4"],
+        FORMATTED,
+    ),
+    Run(
+        &["apply", "story-not-own/disk", "story-not-own/end.toml"],
+        Outcome::Fault("macsecd: commands\n"),
+    ),
+    IsMissing("story-not-own/disk.spent"),
+    Run(NOT_OWN_FORMAT, FORMATTED),
+    Run(
+        &["apply", "story-not-own/own", "story-not-own/end.toml"],
+        Outcome::Done("1 ok\n2 ok\n3 ok\n"),
+    ),
+    HasOctets("story-not-own/own.spent", 130),
+    Zeros("story-not-own/own", 0),
+    Run(NOT_OWN_FORMAT, FORMATTED),
+    Run(
+        &["check", "story-not-own/end.toml", "story-not-own/own"],
+        Outcome::Fault("macsecd: command 2 key: an earlier disk file of this name had it\n"),
+    ),
+    Run(
+        &["check", "story-not-own/key.toml", "story-not-own/own"],
+        Outcome::Fault("macsecd: command 1 key: an earlier disk file of this name had it\n"),
+    ),
+];
+
+#[test]
+fn the_keys_of_the_own_end_are_noted(rt: HostRuntime) -> Result<(), Fail> {
+    play(&rt, rt.alloc(), "story-not-own", NOT_OWN)
+}
+
+const UNSYNCED_DISK: &str = "story-unsynced/disk";
+
+const UNSYNCED_LIST: &str = "story-unsynced/disk.spent";
+
+const UNSYNCED_FORMAT: &[&str] = &["format", UNSYNCED_DISK, "0200000000010001", "4", "4"];
+
+const UNSYNCED_APPLY: &[&str] = &["apply", UNSYNCED_DISK, "story-unsynced/key.toml"];
+
+/// The list of keys is not synced, or its folder is not. Nothing is done then that it stands for: no
+/// command is applied, and no new disk file takes the name.
+const UNSYNCED: &[Step] = &[
+    Text("story-unsynced/key.toml", KEY),
+    Run(UNSYNCED_FORMAT, FORMATTED),
+    Failing(
+        UNSYNCED_LIST,
+        FolderSync,
+        UNSYNCED_APPLY,
+        Outcome::Fault("macsecd: commands\n"),
+    ),
+    HasMode(UNSYNCED_LIST, 0o600),
+    Run(UNSYNCED_APPLY, Outcome::Done("1 ok\n")),
+    Zeros(UNSYNCED_DISK, 0),
+    Failing(
+        UNSYNCED_LIST,
+        FolderSync,
+        UNSYNCED_FORMAT,
+        Outcome::Disk("macsecd: disk file\n"),
+    ),
+    HasOctets(UNSYNCED_DISK, 0),
+    Failing(
+        "story-unsynced",
+        FolderSync,
+        UNSYNCED_FORMAT,
+        Outcome::Disk("macsecd: disk file\n"),
+    ),
+    HasOctets(UNSYNCED_DISK, 0),
+    Run(UNSYNCED_FORMAT, FORMATTED),
+];
+
+#[test]
+fn the_list_of_keys_is_synced_first(rt: HostRuntime) -> Result<(), Fail> {
+    play(&rt, rt.alloc(), "story-unsynced", UNSYNCED)
+}
+
 /// A folder has the name of the list of keys.
 const UNLISTED: &[Step] = &[
     Text("story-unlisted/key.toml", KEY),
@@ -446,6 +585,10 @@ const UNLISTED: &[Step] = &[
         &["apply", "story-unlisted/disk", "story-unlisted/key.toml"],
         Outcome::Fault("macsecd: commands\n"),
     ),
+    Run(
+        &["check", "story-unlisted/key.toml", "story-unlisted/disk"],
+        Outcome::Fault("macsecd: key list: cannot be read\n"),
+    ),
     Zeros("story-unlisted/disk", 0),
     Run(
         &[
@@ -457,6 +600,7 @@ const UNLISTED: &[Step] = &[
         ],
         Outcome::Disk("macsecd: disk file\n"),
     ),
+    HasOctets("story-unlisted/disk", 0),
 ];
 
 #[test]

@@ -56,6 +56,8 @@ pub enum Step {
     Holds(&'static str, &'static str),
     /// The file has so many octets.
     HasOctets(&'static str, u64),
+    /// The file has this mode.
+    HasMode(&'static str, u32),
     /// There is no such file.
     IsMissing(&'static str),
 }

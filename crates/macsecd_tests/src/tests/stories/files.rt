@@ -5,7 +5,7 @@ use std::alloc::Global;
 use std::fs;
 use std::fs::{File, OpenOptions, Permissions};
 use std::io::{Read, Seek, SeekFrom, Write};
-use std::os::unix::fs::{OpenOptionsExt, PermissionsExt};
+use std::os::unix::fs::{MetadataExt, OpenOptionsExt, PermissionsExt};
 use std::process::Abort;
 use std::rt::Files;
 use std::test::Fail;
@@ -34,6 +34,7 @@ fn look(rt: &(impl Abort + Files<File = File>), alloc: Global, step: Step) -> Re
             expect_octets(rt, alloc, path, octets.as_slice())
         }
         Step::HasOctets(path, count) => expect_length(rt, path, count),
+        Step::HasMode(path, mode) => expect_mode(rt, path, mode),
         Step::IsMissing(path) => expect_none(rt, path),
         _ => panic!(rt; "a step that is not taken"),
     }
@@ -166,6 +167,13 @@ fn expect_length(
 ) -> Result<(), Fail> {
     let about = fs::metadata(rt, path)?;
     assert_eq!(rt; about.len(), count, "{path}");
+    Ok(())
+}
+
+/// The file has this mode.
+fn expect_mode(rt: &(impl Abort + Files<File = File>), path: &str, mode: u32) -> Result<(), Fail> {
+    let about = fs::metadata(rt, path)?;
+    assert_eq!(rt; about.mode() & 0o7777, mode, "{path}");
     Ok(())
 }
 
