@@ -146,8 +146,10 @@ def built_tool(folder):
 
 def new_disk(disk, sci, rx, text):
     """Makes a disk file for an endpoint, with these commands applied."""
-    if os.path.exists(disk):
-        os.unlink(disk)
+    # Its keys are the same each time, so the list of those that were used goes too.
+    for name in (disk, disk + ".spent"):
+        if os.path.exists(name):
+            os.unlink(name)
     quiet = {"check": True, "stdout": subprocess.DEVNULL}
     subprocess.run([PROGRAM, "format", disk, sci, "65536", str(rx)], **quiet)
     with open(disk + ".commands", "w", encoding="utf-8") as file:

@@ -346,8 +346,9 @@ class Bench:
 
 def format_file(bench, older, name, block, sci=OWN):
     disk = bench.at(name)
-    if os.path.exists(disk):
-        os.remove(disk)
+    for old in (disk, disk + ".spent"):
+        if os.path.exists(old):
+            os.remove(old)
     bench.done(older, "format", disk, sci, str(TX_BLOCK), str(RX_BLOCK), "--block", str(block))
     return disk
 

@@ -129,11 +129,18 @@ class Run:
         if self.status is None:
             os.kill(self.child, signal.SIGKILL)
 
+    def is_on_disk(self, descriptor):
+        """Whether a file is the one that has the disk's name. An opening writes and syncs a new one beside it, which then takes the name."""
+        return os.readlink(f"/proc/{self.child}/fd/{descriptor}") == os.path.realpath(self.disk.path)
+
     def next_call(self):
-        """Waits until the program is about to write or to sync: the call and, of a write, its place and octets. None when it has ended."""
+        """Waits until the program is about to write or to sync: the call and, of a write to its disk file, its place and octets. None when it
+        has ended."""
         while (stop := self.wait()) is not None:
             if stop >> 8 == AT_FILTER:
                 it = registers(self.child)
+                if not self.is_on_disk(it.rdi):
+                    return "elsewhere", None, None
                 if it.orig_rax != PWRITE64:
                     return "sync", None, None
                 with open(f"/proc/{self.child}/mem", "rb") as memory:
@@ -147,6 +154,7 @@ class Run:
         """Lets the program make the call at which it has stopped. A write is pending from here on; what is pending is durable once a sync succeeds."""
         if call == "write":
             self.disk.write(place, octets)
+        if call != "sync":
             self.go_on(CONT)
             return
         self.go_on(SYSCALL)
