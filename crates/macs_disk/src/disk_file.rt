@@ -132,8 +132,8 @@ impl DiskFile for File {
         FileExt::write_at(self, from, at)
     }
 
-    // fdatasync: the octets, and of what is kept about the file its size and all else that a read
-    // of them needs. Its times are no part of a disk.
+    /// fdatasync: the octets, and of what is kept about the file its size and all else that a read
+    /// of them needs. Its times are no part of a disk.
     fn sync(&mut self) -> io::Result<()> {
         self.sync_data()
     }

@@ -56,8 +56,8 @@ impl<F: DiskFile> FileDisk<F> {
     ghost use Rattle.macs_disk.specs.FileDisks.{IsFresh, IsRefused, disk_in_file};
     ghost use Rattle.macs_disk.specs.Files.{Behaves, SyncsFile};
 
-    // A disk in a file that is durable and has its sectors, with the file that it began with and
-    // itself as it was made.
+    /// A disk in a file that is durable and has its sectors, with the file that it began with and
+    /// itself as it was made.
     pub(crate) fn new(
         file: F,
         given: Snapshot<F>,
@@ -92,8 +92,8 @@ impl<F: DiskFile> FileDisk<F> {
         }
     }
 
-    // Lets a moment pass, and lets a call go on to the file. It does not where the disk is worn,
-    // and is a failure, and counted, where an earlier call failed.
+    /// Lets a moment pass, and lets a call go on to the file. It does not where the disk is worn,
+    /// and is a failure, and counted, where an earlier call failed.
     fn begin(&mut self) -> Result<(), DeviceFault>
         ensures ok { OnOk result
             ((self.old.clock < 2 ^ 64 - 1) × (self.new.clock ≡ self.old.clock + 1)) }
@@ -121,8 +121,8 @@ impl<F: DiskFile> FileDisk<F> {
         Ok(())
     }
 
-    // What the file answered, as the disk answers it: an error is a failure and counted, and the
-    // last that the file is asked for.
+    /// What the file answered, as the disk answers it: an error is a failure and counted, and the
+    /// last that the file is asked for.
     fn count(&mut self, answer: io::Result<()>) -> Result<(), DeviceFault>
         requires { self.old.failures < self.old.clock }
         ensures alike { IsErr result ↔ IsErr answer }

@@ -156,8 +156,8 @@ impl<A: Allocator> Renewal<A> {
         Ok(Identity::of(&file.metadata()?))
     }
 
-    /// Gives the new file, all of which is durable, the name. Where that fails it is removed. It
-    /// answers the folder.
+    /// Gives the new file, all of which is durable, the name, and answers the folder. An error where
+    /// that fails: both files then have the names that they had.
     fn take_name<R: Files>(&self, rt: &R) -> io::Result<R::File> {
         let place = self.place.as_str();
         let folder = fs::open(rt, folder_of(place))?;
@@ -165,9 +165,11 @@ impl<A: Allocator> Renewal<A> {
         Ok(folder)
     }
 
-    /// Gives the new file, all of which is durable, the name, and makes that durable. An error
-    /// where that fails: the name is that of the old file then, and there is no new one; or where
-    /// the folder is not synced, or the name is not that of the new file after it.
+    /// Gives the new file, all of which is durable, the name, and makes that durable.
+    ///
+    /// An error where the name is not given: it is then that of the old file, and the new one is
+    /// removed. An error too where the folder is not synced, or the name is not that of the new file
+    /// after that: the name is then left as it is.
     pub fn put<R: Files>(&self, rt: &R) -> io::Result<()> {
         let folder = match self.take_name(rt) {
             Ok(folder) => folder,

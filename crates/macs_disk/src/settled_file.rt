@@ -32,7 +32,7 @@ pub struct SettledFile<F = File> {
     octets: u64,
 }
 
-// How the sectors of a disk lie in its file, and how many there are.
+/// How the sectors of a disk lie in its file, and how many there are.
 #[derive(Drop)]
 struct Extent {
     layout: Layout,
@@ -121,7 +121,7 @@ impl<F: DiskFile> SettledFile<F> {
     ghost use Rattle.macs_disk.specs.FileDisks.{disk_in_file, file_before, file_beside};
     ghost use Rattle.macs_disk.specs.FileDisks.{file_given, file_made, layout_of, octets_of};
 
-    // A copy of a file, of so many octets.
+    /// A copy of a file, of so many octets.
     pub(crate) fn new(file: F, given: Snapshot<F>, made: Snapshot<F>, octets: u64) -> Self
         ensures file { result.file ≡ file }
         ensures given { file_before result ≡ given.value }
