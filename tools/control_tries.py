@@ -286,6 +286,21 @@ def keys_are_named_and_not_shown():
 
 
 @a_try
+def traffic_is_counted_by_association():
+    with link() as it:
+        for _ in range(5):
+            it.passes()
+        lines = [line.split() for line in it.ask("traffic").stdout.splitlines()]
+        tx, rx, last = lines
+        sent, received = int(tx[4]), int(rx[5])
+        # A frame of `passes` has 48 octets of User Data; the examples encrypt.
+        assert tx == f"tx 0 encrypted frames {sent} octets {48 * sent}".split(), tx
+        assert rx == f"rx 0200000000020001 0 decrypted frames {received} octets {48 * received}".split(), rx
+        assert sent >= 6 and received >= 6, (sent, received)
+        assert last[0] == "last-good" and abs(int(last[1]) - time.time()) < 10, last
+
+
+@a_try
 def a_relay_says_which_program_it_is():
     with link() as it:
         words = dict(line.split() for line in it.ask("about").stdout.splitlines())

@@ -3,7 +3,7 @@
 
     python3 tools/layers.py [docs/layers.svg]
 
-It takes Python alone. Drawn is what `macsecd` and `macs_headline` need; crates of tests and those of the toolchain are left out. An arrow
+It takes Python alone. Drawn is what `macsecd` and `macs_theorem` need; crates of tests and those of the toolchain are left out. An arrow
 leads from a crate to one that it uses, and is left out where other arrows lead there by way of a third crate. Each crate is as low as those that
 it uses allow, or higher, just below the lowest that uses it. The order in each row is the best that a fixed search finds, so that the same
 crates.txt gives the same octets.
@@ -14,7 +14,7 @@ import os
 import sys
 
 TOP = os.path.dirname(os.path.dirname(os.path.realpath(__file__)))
-ROOTS = ["macsecd", "macs_headline"]
+ROOTS = ["macsecd", "macs_theorem"]
 # In pixels: a box, from row to row, between two boxes, what a line takes that passes a row, and the margin.
 WIDE, HIGH, ROW, GAP, PASS, MARGIN = 136, 34, 72, 24, 20, 20
 # From how many orders the search begins, and how often boxes are drawn towards what they are linked to.

@@ -1,6 +1,3 @@
 mod Counted
+mod KeysBeside
 pub mod Reading
-mod CommandWords
-mod TakenWords
-mod OtherWords
-mod EndWords

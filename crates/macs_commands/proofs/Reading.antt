@@ -1,6 +1,6 @@
 -- Commands read one by one.
 use Rattle.std.proofs.Common.{◌≡◌, ◌<◌, ◌≤◌, ◌+◌, ℕ, List, [], ◌∷◌, ◌++◌, length, drop, get_or, refl, ap, sym, ◌∙◌}
-use Rattle.std.proofs.Common.{append_assoc, append-nil, subst, IfErr, Result, Ok, Err, Some, None, false}
+use Rattle.std.proofs.Common.{append_assoc, append-nil, subst, IfErr, Result, Ok, Err, Some, None}
 use Rattle.std.proofs.Common.{drop_of_length-le}
 use Rattle.macs_commands.specs.declared.config_fault.ConfigFault.TheVariants.{Memory, Shape}
 use Rattle.toml.specs.Data.{Data, string, integer, float, boolean, datetime, array, table, Items, no_items, item}
@@ -10,7 +10,7 @@ use Rattle.toml.specs.View.{items_view, view}
 use Rattle.toml.proofs.Views.{items_view-drop}
 use Rattle.macs_config.specs.declared.command.Command.{Command}
 use Rattle.macs_commands.specs.declared.config_fault.ConfigFault.{ConfigFault}
-use Rattle.macs_commands.specs.CommandFiles.{table_command, table_commands, before, are_tables}
+use Rattle.macs_commands.specs.CommandFiles.{table_command, table_commands, before}
 
 abbrev pub joined : List Command → Result (List Command) ConfigFault → Result (List Command) ConfigFault
 joined done (Ok rest) = Ok (done ++ rest)
@@ -38,15 +38,6 @@ shape at (float x) ds e = refl
 shape at (boolean b) ds e = refl
 shape at (datetime dt) ds e = refl
 shape at (array xs) ds e = refl
-
-pub not_all : (d : Data) (ds : Items) → as_table d ≡ None → are_tables (item d ds) ≡ false
-not_all (table xs) ds e = cc
-not_all (string s) ds e = refl
-not_all (integer z) ds e = refl
-not_all (float x) ds e = refl
-not_all (boolean b) ds e = refl
-not_all (datetime dt) ds e = refl
-not_all (array xs) ds e = refl
 
 -- the current value is the first of those that are left
 pub one_left : (vs : List Value) (i : ℕ) (value : Value) (ms : Members) → i < length vs → value ≡ get_or vs i value

@@ -1,9 +1,9 @@
 -- The commands of a whole command file, or its first fault.
-use Rattle.std.specs.Prelude.{◌+◌, ◌==◌, ℕ, suc, nat_lt, codes, if◌then◌else◌, Bool, true, false, List, [], ◌∷◌, Some}
+use Rattle.std.specs.Prelude.{◌+◌, ◌==◌, ℕ, suc, codes, if◌then◌else◌, Bool, true, false, List, [], ◌∷◌, Option, Some}
 use Rattle.std.specs.Prelude.{None, Result, Ok, Err}
 use Rattle.toml.specs.Data.{Data, Items, Members, array, get_member, item, member, no_items, no_members, table}
 use Rattle.macs_config.specs.declared.command.Command.{Command}
-use Rattle.macs_commands.specs.Lines.{command_of, keys_of, word_in}
+use Rattle.macs_commands.specs.Lines.{command_of, key_beside, keys_of, word_in}
 use Rattle.macs_commands.specs.declared.config_fault.ConfigFault.{ConfigFault}
 use Rattle.macs_commands.specs.declared.config_fault.ConfigFault.TheVariants as fault
 use Rattle.macs_commands.specs.declared.config_fault.KeyName.{KeyName}
@@ -15,17 +15,17 @@ count (member key value members) = suc (count members)
 
 -- ---- one table
 
--- what table `at` says: a key that is wrong comes before one too many
-abbrev pub told : (at : ℕ) (has_more : Bool) → Result Command KeyName → Result Command ConfigFault
-told at has_more (Err name) = Err (fault.Key at name)
-told at true (Ok command) = Err (fault.Extra at)
-told at false (Ok command) = Ok command
+-- what table `at` says: a key that is wrong comes before one that its command does not have
+abbrev pub told : (at : ℕ) (extra : Option (List ℕ)) → Result Command KeyName → Result Command ConfigFault
+told at extra (Err name) = Err (fault.Key at name)
+told at (Some key) (Ok command) = Err (fault.Extra at)
+told at None (Ok command) = Ok command
 
 -- the command of table `at`, counted from 1
 abbrev pub table_command : ℕ → Members → Result Command ConfigFault
 table_command at members = elim (word_in members) [
   | None ↦ Err (fault.Word at)
-  | Some word ↦ told at (nat_lt (keys_of word) (count members)) (command_of word members)
+  | Some word ↦ told at (key_beside (keys_of word) members) (command_of word members)
 ]
 
 -- ---- all tables

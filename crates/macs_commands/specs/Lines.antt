@@ -1,7 +1,9 @@
 -- The words of the commands, and the keys of each one's table in their order.
-use Rattle.std.specs.Prelude.{ℕ, codes, if◌then◌else◌, List, Option, Some, None, option_and_then, Result, Ok, Err}
+use Rattle.std.specs.Prelude.{ℕ, codes, if◌then◌else◌, Bool, List, [], ◌∷◌, Option, Some, None}
+use Rattle.std.specs.Prelude.{option_and_then, Result, Ok, Err}
+use Rattle.std.specs.List.{list_any}
 use Rattle.std.specs.Str.{bytes_eq}
-use Rattle.toml.specs.Data.{Members}
+use Rattle.toml.specs.Data.{Members, member, no_members}
 use Rattle.macs_config.specs.declared.command.Command.{Command}
 use Rattle.macs_config.specs.declared.command.Command.TheVariants.{SetValidate, SetReplay, SetSciMode, TxInstall, TxUse}
 use Rattle.macs_config.specs.declared.command.Command.TheVariants.{TxRemove, RxAdd, RxDrop, RxInstall, RxRemove}
@@ -44,18 +46,35 @@ word_of text =
 abbrev pub word_in : Members → Option Word
 word_in members = option_and_then word_of (text_at (codes "do") members)
 
--- how many keys the table of a command has, `do` among them
-abbrev pub keys_of : Word → ℕ
-keys_of word.SetValidate = 2
-keys_of word.SetReplay = 3
-keys_of word.SetSciMode = 2
-keys_of word.TxInstall = 6
-keys_of word.TxUse = 2
-keys_of word.TxRemove = 2
-keys_of word.RxAdd = 2
-keys_of word.RxDrop = 2
-keys_of word.RxInstall = 6
-keys_of word.RxRemove = 3
+-- ---- keys
+
+-- the keys of the table of a command
+abbrev pub keys_of : Word → List (List ℕ)
+keys_of word.SetValidate = codes "do" ∷ codes "mode" ∷ []
+keys_of word.SetReplay = codes "do" ∷ codes "on" ∷ codes "window" ∷ []
+keys_of word.SetSciMode = codes "do" ∷ codes "mode" ∷ []
+keys_of word.TxInstall =
+    codes "do" ∷ codes "an" ∷ codes "key" ∷ codes "start" ∷ codes "confidential" ∷ codes "offset" ∷ []
+keys_of word.TxUse = codes "do" ∷ codes "an" ∷ []
+keys_of word.TxRemove = codes "do" ∷ codes "an" ∷ []
+keys_of word.RxAdd = codes "do" ∷ codes "sci" ∷ []
+keys_of word.RxDrop = codes "do" ∷ codes "sci" ∷ []
+keys_of word.RxInstall =
+    codes "do" ∷ codes "sci" ∷ codes "an" ∷ codes "key" ∷ codes "start" ∷ codes "offset" ∷ []
+keys_of word.RxRemove = codes "do" ∷ codes "sci" ∷ codes "an" ∷ []
+
+-- a key is one of these
+abbrev pub has_key : List (List ℕ) → List ℕ → Bool
+has_key keys key = list_any (λ one. bytes_eq key one) keys
+
+-- the first key of a table that is none of these
+abbrev pub key_beside : List (List ℕ) → Members → Option (List ℕ)
+key_beside keys no_members = None
+key_beside keys (member key value members) = if has_key keys key then key_beside keys members else Some key
+
+-- the first key of a table that its command does not have
+abbrev pub extra_key : Members → Option (List ℕ)
+extra_key members = option_and_then (λ which. key_beside (keys_of which) members) (word_in members)
 
 -- ---- lines
 

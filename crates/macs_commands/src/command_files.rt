@@ -1,14 +1,17 @@
 //! Command files, in TOML.
 
-ghost use Rattle.std.specs.Prelude.{◌≡◌, ◌≢◌, ◌<◌, ◌^◌, length, IfOk, IfErr, Ok, Err};
+ghost use Rattle.std.specs.Prelude.{◌≡◌, ◌≢◌, ◌<◌, ◌^◌, length, option_map, IfOk, IfErr, Ok};
+ghost use Rattle.std.specs.Prelude.{Err};
 ghost use Rattle.toml.specs.View.{items_view, table_view};
 ghost use Rattle.macs_commands.specs.CommandFiles.{are_tables, commands_among, count};
 ghost use Rattle.macs_commands.specs.CommandFiles.{file_commands, table_command, table_commands};
+ghost use Rattle.macs_commands.specs.Lines.{extra_key, key_beside, keys_of};
 ghost use Rattle.macs_commands.specs.declared.config_fault.ConfigFault.TheVariants.{Memory};
 
 use crate::config_fault::ConfigFault;
 use crate::fields::{value, word};
 use crate::lines::command_of;
+use crate::word::Word;
 use macs_config::Command;
 use std::alloc::Allocator;
 use toml::{Table, Value};
@@ -117,8 +120,34 @@ fn table_command(at: usize, table: &Table) -> Result<Command, ConfigFault>
         return Err(ConfigFault::Word { at });
     };
     match command_of(word, table) {
-        Ok(_) if keys(table) > word.keys() => Err(ConfigFault::Extra { at }),
-        Ok(command) => Ok(command),
+        Ok(command) => match key_beside(word, table) {
+            Some(_) => Err(ConfigFault::Extra { at }),
+            None => Ok(command),
+        },
         Err(name) => Err(ConfigFault::Key { at, name }),
+    }
+}
+
+/// The first key of a table, in the order of its keys, that a command of this word does not have.
+fn key_beside(word: Word, table: &Table) -> Option<&str>
+    ensures { option_map (λ key. key.now) result
+        ≡ key_beside (keys_of word) (table_view table.now) }
+{
+    for key in table.keys() {
+        if !word.has_key(key.as_str()) {
+            return Some(key.as_str());
+        }
+    }
+    None
+}
+
+/// The first key of a table that its command does not have. A table has its keys in the order of
+/// their octets.
+pub fn extra_key(table: &Table) -> Option<&str>
+    ensures { option_map (λ key. key.now) result ≡ extra_key (table_view table.now) }
+{
+    match word(table) {
+        Some(word) => key_beside(word, table),
+        None => None,
     }
 }

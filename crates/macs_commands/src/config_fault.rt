@@ -25,7 +25,7 @@ pub enum ConfigFault {
     /// A key of the command is absent, of another kind or out of range: the first such one in the
     /// order of the command's line.
     Key { at: usize, name: KeyName },
-    /// A table has a key that its command does not have.
+    /// A table has a key that its command does not have: `extra_key` is the first such one.
     Extra { at: usize },
     /// There is no memory for the commands.
     Memory,

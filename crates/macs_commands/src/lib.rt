@@ -6,12 +6,11 @@ mod command_files;
 mod config_fault;
 mod ends;
 mod fields;
-pub mod laws;
 mod lines;
 mod modes;
 mod word;
 
-pub use command_files::{are_tables, commands_of, keys};
+pub use command_files::{are_tables, commands_of, extra_key, keys};
 pub use config_fault::{ConfigFault, KeyName};
 pub use ends::{CommandFile, CommandFileFault, command_file};
 pub use fields::{key_of, octets, text, value};

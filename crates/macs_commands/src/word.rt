@@ -1,7 +1,8 @@
 //! The words of the commands.
 
-ghost use Rattle.std.specs.Prelude.{◌≡◌};
-ghost use Rattle.macs_commands.specs.Lines.{channel_word_of, keys_of, rx_word_of, word_of};
+ghost use Rattle.std.specs.Prelude.{◌≡◌, map};
+ghost use Rattle.macs_commands.specs.Lines.{channel_word_of, has_key, keys_of, rx_word_of};
+ghost use Rattle.macs_commands.specs.Lines.{word_of};
 
 /// What the key `do` of a table says.
 #[derive(Clone, Copy, Debug, PartialEq, Eq)]
@@ -16,6 +17,13 @@ pub enum Word {
     RxDrop,
     RxInstall,
     RxRemove,
+}
+
+/// Whether a key is one of these.
+fn is_one_of(key: &str, keys: &[&str]) -> bool
+    ensures { result ≡ has_key (map (λ one. one.now) keys.now) key.now }
+{
+    keys.iter().any(|one| key == *one)
 }
 
 impl Word {
@@ -66,19 +74,21 @@ impl Word {
         }
     }
 
-    /// How many keys the table of its command has, `do` among them.
-    pub(crate) fn keys(self) -> usize
-        ensures { result ≡ keys_of self }
+    /// Whether the table of its command has this key.
+    pub(crate) fn has_key(self, key: &str) -> bool
+        ensures { result ≡ has_key (keys_of self) key.now }
     {
         match self {
-            Word::TxInstall | Word::RxInstall => 6,
-            Word::SetReplay | Word::RxRemove => 3,
-            Word::SetValidate
-            | Word::SetSciMode
-            | Word::TxUse
-            | Word::TxRemove
-            | Word::RxAdd
-            | Word::RxDrop => 2,
+            Word::SetValidate | Word::SetSciMode => is_one_of(key, &["do", "mode"]),
+            Word::SetReplay => is_one_of(key, &["do", "on", "window"]),
+            Word::TxInstall => is_one_of(
+                key,
+                &["do", "an", "key", "start", "confidential", "offset"],
+            ),
+            Word::TxUse | Word::TxRemove => is_one_of(key, &["do", "an"]),
+            Word::RxAdd | Word::RxDrop => is_one_of(key, &["do", "sci"]),
+            Word::RxInstall => is_one_of(key, &["do", "sci", "an", "key", "start", "offset"]),
+            Word::RxRemove => is_one_of(key, &["do", "sci", "an"]),
         }
     }
 }

@@ -1,7 +1,7 @@
 //! Laws of the definitions, for the layers above. Where a law speaks of a value behind a reference,
 //! its body reads the fields: that is how a proof learns their ranges.
 
-ghost use Rattle.std.specs.Prelude.{◌≡◌, ◌<◌, ◌^◌, ◌++◌, ℕ, List, true, Some, Ok};
+ghost use Rattle.std.specs.Prelude.{◌≡◌, ◌<◌, ◌^◌, ◌++◌, List, true, Some, Ok};
 ghost use Rattle.macs_aes.specs.Keys.{octets_of_key};
 ghost use Rattle.macs_fields.specs.Fields.{IsAn, IsSci};
 ghost use Rattle.macs_config.specs.Apply.{IsCommand, IsKey, LongKey, apply, refusal_of, spent_by};

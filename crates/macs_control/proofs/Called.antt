@@ -1,9 +1,9 @@
 -- Calls that follow each other.
 use Rattle.std.proofs.Common.{◌≡◌, ◌∙◌, ◌⊎◌, inl, inr, ℕ, Bool, true, false, List, [], ◌∷◌, ◌++◌, Option, Some, None}
-use Rattle.std.proofs.Common.{refl, sym, ap}
+use Rattle.std.proofs.Common.{refl, ap}
 use Rattle.std.proofs.lemmas.List.{append_assoc}
-use Rattle.macs_control.specs.Binding.{Binds, Clears, IsBound, IsNotBound, IsNotNamed, Listens, Makes, Reaches}
-use Rattle.macs_control.specs.Binding.{Removes, SetsMode, SocketCall, named_calls, with_calls}
+use Rattle.macs_control.specs.Binding.{Binds, Clears, IsNotNamed, Makes, Reaches}
+use Rattle.macs_control.specs.Binding.{Removes, SetsMode, SocketCall, with_calls}
 use Rattle.macs_control.specs.declared.binding.Reach.TheVariants as found
 
 -- some calls, and then more
@@ -45,32 +45,3 @@ name-refused path a b d e true false one two is three not = (
   inr (inr refl),
   calls-more a d e _ _ (calls-more a b d _ _ one two) three,
 )
-
--- a name that is taken
-pub taken : (path : List ℕ) (a b : Option (List SocketCall)) (free : Bool) → Clears path a b free → free ≡ false
-    → IsNotBound path a b
-taken path a b true clears is = cc
-taken path a b false clears is = inl clears
-
--- one that is free, and a socket that does not get it
-pub not-named : (path : List ℕ) (a b d : Option (List SocketCall)) (free : Bool) → Clears path a b free
-    → free ≡ true → IsNotNamed path b d
-    → IsNotBound path a d
-not-named path a b d false clears is not = cc
-not-named path a b d true (calls, clear, one) is (cut, cuts, two) =
-    inr (inl (calls, cut, clear, cuts, calls-more a b d _ _ one two))
-
--- one that is free, a socket that gets it, and whether it takes connections
-listens : (a b d e : Option (List SocketCall)) (calls named : List SocketCall) (done : Bool) → b ≡ with_calls a calls
-    → d ≡ with_calls b named
-    → e ≡ with_calls d (Listens done ∷ []) → e ≡ with_calls a (calls ++ named ++ Listens done ∷ [])
-listens a b d e calls named done one two three = calls-more a d e _ _ (calls-more a b d _ _ one two) three
-
-pub listened : (path : List ℕ) (a b d e : Option (List SocketCall)) (free : Bool) → Clears path a b free → free ≡ true
-    → d ≡ with_calls b (named_calls path) → (done : Bool) → e ≡ with_calls d (Listens done ∷ [])
-    → (done ≡ true → IsBound path a e) × (done ≡ false → IsNotBound path a e)
-listened path a b d e false clears is two done three = cc
-listened path a b d e true (calls, clear, one) is two true three =
-    ((λ yes. (calls, clear, listens a b d e _ _ _ one two three)), (λ no. cc))
-listened path a b d e true (calls, clear, one) is two false three =
-    ((λ yes. cc), (λ no. inr (inr (calls, clear, listens a b d e _ _ _ one two three))))

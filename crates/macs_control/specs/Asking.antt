@@ -3,7 +3,6 @@ use Rattle.std.specs.Prelude.{◌≡◌, ◌++◌, ⊤, ℕ, List, [], ◌∷◌
 use Rattle.macs_requests.specs.Inboxes.{HasNoFeed}
 use Rattle.macs_requests.specs.Requests.{end_line}
 use Rattle.macs_control.specs.Links.{Link}
-use Rattle.macs_control.specs.Seats.{connection_of, held_by}
 use Rattle.macs_control.specs.declared.asking.Asker.{Asker}
 use Rattle.macs_control.specs.declared.seat.Seat.{Seat}
 

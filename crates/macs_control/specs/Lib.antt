@@ -10,6 +10,4 @@ pub mod Seconds
 pub mod MetricsFiles
 pub mod Buffers
 pub mod Asking
-pub mod SocketWords
-pub mod SystemWords
 pub mod StandingWords

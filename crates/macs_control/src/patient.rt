@@ -1,4 +1,4 @@
-//! A connection to a relay that is asked.
+//! The connection of a client to the relay that it asks.
 
 use crate::connection::{Connection, Taken};
 use crate::local_address::address_with;
@@ -13,17 +13,16 @@ use std::time::Duration;
 /// How long a call waits, in seconds: longer than any command takes.
 const PATIENCE: u64 = 60;
 
-/// A connection to a relay, each call of which waits for a minute at most: what then has not come
-/// does not come.
+/// A connection to a relay. Each call waits for a minute at most, and then fails.
 #[derive(Drop)]
 pub struct PatientStream {
     stream: UnixStream,
 }
 
 impl PatientStream {
-    /// A connection to the relay that listens at a name, or the error of the system where none
-    /// does. Where as many wait for that relay as may, it waits too: the limit of a write is that
-    /// of a connection (socket(7)).
+    /// Connects to the relay that listens at this name. It fails with the error of the system if no
+    /// relay does. If as many clients wait for that relay as the system allows, the call waits too,
+    /// for a minute at most: the limit of a write is also that of a connection (socket(7)).
     pub fn connect<N: Net>(net: &N, path: &str) -> io::Result<PatientStream> {
         let Some(address) = address_with(path.as_bytes()) else {
             return Err(Error::from(ErrorKind::InvalidInput));

@@ -178,9 +178,9 @@ impl<S: Connection> Seats<S> {
         None
     }
 
-    /// Says a text to a client. One that does not take all of it at once loses its place, and so
-    /// does one that sends no more and that no other answer is due to. To one that has none nothing
-    /// is sent.
+    /// Sends a text to a client. The client loses its place if it does not take the whole text at
+    /// once, or if it sends no more and no other answer is due to it. Nothing is sent to a client
+    /// without a place.
     pub fn say(&mut self, client: Client, text: &[u8]) {
         if let Some(at) = at_client(self.places.as_slice(), client) {
             if !self.places[at].say(text, self.second) {

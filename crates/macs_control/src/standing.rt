@@ -1,22 +1,22 @@
-//! How a client stands with its relay: what it may still be told, and whether it keeps its place.
+//! The state of a client of a relay: how many answers are due to it, and whether it keeps its place.
 
 ghost use Rattle.std.specs.Prelude.{◌≡◌};
 ghost use Rattle.macs_control.specs.Standings.{new_standing};
 
 use crate::seat::Hearing;
 
-/// Once so many seconds ended, a client that says nothing may lose its place to a newcomer: after
-/// more than one second.
+/// A client that sends nothing may lose its place to a newcomer after this many seconds have ended:
+/// after more than one second of silence.
 const QUIET_SECONDS: u64 = 2;
 
-/// How a client stands with its relay.
+/// The state of a client of a relay.
 #[derive(Clone, Copy)]
 pub struct Standing {
-    /// How many of its lines were heard and are not answered yet.
+    /// How many of its lines were heard but are not answered yet.
     due: u64,
     /// It sends no more.
     has_ended: bool,
-    /// The second in which it came, or a line of it was heard or answered last.
+    /// The second in which it connected, or in which its last line was heard or answered.
     since: u64,
 }
 
@@ -25,7 +25,7 @@ impl Standing {
     ghost use Rattle.macs_control.specs.Standings.{after_answer, after_hearing, has_ended, is_idle};
     ghost use Rattle.macs_control.specs.Standings.{is_let_go, is_over, new_standing};
 
-    /// That of a client that came in this second.
+    /// The state of a client that connects in this second.
     pub fn new(now: u64) -> Standing
         ensures { result ≡ new_standing now }
     {
@@ -36,7 +36,7 @@ impl Standing {
         }
     }
 
-    /// What it is after this was heard of the client: an answer more is due for a line.
+    /// The state after this was heard from the client. A line makes one more answer due.
     pub fn after_hearing(self, hearing: &Hearing, now: u64) -> Standing
         ensures { result ≡ after_hearing now hearing.now self }
     {
@@ -55,7 +55,7 @@ impl Standing {
         }
     }
 
-    /// What it is after a line was answered.
+    /// The state after a line was answered.
     pub fn after_answer(self, now: u64) -> Standing
         ensures { result ≡ after_answer now self }
     {
@@ -73,15 +73,15 @@ impl Standing {
         self.has_ended
     }
 
-    /// Whether nothing more is to be heard of the client, and nothing to be said to it.
+    /// Whether the client sends no more, and every line of it is answered.
     pub fn is_over(self) -> bool
         ensures { result ≡ is_over self }
     {
         self.has_ended && self.due == 0
     }
 
-    /// Whether the client loses its place, once this was heard of it: where it is gone, and where
-    /// it sends no more and every line of it is answered.
+    /// Whether the client loses its place after this was heard from it: if it is gone, or if it
+    /// sends no more and every line of it is answered.
     pub fn is_let_go(self, hearing: &Hearing) -> bool
         ensures { result ≡ is_let_go hearing.now self }
     {
@@ -93,7 +93,7 @@ impl Standing {
     }
 
     /// Whether the client may lose its place to a newcomer: every line of it is answered, and two
-    /// seconds ended since it came, or a line of it was heard or answered last.
+    /// seconds have ended since it connected, or since its last line was heard or answered.
     pub fn is_idle(self, now: u64) -> bool
         ensures { result ≡ is_idle now self }
     {

@@ -4,5 +4,3 @@ pub mod Looking
 pub mod Reported
 pub mod Queued
 pub mod Served
-mod DeskWords
-mod SpeakWords

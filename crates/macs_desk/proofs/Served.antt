@@ -22,7 +22,7 @@ use Rattle.macs_requests.specs.Talks.{Talk}
 use Rattle.macs_requests.specs.declared.clients.Client.{Client}
 use Rattle.macs_requests.specs.declared.clients.Heard.{Heard as HeardLine}
 use Rattle.macs_requests.specs.declared.requests.Request.{Request}
-use Rattle.macs_requests.specs.declared.requests.Request.TheVariants.{About, Apply, Counters, Keys, Show, Stop}
+use Rattle.macs_requests.specs.declared.requests.Request.TheVariants.{About, Apply, Counters, Keys, Show, Stop, Traffic}
 use Rattle.macs_desk.specs.Listening.{Answers, HandsIn, Listens, ListensUnless, Looks, LooksIf, Reads, Reports, Tells}
 use Rattle.macs_desk.specs.Listening.{said_to, sleep_after}
 use Rattle.macs_desk.specs.Replies.{ended_text}
@@ -50,6 +50,7 @@ answers-asks : (reports : Reports) (client asked : Client) (request : Request) (
 answers-asks reports client asked Show talk order is = tells-asks client asked reports.shown talk is.0
 answers-asks reports client asked Counters talk order is = tells-asks client asked (reports.counted is.0) talk is.2
 answers-asks reports client asked Keys talk order is = tells-asks client asked reports.keys talk is.0
+answers-asks reports client asked Traffic talk order is = tells-asks client asked reports.traffic talk is.0
 answers-asks reports client asked About talk order is = tells-asks client asked reports.about talk is.0
 answers-asks reports client asked Stop talk order is = ap (asking_after asked) is.0
 answers-asks reports client asked (Apply command) talk order is =

@@ -2,5 +2,4 @@ pub mod UnderWay
 pub mod Replies
 pub mod Listening
 pub mod Serving
-pub mod DeskWords
-pub mod SpeakWords
+pub mod LastGood

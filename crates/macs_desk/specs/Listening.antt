@@ -15,7 +15,7 @@ use Rattle.macs_requests.specs.Talks.{Talk, Heard, Said, Slept, Looked, Note, As
 use Rattle.macs_requests.specs.declared.clients.Client.{Client}
 use Rattle.macs_requests.specs.declared.clients.Heard.{Heard as HeardLine}
 use Rattle.macs_requests.specs.declared.requests.Request.{Request}
-use Rattle.macs_requests.specs.declared.requests.Request.TheVariants.{About, Apply, Counters, Keys, Show, Stop}
+use Rattle.macs_requests.specs.declared.requests.Request.TheVariants.{About, Apply, Counters, Keys, Show, Stop, Traffic}
 use Rattle.macs_rxsc.specs.Value as rxsc
 use Rattle.macs_txsc.specs.Value as txsc
 use Rattle.macs_texts.specs.Counting.{counters_text, reported}
@@ -23,6 +23,7 @@ use Rattle.macs_texts.specs.KeyTexts.{keys_text}
 use Rattle.macs_texts.specs.Measuring.{metrics_text}
 use Rattle.macs_texts.specs.Programs.{about_text}
 use Rattle.macs_texts.specs.Showing.{show_text}
+use Rattle.macs_texts.specs.TrafficTexts.{traffic_text}
 use Rattle.macs_texts.specs.declared.build.Build.{Build}
 use Rattle.macs_texts.specs.declared.program.Program.{Program}
 use Rattle.macs_desk.specs.Replies.{end_text, ended_text, not_noted_text, not_taken_text}
@@ -38,12 +39,13 @@ abbrev pub IsKnown : {A : Type 0} → Option A → A → Type 0
 IsKnown None answer = ⊤
 IsKnown (Some known) answer = answer ≡ known
 
--- What clients are told of an endpoint and its wires: the configuration and the numbers, which keys are installed, which
--- program runs, and the counters with what was dropped. Of that it may be known what it is, and so of whether the key of
--- a command is noted
+-- What clients are told of an endpoint and its wires: the configuration and the numbers, which keys are installed, what
+-- frames carried, which program runs, and the counters with what was dropped. Of that it may be known what it is, and so
+-- of whether the key of a command is noted
 pub record Reports : Type 0 where
   pub shown : List ℕ
   pub keys : List ℕ
+  pub traffic : List ℕ
   pub about : List ℕ
   pub counted : Dropped → List ℕ
   pub known : Option Dropped
@@ -61,6 +63,8 @@ abbrev pub reports_of : {D : Type 0} → Program → Option Dropped → (Command
 reports_of program known noted endpoint controlled common = record {
   shown = show_text (state_of endpoint no_logs);
   keys = keys_text (state_of endpoint no_logs).config;
+  traffic = traffic_text (txsc.counters_of endpoint.tx) (state_of endpoint no_logs).config.channels
+      (rxsc.channel_counters_of endpoint.rx) program.last_good;
   about = about_text program.build program.started;
   counted = counted_of endpoint controlled common;
   known = known;
@@ -101,6 +105,7 @@ Answers reports client Show talk order = Tells client reports.shown talk × (ord
 Answers reports client Counters talk order = (dropped : Dropped) × IsKnown reports.known dropped
     × Tells client (reports.counted dropped) talk × (order ≡ Go)
 Answers reports client Keys talk order = Tells client reports.keys talk × (order ≡ Go)
+Answers reports client Traffic talk order = Tells client reports.traffic talk × (order ≡ Go)
 Answers reports client About talk order = Tells client reports.about talk × (order ≡ Go)
 Answers reports client Stop talk order = (talk ≡ Said client (end_text 0) ∷ []) × (order ≡ End)
 Answers reports client (Apply command) talk order = (noted : Result (Unit {0}) NoteFault)

@@ -19,7 +19,9 @@ use macs_disk::SectorDisk;
 use macs_edge::{Order, WireCounts};
 use macs_endpoint::Endpoint;
 use macs_requests::{Client, Clients, Heard, Request, request_of_line};
-use macs_texts::{Program, about_lines, counter_lines, keys_lines, reported, show_lines};
+use macs_texts::{
+    Program, about_lines, counter_lines, keys_lines, reported, show_lines, traffic_lines,
+};
 use std::alloc::{AllocError, Global};
 
 /// The request of a line, `None` where it is no text, or the line of no request. It fails only
@@ -120,6 +122,10 @@ fn answer<D: SectorDisk, S: Overruns + KeyNotes, C: Clients>(
     match request {
         Request::Show => tell(clients, client, show_lines(alloc, endpoint)),
         Request::Keys => tell(clients, client, keys_lines(alloc, endpoint.config())),
+        Request::Traffic => {
+            let report = traffic_lines(alloc, endpoint, program.last_good);
+            tell(clients, client, report)
+        }
         Request::About => tell(clients, client, about_lines(alloc, program)),
         Request::Counters => {
             let report = counted(alloc, endpoint, controlled, common, system);

@@ -2,12 +2,15 @@
 
 ghost use Rattle.std.specs.Prelude.{◌≡◌, [], List};
 ghost use Rattle.macs_requests.specs.Talks.{Note, Talk, with_notes, with_talk};
+ghost use Rattle.macs_desk.specs.LastGood.{NotesGoodIf, good_after, good_frames};
 ghost use Rattle.macs_desk.specs.Listening.{LooksIf, MeasuresIf, is_time, measured_of, reports_of};
 ghost use Rattle.macs_desk.specs.Listening.{said_of_ending, said_of_taking, turns_left};
 ghost use Rattle.macs_desk.specs.Listening.{under_way_after};
+ghost use Rattle.macs_rxsc.specs.Value as rxsc;
 ghost use Rattle.macs_desk.specs.UnderWay.{entries_of, is_full, without};
 
 use crate::key_notes::KeyNotes;
+use crate::last_good::{Time, good_frames, note_good};
 use crate::listening::{TURNS_BETWEEN, is_time, look, rest, turns_between};
 use crate::metrics::measure;
 use crate::overruns::Overruns;
@@ -23,8 +26,8 @@ use std::alloc::Global;
 /// A desk that serves clients. It listens to them after a quiet turn, before which it sleeps, and
 /// else at each 64th turn, and takes one line then; after a command it listens again before the
 /// next turn. Reports are answered at once. A command is handed in once its key is noted, and its
-/// client is answered once it is done: `ok` after it is kept, and not before. Up to 16 commands are under
-/// way; while they are, no line is taken. `stop` ends the relay, and so does the wish to end the
+/// client is answered once it is done: `ok` after it is kept, and not before. Up to 16 commands are
+/// under way; while they are, no line is taken. `stop` ends the relay, and so does the wish to end the
 /// process.
 ///
 /// What clients do never holds a frame: no call waits for one of them. A client that goes away
@@ -39,6 +42,8 @@ pub struct ControlDesk<C, M, S> {
     under_way: Queue,
     /// The client whose line was taken last.
     asking: Client,
+    /// How many frames had verified when it looked last.
+    good: u64,
     /// How many turns may pass before it looks after its clients, if none of them is quiet.
     turns_left: u8,
 }
@@ -57,6 +62,7 @@ impl<C: Clients, M: Metrics, S: Overruns + KeyNotes> ControlDesk<C, M, S> {
         ensures metrics { result.metrics ≡ metrics }
         ensures system { result.system ≡ system }
         ensures none { entries_of result.under_way ≡ [] }
+        ensures good { result.good ≡ 0 }
         ensures turns { result.turns_left ≡ 63 }
     {
         ControlDesk {
@@ -67,6 +73,7 @@ impl<C: Clients, M: Metrics, S: Overruns + KeyNotes> ControlDesk<C, M, S> {
             system,
             under_way: Queue::new(),
             asking: Client::default(),
+            good: 0,
             turns_left: TURNS_BETWEEN,
         }
     }
@@ -93,13 +100,13 @@ impl<
     W: Wire + Counted,
     C: Clients,
     M: Metrics,
-    S: Overruns + KeyNotes,
+    S: Overruns + KeyNotes + Time,
 > Desk<D, P, W> for ControlDesk<C, M, S> {
     fn next(&mut self, endpoint: &Endpoint<D>, controlled: &P, common: &W, was_quiet: bool) -> Order
         ensures talk { (talk : List Talk)
             × LooksIf (is_time was_quiet self.old.turns_left) was_quiet
             (is_full (entries_of self.old.under_way))
-            (reports_of self.old.program (S.known self.old.system) (S.answers self.old.system)
+            (reports_of self.new.program (S.known self.old.system) (S.answers self.old.system)
             endpoint.now (P.wire_counts controlled.now) (W.wire_counts common.now))
             self.old.asking talk result self.new.asking
             × (C.talk self.new.clients ≡ with_talk (C.talk self.old.clients) talk) }
@@ -109,7 +116,14 @@ impl<
             (W.wire_counts common.now))
             notes
             × (M.notes self.new.metrics ≡ with_notes (M.notes self.old.metrics) notes) }
-        ensures program { self.new.program ≡ self.old.program }
+        ensures last_good { NotesGoodIf (is_time was_quiet self.old.turns_left)
+            (S.time self.old.system) self.old.good
+            (good_frames (rxsc.counters_of endpoint.now.rx))
+            self.old.program.last_good self.new.program.last_good }
+        ensures good { self.new.good ≡ good_after (is_time was_quiet self.old.turns_left)
+            self.old.good (good_frames (rxsc.counters_of endpoint.now.rx)) }
+        ensures program { self.new.program
+            ≡ record self.old.program { last_good = self.new.program.last_good } }
         ensures system { self.new.system ≡ self.old.system }
         ensures under_way { entries_of self.new.under_way ≡ entries_of self.old.under_way }
         ensures turns { self.new.turns_left
@@ -119,6 +133,9 @@ impl<
             self.turns_left = self.turns_left.saturating_sub(1);
             return Order::Go;
         }
+        let good = good_frames(endpoint);
+        note_good(&mut self.program, self.good, good, &self.system);
+        self.good = good;
         let controlled = controlled.counts();
         let common = common.counts();
         rest(was_quiet, &mut self.clients);
@@ -155,6 +172,7 @@ impl<
         ensures under_way { entries_of self.new.under_way
             ≡ under_way_after (entries_of self.old.under_way) self.old.asking answer }
         ensures asking { self.new.asking ≡ self.old.asking }
+        ensures good { self.new.good ≡ self.old.good }
     {
         match answer {
             Ok(ticket) => self.under_way.join(UnderWay {
@@ -175,6 +193,7 @@ impl<
         ensures under_way { entries_of self.new.under_way
             ≡ without (entries_of self.old.under_way) ticket }
         ensures asking { self.new.asking ≡ self.old.asking }
+        ensures good { self.new.good ≡ self.old.good }
     {
         match self.under_way.leave(ticket.get()) {
             Some(client) => self.clients.say(client, ended(end).as_slice()),

@@ -7,9 +7,7 @@ ghost use Rattle.macs_edge.specs.declared.attending.DeskEvent.{DeskEvent};
 ghost use Rattle.macs_edge.specs.declared.relaying.RelaySummary.{RelaySummary};
 ghost use Rattle.macs_endpoint.specs.declared.fault.RefillFault.{RefillFault};
 ghost use Rattle.macs_requests.specs.Talks.{Talk};
-ghost use Rattle.macs_desk.specs.DeskWords.{AnswerWords, ListenWords, QueueWords, ReportWords};
 ghost use Rattle.macs_desk.specs.Serving.{ClientsAreTold, DeskState, Speaks};
-ghost use Rattle.macs_desk.specs.SpeakWords.{SpeakWords, ToldWords};
 
 use macs_disk::SectorDisk;
 
@@ -25,21 +23,4 @@ pub fn clients_are_told<D: SectorDisk>()
         → before.under_way ≡ [] → Attends D.disk turns old events result new
         → Speaks before events talks after
         → ClientsAreTold before.asking events talks × (after.under_way ≡ []) }
-{}
-
-/// The words of a desk say this: what its clients are answered, which of them is, when the desk
-/// listens and the relay ends, and what is reported.
-pub fn words<D: SectorDisk>()
-    // What is said of a command, and when.
-    ensures answers { AnswerWords }
-    // Which client is answered, and how many commands are under way.
-    ensures queue { QueueWords }
-    // When the desk looks and listens, and what it wants then.
-    ensures listens { ListenWords }
-    // What is reported.
-    ensures reports { ReportWords D.disk }
-    // What a desk says over a whole relay, call by call.
-    ensures speaks { SpeakWords }
-    // What is said of each command that was taken, and to whom.
-    ensures told { ToldWords }
 {}

@@ -4,6 +4,7 @@
 mod answering;
 mod desk;
 mod key_notes;
+mod last_good;
 pub mod laws;
 mod listening;
 mod metrics;
@@ -14,6 +15,7 @@ mod under_way;
 
 pub use desk::ControlDesk;
 pub use key_notes::{KeyNotes, NoteFault};
+pub use last_good::Time;
 pub use no_system::NoSystem;
 pub use overruns::{Dropped, Overruns};
 pub use under_way::{MOST_UNDER_WAY, Queue, UnderWay};

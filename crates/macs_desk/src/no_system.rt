@@ -1,11 +1,12 @@
 //! A system of which nothing is known.
 
 use crate::key_notes::{KeyNotes, NoteFault};
+use crate::last_good::Time;
 use crate::overruns::{Dropped, Overruns};
 use macs_config::Command;
 
-/// A system of which nothing is known: what it dropped of either wire is not, and each key may be
-/// installed.
+/// A system of which nothing is known: neither what it dropped of either wire nor what time it is,
+/// and each key may be installed.
 #[derive(Drop)]
 pub struct NoSystem;
 
@@ -29,5 +30,15 @@ impl KeyNotes for NoSystem {
 
     fn note(&self, _command: &Command) -> Result<(), NoteFault> {
         Ok(())
+    }
+}
+
+impl Time for NoSystem {
+    ghost use Rattle.std.specs.Prelude.{Some, None};
+
+    ghost time = { λ _. Some None };
+
+    fn seconds(&self) -> Option<u64> {
+        None
     }
 }

@@ -4,6 +4,7 @@ mod clients;
 mod metrics;
 mod refusals;
 mod reports;
+mod traffic;
 
 use macs_config::Identity;
 use macs_disk::{MemDisk, SectorDisk};
@@ -19,12 +20,18 @@ fn program(rt: &impl Abort, alloc: Global) -> Program {
     Program {
         build: Build::new(alloc, "7.8.9", "abc", "no").expect(rt, "memory"),
         started: Some(1_234_567_890),
+        last_good: None,
     }
 }
 
 /// The disk of a new endpoint.
 fn formatted(rt: &impl Abort, alloc: Global) -> MemDisk {
-    let identity = Identity::new(Sci([2, 0, 0, 0, 0, 1, 0, 1]), 4, 4).expect(rt, "identity");
+    formatted_as(rt, alloc, Sci([2, 0, 0, 0, 0, 1, 0, 1]))
+}
+
+/// The same of the endpoint with this SCI.
+fn formatted_as(rt: &impl Abort, alloc: Global, sci: Sci) -> MemDisk {
+    let identity = Identity::new(sci, 4, 4).expect(rt, "identity");
     let mut disk = match MemDisk::new(alloc, 1_028) {
         Ok(disk) => disk,
         Err(_) => panic!(rt; "no disk"),

@@ -1,21 +1,11 @@
 -- A file is copied into an empty one, part by part.
-use Rattle.std.proofs.Common.{◌≡◌, ◌≤◌, ◌<◌, ◌+◌, ◌-◌, inl, inr, ℕ, List, length, take, ap, ◌∙◌, arith, refl, subst, sym}
+use Rattle.std.proofs.Common.{◌≡◌, ◌≤◌, ◌<◌, ◌+◌, ◌-◌, inl, inr, ℕ, List, length, ap, ◌∙◌, arith, subst, sym}
 use Rattle.std.proofs.lemmas.Bool.{cases_lt}
 use Rattle.macs_disk.specs.FileDisks.{HasFront}
 use Rattle.macs_disk.specs.FileEvidence.{length-values, value-at}
-use Rattle.macs_disk.specs.Files.{FileState, IsCopy, IsMadeBeside, IsSoundFile, file_after_sync, file_after_write}
+use Rattle.macs_disk.specs.Files.{FileState, file_after_write}
 use Rattle.macs_disk.specs.Files.{put_from, values_from}
 use Rattle.macs_disk.proofs.FileWrites.{put-at, put-before, write-behaves, write-block, write-seen, write-size, write-sure}
-
--- nothing was copied yet
-pub front-none : (from into : FileState) → IsMadeBeside from into → HasFront from 0 into
-front-none from into made = record {
-  behaves = made.is_empty.behaves;
-  block = made.block;
-  size = made.is_empty.size;
-  is_sure = made.is_empty.is_sure;
-  shown = λ p lt. absurd (omega (arith, lt));
-}
 
 -- one part more
 pub front-more : (from into new : FileState) (done count : ℕ) (octets : List ℕ) → 0 < count → HasFront from done into
@@ -47,24 +37,3 @@ front-more from into new done count octets some front are is =
           ∙ value-at from.seen done count (p - done) (into.seen p) (omega (arith, from_done, lt))
           ∙ ap from.seen place
     ]
-
--- all of it, once it is synced
-pub copied : (from into new : FileState) (octets : ℕ) → IsSoundFile from → IsSoundFile into → octets ≡ from.size
-    → HasFront from octets into → new ≡ file_after_sync into → IsCopy from new
-copied from into new octets from_sound into_sound all front is =
-    subst (IsCopy from) (sym is) (record {
-      behaves = front.behaves;
-      block = front.block;
-      size = front.size ∙ all;
-      shown = λ p. elim (cases_lt p octets) [
-        | inl within ↦ front.shown p within
-        | inr past ↦
-            let size = front.size in
-            into_sound.ended p (omega (arith, size, past)) ∙ sym (from_sound.ended p (omega (arith, all, past)))
-      ];
-      durable = refl;
-      pending = λ _. refl;
-      is_size_durable = refl;
-      is_clean = refl;
-      is_sure = front.is_sure;
-    })

@@ -1,12 +1,10 @@
 -- Calls of a file that failed, one after another.
-use Rattle.std.proofs.Common.{◌≡◌, inl, inr, List, Option, Some, None, Result, Ok, Err, IfErr, refl, subst, sym}
+use Rattle.std.proofs.Common.{◌≡◌, inl, inr, List, Option, Some, None, Ok, Err, refl, subst}
 use Rattle.std.proofs.lemmas.Bool.{false≢true}
-use Rattle.std.specs.Prelude.{IsErr}
 use Rattle.std.specs.declared.io.ErrorKind.{ErrorKind}
 use Rattle.macs_disk.specs.FileFailures.{Claims, FailedCall, FileCall, IsFaultOfKind, MeasureFails, Measures}
-use Rattle.macs_disk.specs.FileFailures.{NoneFailed, OneFailed, Syncs, NotesFailure}
+use Rattle.macs_disk.specs.FileFailures.{NoneFailed, OneFailed, NotesFailure}
 use Rattle.macs_disk.specs.declared.file_fault.FileFault.{FileFault}
-use Rattle.macs_disk.specs.declared.file_fault.FileFault.TheVariants.{Device}
 
 pub one-failed : (T : Type 0) {E : Type 0} (before after : Option (List FailedCall)) (call : FileCall) (kind : E
     → ErrorKind) (error : E)
@@ -47,13 +45,3 @@ pub not-measured : (before between after : Option (List FailedCall)) (kind : Err
     → OneFailed between after Measures kind → IsFaultOfKind kind fault → MeasureFails before after fault
 not-measured before between after kind fault first failed is =
     inr (Measures, kind, inr refl, one-after before between after Measures kind first failed, is)
-
--- a file that is not measured is let go
-pub measure-refused : {F T : Type 0} (failures : F → Option (List FailedCall)) (file left : F)
-    (fault handed : FileFault) (result : Result T FileFault)
-    → result ≡ Err handed → handed ≡ fault → MeasureFails (failures file) (failures left) fault
-    → IfErr result (λ fault. (left : F) × MeasureFails (failures file) (failures left) fault)
-measure-refused {F} {T} failures file left fault handed result is same fails =
-    subst (λ (r : Result T FileFault).
-    IfErr r (λ fault. (left : F) × MeasureFails (failures file) (failures left) fault)) (sym is)
-    (left, subst (λ (f : FileFault). MeasureFails (failures file) (failures left) f) (sym same) fails)

@@ -35,10 +35,6 @@ by-mark file sector marked layout long read is found =
     let known : is_marked (values_from file.seen (place Spaced 1028) 512) ≡ marked = sym (ap is_marked read) ∙ is in
     found ∙ rw (yes, known) refl
 
-zeros-are : zero_sector ≡ replicate 512 0
-unfolding zero_sector
-zeros-are = refl
-
 pub unmarked : is_marked zero_sector ≡ false
 unfolding zero_sector
 unmarked = refl

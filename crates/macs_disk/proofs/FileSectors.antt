@@ -47,11 +47,6 @@ apart-at Packed block i at suited other =
     subst (λ (b : ℕ). Apart b (512 * i) (512 * at)) (sym (is_same block 512 suited)) (packed-apart i at other)
 apart-at Spaced block i at suited other = spaced-apart i at block other (small-block block (block == 512) refl suited)
 
--- sectors before another end before it
-pub ends-before : (layout : Layout) (at count : ℕ) → at < count → place layout at + 512 ≤ place layout count
-ends-before Packed at count within = omega (arith, within)
-ends-before Spaced at count within = omega (arith, within)
-
 -- ---- a sector that was written
 
 -- the first octets of a sector, and what was after them

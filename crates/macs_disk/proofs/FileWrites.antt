@@ -1,7 +1,7 @@
 -- Writes of a file, one after the other.
 use Rattle.std.proofs.Common.{◌≡◌, ◌≤◌, ◌<◌, ◌+◌, ◌-◌, ◌*◌, ◌^◌, ◌&&◌, inl, inr, ℕ, zero, suc, ◌||◌, ◌⊎◌, max, Bool}
 use Rattle.std.proofs.Common.{true, false, List, [], ◌∷◌, ◌++◌, length, get_or, take, drop, length-take-le, nat_le}
-use Rattle.std.proofs.Common.{nat_lt, refl, replicate, ap, ◌∙◌, arith, subst, sym, Result, Ok, Err, IsErr, OnErr}
+use Rattle.std.proofs.Common.{nat_lt, refl, replicate, ap, ◌∙◌, arith, subst, sym, Result, Ok, Err, IsErr}
 use Rattle.std.proofs.lemmas.Bool.{cases_lt, le-leb, lt-leb, lt-ltb, le-ltb}
 use Rattle.std.proofs.lemmas.List.{get_or_past, get_or-replicate, length-replicate, replicate-append-replicate}
 use Rattle.std.proofs.lemmas.List.{take-take}
@@ -197,11 +197,6 @@ some-behind old mid new at place most room xs wide octets first is some fits =
       some.3 ∙ ap (λ (f : FileState). file_after_write f place ys) first ∙ write-write old at place xs ys wide is,
     )
 
--- some octets were written and no more
-pub some-front : (old new : FileState) (at most : ℕ) (xs : List ℕ) → AreOctets xs → new ≡ file_after_write old at xs
-    → length xs ≤ most → WritesSome old new at most
-some-front old new at most xs octets is fits = (xs, fits, octets, is)
-
 pub length-take-most : (n : ℕ) (xs : List ℕ) → length (take n xs) ≤ n
 length-take-most zero xs = omega arith
 length-take-most (suc n) [] = omega arith
@@ -233,18 +228,6 @@ octets-front (suc n) (x ∷ xs) octets (suc i) = octets-front n xs (λ k. octets
 -- a part is no longer than what is left
 pub part-fits : (count room done : ℕ) (from : List ℕ) → count ≤ length (take room (drop done from)) → count ≤ room
 part-fits count room done from fits = let h = length-take-most room (drop done from) in omega (arith, h, fits)
-
--- a write that moved nothing after what was written
-pub wrote-none : (old mid new : FileState) (at place done count room : ℕ) (from : List ℕ)
-    → ((i : ℕ) → get_or from i 0 < 2 ^ 8) → mid ≡ file_after_write old at (take done from)
-    → count ≡ 0 → done ≤ length from → new ≡ file_after_write mid place (take count (take room (drop done from)))
-    → WritesSome old new at (length from)
-wrote-none old mid new at place done count room from octets so_far none within here =
-    let nothing : take count (take room (drop done from)) ≡ [] =
-    ap (λ (n : ℕ). take n (take room (drop done from))) none in
-    some-front old new at (length from) (take done from) (octets-front done from octets)
-    (here ∙ ap (λ (l : List ℕ). file_after_write mid place l) nothing ∙ so_far)
-    (let h = length-take-le done from within in omega (arith, h, within))
 
 -- a write that failed after what was written
 pub failed-behind : (old mid new : FileState) (at place done room : ℕ) (from : List ℕ) → 0 < old.block
@@ -290,20 +273,6 @@ zeros-octets n i = elim (cases_lt i n) [
       subst (λ (v : ℕ). v < 2 ^ 8) (sym (get_or_past (replicate n 0) i 0 (omega (arith, size, past)))) (omega arith)
 ]
 
--- zeros were written so far and no further
-pub zeros-front : (old new : FileState) (from at to : ℕ) → new ≡ file_after_write old from (replicate (at - from) 0)
-    → (at ≤ to) ⊎ (at ≡ from)
-    → WritesSome old new from (length (replicate {A = ℕ} (to - from) 0))
-zeros-front old new from at to is reached =
-    let done : length (replicate {A = ℕ} (at - from) 0) ≡ at - from = length-replicate {A = ℕ} (at - from) 0 in
-    let all : length (replicate {A = ℕ} (to - from) 0) ≡ to - from = length-replicate {A = ℕ} (to - from) 0 in
-    some-front old new from (length (replicate {A = ℕ} (to - from) 0)) (replicate (at - from) 0)
-    (zeros-octets (at - from)) is
-    (elim reached [
-      | inl within ↦ omega (arith, done, all, within)
-      | inr none ↦ omega (arith, done, all, none)
-    ])
-
 -- zeros that a write failed after
 pub zeros-failed : (old mid new : FileState) (from at to most : ℕ) → 0 < old.block
     → mid ≡ file_after_write old from (replicate (at - from) 0) → from ≤ at
@@ -314,11 +283,6 @@ zeros-failed old mid new from at to most wide is ordered some within =
     some-behind old mid new from at (length (replicate {A = ℕ} (to - from) 0)) most (replicate (at - from) 0) wide
     (zeros-octets (at - from)) is (omega (arith, done, ordered)) some
     (omega (arith, done, all, ordered, within))
-
--- what holds of a failed result
-pub on-failed : {T E : Type 0} (result : Result T E) (P : Type 0) → IsErr result → P → OnErr result P
-on-failed (Ok x) P is holds = tt
-on-failed (Err e) P is holds = holds
 
 -- a write that failed, by the result that is handed on
 pub failed-writes : {T E : Type 0} (old new : FileState) (at : ℕ) (octets : List ℕ) (result : Result T E) → IsErr result

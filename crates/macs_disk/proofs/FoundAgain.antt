@@ -4,7 +4,6 @@ use Rattle.std.proofs.Common.{◌≡◌, ◌≢◌, ◌≤◌, ◌<◌, ◌+◌,
 use Rattle.std.proofs.Common.{true, false, List, [], ◌∷◌, length, nat_lt, replicate, refl, ap, ◌∙◌, arith}
 use Rattle.std.proofs.Common.{subst, sym, Result, Ok, Err}
 use Rattle.std.proofs.lemmas.Bool.{cases_eq, cases_lt, le-leb, le-ltb}
-use Rattle.std.proofs.lemmas.List.{length-replicate}
 use Rattle.macs_disk.specs.Disk.{Disk}
 use Rattle.macs_disk.specs.Files.{Behaves, FileState, HasNothingNew, IsCopy, IsFileImage, IsSoundFile, IsSure, WritesAll}
 use Rattle.macs_disk.specs.Files.{file_after_sync, file_after_write, file_in_doubt, values_from}

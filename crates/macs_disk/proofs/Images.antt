@@ -1,8 +1,8 @@
 -- What a power loss may leave of a state, after a write and after a sync.
-use Rattle.std.proofs.Common.{◌≡◌, ◌≢◌, ◌==◌, inl, inr, ℕ, refl, sym, ◌∙◌, ap, subst, arith, Bool, true, false, List}
+use Rattle.std.proofs.Common.{◌≡◌, ◌≢◌, ◌==◌, inl, inr, ℕ, refl, sym, ◌∙◌, ap, subst, arith, true, false, List}
 use Rattle.std.proofs.lemmas.Bool.{cases_eq, eq-eqb}
 use Rattle.std.proofs.lemmas.Bool.Decides.{nat_tests}
-use Rattle.macs_disk.specs.States.{IsSector, Image, DiskState, IsImage, IsSound, put_sector, state_after_write}
+use Rattle.macs_disk.specs.States.{IsSector, Image, DiskState, IsImage, put_sector, state_after_write}
 use Rattle.macs_disk.specs.States.{state_after_sync}
 
 -- f, but x at one place
@@ -17,18 +17,6 @@ pub State-ext : (a b : DiskState) → ((i : ℕ) → a.seen i ≡ b.seen i) → 
     → ((i : ℕ) → a.pending i ≡ b.pending i) → a ≡ b
 State-ext a b seen durable pending =
     λ j. record { seen = λ i. seen i j; durable = λ i. durable i j; pending = λ i. pending i j }
-
--- where nothing is pending there is one image
-pub only-image : (s : DiskState) (image : Image) → IsSound s → ((i : ℕ) → s.pending i ≡ false) → IsImage s image
-    → (i : ℕ) → image i ≡ s.seen i
-only-image s image sound clean left i = left.kept i (clean i) ∙ sym (sound.fit.kept i (clean i))
-
--- the octets of an image are those of sectors
-pub sound-image : (s : DiskState) (image : Image) → IsSound s → IsImage s image → (i : ℕ) → IsSector (image i)
-sound-image s image sound left i = by_pending (s.pending i) refl where
-  by_pending : (b : Bool) → s.pending i ≡ b → IsSector (image i)
-  by_pending true is = left.whole i is
-  by_pending false is = subst IsSector (sym (left.kept i is)) (sound.durable i)
 
 -- what a power loss may leave after a sync it could leave before
 pub synced-image : (s : DiskState) (image : Image) → IsImage s s.seen → IsImage (state_after_sync s) image

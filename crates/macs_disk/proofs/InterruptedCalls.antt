@@ -178,12 +178,3 @@ extend-refused {F} {T} failures file left fails handed result is same why =
     subst (λ (r : Result T FileFault).
     IfErr r (λ fails. (left : F) × ExtendFails (failures file) (failures left) fails)) (sym is)
     (left, subst (λ (f : FileFault). ExtendFails (failures file) (failures left) f) (sym same) why)
-
-pub write-refused : {F T : Type 0} (failures : F → Option (List FailedCall)) (file left : F) (fails handed : FileFault)
-    (result : Result T FileFault)
-    → result ≡ Err handed → handed ≡ fails → WriteFails (failures file) (failures left) fails
-    → IfErr result (λ fails. (left : F) × WriteFails (failures file) (failures left) fails)
-write-refused {F} {T} failures file left fails handed result is same why =
-    subst (λ (r : Result T FileFault).
-    IfErr r (λ fails. (left : F) × WriteFails (failures file) (failures left) fails)) (sym is)
-    (left, subst (λ (f : FileFault). WriteFails (failures file) (failures left) f) (sym same) why)

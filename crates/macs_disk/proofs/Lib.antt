@@ -18,4 +18,3 @@ pub mod NothingNew
 mod Copies
 pub mod FailedCalls
 pub mod InterruptedCalls
-mod FileWords

@@ -1,8 +1,8 @@
 -- How calls of a disk follow one another.
-use Rattle.std.proofs.Common.{◌≡◌, ◌≤◌, inl, inr, ℕ, refl, ◌∙◌, subst, arith, Result, Ok, Err}
+use Rattle.std.proofs.Common.{◌≡◌, ◌≤◌, inl, inr, ℕ, refl, ◌∙◌, subst, arith, Result}
 use Rattle.std.proofs.lemmas.Bool.{cases_lt}
 use Rattle.macs_disk.specs.States.{Image, DiskState, IsImage}
-use Rattle.macs_disk.specs.Disk.{Disk, now, LeftSince, Works, FailsOnce, IsWork, IsDeviceCall}
+use Rattle.macs_disk.specs.Disk.{Disk, now, LeftSince, Works, FailsOnce, IsDeviceCall}
 use Rattle.macs_disk.specs.Runs.{Leaves, LeavesNothingNew}
 
 -- before the first call
@@ -27,31 +27,11 @@ Works-on old mid new first second = record {
   honest = second.honest ∙ first.honest;
 }
 
--- one fault stays one, where none came before, and where none comes after
-pub FailsOnce-on : (old mid new : Disk) → FailsOnce old mid → Works mid new → new.failures ≡ mid.failures
-    → FailsOnce old new
-FailsOnce-on old mid new once works steady = elim once [
-  | inl counted ↦ inl (steady ∙ counted)
-  | inr is_worn ↦ inr (works.worn is_worn)
-]
-
 pub FailsOnce-before : (old mid new : Disk) → mid.failures ≡ old.failures → FailsOnce mid new → FailsOnce old new
 FailsOnce-before old mid new steady once = elim once [
   | inl counted ↦ inl (omega (arith, counted, steady))
   | inr is_worn ↦ inr is_worn
 ]
-
--- work without a fault, and then more
-pub Work-on : {T E : Type 0} (old mid new : Disk) (result : Result T E) → Works old mid → mid.failures ≡ old.failures
-    → IsWork mid new result → IsWork old new result
-Work-on old mid new (Ok x) before steady work =
-    record { works = Works-on old mid new before work.works; ok = work.ok ∙ steady; err = tt }
-Work-on old mid new (Err e) before steady work = record {
-  works = Works-on old mid new before work.works;
-  ok = tt;
-  err =
-      FailsOnce-before old mid new steady work.err;
-}
 
 -- an image that is left since a moment is left since each earlier one
 pub Left-earlier : (d : Disk) (since until : ℕ) (image : Image) → since ≤ until → LeftSince d until image

@@ -11,4 +11,3 @@ pub mod Layouts
 pub mod FileDisks
 pub mod FileEvidence
 pub mod Evidence
-pub mod FileWords

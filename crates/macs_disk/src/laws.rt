@@ -17,7 +17,6 @@ ghost use Rattle.macs_disk.specs.Files.{IsSoundFile, WritesSome, file_in_doubt};
 ghost use Rattle.macs_disk.specs.FileDisks.{IsFoundAs, IsLeftAsShown, IsOpened, disk_in_file};
 ghost use Rattle.macs_disk.specs.FileDisks.{file_left, image_in_file};
 ghost use Rattle.macs_disk.specs.FileDisks.{layout_of, state_in_file};
-ghost use Rattle.macs_disk.specs.FileWords.{FreshWords, MarkWords, MemoryWords, WriteWords};
 ghost use Rattle.macs_disk.specs.Layouts.{place, suits};
 ghost use Rattle.macs_disk.specs.declared.file.FileDisk.{FileDisk};
 ghost use Rattle.macs_disk.specs.declared.layout.Layout.{Layout};
@@ -272,16 +271,4 @@ pub fn sectors_do_not_overlap()
 pub fn a_file_of_the_system_claims_nothing()
     ensures { (it : FileDisk SystemFile)
         → (disk_in_file ⟦<File as DiskFile>⟧.file it).honest ≡ false }
-{}
-
-/// The words on files, and on disks in memory, say this.
-pub fn words()
-    // What a write makes of a file.
-    ensures writes { WriteWords }
-    // What a power loss leaves of a disk in memory.
-    ensures memories { MemoryWords }
-    // Which octets mark a file, and where.
-    ensures marks { MarkWords }
-    // What a disk is before its first call.
-    ensures fresh { FreshWords }
 {}

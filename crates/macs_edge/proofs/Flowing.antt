@@ -204,11 +204,6 @@ module _ {D : Type 0} where
   given-there Controlled frame reply after = refl
   given-there Common frame reply after = refl
 
-  given-steps : (side : Side) (reply : Reply) (after : EndpointValue D)
-      → given side (record { call = Advances; reply = reply; after = after } ∷ []) ≡ []
-  given-steps Controlled reply after = refl
-  given-steps Common reply after = refl
-
 -- ---- one way
 
 -- nothing that counts changed

@@ -10,17 +10,12 @@ use Rattle.macs_endpoint.specs.State.{RefusedLong, Reply, State, Submitted, no_l
 use Rattle.macs_endpoint.specs.Step.{Step}
 use Rattle.macs_endpoint.specs.Value.{state_of}
 use Rattle.macs_pcap.specs.Faults.{max_records}
-use Rattle.macs_pcap.specs.Header.{header_text}
-use Rattle.macs_pcap.specs.Reading.{HoldsOfLeft, ReadsHeader}
+use Rattle.macs_pcap.specs.Reading.{HoldsOfLeft}
 use Rattle.macs_pcap.specs.Records.{CaptureRecord}
-use Rattle.macs_pcap.specs.Writing.{WritesText}
-use Rattle.macs_pcap.specs.declared.fault.PcapFault.{PcapFault}
 use Rattle.macs_pcap.specs.declared.fault.PcapFault.TheVariants.{Write}
-use Rattle.macs_pcap.specs.declared.header.Header.{Header}
 use Rattle.macs_edge.specs.CaptureRuns.{HasPassed, Run, Stops}
 use Rattle.macs_edge.specs.Settling.{Settles, verdict_of}
-use Rattle.macs_edge.specs.Telling.{HasJudged, Judges, JudgesRecords, JudgesRun, Tells, listed}
-use Rattle.macs_edge.specs.VerdictWords.{VerdictWords}
+use Rattle.macs_edge.specs.Telling.{HasJudged, Judges, JudgesRecords, JudgesRun, listed}
 use Rattle.macs_edge.specs.declared.capture_runs.RunFault.{RunFault}
 use Rattle.macs_edge.specs.declared.capture_runs.RunFault.TheVariants.{Pcap}
 use Rattle.macs_edge.specs.declared.capture_runs.Summary.{Summary}
@@ -71,10 +66,6 @@ each old new (taken ∷ more) verdicts is =
     let behind = each between new more rest later in
     omega (arith, front, behind)
 
--- how a run fails
-abbrev fails : RunFault → Result Summary RunFault
-fails at = Err at
-
 module _ {D : Type 0} (disk_of : D → Disk) (old new : Run D) where
   over : (s : Summary) (verdicts : List Verdict) → JudgesRun disk_of Common old (Ok s) verdicts new
       → (big : Bool) × (between : Run D) × (records : List CaptureRecord) × (passed : List CaptureRecord)
@@ -92,20 +83,6 @@ module _ {D : Type 0} (disk_of : D → Disk) (old new : Run D) where
       let many = each (state_of between.endpoint no_logs) (state_of new.endpoint judged.0) records verdicts judged.1 in
       (header.big, between, records, passed, same, has.has, all, has.judged, many ∙ sym counts.1)
 
-  broken : (fault : RunFault) (verdicts : List Verdict) → JudgesRun disk_of Common old (Err fault) verdicts new
-      → (verdicts ≡ [])
-      ⊎ ((big : Bool) × (between : Run D) × (records : List CaptureRecord) × (passed : List CaptureRecord)
-      × (until : Run D) × (between.endpoint ≡ old.endpoint)
-      × HasPassed disk_of Common big between records passed until
-      × ((logs : Logs) → (after : Logs)
-      × Judges Common (state_of between.endpoint logs) records verdicts (state_of until.endpoint after))
-      × Stops disk_of Common big (length records) until fault new)
-  broken fault verdicts (inl (at, ends, read, same, sink, none)) = inl none
-  broken fault verdicts (inr (inl (header, read, ends, writes, same, none))) = inl none
-  broken fault verdicts (inr (inr (header, between, reads, writes, same, runs))) =
-      let (records, passed, until, has, stops) = runs in
-      inr (header.big, between, records, passed, until, same, has.has, has.judged, stops)
-
 -- a run that ends in a fault, by the part of it that ends it
 module _ {D : Type 0} (disk_of : D → Disk) where
   cut-in : (big : Bool) (old new : Run D) (at : RunFault) (verdicts : List Verdict)
@@ -117,39 +94,6 @@ module _ {D : Type 0} (disk_of : D → Disk) where
       × Stops disk_of Common big (length records) until at new
   cut-in big old new at verdicts (records, passed, until, has, stops) =
       (records, passed, until, has.has, has.judged, stops)
-
-  pcap-fault : (at : RunFault) (cause : PcapFault) → fails at ≡ fails (Pcap cause) → at ≡ Pcap cause
-  pcap-fault at cause is = cc
-
-  cut-so : (old new : Run D) (at : RunFault) (verdicts : List Verdict)
-      → JudgesRun disk_of Common old (Err at) verdicts new
-      → ((cause : PcapFault) × (at ≡ Pcap cause) × ReadsHeader old.source new.source (Err cause)
-      × (new.endpoint ≡ old.endpoint) × (new.sink ≡ old.sink) × (verdicts ≡ []))
-      ⊎ ((header : Header) × ReadsHeader old.source new.source (Ok header) × (at ≡ Pcap Write)
-      × WritesText {T = Unit {0}} old.sink new.sink (header_text header) (Err Write)
-      × (new.endpoint ≡ old.endpoint) × (verdicts ≡ []))
-      ⊎ ((header : Header) × (between : Run D) × ReadsHeader old.source between.source (Ok header)
-      × WritesText {T = Unit {0}} old.sink between.sink (header_text header) (Ok tt)
-      × (between.endpoint ≡ old.endpoint) × JudgesRecords disk_of Common header.big between (Err at) verdicts new)
-  cut-so old new at verdicts (inl (cause, ends, read, same, sink, none)) =
-      inl (cause, pcap-fault at cause ends, read, same, sink, none)
-  cut-so old new at verdicts (inr (inl (header, read, ends, writes, same, none))) =
-      inr (inl (header, read, pcap-fault at Write ends, writes, same, none))
-  cut-so old new at verdicts (inr (inr runs)) = inr (inr runs)
-
-pub verdict-words : {D V T : Type 0} (disk_of : D → Disk) (tells : Tells V T) → VerdictWords disk_of tells
-verdict-words disk_of tells = record {
-  none = λ old new verdicts is. is;
-  one = one;
-  each = each;
-  none_told = λ old new is. is;
-  one_told = λ old new verdict more is. is;
-  run = over disk_of;
-  failed = broken disk_of;
-  broken = cut-in disk_of;
-  cut = cut-so disk_of;
-  told = λ old new before after result is. is;
-}
 
 -- there are no more of them than there may be records
 module _ {D : Type 0} (disk_of : D → Disk) (old new : Run D) (verdicts : List Verdict) where

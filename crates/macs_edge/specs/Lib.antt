@@ -14,7 +14,4 @@ pub mod Resting
 pub mod Attending
 pub mod Commanding
 pub mod Counts
-pub mod Words
 pub mod Drawn
-pub mod VerdictWords
-pub mod NotedWords

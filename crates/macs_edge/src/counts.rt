@@ -5,21 +5,21 @@ ghost use Rattle.macs_edge.specs.Counts.{is_too_long, takes_one};
 
 use crate::wire::{Got, WireFault};
 
-/// What a wire over UDP counted, each number up to 2^64 - 1, and what it has room for.
+/// What a wire over UDP has counted, each number up to 2^64 - 1, and how much room it has.
 #[derive(Clone, Copy, Debug, PartialEq, Eq)]
 pub struct WireCounts {
     /// Datagrams from another address than the peer's. They are dropped.
     pub strangers: u64,
-    /// Frames that were taken, with those of more than 9,216 octets.
+    /// Frames that were taken off the wire, including those of more than 9,216 octets.
     pub taken: u64,
-    /// Those of more than 9,216 octets among them. They are dropped.
+    /// How many of these had more than 9,216 octets. They are dropped.
     pub too_long: u64,
     /// Frames that were sent.
     pub sent: u64,
     pub failed_receives: u64,
     pub failed_sends: u64,
-    /// How many octets of datagrams that wait the system keeps for it (`SO_RCVBUF`, socket(7)),
-    /// where it was asked.
+    /// How many octets of waiting datagrams the system keeps for it (`SO_RCVBUF`, socket(7)), if the
+    /// system was asked.
     pub buffer: Option<u64>,
 }
 
@@ -28,15 +28,15 @@ pub trait Counted {
     ghost use Rattle.std.specs.Prelude.{◌≡◌};
     ghost use Rattle.macs_edge.specs.declared.counts.WireCounts.{WireCounts};
 
-    /// What it counted so far.
+    /// What it has counted so far.
     ghost wire_counts: { Self → WireCounts };
 
-    /// What it counted so far.
+    /// What it has counted so far.
     fn counts(&self) -> WireCounts
         ensures { result ≡ wire_counts self.now };
 }
 
-/// Whether a frame is taken off a wire by this answer.
+/// Whether this answer means that a frame was taken off the wire.
 pub(crate) fn takes_one(answer: &Result<Got, WireFault>) -> bool
     ensures { result ≡ takes_one answer.now }
 {
@@ -46,7 +46,7 @@ pub(crate) fn takes_one(answer: &Result<Got, WireFault>) -> bool
     }
 }
 
-/// Whether a frame that is too long is taken off a wire by this answer.
+/// Whether this answer means that a frame was taken off the wire that was too long.
 pub(crate) fn is_too_long(answer: &Result<Got, WireFault>) -> bool
     ensures { result ≡ is_too_long answer.now }
 {

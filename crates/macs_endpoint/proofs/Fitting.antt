@@ -4,7 +4,7 @@ use Rattle.std.proofs.Common.{if◌then◌else◌, inl, inr, List, bytes_eq, Opt
 use Rattle.std.proofs.Common.{sym, ap, subst, arith}
 use Rattle.std.specs.Option.{option_map}
 use Rattle.macs_config.specs.Apply.{IsCommand, Reason, apply, has_wrong_start}
-use Rattle.macs_config.specs.Config.{Config, Edition, this_edition}
+use Rattle.macs_config.specs.Config.{Config, Edition}
 use Rattle.macs_config.specs.Identity.{Identity}
 use Rattle.macs_config.specs.Tables.{put, put_at}
 use Rattle.macs_config.specs.declared.command.Command.{Command}

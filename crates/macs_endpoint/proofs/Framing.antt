@@ -5,14 +5,15 @@ use Rattle.std.specs.Prelude.{IfOk, IsSomeAnd, OnErr, OnOk, max}
 use Rattle.std.specs.Option.{option_map, option_map_or}
 use Rattle.std.proofs.lemmas.Bool.Decides.{nat_tests}
 use Rattle.macs_fields.specs.First.{first}
-use Rattle.macs_frame.specs.Tag.{changed, control}
+use Rattle.macs_frame.specs.Tag.{changed, control, tag_of}
 use Rattle.macs_frame.specs.declared.tag.TagFault.TheVariants as tag
 use Rattle.macs_config.specs.Tables.{put}
 use Rattle.macs_config.specs.declared.association.TxSa.{TxSa}
 use Rattle.macs_config.proofs.Tables.{put_all, put_at_all}
 use Rattle.macs_disk.specs.Disk.{Disk}
 use Rattle.macs_txsc.specs.Transmit.{Outgoing, TxSide, all_tx_faults, frame_of, is_at_ceiling, outgoing_with}
-use Rattle.macs_txsc.specs.Transmit.{next_outgoing, outgoing_at, side_after, side_after_frame, counters_after_answer}
+use Rattle.macs_txsc.specs.Transmit.{next_outgoing, next_tag, outgoing_at, side_after, side_after_frame}
+use Rattle.macs_txsc.specs.Transmit.{counters_after_answer}
 use Rattle.macs_txsc.specs.Transmit.{tx_faults}
 use Rattle.macs_txsc.specs.Value as txsc
 use Rattle.macs_txsc.specs.declared.channel.Tx.{Tx}
@@ -353,13 +354,20 @@ module _ {D : Type 0} (disk_of : D → Disk) (old : EndpointValue D) (tx : Tx) (
       kept_sent old tx plain result out kept sends ceilings (standing_sends old tx plain result out kept sends ceilings)
 
   counted_after : (result : Result ℕ TxFault)
-      → txsc.counters_of tx ≡ counters_after_answer result (txsc.counters_of old.tx)
-      → txsc.counters_of tx ≡ tx_counters_after (Protected (answered result) out) (txsc.counters_of old.tx)
-  counted_after (Ok pn) is = is
-  counted_after (Err fault) is = is
+      → txsc.counters_of tx
+      ≡ counters_after_answer (next_tag (txsc.tx_side_of old.tx)) plain result (txsc.counters_of old.tx)
+      → txsc.counters_of tx ≡ tx_counters_after (state_of old no_logs) (Protects plain) (Protected (answered result) out)
+      (txsc.counters_of old.tx)
+  counted_after (Ok pn) is =
+      is ∙ ap (λ (x : TxSide). counters_after_answer (next_tag x) plain (Ok pn) (txsc.counters_of old.tx))
+      kept.channels.tx_is
+  counted_after (Err fault) is =
+      is ∙ ap (λ (x : TxSide). counters_after_answer (next_tag x) plain (Err fault) (txsc.counters_of old.tx))
+      kept.channels.tx_is
 
   pub protected-call : All (λ octet. octet < 2 ^ 8) plain → is_stopped old ≡ false
-      → txsc.counters_of tx ≡ counters_after_answer result (txsc.counters_of old.tx)
+      → txsc.counters_of tx
+      ≡ counters_after_answer (next_tag (txsc.tx_side_of old.tx)) plain result (txsc.counters_of old.tx)
       → IsCall disk_of old (Protects plain) (Protected (answered result) out) (with_tx old tx)
   protected-call octets running counters =
       let standing = standing_sends old tx plain result out kept sends ceilings in
@@ -663,8 +671,8 @@ module _ {D : Type 0} (disk_of : D → Disk) (old : EndpointValue D) (r : rxsc.R
 
   pub received-call : All (λ octet. octet < 2 ^ 8) frame → is_stopped old ≡ false
       → rxsc.counters_of r ≡ counters_after_verdict verdict (rxsc.counters_of old.rx)
-      → rxsc.channel_counters_of r ≡ counters_after_verdict_at (channel_of (rxsc.rx_side_of old.rx) frame) verdict
-      (rxsc.channel_counters_of old.rx)
+      → rxsc.channel_counters_of r ≡ counters_after_verdict_at (channel_of (rxsc.rx_side_of old.rx) frame)
+      (tag_of frame) verdict out (rxsc.channel_counters_of old.rx)
       → IsCall disk_of old (state.Receives frame) (Received (Ok verdict) out) (with_rx old r)
   received-call octets running counters channel_counters =
       let s = standing_in old.store in
@@ -684,7 +692,7 @@ module _ {D : Type 0} (disk_of : D → Disk) (old : EndpointValue D) (r : rxsc.R
         tx_counters = refl;
         rx_counters = counters;
         channel_counters = channel_counters
-            ∙ ap (λ (x : RxSide). counters_after_verdict_at (channel_of x frame) verdict
+            ∙ ap (λ (x : RxSide). counters_after_verdict_at (channel_of x frame) (tag_of frame) verdict out
             (rxsc.channel_counters_of old.rx)) kept.channels.rx_is;
       })
 

@@ -23,9 +23,9 @@ use Rattle.macs_rxsc.specs.Receive.{numbers_under_window}
 use Rattle.macs_rxsc.specs.Value as rxsc
 use Rattle.macs_rxsc.specs.declared.counters.ChannelCounters.{ChannelCounters}
 use Rattle.macs_store.specs.Standing.{IsStanding, Standing}
-use Rattle.macs_store.proofs.Ascending.{IsNext, next-fits, next-free, put-next}
+use Rattle.macs_store.proofs.Ascending.{IsNext, next-free, put-next}
 use Rattle.macs_store.proofs.Filling.{among, among-all, among-more, below, below-all, below-more, below-next}
-use Rattle.macs_store.proofs.Filling.{below-none, below-passed, filled-all, filled-more, filled-next, filled-none}
+use Rattle.macs_store.proofs.Filling.{below-none, below-passed, filled-all, filled-more, filled-next}
 use Rattle.macs_store.proofs.Filling.{filled-passed}
 use Rattle.macs_endpoint.specs.Counting.{new_channel_counters}
 use Rattle.macs_endpoint.specs.State.{rx_side_with, tx_side_with}
@@ -285,19 +285,6 @@ module _ (s : Standing) (sci : List ℕ) (old : rxsc.RxValue) (empty : (an : ℕ
       ((rxsc.rx_side_of old).numbers sci an) (rxsc.ceilings_of old sci an)
       (ordered sci an) (empty an)
 
-  pub rx-unfilled : IsRxFilled s sci old old 0
-  rx-unfilled =
-      let side = rxsc.rx_side_of old in
-      let rx = filled-none (s.config.rx sci) side.rx sci empty in
-      let numbers = filled-none (beginning s sci) side.numbers sci (λ an. (nothing an).0) in
-      let same : rx_filled side s sci 0 ≡ side = λ i. record side { rx = rx i; numbers = numbers i } in
-      record {
-        side = sym same;
-        ceilings = sym (filled-none (s.ceilings.rx sci) (rxsc.ceilings_of old) sci (λ an. (nothing an).1));
-        counters = refl;
-        channel_counters = refl;
-      }
-
 module _ (s : Standing) (is : IsStanding s) (sci : List ℕ) (old new : rxsc.RxValue) (n : ℕ)
     (filled : IsRxFilled s sci old new n) (end : 4 ≤ n)
     (none : (sci : List ℕ) (an : ℕ) → 4 ≤ an → s.config.rx sci an ≡ None) where
@@ -331,10 +318,6 @@ module _ (s : Standing) (scis : List (List ℕ)) (i : ℕ) (sci : List ℕ) (is 
     (so_far : IsRxOpened s now (take i scis)) where
   pub add-free : has_channel (rxsc.rx_side_of now) sci ≡ false
   add-free = ap (λ (r : RxSide). has_channel r sci) so_far.side ∙ next-free scis i sci is
-
-  pub add-room : (most : ℕ) → length scis ≤ most → length (rxsc.rx_side_of now).channels < most
-  add-room most few =
-      subst (λ (r : RxSide). length r.channels < most) (sym so_far.side) (next-fits scis i sci is most few)
 
   module _ (mid : rxsc.RxValue) (added : rxsc.rx_side_of mid
       ≡ record (rxsc.rx_side_of now) { channels = put_among sci (rxsc.rx_side_of now).channels }) where
@@ -409,9 +392,6 @@ module _ (s : Standing) (is : IsStanding s) (rx : rxsc.RxValue) (i : ℕ)
   opened-ceilings =
       opened.ceilings ∙ ap (λ (scis : List (List ℕ)). among scis s.ceilings.rx (λ an. None)) all_are
       ∙ among-all s.ceilings.rx (λ an. None) s.config.channels (λ sci absent. fun_ext (λ an. no_ceiling sci an absent))
-
-  pub opened-channels : rxsc.channel_counters_of rx ≡ new_channel_counters s.config.channels
-  opened-channels = opened.channel_counters ∙ ap new_channel_counters all_are
 
 -- no channel yet
 pub nothing-opened : (s : Standing) (first rx : rxsc.RxValue) → rxsc.rx_side_of first ≡ new_rx_side

@@ -3,7 +3,6 @@ use Rattle.std.proofs.Common.{◌≡◌, ◌≤◌, ◌<◌, ◌∷◌, ◌⊎�
 use Rattle.std.proofs.Common.{refl, sym, ap, subst, arith}
 use Rattle.std.proofs.lemmas.List.{length-append}
 use Rattle.macs_config.specs.Apply.{IsCommand}
-use Rattle.macs_config.specs.Config.{this_edition}
 use Rattle.macs_config.specs.declared.command.Command.{Command}
 use Rattle.macs_disk.specs.Disk as disk
 use Rattle.macs_txsc.specs.Value as txsc

@@ -59,7 +59,8 @@ pub record CallBehaves {D : Type 0} (disk_of : D → Disk) (old : EndpointValue 
   pub rests : Rests call reply new
   pub advances : AdvancesIn disk_of old call reply new
   pub turn : new.turn ≡ turn_after old call reply
-  pub tx_counters : txsc.counters_of new.tx ≡ tx_counters_after reply (txsc.counters_of old.tx)
+  pub tx_counters : txsc.counters_of new.tx
+      ≡ tx_counters_after (state_of old no_logs) call reply (txsc.counters_of old.tx)
   pub rx_counters : rxsc.counters_of new.rx ≡ rx_counters_after reply (rxsc.counters_of old.rx)
   pub channel_counters : rxsc.channel_counters_of new.rx
       ≡ channel_counters_after (state_of old no_logs) call reply (rxsc.channel_counters_of old.rx)

@@ -2,17 +2,19 @@
 
 ghost use Rattle.std.specs.Prelude.{◌≡◌};
 ghost use Rattle.std.specs.Option.{option_map};
+ghost use Rattle.macs_frame.specs.Traffic.{traffic_under};
 ghost use Rattle.macs_txsc.specs.Transmit.{fault_count};
 ghost use Rattle.macs_txsc.specs.Value as txsc;
 ghost use Rattle.macs_rxsc.specs.Counting.{channel_count_of, count_of};
 ghost use Rattle.macs_rxsc.specs.Value as rxsc;
+ghost use Rattle.macs_rxsc.specs.declared.counters.ChannelCounters.{ChannelCounters};
 
-use macs_frame::Sci;
+use macs_frame::{An, Sci, Traffic};
 use macs_rxsc::{Rx, Verdict};
 use macs_txsc::{Tx, TxFault};
 
-/// How often each answer was given since the disk was opened: 2^64 - 1 times at most. Answers that
-/// the endpoint is stopped are not counted.
+/// How often each answer was given since the disk was opened, and what frames carried: each number
+/// is 2^64 - 1 at most. Answers that the endpoint is stopped are not counted.
 #[derive(Clone, Copy)]
 pub struct Counters<'a> {
     pub(crate) tx: &'a Tx,
@@ -34,6 +36,13 @@ impl Counters<'_> {
         self.tx.protected_count()
     }
 
+    /// What the frames carried that were protected under an association number.
+    pub fn transmitted(&self, an: An) -> Traffic
+        ensures { result ≡ traffic_under (txsc.counters_of self.now.tx.now).traffic an }
+    {
+        self.tx.traffic(an)
+    }
+
     /// How often a verdict was given; a frame that is held back is not counted.
     pub fn verdict(&self, verdict: Verdict) -> u64
         ensures { result ≡ count_of verdict (rxsc.counters_of self.now.rx.now) }
@@ -49,5 +58,14 @@ impl Counters<'_> {
             ≡ option_map (channel_count_of verdict) (rxsc.channel_counters_of self.now.rx.now sci) }
     {
         self.rx.channel_count(sci, verdict)
+    }
+
+    /// What the frames of a channel carried that verified under an association number, since the
+    /// channel was added or the disk was opened. It is `None` where the channel does not exist.
+    pub fn received(&self, sci: Sci, an: An) -> Option<Traffic>
+        ensures { result ≡ option_map (λ (c : ChannelCounters). traffic_under c.traffic an)
+            (rxsc.channel_counters_of self.now.rx.now sci) }
+    {
+        self.rx.traffic(sci, an)
     }
 }

@@ -1,3 +1,4 @@
 pub mod Tag
+pub mod Traffic
 pub mod Opening
 pub mod Protection

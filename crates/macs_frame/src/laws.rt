@@ -1,20 +1,15 @@
 //! Laws of the definitions, for the layers above. Where a law speaks of a value behind a reference,
 //! its body reads it: that is how a proof learns its range.
 
-ghost use Rattle.std.specs.Prelude.{◌≡◌, ◌↔◌, ◌⊎◌, ◌≤◌, ◌<◌, ◌+◌, ◌^◌, ℕ, Bool, List, All, IsTrue};
+ghost use Rattle.std.specs.Prelude.{◌≡◌, ◌↔◌, ◌⊎◌, ◌≤◌, ◌+◌, ℕ, List};
 ghost use Rattle.std.specs.Prelude.{length};
-ghost use Rattle.std.specs.Bool.{IsFalse};
-ghost use Rattle.std.specs.List.{list_any};
-ghost use Rattle.macs_fields.specs.Fields.{IsAn, IsSci};
-ghost use Rattle.macs_fields.specs.First.{IsFirst, NoneHolds};
+ghost use Rattle.macs_fields.specs.First.{IsFirst};
 ghost use Rattle.macs_frame.specs.Opening.{OpensTo, Verified};
 ghost use Rattle.macs_frame.specs.Protection.{IsWritten, overhead, written_parts, protected_frame};
 ghost use Rattle.macs_frame.specs.Tag.{IsForKay, Tag, TagFaultHolds, tag_faults};
 ghost use Rattle.macs_frame.specs.declared.tag.Parts.{Parts};
 ghost use Rattle.macs_frame.specs.declared.tag.SecTag.{SecTag};
 ghost use Rattle.macs_frame.specs.declared.tag.TagFault.{TagFault};
-
-use crate::{An, Sci};
 
 /// A frame has one reading.
 pub fn one_reading()

@@ -1,6 +1,6 @@
 -- Deeds, one after another, are lives.
-use Rattle.std.proofs.Common.{◌≡◌, ◌≤◌, ap, ◌++◌, ◌∙◌, ◌⊎◌, inl, inr, ℕ, true, false, is_ok, List, [], ◌∷◌, map, Option}
-use Rattle.std.proofs.Common.{Some, None, Ok, Err, refl, sym, subst, arith}
+use Rattle.std.proofs.Common.{◌≡◌, ◌≤◌, ap, ◌++◌, ◌∙◌, ◌⊎◌, inl, inr, ℕ, List, [], ◌∷◌, map, Option}
+use Rattle.std.proofs.Common.{Some, None, refl, sym, subst, arith}
 use Rattle.macs_config.specs.Config.{Edition, this_edition}
 use Rattle.macs_disk.specs.Disk.{Disk, IsHonest, MayLeave, now}
 use Rattle.macs_disk.specs.Fuses.{fused_disk}
@@ -12,17 +12,17 @@ use Rattle.macs_endpoint.specs.State.{Call}
 use Rattle.macs_endpoint.specs.Step.{Exchange}
 use Rattle.macs_endpoint.specs.Value.{EndpointValue, IsSoundEndpoint}
 use Rattle.macs_headline.specs.Answered.{exchanges_in, exchanges_of_lives}
-use Rattle.macs_headline.specs.Binding.{CallsAreDeeds, ChainsAnswer, ChainsKeepSizes, ChainsTell, DeedsAreHistories}
-use Rattle.macs_headline.specs.Binding.{FittingHaveHistories, FusesChangeNone, HasHistory, IsLifeOf, LivesAreDeeds}
+use Rattle.macs_headline.specs.Binding.{CallsAreDeeds, ChainsAnswer, DeedsAreHistories}
+use Rattle.macs_headline.specs.Binding.{FittingHaveHistories, HasHistory}
 use Rattle.macs_headline.specs.Binding.{NewDeedsAreHistories, NewDisksHaveHistories, PassedOnHaveHistories}
-use Rattle.macs_headline.specs.Binding.{SettledHaveHistories, TheseAreNew}
+use Rattle.macs_headline.specs.Binding.{SettledHaveHistories}
 use Rattle.macs_headline.specs.Deeds.{Chain, Deed, Does, Formatting, FormattingCut, IsPassedOn, Link, Living}
 use Rattle.macs_headline.specs.Deeds.{OpeningCut, PassingOn, Refusing, lives_of_deed, lives_of_links}
-use Rattle.macs_headline.specs.History.{Blank, FitsPast, Formats, IsHistory, LeadOn, Life, Past, Refuses, Serves}
+use Rattle.macs_headline.specs.History.{Blank, FitsPast, IsHistory, LeadOn, Life, Past}
 use Rattle.macs_headline.proofs.Formats.{format-answered, format-cut}
 use Rattle.macs_headline.proofs.Living.{life-cut, life-ended, opening-cut, opening-refused}
-use Rattle.macs_headline.proofs.Lists.{contains-rear, contains-cases, contains-either, contains-first, contains-front}
-use Rattle.macs_headline.proofs.Lists.{contains-later, contains-map, contains-none}
+use Rattle.macs_headline.proofs.Lists.{contains-rear, contains-cases, contains-either, contains-front}
+use Rattle.macs_headline.proofs.Lists.{contains-map, contains-none}
 use Rattle.macs_headline.proofs.Losses.{IsCovered, LeadTo, lead-nowhere, one-image}
 
 -- lives, and then more
@@ -33,10 +33,6 @@ lead-on sectors (life ∷ lives) more old mid new (next, leads, first) rest =
     (next, leads, lead-on sectors lives more next mid new first rest)
 
 -- ---- disks that have a history
-
--- these are new
-pub these-are-new : TheseAreNew
-these-are-new disk honest large closed = record { honest = honest; large = large; closed = closed }
 
 -- a disk that is new
 pub new-disks : NewDisksHaveHistories
@@ -93,16 +89,6 @@ passed-on edition old new lives h passed =
 -- a fuse shows what the disk under it is now
 pub fuse-now : (disk : Disk) (at missed added : ℕ) → at ≤ disk.clock → now (fused_disk disk at missed added) ≡ now disk
 fuse-now disk at missed added before = ap disk.past (omega (arith, before))
-
-pub fuses-change-none : FusesChangeNone
-fuses-change-none edition disk at missed added lives before =
-    let same = fuse-now disk at missed added before in
-    let fused = fused_disk disk at missed added in (
-      λ h. same_history edition fused disk lives h h.honest refl
-          (λ image left. subst (λ (s : DiskState). IsImage s image) (sym same) left),
-      λ h. same_history edition disk fused lives h h.honest refl
-          (λ image left. subst (λ (s : DiskState). IsImage s image) same left),
-    )
 
 -- its past covers it
 pub history-covers : (disk : Disk) (lives : List Life) (h : HasHistory this_edition disk lives)
@@ -167,10 +153,6 @@ module _ {D : Type 0} (disk_of : D → Disk) (sound : (it : D) → IsHonest (dis
             (leads.covered.images image left);
       }
 
-  pub chains-keep-sizes : ChainsKeepSizes disk_of
-  chains-keep-sizes old new before links h chain =
-      (by-links (disk_of old).sectors h.past old new links (history-covers (disk_of old) before h) chain).covered.size
-
   pub new-deeds-are-histories : NewDeedsAreHistories disk_of
   new-deeds-are-histories old new links is_new chain =
       deeds-are-histories old new [] links (new-disks this_edition (disk_of old) is_new) chain
@@ -234,12 +216,6 @@ exchanges-on (life ∷ lives) more e (inl among) =
 exchanges-on (life ∷ lives) more e (inr among) =
     contains-rear (exchanges_in life) (exchanges_of_lives (lives ++ more)) e (exchanges-on lives more e (inr among))
 
-only_one : (x y : Life) → Contains (x ∷ []) y → y ≡ x
-only_one x y among = elim (contains-cases x [] y among) [
-  | inl same ↦ same
-  | inr later ↦ absurd (contains-none y later)
-]
-
 module _ {D : Type 0} (disk_of : D → Disk) where
   -- those of one deed
   by_one : (seen : Image) (deed : Deed D) (first last : EndpointValue D) (turns : List (Transition D))
@@ -262,77 +238,3 @@ module _ {D : Type 0} (disk_of : D → Disk) where
         | inr later ↦ exchanges-on lives more (exchange_of turn)
             (inr (chains-answer next.after links link first last turns cut turn later same here))
       ]
-
-  -- a life that a deed makes is what the deed is
-  life_of : (seen : Image) (deed : Deed D) (life : Life) → Contains (lives_of_deed seen deed) life → IsLifeOf deed life
-  life_of seen (Formatting identity result) life among =
-      only_one (Formats this_edition identity (is_ok result)) life among
-  life_of seen (FormattingCut identity) life among = only_one (Formats this_edition identity false) life among
-  life_of seen (Refusing fault) life among = (seen, only_one (Refuses this_edition seen fault) life among)
-  life_of seen OpeningCut life among = contains-none life among
-  life_of seen (Living first turns last cut) life among =
-      (seen, only_one (Serves this_edition seen (map exchange_of turns) cut) life among)
-  life_of seen PassingOn life among = contains-none life among
-
-  pub lives-are-deeds : LivesAreDeeds disk_of
-  lives-are-deeds old [] life among = absurd (contains-none life among)
-  lives-are-deeds old (next ∷ links) life among =
-      let seen = (now (disk_of old)).seen in
-      elim (contains-either (lives_of_deed seen next.deed) (lives_of_links disk_of next.after links) life among) [
-        | inl here ↦ (next, contains-first next links, life_of seen next.deed life here)
-        | inr later ↦
-            let there = lives-are-deeds next.after links life later in
-            (there.0, contains-later next links there.0 there.1, there.2)
-      ]
-
-  -- the lives of a deed are among those of its chain
-  deed_lives : (old : D) (links : List (Link D)) (link : Link D) → Contains links link
-      → (seen : Image) × ((life : Life) → Contains (lives_of_deed seen link.deed) life
-      → Contains (lives_of_links disk_of old links) life)
-  deed_lives old [] link among = absurd (contains-none link among)
-  deed_lives old (next ∷ links) link among =
-      let seen = (now (disk_of old)).seen in
-      let more = lives_of_links disk_of next.after links in
-      elim (contains-cases next links link among) [
-        | inl is ↦ (
-          seen,
-          λ life has. contains-front (lives_of_deed seen next.deed) more life
-              (subst (λ (l : Link D). Contains (lives_of_deed seen l.deed) life) is has),
-        )
-        | inr later ↦
-            let there = deed_lives next.after links link later in
-            (there.0, λ life has. contains-rear (lives_of_deed seen next.deed) more life (there.1 life has))
-      ]
-
-  -- so is this one
-  one_life : (old : D) (links : List (Link D)) (link : Link D) → Contains links link → (deed : Deed D)
-      → link.deed ≡ deed
-      → (seen : Image)
-      × ((life : Life) → Contains (lives_of_deed seen deed) life → Contains (lives_of_links disk_of old links) life)
-  one_life old links link among deed same =
-      let there = deed_lives old links link among in (
-        there.0,
-        λ life has. there.1 life (subst (λ (d : Deed D). Contains (lives_of_deed there.0 d) life) (sym same) has),
-      )
-
-  pub chains-tell : ChainsTell disk_of
-  chains-tell old links link among = record {
-    formatted = λ identity same.
-        let there = one_life old links link among (Formatting identity (Ok tt)) same in
-        there.1 (Formats this_edition identity true) (contains-first (Formats this_edition identity true) []);
-    not_formatted = λ identity fault same.
-        let there = one_life old links link among (Formatting identity (Err fault)) same in
-        there.1 (Formats this_edition identity false) (contains-first (Formats this_edition identity false) []);
-    format_cut = λ identity same.
-        let there = one_life old links link among (FormattingCut identity) same in
-        there.1 (Formats this_edition identity false) (contains-first (Formats this_edition identity false) []);
-    refused = λ fault same.
-        let there = one_life old links link among (Refusing fault) same in (
-          there.0,
-          there.1 (Refuses this_edition there.0 fault) (contains-first (Refuses this_edition there.0 fault) []),
-        );
-    served = λ first last turns cut same.
-        let there = one_life old links link among (Living first turns last cut) same in
-        let life = Serves this_edition there.0 (map exchange_of turns) cut in
-        (there.0, there.1 life (contains-first life []));
-  }

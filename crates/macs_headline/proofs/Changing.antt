@@ -1,8 +1,8 @@
 -- What each command makes of the configuration, and what it leaves alone.
-use Rattle.std.proofs.Common.{◌≡◌, ◌⊎◌, ◌&&◌, ◌||◌, ◌==◌, inl, inr, ℕ, Bool, true, false, cond, not, List, [], ◌∷◌}
+use Rattle.std.proofs.Common.{◌≡◌, ◌⊎◌, ◌&&◌, ◌||◌, ◌==◌, ℕ, Bool, true, false, cond, not, List, [], ◌∷◌}
 use Rattle.std.proofs.Common.{Option, Some, None, is_none, bytes_eq, filter, refl, sym, ◌∙◌, ap, subst}
-use Rattle.std.specs.Prelude.{Contains, IsSomeAnd}
-use Rattle.std.proofs.lemmas.Bool.{eqb-true, false≢true, not-false, or_left, or_parts, or_right}
+use Rattle.std.specs.Prelude.{IsSomeAnd}
+use Rattle.std.proofs.lemmas.Bool.{eqb-true, false≢true, not-false, or_parts}
 use Rattle.macs_aes.specs.Keys.{octets_of_key}
 use Rattle.macs_aes.specs.declared.keys.Key.{Key}
 use Rattle.macs_fields.specs.Fields.{octets_of}
@@ -16,13 +16,12 @@ use Rattle.macs_config.specs.declared.association.RxSa.{RxSa}
 use Rattle.macs_config.specs.declared.command.Command.{Command}
 use Rattle.macs_config.specs.declared.command.Command.TheVariants.{RxAdd, RxDrop, RxInstall, RxRemove, SetReplay}
 use Rattle.macs_config.specs.declared.command.Command.TheVariants.{SetSciMode, SetValidate, TxInstall, TxRemove, TxUse}
-use Rattle.macs_config.proofs.Channels.{among-filter, among-put_among, bytes_eq-itself, not_among-filter, same_octets}
-use Rattle.macs_headline.specs.Changing.{ChangesAsNamed, CommandsChange, IsDone, IsFirstConfiguration, IsOnChannel}
-use Rattle.macs_headline.specs.Changing.{IsOnEncoding, IsOnMode, IsOnReplay, IsOnRx, IsOnTx, IsOnValidate, IsRxAsked}
-use Rattle.macs_headline.specs.Changing.{IsTxAsked, PrintsAre}
-use Rattle.macs_headline.proofs.Accepted.{accepted, right-offset, tx_of}
-use Rattle.macs_headline.proofs.Lists.{contains-cases, contains-first, contains-later, contains-none}
-use Rattle.macs_headline.proofs.Places.{put-that, put-this, put_at-that, put_at-this, put_rx-that, put_rx-this}
+use Rattle.macs_config.proofs.Channels.{among-filter, among-put_among, bytes_eq-itself, not_among-filter}
+use Rattle.macs_headline.specs.Changing.{IsDone, IsFirstConfiguration}
+use Rattle.macs_headline.specs.Changing.{IsOnValidate, IsRxAsked}
+use Rattle.macs_headline.specs.Changing.{IsTxAsked}
+use Rattle.macs_headline.proofs.Accepted.{right-offset, tx_of}
+use Rattle.macs_headline.proofs.Places.{put-this, put_at-this, put_rx-this}
 
 pub is-first-configuration : IsFirstConfiguration
 is-first-configuration = record {
@@ -50,32 +49,26 @@ offset_by offset false true fifty e0 e30 e50 some = sym (eqb-true offset 30 e30)
 offset_by offset false false true e0 e30 e50 some = sym (eqb-true offset 50 e50)
 offset_by offset false false false e0 e30 e50 some = absurd (false≢true (sym some))
 
-offset_is : (offset : ℕ) → is_none (offset_at offset) ≡ false → octets_of (offset_or_zero (offset_at offset)) ≡ offset
+pub offset_is : (offset : ℕ) → is_none (offset_at offset) ≡ false
+    → octets_of (offset_or_zero (offset_at offset)) ≡ offset
 offset_is offset some = offset_by offset (offset == 0) (offset == 30) (offset == 50) refl refl refl some
 
-protected_from : (confidential : Bool) (offset : ℕ)
+pub protected_from : (confidential : Bool) (offset : ℕ)
     → (is_none (offset_at offset) || (not confidential && not (offset == 0))) ≡ false
     → octets_of (offset_of (protection_of confidential (offset_or_zero (offset_at offset)))) ≡ offset
 protected_from true offset test = offset_is offset (or_parts (is_none (offset_at offset)) false test).0
 protected_from false offset test =
     sym (eqb-true offset 0 (not-false (offset == 0) (or_parts (is_none (offset_at offset)) (not (offset == 0)) test).1))
 
-confidential_is : (confidential : Bool) (offset : Offset)
+pub confidential_is : (confidential : Bool) (offset : Offset)
     → is_confidential (protection_of confidential offset) ≡ confidential
 confidential_is true offset = refl
 confidential_is false offset = refl
 
 -- ---- channels
 
-unequal_by : (a b : List ℕ) (same : Bool) → bytes_eq a b ≡ same → (a ≡ b → ⊥) → bytes_eq a b ≡ false
-unequal_by a b true is apart = absurd (apart (same_octets a b is))
-unequal_by a b false is apart = is
-
-unequal : (a b : List ℕ) → (a ≡ b → ⊥) → bytes_eq a b ≡ false
-unequal a b apart = unequal_by a b (bytes_eq a b) refl apart
-
 -- a channel other than the one that is dropped stays, or is not there
-filtered : (channels : List (List ℕ)) (at sci : List ℕ) (among : Bool) → is_among channels sci ≡ among
+pub filtered : (channels : List (List ℕ)) (at sci : List ℕ) (among : Bool) → is_among channels sci ≡ among
     → bytes_eq sci at ≡ false
     → is_among (filter (λ other. not (bytes_eq other at)) channels) sci ≡ is_among channels sci
 filtered channels at sci true is apart =
@@ -91,7 +84,7 @@ dropped_by sci item items false is later =
     ap (λ (b : Bool). b || is_among (filter (λ other. not (bytes_eq other sci)) items) sci) is ∙ later
 
 -- the one that is dropped is no longer there
-dropped : (sci : List ℕ) (items : List (List ℕ))
+pub dropped : (sci : List ℕ) (items : List (List ℕ))
     → is_among (filter (λ other. not (bytes_eq other sci)) items) sci ≡ false
 dropped sci [] = refl
 dropped sci (item ∷ items) = dropped_by sci item items (bytes_eq item sci) refl (dropped sci items)
@@ -140,84 +133,3 @@ module _ (old : Config) where
   validate_stays : (c : Command) → ¬ IsOnValidate c → (config_after old c).validate ≡ old.validate
   validate_stays (SetValidate validate) other = absurd (other tt)
   validate_stays c other = refl
-
-  replay_stays : (c : Command) → ¬ IsOnReplay c → (config_after old c).replay ≡ old.replay
-  replay_stays (SetReplay on window) other = absurd (other tt)
-  replay_stays c other = refl
-
-  mode_stays : (c : Command) → ¬ IsOnMode c → (config_after old c).mode ≡ old.mode
-  mode_stays (SetSciMode mode) other = absurd (other tt)
-  mode_stays c other = refl
-
-  encoding_stays : (c : Command) → ¬ IsOnEncoding c → (config_after old c).encoding ≡ old.encoding
-  encoding_stays (TxUse an) other = absurd (other tt)
-  encoding_stays c other = refl
-
-  tx_stays : (c : Command) (an : ℕ) → ¬ IsOnTx c an → (config_after old c).tx an ≡ old.tx an
-  tx_stays (TxInstall at key start confidential offset) an other =
-      put-that old.tx at an (Some (tx_of key confidential offset)) (λ same. other (sym same))
-  tx_stays (TxRemove at) an other = put-that old.tx at an None (λ same. other (sym same))
-  tx_stays c an other = refl
-
-  channels_stay : (c : Command) (sci : List ℕ) → ¬ IsOnChannel c sci
-      → is_among (config_after old c).channels sci ≡ is_among old.channels sci
-  channels_stay (RxAdd at) sci other =
-      among-put_among at old.channels sci ∙ ap (λ (b : Bool). b || is_among old.channels sci) (unequal at sci other)
-  channels_stay (RxDrop at) sci other =
-      filtered old.channels at sci (is_among old.channels sci) refl (unequal sci at (λ same. other (sym same)))
-  channels_stay c sci other = refl
-
-  rx_stays : (c : Command) (sci : List ℕ) (an : ℕ) → ¬ IsOnRx c sci an → (config_after old c).rx sci an ≡ old.rx sci an
-  rx_stays (RxDrop at) sci an other =
-      ap (λ (f : ℕ → Option RxSa). f an) (put_at-that old.rx at sci (λ (an : ℕ). None) (λ same. other (sym same)))
-  rx_stays (RxInstall at number key start offset) sci an other =
-      put_rx-that old.rx at number sci an (Some (rx_of key offset)) (λ is same. other (sym is, sym same))
-  rx_stays (RxRemove at number) sci an other =
-      put_rx-that old.rx at number sci an None (λ is same. other (sym is, sym same))
-  rx_stays c sci an other = refl
-
-pub commands-change : CommandsChange
-commands-change edition identity old new command made =
-    let a = accepted edition identity old command new made in
-    subst (λ (config : Config). ChangesAsNamed old command config) (sym a.1) (record {
-      done = is_done edition identity old command a.0;
-      validate = validate_stays old command;
-      replay = replay_stays old command;
-      mode = mode_stays old command;
-      encoding = encoding_stays old command;
-      tx = tx_stays old command;
-      channels = channels_stay old command;
-      rx = rx_stays old command;
-    })
-
--- ---- spent keys
-
-or_cases : (x y : Bool) → (x || y) ≡ true → (x ≡ true) ⊎ (y ≡ true)
-or_cases true y is = inl refl
-or_cases false y is = inr is
-
-among_to : (items : List (List ℕ)) (item : List ℕ) → is_among items item ≡ true → Contains items item
-among_to [] item is = absurd (false≢true is)
-among_to (x ∷ xs) item is = elim (or_cases (bytes_eq x item) (is_among xs item) is) [
-  | inl here ↦ subst (Contains (x ∷ xs)) (same_octets x item here) (contains-first x xs)
-  | inr later ↦ contains-later x xs item (among_to xs item later)
-]
-
-among_from : (items : List (List ℕ)) (item : List ℕ) → Contains items item → is_among items item ≡ true
-among_from [] item has = absurd (contains-none item has)
-among_from (x ∷ xs) item has = elim (contains-cases x xs item has) [
-  | inl here ↦ or_left (bytes_eq x item) (is_among xs item)
-      (subst (λ (y : List ℕ). bytes_eq y item ≡ true) here (bytes_eq-itself item))
-  | inr later ↦ or_right (bytes_eq x item) (is_among xs item) (among_from xs item later)
-]
-
-pub prints-are : PrintsAre
-prints-are = record {
-  transmit = λ key. refl;
-  receive = λ sci key. refl;
-  among = λ items item. (among_to items item, among_from items item);
-  distinct = λ items item. (refl, refl);
-  spent = λ prints print. (among_to prints print, among_from prints print);
-  short_key = λ octets. refl;
-  long_key = λ octets. refl;
-}

@@ -6,7 +6,7 @@ use Rattle.macs_config.specs.Apply.{apply}
 use Rattle.macs_config.specs.declared.command.Command.{Command}
 use Rattle.macs_rxsc.specs.declared.verdict.Verdict.{Verdict}
 use Rattle.macs_endpoint.specs.Queue.{first_command}
-use Rattle.macs_endpoint.specs.Restart.{opened_state, state_taking, state_taking_alone, state_taking_first}
+use Rattle.macs_endpoint.specs.Restart.{opened_state, state_taking_alone, state_taking_first}
 use Rattle.macs_endpoint.specs.declared.fault.CommandFault.{CommandFault}
 use Rattle.macs_endpoint.specs.declared.fault.CommandFault.TheVariants as ran
 use Rattle.macs_endpoint.specs.declared.fault.ProtectFault.{ProtectFault}
@@ -26,11 +26,10 @@ use Rattle.macs_endpoint.specs.State.{Received, Receives, Refilled, Refills, Ref
 use Rattle.macs_endpoint.specs.State.{Submitted, state_with_in_hand}
 use Rattle.macs_endpoint.specs.Step.{AdvanceStep, CommandStep, Ends, Exchange, ProtectStep, ReceiveStep, RefillStep}
 use Rattle.macs_endpoint.specs.Step.{RunningStep, Step, Steps, SubmitStep, TakesUp}
-use Rattle.macs_headline.specs.CommandInHand.{CutsChangeNone, InHandWasBegun, MayBegin, WasBegun}
+use Rattle.macs_headline.specs.CommandInHand.{InHandWasBegun, MayBegin, WasBegun}
 use Rattle.macs_headline.specs.Commands.{waiting_at_end}
 use Rattle.macs_headline.specs.History.{logs_of, state_at_end}
 use Rattle.macs_headline.specs.Refused.{refusal_at}
-use Rattle.macs_headline.specs.Steps.{state_but_hand}
 use Rattle.macs_headline.proofs.Accepted.{no-refusal}
 use Rattle.macs_headline.proofs.Commands.{waits-from}
 use Rattle.macs_headline.proofs.Ledger.{some_one}
@@ -210,34 +209,3 @@ in-hand-was-begun sectors last m cut command is =
     let begun = opened_state m.life.found (logs_of m.past) in
     at_end m.exchanges last (waits-from [] begun m.exchanges last refl m.life.steps)
     (by_steps begun m.exchanges last m.life.steps (none_in_hand begun refl)) cut command is
-
--- ---- what a call that is cut short leaves
-
-either_but_hand : (b : Bool) (x y s : State) → state_but_hand x ≡ state_but_hand s → state_but_hand y ≡ state_but_hand s
-    → state_but_hand (cond b x y) ≡ state_but_hand s
-either_but_hand true x y s is other = is
-either_but_hand false x y s is other = other
-
-taking_but_hand : (s : State) (c : Command) → state_but_hand (state_taking s c) ≡ state_but_hand s
-taking_but_hand s c = either_but_hand (not s.stopped && is_ok (apply s.edition s.identity s.config c))
-    (state_with_in_hand s c) s s refl refl
-
-alone_but_hand : (s : State) (c : Command) (waiting : List Waiting)
-    → state_but_hand (state_taking_alone s c waiting) ≡ state_but_hand s
-alone_but_hand s c [] = taking_but_hand s c
-alone_but_hand s c (first ∷ rest) = refl
-
-first_but_hand : (s : State) (in_hand : Option Command) (waiting : List Waiting)
-    → state_but_hand (state_taking_first s in_hand waiting) ≡ state_but_hand s
-first_but_hand s None [] = refl
-first_but_hand s None (first ∷ rest) = taking_but_hand s first.command
-first_but_hand s (Some c) waiting = refl
-
-pub cuts-change-none : CutsChangeNone
-cuts-change-none s None = refl
-cuts-change-none s (Some (Commands c)) = alone_but_hand s c s.waiting
-cuts-change-none s (Some Refills) = refl
-cuts-change-none s (Some (Submits c)) = refl
-cuts-change-none s (Some Advances) = first_but_hand s s.in_hand s.waiting
-cuts-change-none s (Some (Protects plain)) = refl
-cuts-change-none s (Some (Receives frame)) = refl

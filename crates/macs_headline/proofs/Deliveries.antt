@@ -31,7 +31,7 @@ unverified : (b : Bool) (reason : Reason) (kind other : Kind) → IsVerifiedKind
 unverified true reason kind other is never same = absurd (cc)
 unverified false reason kind other is never same = let one : kind ≡ other = cc in never (subst IsVerifiedKind one is)
 
-settled : (side : RxSide) (frame : List ℕ) (step : RxStep) (kind : Kind) → IsVerifiedKind kind
+pub settled : (side : RxSide) (frame : List ℕ) (step : RxStep) (kind : Kind) → IsVerifiedKind kind
     → Delivered kind ≡ verdict_at side frame step → ⊥
 settled side frame (Tag IsRunt) kind is same = absurd (cc)
 settled side frame (Tag IsOversize) kind is same = absurd (cc)

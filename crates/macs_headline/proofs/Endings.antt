@@ -1,36 +1,14 @@
 -- Each way in which a program may end passes the medium of its disk on.
 use Rattle.std.proofs.Common.{◌≡◌, ◌&&◌, not, cond, ℕ, Bool, true, false, List, Result, Ok, Err, refl, sym, ◌∙◌, ap}
-use Rattle.std.proofs.Common.{subst, arith, le_refl}
+use Rattle.std.proofs.Common.{subst, le_refl}
 use Rattle.macs_disk.specs.Disk.{Disk, IsDeviceCall, IsHonest, now}
 use Rattle.macs_disk.specs.States.{DiskState, Image, IsImage, IsSector, IsSound}
 use Rattle.macs_disk.specs.declared.disk.DeviceFault.{DeviceFault}
 use Rattle.macs_headline.specs.Deeds.{IsPassedOn}
 use Rattle.macs_headline.specs.Endings.{DroppedPassOn, EndsAreEarlier, ImagesAreWhole, KillingsPassOn, LossesSettle}
-use Rattle.macs_headline.specs.Endings.{PassedOnAgain, PassedOnAlone, PowerLossesPassOn, ReadsPassOn, SyncsPassOn}
-use Rattle.macs_headline.specs.Endings.{TheseAreAlike, TheseAreImages, TheseAreLeft, TheseArePassedOn, TheseLosePower}
-use Rattle.macs_headline.specs.Endings.{WritesBackAsSyncs, WrittenBackPassOn, state_written_back}
+use Rattle.macs_headline.specs.Endings.{PowerLossesPassOn, ReadsPassOn, SyncsPassOn}
+use Rattle.macs_headline.specs.Endings.{WrittenBackPassOn, state_written_back}
 use Rattle.macs_headline.proofs.Losses.{settled-passed}
-
-pub these-are-alike : TheseAreAlike
-these-are-alike old new sectors honest = record { sectors = sectors; honest = honest }
-
-pub these-are-passed-on : TheseArePassedOn
-these-are-passed-on ran new since moment from to alike images = record {
-  moment = moment;
-  later = from;
-  within = to;
-  sectors = alike.sectors;
-  honest = alike.honest;
-  images = images;
-}
-
-pub passed-on-alone : PassedOnAlone
-passed-on-alone ran new since on =
-    (on.later, on.within, record { sectors = on.sectors; honest = on.honest }, on.images)
-
-pub these-lose-power : TheseLosePower
-these-lose-power ran new since image left alike settled =
-    record { image = image; left = left; alike = alike; settled = settled }
 
 pub power-losses-pass-on : PowerLossesPassOn
 power-losses-pass-on old new since lost =
@@ -61,20 +39,6 @@ ends-are-earlier old ran new since works passed from later within = record {
       subst (λ (s : DiskState). IsImage s image) (works.past passed.moment within) (passed.images image here);
 }
 
-pub passed-on-again : PassedOnAgain
-passed-on-again old mid new since first second = record {
-  moment = first.moment;
-  later = first.later;
-  within = first.within;
-  sectors = second.sectors ∙ first.sectors;
-  honest = second.honest ∙ first.honest;
-  images = λ image left.
-      let from = second.later in
-      let to = second.within in
-      let last : second.moment ≡ mid.clock = omega (arith, from, to) in
-      first.images image (subst (λ (k : ℕ). IsImage (mid.past k) image) last (second.images image left));
-}
-
 -- ---- sectors that reach the medium
 
 kept_sector : (pending written : Bool) (seen durable octets : List ℕ) → (pending ≡ false → seen ≡ durable)
@@ -98,27 +62,6 @@ written_image state written image sound left = record {
       (left.kept i);
   whole = λ i. whole_sector (state.pending i) (written i) (state.seen i) (state.durable i) (image i) (sound.seen i)
       (left.kept i) (left.whole i);
-}
-
-and_none : (b : Bool) → (b && not true) ≡ false
-and_none true = refl
-and_none false = refl
-
-and_all : (b : Bool) → (b && not false) ≡ b
-and_all true = refl
-and_all false = refl
-
-pub writes-back-as-syncs : WritesBackAsSyncs
-writes-back-as-syncs = record {
-  reached = λ written state i is. (
-    ap (λ (b : Bool). cond b (state.seen i) (state.durable i)) is,
-    ap (λ (b : Bool). state.pending i && not b) is ∙ and_none (state.pending i),
-  );
-  others = λ written state i is. (
-    ap (λ (b : Bool). cond b (state.seen i) (state.durable i)) is,
-    ap (λ (b : Bool). state.pending i && not b) is ∙ and_all (state.pending i),
-  );
-  read = λ written state i. refl;
 }
 
 -- ---- calls of the owner
@@ -161,19 +104,5 @@ losses-settle ran new since loses i = (
   ap (λ (s : DiskState). s.seen i) loses.settled ∙ sym (ap (λ (s : DiskState). s.durable i) loses.settled),
 )
 
-pub these-are-images : TheseAreImages
-these-are-images state image kept size octets = record {
-  kept = kept;
-  whole = λ i pending. record { size = size i pending; octets = λ k. octets i k pending };
-}
-
 pub images-are-whole : ImagesAreWhole
 images-are-whole state image is i pending = ((is.whole i pending).size, (is.whole i pending).octets)
-
-pub these-are-left : TheseAreLeft
-these-are-left = record {
-  left = λ disk since k image later within is. (k, later, within, is);
-  at = λ disk since image left. left;
-  counts = λ disk image. (refl, refl, refl);
-  past = λ disk image k. refl;
-}

@@ -1,6 +1,6 @@
 -- A disk that the first edition of the program formatted, and what an opening makes of it.
 use Rattle.std.proofs.Common.{◌≡◌, ◌≢◌, ◌≤◌, ◌<◌, ◌^◌, ◌+◌, ◌-◌, ◌==◌, ◌++◌, ◌∙◌, inl, inr, ℕ, Bool, true, false, cond}
-use Rattle.std.proofs.Common.{List, replicate, [], ◌∷◌, length, take, bytes_eq, Option, Some, None, Ok, Err, refl, sym}
+use Rattle.std.proofs.Common.{List, replicate, [], ◌∷◌, length, take, bytes_eq, Some, None, Ok, Err, refl, sym}
 use Rattle.std.proofs.Common.{ap, subst, arith}
 use Rattle.std.specs.Prelude.{All}
 use Rattle.std.specs.List.{AllByRecursion}
@@ -38,7 +38,7 @@ use Rattle.macs_rxsc.specs.Receive.{Numbers, first_numbers, numbers_after_delive
 use Rattle.macs_store.specs.Found.{IsToMigrate, StandAlike, StandingIs}
 use Rattle.macs_store.specs.Replay.{meaning_of, snapshot_of}
 use Rattle.macs_store.specs.Snapshot.{rx_records, rx_records_of, settings_record, snapshot, spent_records, tx_records}
-use Rattle.macs_store.specs.Standing.{IsStanding, Standing, ceilings_with_tx, new_standing, no_ceilings}
+use Rattle.macs_store.specs.Standing.{IsStanding, new_standing, no_ceilings}
 use Rattle.macs_store.proofs.Snapshots.{snapshot-stands}
 use Rattle.macs_endpoint.specs.Restart.{Fits, Resumes, TxRises, opened_state}
 use Rattle.macs_endpoint.specs.Calls.{IsInRange}
@@ -65,13 +65,13 @@ use Rattle.macs_headline.specs.Images.{blank_image, image_with_area, image_with_
 use Rattle.macs_headline.specs.Images.{image_with_record, image_with_records}
 use Rattle.macs_headline.proofs.Built.{area-other, closed-gate, opened-found, opened-other, records-found}
 use Rattle.macs_headline.proofs.Built.{records-other}
-use Rattle.macs_headline.proofs.BuiltAnew.{anew-found, meaning-anew, meaning-more, same-again, written-found}
+use Rattle.macs_headline.proofs.BuiltAnew.{anew-found, meaning-anew, meaning-more, written-found}
 use Rattle.macs_headline.proofs.Chains.{settled-disks}
 use Rattle.macs_headline.proofs.ExampleCuts.{head-sector, record_sector, torn_kept, torn_whole}
 use Rattle.macs_headline.proofs.ExampleFits.{away, rx_all}
 use Rattle.macs_headline.proofs.ExampleFrames.{arrival, peer-arrives}
 use Rattle.macs_headline.proofs.ExampleHistory.{range_on, refused_by, same_steps, steps_on}
-use Rattle.macs_headline.proofs.ExampleImages.{both_at, both_some, default_config, put_twice, served_rx, served_tx}
+use Rattle.macs_headline.proofs.ExampleImages.{both_at, both_some, default_config}
 use Rattle.macs_headline.proofs.ExampleRecords.{head-range, key-range, long-key-range, peer-range, print_range}
 use Rattle.macs_headline.proofs.ExampleRecords.{snapshot-ranges}
 use Rattle.macs_headline.proofs.ExampleStates.{outgoing}
@@ -386,27 +386,6 @@ long_meaning : meaning_of this_edition long_content ≡ Some long_standing
 long_meaning =
     meaning-more this_edition long_records migrated_content (used_standing this_edition) long_standing (omega arith)
     refl migrated_meaning refl
-
--- one ceiling in the place of two
-abbrev raised_standing : Standing
-raised_standing = record long_standing { ceilings = ceilings_with_tx long_standing.ceilings 0 (Some 13) }
-
-raised_is : raised_standing ≡ filled_standing
-raised_is = λ i. record {
-  edition = this_edition;
-  identity = example_identity;
-  config = long_config;
-  ceilings = record {
-    tx = (ap (λ (f : ℕ → Option ℕ). put f 0 (Some 13)) served_tx
-        ∙ put_twice no_ceilings.tx 0 (Some 9) (Some 13)) i;
-    rx = served_rx i;
-  };
-}
-
-filled_meaning : meaning_of this_edition filled_content ≡ Some filled_standing
-filled_meaning =
-    meaning-more this_edition filled_records long_content long_standing filled_standing (omega arith) refl long_meaning
-    (same-again 248 (kept.SetValidate Strict) raised_standing refl ∙ ap Some raised_is)
 
 filled_stands : IsStanding filled_standing
 filled_stands = record {

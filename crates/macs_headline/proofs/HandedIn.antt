@@ -33,11 +33,11 @@ use Rattle.macs_headline.proofs.Commands.{waits-from}
 use Rattle.macs_headline.proofs.Ledger.{some_one}
 use Rattle.macs_headline.proofs.Lists.{contains-first, contains-later}
 
-none_some : (c : Command) → ◌≡◌ {A = Option Command} None (Some c) → ⊥
+pub none_some : (c : Command) → ◌≡◌ {A = Option Command} None (Some c) → ⊥
 none_some c is = cc
 
 -- one more that waits leaves the first one
-first_on : (waiting : List Waiting) (ticket : ℕ) (c d : Command) → first_command waiting ≡ Some d
+pub first_on : (waiting : List Waiting) (ticket : ℕ) (c d : Command) → first_command waiting ≡ Some d
     → first_command (with_waiting waiting ticket c) ≡ Some d
 first_on [] ticket c d is = absurd (none_some d is)
 first_on (first ∷ rest) ticket c d is = is

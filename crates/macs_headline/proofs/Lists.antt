@@ -73,14 +73,6 @@ pub all-on : {X : Type 0} (P : X → Type 0) (xs : List X) (x : X) → AllByRecu
 all-on P [] x all is = (is, tt)
 all-on P (first ∷ xs) x all is = (all.0, all-on P xs x all.1 is)
 
-pub all-front : {X : Type 0} (P : X → Type 0) (xs ys : List X) → AllByRecursion P (xs ++ ys) → AllByRecursion P xs
-all-front P [] ys all = tt
-all-front P (x ∷ xs) ys all = (all.0, all-front P xs ys all.1)
-
-pub all-rear : {X : Type 0} (P : X → Type 0) (xs ys : List X) → AllByRecursion P (xs ++ ys) → AllByRecursion P ys
-all-rear P [] ys all = all
-all-rear P (x ∷ xs) ys all = all-rear P xs ys all.1
-
 -- ---- the same many times
 
 pub each-same : {X : Type 0} (P : X → Type 0) (n : ℕ) (x : X) → P x → AllByRecursion P (replicate n x)

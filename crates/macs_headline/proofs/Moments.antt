@@ -1,57 +1,31 @@
 -- An endpoint that lives is at a moment of a history: what the laws say of it, and where its medium may be passed on.
-use Rattle.std.proofs.Common.{◌≡◌, ◌≤◌, ◌⊎◌, ◌++◌, inl, inr, ℕ, Bool, true, false, cond, not, ◌&&◌, is_ok, List, []}
+use Rattle.std.proofs.Common.{◌≡◌, ◌≤◌, ◌⊎◌, ◌++◌, inl, inr, ℕ, ◌&&◌, List, []}
 use Rattle.std.proofs.Common.{◌∷◌, map, Option, Some, None, Ok, refl, sym, ◌∙◌, ap, subst, arith}
 use Rattle.std.proofs.lemmas.Bool.{cases_lt}
-use Rattle.macs_config.specs.Apply.{apply}
-use Rattle.macs_frame.specs.Tag.{tag_of}
 use Rattle.macs_config.specs.Config.{Edition, IsUpTo, this_edition}
-use Rattle.macs_config.specs.declared.command.Command.{Command}
 use Rattle.macs_disk.specs.Disk.{Disk, IsHonest, MayLeave, Works, now}
-use Rattle.macs_disk.specs.States.{Image, IsImage, IsSound}
+use Rattle.macs_disk.specs.States.{Image, IsSound}
 use Rattle.macs_disk.proofs.Moments.{Works-on, Works-start}
-use Rattle.std.specs.Prelude.{Contains}
-use Rattle.macs_rxsc.specs.declared.verdict.Kind.{Kind}
-use Rattle.macs_rxsc.specs.declared.verdict.Kind.TheVariants.{Ok as AsOk}
-use Rattle.macs_rxsc.specs.declared.verdict.Verdict.TheVariants.{Delivered}
-use Rattle.macs_store.specs.Found.{StandingIs}
-use Rattle.macs_store.specs.Standing.{Standing}
-use Rattle.macs_store.specs.Value.{StoreValue, standing_in}
-use Rattle.macs_store.specs.Value as store
 use Rattle.macs_endpoint.specs.Advancing.{Piece, ToKeep, ToRaise, next_piece}
 use Rattle.macs_endpoint.specs.Calls.{IsCall}
 use Rattle.macs_endpoint.specs.Lives.{Lives, Transition, exchange_of}
 use Rattle.macs_endpoint.specs.Ceilings.{Raise}
-use Rattle.macs_endpoint.specs.Restart.{Fits, opened_state, state_during, state_taking_alone, state_taking_first}
-use Rattle.macs_endpoint.specs.State.{Advances, Call, Commands, Delivery, Logs, Protects, Protected, Received, Receives}
-use Rattle.macs_endpoint.specs.State.{Refills, State, Submits, Use, no_logs, state_with_in_hand}
+use Rattle.macs_endpoint.specs.Restart.{Fits, state_during}
+use Rattle.macs_endpoint.specs.State.{Advances, Call, Commands, Protects, Receives}
+use Rattle.macs_endpoint.specs.State.{Refills, Submits}
 use Rattle.macs_endpoint.specs.declared.queue.Waiting.{Waiting}
 use Rattle.macs_endpoint.specs.Value.{EndpointValue, IsSoundEndpoint, disk_in, state_of}
-use Rattle.macs_headline.specs.Binding.{CutDeliveriesAreBelow, CutFramesAreBelow, FramesAreDeliveredOnce}
-use Rattle.macs_headline.specs.Binding.{FramesAreWrittenOnce, EndsAreCuts, HasHistory, IsAtMoment, LivesAreMoments}
-use Rattle.macs_headline.specs.Binding.{LivesFit, LivesFitUnbegun, LivesKeepCommands, OpeningsFind}
+use Rattle.macs_headline.specs.Binding.{EndsAreCuts, HasHistory, IsAtMoment, LivesAreMoments}
+use Rattle.macs_headline.specs.Binding.{LivesFit, OpeningsFind}
 use Rattle.macs_headline.specs.Binding.{cut_beginning, state_left}
-use Rattle.macs_endpoint.specs.Step.{Step}
-use Rattle.macs_headline.specs.Answered.{exchanges_of_lives}
-use Rattle.macs_headline.specs.Commands.{FindsPrefix}
-use Rattle.macs_headline.specs.Deliveries.{IsOtherDelivery, IsVerifiedDelivery, IsVerifiedKind, delivering}
 use Rattle.macs_headline.specs.Deeds.{Does, Living, LivesFrom}
-use Rattle.macs_headline.specs.History.{Formatted, Life, logs_of, state_at_end}
-use Rattle.macs_headline.specs.Moments.{Moment, WasGiven, WasUsed}
+use Rattle.macs_headline.specs.History.{Formatted, Life, state_at_end}
+use Rattle.macs_headline.specs.Moments.{Moment}
 use Rattle.macs_headline.proofs.Chains.{history-covers}
-use Rattle.macs_headline.proofs.Commands.{commands-kept}
-use Rattle.macs_headline.proofs.Answered.{given-once, never-ok-again, written-once}
-use Rattle.macs_headline.proofs.Deliveries.{delivered}
-use Rattle.macs_headline.proofs.Effects.{core, effect-of}
-use Rattle.macs_headline.proofs.Histories.{fits-restart, sound-moment}
-use Rattle.macs_headline.proofs.Lists.{contains-first}
-use Rattle.macs_headline.proofs.Numbers.{beyond_rx, beyond_tx}
 use Rattle.macs_headline.proofs.Endings.{ends-are-earlier}
 use Rattle.macs_headline.proofs.Living.{IsAlive, alive, covered-cut, covered-life, covered-unbegun}
 use Rattle.macs_headline.proofs.Losses.{IsCovered}
 use Rattle.macs_headline.proofs.Older.{larger-fits}
-use Rattle.macs_headline.proofs.Unbegun.{IsToKeep}
-use Rattle.macs_headline.proofs.Ranges.{frames-are-standard}
-use Rattle.macs_headline.proofs.Sound.{sound-effect, sound-restart}
 
 -- ---- the call in which a medium is passed on
 
@@ -155,42 +129,6 @@ module _ {D : Type 0} (disk_of : D → Disk) where
         ]
       ]
 
--- ---- what is under way at the end of a life
-
-in_hand_or : (b : Bool) (s t : State) (c : Command) → s.in_hand ≡ t.in_hand
-    → (cond b (state_with_in_hand s c) s).in_hand ≡ (cond b (state_with_in_hand t c) t).in_hand
-in_hand_or true s t c same = refl
-in_hand_or false s t c same = same
-
-alone_hand : {D : Type 0} (e : EndpointValue D) (logs : Logs) (c : Command) (waiting : List Waiting)
-    → (state_taking_alone (state_of e logs) c waiting).in_hand
-    ≡ (state_taking_alone (state_of e no_logs) c waiting).in_hand
-alone_hand e logs c [] =
-    let s = state_of e logs in
-    in_hand_or (not s.stopped && is_ok (apply s.edition s.identity s.config c)) s (state_of e no_logs) c refl
-alone_hand e logs c (first ∷ rest) = refl
-
-first_hand : {D : Type 0} (e : EndpointValue D) (logs : Logs) (in_hand : Option Command) (waiting : List Waiting)
-    → (state_taking_first (state_of e logs) in_hand waiting).in_hand
-    ≡ (state_taking_first (state_of e no_logs) in_hand waiting).in_hand
-first_hand e logs None [] = refl
-first_hand e logs None (first ∷ rest) =
-    let s = state_of e logs in
-    in_hand_or (not s.stopped && is_ok (apply s.edition s.identity s.config first.command)) s (state_of e no_logs)
-    first.command refl
-first_hand e logs (Some c) waiting = refl
-
--- it does not depend on the logs
-in_hand_at_end : {D : Type 0} (e : EndpointValue D) (logs : Logs) (cut : Option Call)
-    → (state_at_end (state_of e logs) cut).in_hand ≡ (state_at_end (state_of e no_logs) cut).in_hand
-in_hand_at_end e logs None = refl
-in_hand_at_end e logs (Some (Commands c)) = alone_hand e logs c e.waiting
-in_hand_at_end e logs (Some Refills) = refl
-in_hand_at_end e logs (Some (Submits c)) = refl
-in_hand_at_end e logs (Some Advances) = first_hand e logs e.in_hand e.waiting
-in_hand_at_end e logs (Some (Protects plain)) = refl
-in_hand_at_end e logs (Some (Receives frame)) = refl
-
 -- ---- the moment
 
 module _ {D : Type 0} (disk_of : D → Disk) (sound : (it : D) → IsHonest (disk_of it) → IsSound (now (disk_of it)))
@@ -274,52 +212,12 @@ module _ {D : Type 0} (disk_of : D → Disk) (sound : (it : D) → IsHonest (dis
       larger-fits this_edition later up_to sectors image (state_left last living.logs cut)
       ((covered_left cut new does).images image left)
 
-  -- a step in which no command begins
-  none_to_keep : (raise : Raise) → (last.reserving ≡ Some raise) ⊎ (next_piece last ≡ Some (ToRaise raise))
-      → ¬ IsToKeep last
-  none_to_keep raise (inl raised) (first, free, next) = some_raise raise (sym raised ∙ free)
-  none_to_keep raise (inr begins) (first, free, next) = raise_is raise first (sym begins ∙ next)
-
-  fits_before : (new : D) → Does disk_of disk (Living first turns last (Some Advances)) new → (raise : Raise)
-      → (last.reserving ≡ Some raise) ⊎ (next_piece last ≡ Some (ToRaise raise)) → (later : Edition)
-      → IsUpTo this_edition later
-      → (image : Image) → MayLeave (disk_of new) image → Fits later sectors image (state_of last living.logs)
-  fits_before new (as_lived, kept, reply, after, is, passed) raise raises later up_to image left =
-      larger-fits this_edition later up_to sectors image (state_of last living.logs)
-      ((covered-unbegun disk_of sound sectors h.past disk first turns last covered lived kept Advances reply after
-      is new passed
-      (none_to_keep raise raises) refl).images image left)
-
-  -- what is found there
-  kept_commands : (cut : Option Call) (new : D) → Does disk_of disk (Living first turns last cut) new
-      → (later : Edition) → IsUpTo this_edition later
-      → (image : Image) (after : Standing) → MayLeave (disk_of new) image → StandingIs later sectors image (Ok after)
-      → FindsPrefix (standing_in first.store) (map exchange_of turns) (state_left last no_logs cut).in_hand after
-  kept_commands cut new does later up_to image after left is_after =
-      let begun = cut_beginning cut last.reserving (next_piece last) in
-      let fits = fits_left cut new does later up_to image left in
-      let found = commands-kept sectors (state_of last living.logs) moment begun later image after fits is_after in
-      let hand : Option Command = (state_left last living.logs cut).in_hand in
-      subst (λ (h : Option Command). FindsPrefix (standing_in first.store) (map exchange_of turns) h after)
-      (in_hand_at_end last living.logs begun)
-      (subst (λ (s : Standing). FindsPrefix s (map exchange_of turns) hand after) living.same_found found)
-
 -- that which a life was lived from
 lived_of : {D : Type 0} (disk_of : D → Disk) (disk new : D) (first last : EndpointValue D) (turns : List (Transition D))
     (cut : Option Call)
     → Does disk_of disk (Living first turns last cut) new → LivesFrom disk_of disk first turns last
 lived_of disk_of disk new first last turns None does = does.0
 lived_of disk_of disk new first last turns (Some call) does = does.0
-
--- a delivery whose kind is Ok
-as_ok : (sectors : ℕ) (s : State) (m : Moment sectors s) (frame out : List ℕ) (kind : Kind) (new : State)
-    (d : IsVerifiedDelivery s frame kind out new)
-    → Step s (Receives frame) (Received (Ok (Delivered kind)) out) new → kind ≡ AsOk
-    → (earlier given : List ℕ) (was : Kind) → IsVerifiedKind was
-    → Contains (exchanges_of_lives m.lives) (delivering earlier was given)
-    → IsOtherDelivery sectors m.lives (logs_of m.past) earlier was given d.sci d.sa.key (tag_of frame).pn
-as_ok sectors s m frame out AsOk new d step is_ok = never-ok-again sectors s m frame out new d step
-as_ok sectors s m frame out kind new d step is_ok = absurd (cc)
 
 module _ {D : Type 0} (disk_of : D → Disk) (sound : (it : D) → IsHonest (disk_of it) → IsSound (now (disk_of it))) where
   pub openings-find : OpeningsFind disk_of
@@ -341,134 +239,9 @@ module _ {D : Type 0} (disk_of : D → Disk) (sound : (it : D) → IsHonest (dis
   pub lives-are-moments : LivesAreMoments disk_of
   lives-are-moments disk before first last turns h lived = at_moment disk_of sound disk before h first last turns lived
 
-  pub lives-keep-commands : LivesKeepCommands disk_of
-  lives-keep-commands disk new before first last turns cut h does =
-      kept_commands disk_of sound disk before h first last turns (lived_of disk_of disk new first last turns cut does)
-      cut new does
-
   pub lives-fit : LivesFit disk_of
   lives-fit disk new before first last turns cut h does =
       let lived = lived_of disk_of disk new first last turns cut does in (
         at_moment disk_of sound disk before h first last turns lived,
         fits_left disk_of sound disk before h first last turns lived cut new does,
-      )
-
-  pub lives-fit-unbegun : LivesFitUnbegun disk_of
-  lives-fit-unbegun disk new before first last turns h does raise raises = (
-    at_moment disk_of sound disk before h first last turns does.0,
-    fits_before disk_of sound disk before h first last turns does.0 new does raise raises,
-  )
-
-  pub frames-are-written-once : FramesAreWrittenOnce disk_of
-  frames-are-written-once disk before first last after turns plain pn out h lived call =
-      let at = at_moment disk_of sound disk before h first last turns lived in
-      let m = moment disk_of sound disk before h first last turns lived in
-      let s = state_of last at.logs in
-      let step = call.behaves.step at.logs in
-      let new = state_of after step.0 in
-      let standard = frames-are-standard (disk_of disk).sectors s m plain pn out new step.1 in
-      record {
-        at = at;
-        later = step.0;
-        standard = standard;
-        once = (sound-effect s.edition (core s) (core new)
-            (effect-of s (Protects plain) (Protected (Ok pn) out) new step.1)
-            (sound-moment (disk_of disk).sectors s m)).tx.apart;
-        others = written-once (disk_of disk).sectors s m plain pn out new standard step.1;
-      }
-
-  pub frames-are-delivered-once : FramesAreDeliveredOnce disk_of
-  frames-are-delivered-once disk before first last after turns frame kind out verified h lived call =
-      let at = at_moment disk_of sound disk before h first last turns lived in
-      let m = moment disk_of sound disk before h first last turns lived in
-      let s = state_of last at.logs in
-      let step = call.behaves.step at.logs in
-      let new = state_of after step.0 in
-      let d = delivered s frame out kind new verified step.1 in
-      record {
-        at = at;
-        later = step.0;
-        delivery = d;
-        once = λ on zero. given-once (disk_of disk).sectors s m on zero frame out kind new d step.1;
-        never_ok_again = λ is_ok. as_ok (disk_of disk).sectors s m frame out kind new d step.1 is_ok;
-      }
-
-  pub cut-frames-are-below : CutFramesAreBelow disk_of
-  cut-frames-are-below disk new before first last after turns plain pn out h lived call passed later up_to image found
-      left is_found =
-      let sectors = (disk_of disk).sectors in
-      let at = at_moment disk_of sound disk before h first last turns lived in
-      let m = moment disk_of sound disk before h first last turns lived in
-      let living =
-      alive disk_of sound sectors h.past disk first turns last (history-covers (disk_of disk) before h) lived in
-      let s = state_of last at.logs in
-      let step = call.behaves.step at.logs in
-      let next = state_of after step.0 in
-      let standard = frames-are-standard sectors s m plain pn out next step.1 in
-      let still : after.store ≡ last.store = call.behaves.still in
-      let clock : (disk_in disk_of after).clock ≡ (disk_in disk_of last).clock =
-      ap (λ (x : StoreValue D). (store.disk_in disk_of x).clock) still in
-      let from = passed.later in
-      let to = passed.within in
-      let at_end : passed.moment ≡ (disk_in disk_of after).clock = omega (arith, clock, from, to) in
-      let may : MayLeave (disk_in disk_of after) image =
-      subst (λ (k : ℕ). IsImage ((disk_in disk_of after).past k) image) at_end (passed.images image left) in
-      let backed = (call.survives (call.device.works.honest ∙ living.honest) living.backed).backed in
-      let fits : Fits this_edition sectors image next =
-      subst (λ (n : ℕ). Fits this_edition n image next) (call.device.works.sectors ∙ living.size)
-      (backed.fits step.0 image may) in
-      let restart = fits-restart later sectors image next found
-      (larger-fits this_edition later up_to sectors image next fits) is_found in
-      let sent = sound-effect s.edition (core s) (core next)
-      (effect-of s (Protects plain) (Protected (Ok pn) out) next step.1) (sound-moment sectors s m) in
-      let here : WasUsed next.logs standard.sa.key pn =
-      subst (λ (used : List Use). Contains used (record { key = standard.sa.key; pn = pn })) (sym standard.logged)
-      (contains-first (record { key = standard.sa.key; pn = pn }) s.logs.used) in (
-        at,
-        step.0,
-        standard,
-        beyond_tx found next.logs (sound-restart next (opened_state found next.logs) restart sent)
-            standard.sa.key pn here,
-      )
-
-  pub cut-deliveries-are-below : CutDeliveriesAreBelow disk_of
-  cut-deliveries-are-below disk new before first last after turns frame kind out verified h lived call passed later
-      up_to image found left is_found =
-      let sectors = (disk_of disk).sectors in
-      let at = at_moment disk_of sound disk before h first last turns lived in
-      let m = moment disk_of sound disk before h first last turns lived in
-      let living =
-      alive disk_of sound sectors h.past disk first turns last (history-covers (disk_of disk) before h) lived in
-      let s = state_of last at.logs in
-      let step = call.behaves.step at.logs in
-      let next = state_of after step.0 in
-      let d = delivered s frame out kind next verified step.1 in
-      let still : after.store ≡ last.store = call.behaves.still in
-      let clock : (disk_in disk_of after).clock ≡ (disk_in disk_of last).clock =
-      ap (λ (x : StoreValue D). (store.disk_in disk_of x).clock) still in
-      let from = passed.later in
-      let to = passed.within in
-      let at_end : passed.moment ≡ (disk_in disk_of after).clock = omega (arith, clock, from, to) in
-      let may : MayLeave (disk_in disk_of after) image =
-      subst (λ (k : ℕ). IsImage ((disk_in disk_of after).past k) image) at_end (passed.images image left) in
-      let backed = (call.survives (call.device.works.honest ∙ living.honest) living.backed).backed in
-      let fits : Fits this_edition sectors image next =
-      subst (λ (n : ℕ). Fits this_edition n image next) (call.device.works.sectors ∙ living.size)
-      (backed.fits step.0 image may) in
-      let restart = fits-restart later sectors image next found
-      (larger-fits this_edition later up_to sectors image next fits) is_found in
-      let given = sound-effect s.edition (core s) (core next)
-      (effect-of s (Receives frame) (Received (Ok (Delivered kind)) out) next step.1)
-      (sound-moment sectors s m) in
-      let here : WasGiven next.logs d.sci d.sa.key (tag_of frame).pn = (
-        kind,
-        subst (λ (all : List Delivery).
-            Contains all (record { sci = d.sci; key = d.sa.key; pn = (tag_of frame).pn; kind = kind })) (sym d.logged)
-            (contains-first (record { sci = d.sci; key = d.sa.key; pn = (tag_of frame).pn; kind = kind }) s.logs.given),
-      ) in (
-        at,
-        step.0,
-        d,
-        beyond_rx found next.logs (sound-restart next (opened_state found next.logs) restart given) d.sci d.sa.key
-            (tag_of frame).pn here,
       )

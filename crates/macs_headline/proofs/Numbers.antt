@@ -25,7 +25,6 @@ use Rattle.macs_headline.specs.Moments.{IsFoundAfter, WasGiven, WasUsed}
 use Rattle.macs_headline.specs.Numbers.{BeginAsAsked, GivenApart, GivenBelow, HasNoneTwice, IsBeyondRx, IsBeyondTx}
 use Rattle.macs_headline.specs.Numbers.{IsMoved, IsSkipped, OkApart, SkipsFew, SkipsFewReceived, UsedBelow, UsedOnce}
 use Rattle.macs_headline.specs.Numbers.{UsedOnceAtEnd}
-use Rattle.macs_headline.specs.Windows.{WindowsAreKept}
 use Rattle.macs_headline.proofs.Lists.{pairs-none}
 use Rattle.macs_headline.proofs.Ledger.{ledger-kept, some_one}
 use Rattle.macs_headline.proofs.Places.{cases_place, cases_sci, put-that, put-this, put_at-that, put_at-this}
@@ -384,9 +383,6 @@ module _ (sectors : ℕ) where
       let low : d.pn < here.0 = here.2 d.pn was in
       let over : a.n.lowest ≤ d.pn = ok_above a.n d.pn (sym a.is_kind ∙ ok) in
       omega (arith, is_m, low, over)
-
-  pub windows-are-kept : WindowsAreKept sectors
-  windows-are-kept s m = (sound-moment sectors s m).window
 
   found_sound : (past : Past) (found : Standing) → IsFoundAfter sectors past found
       → IsSound (core (opened_state found (logs_of past)))

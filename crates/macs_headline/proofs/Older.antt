@@ -51,7 +51,7 @@ module _ (small large : Edition) (up_to : IsUpTo small large) where
     restart = restart_larger s fits.found s.logs (of-edition small sectors image fits.found fits.is_found) fits.restart;
   }
 
-  larger_past : (sectors : ℕ) (past : Past) (image : Image) → FitsPast small sectors past image
+  pub larger_past : (sectors : ℕ) (past : Past) (image : Image) → FitsPast small sectors past image
       → FitsPast large sectors past image
   larger_past sectors (Blank identities) image (inl none) = inl none
   larger_past sectors (Blank identities) image (inr (identity, among, new)) =

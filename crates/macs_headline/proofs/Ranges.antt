@@ -521,10 +521,6 @@ module _ (sectors : ℕ) where
   moment_range s m =
       life_range m.past m.edition m.image m.exchanges s m.life (lives_range (Blank []) m.lives m.past m.history tt)
 
-  -- a next packet number is 1 to 2^32
-  pub next-range : (s : State) → Moment sectors s → (an m : ℕ) → s.next an ≡ Some m → (1 ≤ m) × (m ≤ 2 ^ 32)
-  next-range s m an n is = (moment_range s m).nexts an n is
-
   pub frames-are-standard : FramesAreStandard sectors
   frames-are-standard s m plain pn out new step = by_frame m.edition s plain pn out new step (moment_range s m)
 

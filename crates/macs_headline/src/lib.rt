@@ -2,12 +2,8 @@
 //! power fails.
 #![tactic(auto)]
 
-mod day;
 mod example;
 pub mod laws;
-mod night;
-mod watch;
+mod power_loss;
 
-pub use day::{Day, a_day};
-pub use night::{Night, PowerLoss, a_night, a_night_behind_a_fuse, a_night_in_memory};
-pub use watch::{Evening, Morning, Watch, a_watch, a_watch_behind_a_fuse, a_watch_in_memory};
+pub use power_loss::PowerLoss;

@@ -23,7 +23,6 @@ use Rattle.macs_journal.specs.declared.compact_stage.CompactStage.TheVariants.{R
 use Rattle.macs_journal.specs.declared.compact_stage.CompactStage.TheVariants.{Body, BodiesSync, HeadGate, HeadSync}
 use Rattle.macs_journal.specs.declared.fault.JournalFault.{JournalFault}
 use Rattle.macs_journal.specs.declared.fault.JournalFault.TheVariants.{Disk, GenerationsSpent, Stopped}
-use Rattle.macs_journal.specs.declared.hand.Compacting.{Compacting}
 use Rattle.macs_journal.specs.declared.hand.Hand.{Hand}
 use Rattle.macs_journal.specs.declared.hand.Hand.TheVariants.{Append, Compact, Empty}
 use Rattle.macs_journal.specs.declared.place.Place.{Place}

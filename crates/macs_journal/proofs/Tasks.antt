@@ -1,11 +1,11 @@
 -- A task under way: it stays the same while it goes on, and with which records it is under way.
-use Rattle.std.proofs.Common.{◌∙◌, refl, sym, List}
+use Rattle.std.proofs.Common.{◌∙◌, refl, List}
 use Rattle.macs_disk.specs.Disk.{Disk}
 use Rattle.macs_record.specs.declared.record.Record.{Record}
 use Rattle.macs_journal.specs.Found.{Content}
 use Rattle.macs_journal.specs.Renewal.{compacted}
-use Rattle.macs_journal.specs.Stepping.{IsAppendHand, IsSameTask, RenewsWith}
-use Rattle.macs_journal.specs.Value.{AreLent, HoldsWith, IsHolding, IsMadeOf}
+use Rattle.macs_journal.specs.Stepping.{IsAppendHand, IsSameTask}
+use Rattle.macs_journal.specs.Value.{HoldsWith, IsHolding, IsMadeOf}
 use Rattle.macs_journal.specs.declared.hand.Hand.{Hand}
 use Rattle.macs_journal.specs.declared.hand.Hand.TheVariants.{Append, Compact, Empty}
 use Rattle.macs_journal.specs.declared.place.Place.{Place}
@@ -17,21 +17,6 @@ still-appends (Append work) Empty same is = absurd same
 still-appends (Append work) (Compact later) same is = absurd same
 still-appends (Compact work) new same is = absurd is
 still-appends Empty new same is = absurd is
-
--- and a compaction with its records
-pub still-renews : (place : Place) (old new : Hand) (records : List Record) → IsSameTask old new
-    → RenewsWith place old records → RenewsWith place new records
-still-renews place (Compact work) (Compact later) records same is = is ∙ sym same
-still-renews place (Compact work) Empty records same is = absurd same
-still-renews place (Compact work) (Append later) records same is = absurd same
-still-renews place (Append work) new records same is = absurd is
-still-renews place Empty new records same is = absurd is
-
--- no records are to be lent to an append
-pub append-lent : (hand : Hand) (records : List Record) → IsAppendHand hand → AreLent hand records
-append-lent Empty records is = tt
-append-lent (Append work) records is = tt
-append-lent (Compact work) records is = absurd is
 
 -- with any records an append makes the one content of the other
 append-made : (hand : Hand) (records : List Record) (before after : Content) → IsAppendHand hand

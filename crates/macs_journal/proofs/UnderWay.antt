@@ -3,10 +3,10 @@ use Rattle.std.proofs.Common.{◌≡◌, ◌≤◌, ◌↔◌, ◌+◌, inl, inr
 use Rattle.std.proofs.Common.{length, Result, Ok, Err}
 use Rattle.std.specs.Prelude.{OnOk}
 use Rattle.std.proofs.lemmas.Option.{slice_get_within}
-use Rattle.macs_disk.specs.Disk.{Disk, IsDeviceCall, Works, now}
+use Rattle.macs_disk.specs.Disk.{Disk, IsDeviceCall, now}
 use Rattle.macs_disk.specs.Runs.{Leaves}
 use Rattle.macs_disk.specs.States.{IsSound}
-use Rattle.macs_disk.proofs.Moments.{Leaves-weaker, Left-earlier, Works-start}
+use Rattle.macs_disk.proofs.Moments.{Leaves-weaker, Works-start}
 use Rattle.macs_record.specs.Gates.{IsOpen, closed_gate}
 use Rattle.macs_record.specs.Heads.{Head}
 use Rattle.macs_record.specs.declared.record.Record.{Record}

@@ -66,10 +66,6 @@ pub stands-after-one : {T E : Type 0} (old new : Disk) (result : Result T E) →
     → StandsFromFirst old new
 stands-after-one old new result call = stands-from-first old new new result call (Works-start new) (untouched-start new)
 
--- no call at all
-pub stands-before-first : (d : Disk) → StandsFromFirst d d
-stands-before-first d k after until = absurd (omega (arith, after, until))
-
 -- a sync leaves nothing new
 pub synced-leaves : {T E : Type 0} (old mid new : Disk) (result : Result T E) → IsSound (now old)
     → IsDeviceCall old mid result → Syncs (now old) (now mid) result

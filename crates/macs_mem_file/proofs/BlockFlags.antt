@@ -2,7 +2,7 @@
 use Rattle.std.proofs.Common.{◌≡◌, ◌≤◌, ◌<◌, ◌+◌, ◌-◌, ◌*◌, ◌/◌, ◌%◌, inl, inr, ℕ, suc, not, nat_lt, Bool, true, false}
 use Rattle.std.proofs.Common.{List, length, take, length-take-le, refl, ap, ◌∙◌, arith, subst, sym}
 use Rattle.std.specs.Bool.{beq}
-use Rattle.std.proofs.Math.Nat.{add-mul, div-add-mod, div-lt_iff_lt-mul, mul_comm, suc-mul}
+use Rattle.std.proofs.Math.Nat.{div-add-mod, div-lt_iff_lt-mul, mul_comm, suc-mul}
 use Rattle.std.proofs.lemmas.Bool.{cases_lt}
 use Rattle.std.proofs.lemmas.Bool.Decides.{nat_tests}
 use Rattle.std.proofs.lemmas.List.{ext_get_or, get_or-take, get_or_past}
@@ -52,26 +52,6 @@ behind-block block n p some lt =
     let h = from-block block (n + 1) p some (omega (arith, lt)) in
     let k = next-front n block in
     omega (arith, h, k)
-
--- block n lies in front of the end
-pub block-fits : (block n count : ℕ) → n < count → n * block + block ≤ block * count
-block-fits block n count lt =
-    let more : count ≡ (n + 1) + (count - (n + 1)) = omega (arith, lt) in
-    let h : count * block ≡ (n + 1) * block + (count - (n + 1)) * block = ap (λ (c : ℕ). c * block) more
-    ∙ add-mul (n + 1) (count - (n + 1)) block in
-    let k = next-front n block in
-    let turned : block * count ≡ count * block = mul_comm block count in
-    omega (arith, h, k, turned)
-
--- none of the blocks was copied
-pub copied-none : (block : ℕ) (flags : List Bool) (which : Bool) (first from : List ℕ)
-    → Copied block 0 flags which first from first
-copied-none block flags which first from = record {
-  same_length = refl;
-  copied = λ p lt. absurd (omega (arith, lt));
-  others = λ p _. refl;
-  rest = λ p _. refl;
-}
 
 -- whether a flag is this
 pub is-this : (flag which : Bool) → beq flag which ≡ true → flag ≡ which

@@ -1,3 +1,2 @@
 mod BlockFlags
 mod MemoryFile
-mod MemoryWords

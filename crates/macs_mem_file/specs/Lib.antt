@@ -1,4 +1,3 @@
 pub mod Blocks
 pub mod MemFiles
 pub mod Evidence
-pub mod MemoryWords

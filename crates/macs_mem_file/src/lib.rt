@@ -5,7 +5,6 @@
 mod blocks;
 mod file;
 mod folder;
-pub mod laws;
 mod open;
 mod plan;
 

@@ -15,8 +15,8 @@ use Rattle.macs_offline.specs.Applying.{SaidByFile, longest_file}
 use Rattle.macs_offline.specs.Checking.{ComplainsOfFile, HasFault, IsSaidOfFile, IsSaidOfText, fault_text}
 use Rattle.macs_offline.specs.Checking.{file_fault_text}
 use Rattle.macs_offline.specs.Reasons.{Complains, IsUnread, Tells, TellsOfFile, reason_text}
-use Rattle.macs_offline.specs.TomlPlaces.{SaysNotToml}
-use Rattle.toml.specs.Errors.{IsMemory}
+use Rattle.macs_offline.specs.TomlPlaces.{not_toml_text, place_in}
+use Rattle.toml.specs.Errors.{IsMemory, IsWithin}
 use Rattle.toml.specs.declared.de.error.Error.{Error}
 use Rattle.std.proofs.Common.{codes}
 use Rattle.macs_offline.specs.declared.file_reason.FileReason.{FileReason}
@@ -74,13 +74,14 @@ has-fault text members fault failure parsed has complains =
 -- ---- of a text that is no TOML
 
 pub not-toml : (text : List ℕ) (error : Error) (failure : Failure)
-    → (¬ IsMemory error → parse_document text ≡ None)
-    → (failure ≡ Memory) ⊎ ((¬ IsMemory error) × Complains (SaysNotToml (codes "command file") text) failure)
+    → (¬ IsMemory error → parse_document text ≡ None) → IsWithin text error
+    → (failure ≡ Memory) ⊎ ((¬ IsMemory error)
+    × Complains (λ said. said ≡ not_toml_text (codes "command file") (place_in text error)) failure)
     → Complains (IsSaidOfText text) failure
-not-toml text error failure refused (inl memory) = inl memory
-not-toml text error failure refused (inr (other, complains)) =
-    complains-weaker (SaysNotToml (codes "command file") text) (IsSaidOfText text) failure
-    (λ said is. inl (refused other, is)) complains
+not-toml text error failure refused within (inl memory) = inl memory
+not-toml text error failure refused within (inr (other, complains)) =
+    complains-weaker (λ (said : List ℕ). said ≡ not_toml_text (codes "command file") (place_in text error))
+    (IsSaidOfText text) failure (λ said is. inl (refused other, (error, within, is))) complains
 
 -- ---- of a file that was opened
 

@@ -1,6 +1,6 @@
 -- What is said of the disk in a file, and how that fails.
-use Rattle.std.proofs.Common.{◌≡◌, ◌≢◌, ◌≤◌, ◌⊎◌, ◌∙◌, ◌/◌, ◌%◌, inl, inr, ℕ, List, length, Option, Result, Ok, Err, ap}
-use Rattle.std.proofs.Common.{refl, subst, sym}
+use Rattle.std.proofs.Common.{◌≡◌, ◌≢◌, ◌≤◌, ◌⊎◌, ◌∙◌, ◌/◌, ◌%◌, inl, inr, ℕ, Bool, List, length, Option, Result, Ok}
+use Rattle.std.proofs.Common.{Err, ap, refl, subst, sym}
 use Rattle.std.specs.Io.KnownBytes.{Appends}
 use Rattle.std.specs.Prelude.{IsErrOf}
 use Rattle.std.specs.declared.alloc.Global.{Global}
@@ -26,13 +26,15 @@ use Rattle.macs_store.specs.Replay.{meaning_of}
 use Rattle.macs_store.specs.Standing.{Standing}
 use Rattle.macs_offline.specs.Copying.{CopyFails, IsCopy}
 use Rattle.macs_offline.specs.Examining.{ExaminationFails, ExamineFails, ExaminesIn, IsJournalOf, IsLaidCopy}
-use Rattle.macs_offline.specs.Examining.{IsNotExamined, IsNotOpened, PrintsExamined, Says, figures_of}
+use Rattle.macs_offline.specs.Examining.{IsNotExamined, IsNotOpened, PrintsExamined, Says, figures_of, said_text}
 use Rattle.macs_offline.specs.Failing.{failure_status}
 use Rattle.macs_offline.specs.Trying.{failure_in_memory}
 use Rattle.macs_offline.specs.declared.failure.DiskFault.TheVariants as disk
 use Rattle.macs_offline.specs.declared.failure.Failure.{Failure}
+use Rattle.macs_offline.specs.declared.failure.Failure.TheVariants as failures
 use Rattle.macs_offline.specs.declared.status.Status.{Status}
 use Rattle.macs_offline.specs.declared.status.Status.TheVariants.{Done, Refused, Usage}
+use Rattle.macs_offline.specs.declared.status.Status.TheVariants as statuses
 use Rattle.macs_offline.proofs.Failures.{IsOfCopy, IsOfDisk, copy-no-usage, of-file, of-unread}
 use Rattle.macs_offline.proofs.Looks.{carried}
 
@@ -144,15 +146,33 @@ pub said-status : (image : Image) (layout : Layout) (text : List ℕ) (status : 
 said-status image layout text status (inl (content, standing, journal, is, done)) = inl done
 said-status image layout text status (inr (at, fault, is, refused)) = inr refused
 
+-- what is no report is printed as it is
+pub said-other : (is_json : Bool) (status : Status) (text : List ℕ) → status ≢ Done
+    → said_text is_json status text ≡ text
+said-other is_json Done text other = absurd (other refl)
+said-other is_json Usage text other = refl
+said-other is_json Refused text other = refl
+said-other is_json statuses.Disk text other = refl
+said-other is_json statuses.Fault text other = refl
+
 -- it is printed, and the run ends so
-pub printed-so : {F : Type 0} (state_of : F → FileState) (before after : Option (List ℕ)) (text shown : List ℕ)
-    (said status : Status) → ExaminesIn state_of text said → shown ≡ text
-    → Appends before after shown × (status ≡ said) → PrintsExamined state_of before after status
-printed-so state_of before after text shown said status is same (printed, ended) = (
+pub printed-so : {F : Type 0} (state_of : F → FileState) (is_json : Bool) (before after : Option (List ℕ))
+    (text : List ℕ) (said status : Status) → ExaminesIn state_of text said
+    → Appends before after (said_text is_json said text) × (status ≡ said)
+    → PrintsExamined state_of is_json before after status
+printed-so state_of is_json before after text said status is (printed, ended) = (
   text,
   subst (λ (s : Status). ExaminesIn state_of text s) (sym ended) is,
-  subst (λ (t : List ℕ). Appends before after t) same printed,
+  subst (λ (s : Status). Appends before after (said_text is_json s text)) (sym ended) printed,
 )
+
+-- it is not: there is no memory for that, or it cannot be printed
+pub unprinted-so : {F : Type 0} (state_of : F → FileState) (name text : List ℕ) (said : Status) (failure : Failure)
+    → ExaminesIn state_of text said → (failure ≡ failures.Memory) ⊎ (failure ≡ failures.Output)
+    → ExamineFails state_of name failure
+unprinted-so state_of name text said failure is (inl memory) =
+    inr (inr (inr (is.file, is.copy, is.layout, is.is_copy, inl memory)))
+unprinted-so state_of name text said failure is (inr output) = inl output
 
 -- ---- the file
 

@@ -10,10 +10,10 @@ use Rattle.macs_record.specs.declared.record.Record.{Record}
 use Rattle.macs_record.specs.declared.record.RecordFault.{RecordFault}
 use Rattle.macs_record.proofs.OneHead.{one_head}
 use Rattle.macs_journal.specs.Areas.{IsArea, head_body, other_area}
-use Rattle.macs_journal.specs.Found.{AreAtOdds, HasGap, HasHead, HasUnreadable, IsBadJournal, IsCurrent}
+use Rattle.macs_journal.specs.Found.{AreAtOdds, HasGap, HasUnreadable, IsBadJournal, IsCurrent}
 use Rattle.macs_journal.specs.Found.{IsHeadless, IsPast}
 use Rattle.macs_journal.proofs.Current.{earlier, one_current}
-use Rattle.macs_offline.specs.FirstFault.{IsFaultless, IsHeadFault}
+use Rattle.macs_offline.specs.FirstFault.{IsFaultless}
 
 pub some-weaker : {X : Type 0} (o : Option X) (P Q : X → Type 0) → ((x : X) → P x → Q x) → IfSome o P → IfSome o Q
 some-weaker None P Q so h = tt
@@ -30,15 +30,6 @@ read-or-not sector (Err fault) is exact same = (
 )
 
 -- ---- heads
-
--- the heads of both areas are at odds
-pub odd-heads : (image : Image) (first second : Head) → HasHead image 0 first → HasHead image 1 second
-    → (first.generation ≡ second.generation) ⊎ (¬ (first.identity ≡ second.identity)) → IsHeadFault image 514
-odd-heads image first second has_first has_second odd = inr (
-  refl,
-  λ none. none.1 first has_first.is,
-  inr (record { first = first; second = second; has_first = has_first; has_second = has_second; odd = odd }),
-)
 
 -- no area is headless where one is current
 headless-apart : (image : Image) (area other : ℕ) (head : Head) → IsCurrent image area head → IsArea other

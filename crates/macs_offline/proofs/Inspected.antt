@@ -1,6 +1,6 @@
 -- The frames of a capture that are inspected, one after another.
 use Rattle.std.proofs.Common.{◌≡◌, ◌≢◌, ◌+◌, ◌<◌, ◌≤◌, ◌++◌, if◌then◌else◌, ℕ, Bool, true, false, List, [], ◌∷◌}
-use Rattle.std.proofs.Common.{length, Option, Some, None, Result, Ok, Err, inl, inr, refl, sym, ap, ◌∙◌, subst}
+use Rattle.std.proofs.Common.{length, Option, Result, Ok, Err, inl, inr, refl, sym, ap, ◌∙◌, subst}
 use Rattle.std.proofs.Common.{arith, append_assoc, append-nil}
 use Rattle.std.specs.Io.KnownBytes.{Appends}
 use Rattle.std.proofs.KnownBytes.{Appends-nil, Appends-trans}
@@ -8,24 +8,22 @@ use Rattle.macs_frame.specs.Tag.{IsForKay, Tag, control, has_sci, short_length, 
 use Rattle.macs_frame.specs.declared.tag.Parts.{Parts}
 use Rattle.macs_frame.specs.declared.tag.SecTag.{SecTag}
 use Rattle.std.proofs.lemmas.Result.{IfErr-weaker, IfOk-weaker}
-use Rattle.macs_pcap.specs.Faults.{max_records}
-use Rattle.macs_pcap.specs.Captures.{BeginsWithRecords}
-use Rattle.macs_pcap.specs.Reading.{HoldsOfLeft, ReadsHeader, ReadsRecord}
+use Rattle.macs_pcap.specs.Reading.{ReadsHeader}
 use Rattle.macs_pcap.specs.Records.{CaptureRecord}
 use Rattle.macs_pcap.specs.States.{SourceState}
 use Rattle.macs_pcap.specs.declared.fault.PcapFault.{PcapFault}
 use Rattle.macs_pcap.specs.declared.header.Header.{Header}
 use Rattle.macs_edge.proofs.Behind.{left-more, longer}
-use Rattle.macs_offline.specs.Inspecting.{AreLinesOf, FailsSo, HasInspected, InspectFails, InspectsNext}
-use Rattle.macs_offline.specs.Inspecting.{InspectsRecords, IsLineOf, IsOfInspecting, IsSaidOf, PrintsFrames}
-use Rattle.macs_offline.specs.Inspecting.{PrintsLines, RunsCapture, RunsRecords, StopsCapture, StopsNext, StopsRecords}
+use Rattle.macs_offline.specs.Inspecting.{AreLinesOf, FailsSo, HasInspected, InspectsNext}
+use Rattle.macs_offline.specs.Inspecting.{IsLineOf, IsOfInspecting, IsSaidOf, PrintsFrames}
+use Rattle.macs_offline.specs.Inspecting.{PrintsLines, RunsCapture, RunsRecords, StopsCapture, StopsNext}
 use Rattle.macs_offline.specs.Inspecting.{tag_text}
 use Rattle.macs_offline.specs.declared.failure.Failure.{Failure}
 use Rattle.macs_offline.specs.declared.failure.Failure.TheVariants as failures
 use Rattle.macs_offline.specs.declared.status.Status.{Status}
 use Rattle.macs_offline.specs.declared.stop.Stop.{Stop}
 use Rattle.macs_offline.specs.declared.stop.Stop.TheVariants as stops
-use Rattle.macs_offline.specs.Reasons.{Complains, Tells, TellsOfFile}
+use Rattle.macs_offline.specs.Reasons.{Complains, Tells}
 use Rattle.macs_offline.specs.CaptureReasons.{capture_text, header_reason, record_reason}
 use Rattle.std.proofs.Common.{codes}
 
@@ -59,14 +57,6 @@ lines-more at (first ∷ others) taken text more (own, rest, own_line, is, lines
 abbrev pub HasRead : Bool → SourceState → Option (List ℕ) → ℕ → SourceState → Option (List ℕ) → Type 0
 HasRead big old before count new after = (records : List CaptureRecord) × HasInspected big old before records new after
     × (length records ≡ count)
-
-pub none-read : (big : Bool) (source : SourceState) (before : Option (List ℕ))
-    → HasRead big source before 0 source before
-none-read big source before = ([], record { taken = none source.left; printed = ([], refl, Appends-nil before) }, refl)
-  where
-    none : (left : Option (List ℕ)) → HoldsOfLeft left left (λ left rest. BeginsWithRecords big left [] rest)
-    none None = tt
-    none (Some left) = refl
 
 pub one-read : (big : Bool) (old between new : SourceState) (before known after : Option (List ℕ)) (count : ℕ)
     (more : Bool) → more ≡ true
@@ -111,42 +101,6 @@ says_tag frame parts short octets text (tag, other) is_short is_octets said =
           ∙ ap (λ (n : ℕ). tag_text (tag_of frame) (short_length frame) n) is_octets,
     )
 
--- the next one ends the run
-pub read-stops : (big : Bool) (old until new : SourceState) (before between after : Option (List ℕ)) (count : ℕ)
-    (stop : Stop)
-    → HasRead big old before count until between → StopsNext big count until between stop new after
-    → StopsRecords big old before stop new after
-read-stops big old until new before between after count stop (records, has, size) stops = record {
-  records = records;
-  until = until;
-  between = between;
-  inspected = has;
-  stops = subst (λ (n : ℕ). StopsNext big n until between stop new after) (sym size) stops;
-}
-
--- there is none
-pub read-all : (big : Bool) (old until new : SourceState) (before between after : Option (List ℕ)) (count : ℕ)
-    (more : Bool) → more ≡ false
-    → HasRead big old before count until between → InspectsNext big count until between (Ok more) new after
-    → InspectsRecords big old before new after
-read-all big old until new before between after count more is (records, has, size) next =
-    let (room, frame, reads, same) =
-    subst (λ (b : Bool). InspectsNext big count until between (Ok b) new after) is next in record {
-      records = records;
-      until = until;
-      inspected = subst (λ (a : Option (List ℕ)). HasInspected big old before records until a) (sym same) has;
-      room = room;
-      frame = frame;
-      ended = subst (λ (n : ℕ). ReadsRecord big n room until new frame (Ok None)) (sym size) reads;
-    }
-
--- there was room for one more
-pub room-for : (big : Bool) (between new : SourceState) (known after : Option (List ℕ)) (count : ℕ) (more : Bool)
-    → more ≡ true
-    → InspectsNext big count between known (Ok more) new after → count < max_records
-room-for big between new known after count more is next =
-    (subst (λ (b : Bool). InspectsNext big count between known (Ok b) new after) is next).2.few
-
 -- ---- a whole capture
 
 pub capture-run : (old behind new : SourceState) (header : Header) (before after : Option (List ℕ))
@@ -174,12 +128,6 @@ of-stop name (stops.Record fault) failure (memory, complains) =
     of-complaint (Told name (capture_text (record_reason fault))) failure complains
 of-stop name stops.Memory failure is = subst IsOfInspecting (sym is) tt
 of-stop name stops.Output failure is = subst IsOfInspecting (sym is) tt
-
-pub of-inspecting : (name : List ℕ) (before after : Option (List ℕ)) (failure : Failure)
-    → InspectFails name before after failure → IsOfInspecting failure
-of-inspecting name before after failure (inl (complains, same)) =
-    of-complaint (TellsOfFile (codes "capture") name) failure complains
-of-inspecting name before after failure (inr (old, new, stop, stopped, fails)) = of-stop name stop failure fails
 
 -- a failure is that of the output where the stop is
 no-output : (Holds : List ℕ → Type 0) (failure : Failure) → Complains Holds failure → failure ≢ failures.Output
@@ -225,10 +173,6 @@ stop-front name old new before after (stops.Record fault) failure stopped fails 
 stop-front name old new before after stops.Memory failure stopped fails other =
     front-printed old new before after stops.Memory stopped (λ e. cc)
 stop-front name old new before after stops.Output failure stopped fails other = absurd (other fails)
-
--- a capture that was not opened
-pub unopened-front : (before : Option (List ℕ)) → PrintsFrames before before
-unopened-front before = ([], ([], refl, Appends-nil before))
 
 -- its header has a fault
 pub header-stops : (old new : SourceState) (fault : PcapFault) (before : Option (List ℕ))

@@ -22,3 +22,4 @@ pub mod TextLines
 pub mod TomlPlaces
 pub mod Tried
 pub mod KeyLists
+pub mod ShownKeys

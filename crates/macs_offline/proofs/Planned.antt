@@ -5,32 +5,24 @@ use Rattle.std.proofs.lemmas.List.{take_all}
 use Rattle.std.specs.Str.{IsUtf8}
 use Rattle.toml.specs.Data.{Members}
 use Rattle.toml.specs.Parse.{parse_document}
-use Rattle.macs_config.specs.declared.command.Command.{Command}
-use Rattle.macs_plan.specs.Planning.{file_planned, planned}
-use Rattle.macs_plan.specs.Reading.{file_link, ◌>>=◌}
+use Rattle.macs_plan.specs.Planning.{file_planned}
+use Rattle.macs_plan.specs.Reading.{◌>>=◌}
 use Rattle.macs_plan.specs.declared.link.End.{End}
-use Rattle.macs_plan.specs.declared.link.Link.{Link}
 use Rattle.macs_plan.specs.declared.plan_fault.PlanFault.{PlanFault}
 use Rattle.macs_plan.specs.declared.planning.Stage.{Stage}
 use Rattle.macs_offline.specs.Applying.{longest_file}
 use Rattle.macs_offline.specs.Plans.{IsSaidOfLink, IsSaidOfLinkText, PlanFails, PlansFile, RefusesLink}
 use Rattle.macs_offline.specs.Plans.{RefusesLinkText, RefusesSo, SaysWhy, SaysWhyOfFile, SaysWhyOfText}
 use Rattle.macs_offline.specs.Plans.{link_refusal, plan_fault_text}
-use Rattle.macs_offline.specs.Reasons.{Complains, IsUnread}
-use Rattle.macs_offline.specs.TomlPlaces.{SaysNotToml}
-use Rattle.toml.specs.Errors.{IsMemory}
+use Rattle.macs_offline.specs.Reasons.{Complains, IsLinkUnread}
+use Rattle.macs_offline.specs.TomlPlaces.{not_toml_text, place_in}
+use Rattle.toml.specs.Errors.{IsMemory, IsWithin}
 use Rattle.toml.specs.declared.de.error.Error.{Error}
 use Rattle.std.proofs.Common.{codes}
 use Rattle.macs_offline.specs.declared.failure.Failure.{Failure}
 use Rattle.macs_offline.specs.declared.failure.Failure.TheVariants.{Memory}
 use Rattle.macs_offline.specs.declared.failure.LinkRefusal.{LinkRefusal}
 use Rattle.macs_offline.proofs.Checked.{complains-weaker, short-whole}
-
--- what is planned of the link of a file is planned of the file
-pub planned-of : (file : Members) (link : Link) (end : End) (stage : Stage) (commands : List Command)
-    → file_link file ≡ Ok link → planned link end stage ≡ Ok commands → file_planned file end stage ≡ Ok commands
-planned-of file link end stage commands reads is =
-    ap (λ (r : Result Link PlanFault). r >>= (λ (l : Link). planned l end stage)) reads ∙ is
 
 module _ (end : End) (stage : Stage) where
   -- a file that says a link was read whole
@@ -108,25 +100,26 @@ module _ (end : End) (stage : Stage) where
 
   -- a text is no TOML
   pub why-not-toml : (text : List ℕ) (error : Error) (failure : Failure)
-      → (¬ IsMemory error → parse_document text ≡ None)
-      → (failure ≡ Memory) ⊎ ((¬ IsMemory error) × Complains (SaysNotToml (codes "link file") text) failure)
+      → (¬ IsMemory error → parse_document text ≡ None) → IsWithin text error
+      → (failure ≡ Memory) ⊎ ((¬ IsMemory error)
+      × Complains (λ said. said ≡ not_toml_text (codes "link file") (place_in text error)) failure)
       → SaysWhyOfText end stage text failure
-  why-not-toml text error failure refused (inl memory) = inl (inl memory)
-  why-not-toml text error failure refused (inr (other, complains)) =
-      inl (complains-weaker (SaysNotToml (codes "link file") text) (IsSaidOfLinkText end stage text) failure
-      (λ said is. inl (refused other, is)) complains)
+  why-not-toml text error failure refused within (inl memory) = inl (inl memory)
+  why-not-toml text error failure refused within (inr (other, complains)) =
+      inl (complains-weaker (λ (said : List ℕ). said ≡ not_toml_text (codes "link file") (place_in text error))
+      (IsSaidOfLinkText end stage text) failure (λ said is. inl (refused other, (error, within, is))) complains)
 
   -- ---- of a file that was opened, or not
 
   -- nothing could be read of it; or this is why
   abbrev pub EndsOfLink : {F : Type 0} → (F → Option (List ℕ)) → List ℕ → Failure → Type 0
-  EndsOfLink left_in name failure = IsUnread name failure
+  EndsOfLink left_in name failure = IsLinkUnread name failure
       ⊎ ((octets : List ℕ) × SaysWhy end stage octets failure
       × ((failure ≡ Memory) ⊎ SaysWhyOfFile left_in end stage failure))
 
   not-planned-of : {F : Type 0} (left_in : F → Option (List ℕ)) (name : List ℕ) (file : F) (failure : Failure)
-      → IsUnread name failure ⊎ IfSome (left_in file) (λ octets. SaysWhy end stage octets failure)
-      → IsUnread name failure ⊎ ((octets : List ℕ) × SaysWhy end stage octets failure) → EndsOfLink left_in name failure
+      → IsLinkUnread name failure ⊎ IfSome (left_in file) (λ octets. SaysWhy end stage octets failure)
+      → IsLinkUnread name failure ⊎ ((octets : List ℕ) × SaysWhy end stage octets failure) → EndsOfLink left_in name failure
   not-planned-of left_in name file failure (inl unread) ended = inl unread
   not-planned-of left_in name file failure (inr fault) (inl unread) = inl unread
   not-planned-of left_in name file failure (inr fault) (inr (octets, says)) = inr (octets, says, inr (file, fault))
@@ -134,9 +127,9 @@ module _ (end : End) (stage : Stage) where
   -- it was opened, and nothing was planned
   pub file-not-planned : {T F : Type 0} (left_in : F → Option (List ℕ)) (name : List ℕ) (file : F)
       (result : Result T Failure)
-      → IfErr result (λ failure. IsUnread name failure
+      → IfErr result (λ failure. IsLinkUnread name failure
       ⊎ IfSome (left_in file) (λ octets. SaysWhy end stage octets failure))
-      → IfErr result (λ failure. IsUnread name failure ⊎ ((octets : List ℕ) × SaysWhy end stage octets failure))
+      → IfErr result (λ failure. IsLinkUnread name failure ⊎ ((octets : List ℕ) × SaysWhy end stage octets failure))
       → IfErr result (EndsOfLink left_in name)
   file-not-planned left_in name file (Ok value) fault ended = tt
   file-not-planned left_in name file (Err failure) fault ended = not-planned-of left_in name file failure fault ended

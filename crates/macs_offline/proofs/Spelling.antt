@@ -1,10 +1,10 @@
 -- What a line spells in hex.
-use Rattle.std.proofs.Common.{◌≡◌, ℕ, List, Option, Result, Ok, Err, MatchOption, inl, inr, refl, sym, ◌∙◌, arith}
+use Rattle.std.proofs.Common.{◌≡◌, ℕ, List, Option, Result, Ok, Err, MatchOption, refl, sym, ◌∙◌, arith}
 use Rattle.std.specs.Result.{result_ok}
 use Rattle.hex.specs.Hex.{decode_of, decode_sized}
 use Rattle.hex.specs.declared.error.FromHexError.{FromHexError}
 use Rattle.hex.proofs.HexLemmas.{decode_of-ok, decode_sized-ok, decode_sized-twice}
-use Rattle.macs_offline.specs.OpenInput.{SpellsKey, SpellsSized}
+use Rattle.macs_offline.specs.OpenInput.{SpellsSized}
 
 -- a line that decodes at a size spells so many octets
 spells-decoded : (line : List ℕ) (n : ℕ) (octets : List ℕ) → decode_sized line n ≡ Ok octets → SpellsSized line n octets
@@ -30,10 +30,3 @@ spelled-sized line n read is = rw is (go (decode_sized line n) refl)
         → MatchOption (result_ok decoded) ((octets : List ℕ) → ¬ SpellsSized line n octets) (SpellsSized line n)
     go (Ok octets) e = spells-decoded line n octets e
     go (Err fault) e = λ octets spelled. let d = decode_sized-spelled line n octets spelled in cc
-
--- a line of neither length is no key
-pub no-key : (line : List ℕ) → ((octets : List ℕ) → ¬ SpellsSized line 16 octets)
-    → ((octets : List ℕ) → ¬ SpellsSized line 32 octets)
-    → (key : List ℕ) → ¬ SpellsKey line key
-no-key line short long key (inl size, spelled) = short key (size, spelled)
-no-key line short long key (inr size, spelled) = long key (size, spelled)

@@ -1,14 +1,11 @@
 -- The lines of a text, as they are cut off one by one.
 use Rattle.std.proofs.Common.{◌≡◌, ◌≢◌, ℕ, zero, suc, ◌+◌, ◌-◌, ◌<◌, ◌≤◌, ◌==◌, Bool, true, false, List, [], ◌∷◌}
 use Rattle.std.proofs.Common.{length, take, drop, slice_index, slice_index_or, if◌then◌else◌, ◌++◌, nat_lt, Option}
-use Rattle.std.proofs.Common.{Some, None, length-append, length-drop, length-take, refl, ap, ◌∙◌, arith}
-use Rattle.std.specs.Prelude.{Contains}
+use Rattle.std.proofs.Common.{Some, None, length-drop, length-take, refl, ap, ◌∙◌, arith}
 use Rattle.std.specs.List.{position, position_or_len}
-use Rattle.std.proofs.Math.Seq.{take-append_seam}
-use Rattle.std.proofs.lemmas.Bool.{ne_eqb}
-use Rattle.std.proofs.lemmas.List.{get_or_push, nil_from_length, take_all}
+use Rattle.std.proofs.lemmas.List.{nil_from_length, take_all}
 use borrow.Author.Tests.{ltb-true, ltb-false}
-use Rattle.macs_offline.specs.Lines.{led_by, line_at, lines, trimmed_line}
+use Rattle.macs_offline.specs.Lines.{led_by, line_at, lines}
 
 abbrev is_feed : ℕ → Bool
 is_feed octet = octet == 10
@@ -31,55 +28,7 @@ lines-other : (octet : ℕ) (rest : List ℕ) → is_feed octet ≡ false → li
 unfolding lines
 lines-other octet rest h = rw h refl
 
--- no octet of a line is a line feed: so the first is none, and none of the others is
-first-other : (octet : ℕ) (line : List ℕ) → ¬ Contains (octet ∷ line) 10 → is_feed octet ≡ false
-first-other octet line none = ne_eqb octet 10 (λ is. none (0, omega arith, is))
-
-others-other : (octet : ℕ) (line : List ℕ) → ¬ Contains (octet ∷ line) 10 → ¬ Contains line 10
-others-other octet line none (k, within, is) = none (suc k, omega (arith, within), is)
-
--- a line with its end, and the others
-pub lines-ended : (line rest : List ℕ) → ¬ Contains line 10 → lines (line ++ 10 ∷ rest) ≡ line ∷ lines rest
-lines-ended [] rest none = lines-feed 10 rest refl
-lines-ended (octet ∷ line) rest none =
-    lines-other octet (line ++ 10 ∷ rest) (first-other octet line none)
-    ∙ ap (λ (others : List (List ℕ)). led_by octet others) (lines-ended line rest (others-other octet line none))
-
--- a last line without an end
-pub lines-last : (line : List ℕ) → line ≢ [] → ¬ Contains line 10 → lines line ≡ line ∷ []
-lines-last [] some none = absurd (some refl)
-lines-last (octet ∷ []) some none =
-    lines-other octet [] (first-other octet [] none) ∙ ap (λ (others : List (List ℕ)). led_by octet others) lines-nil
-lines-last (octet ∷ next ∷ line) some none =
-    lines-other octet (next ∷ line) (first-other octet (next ∷ line) none)
-    ∙ ap (λ (others : List (List ℕ)). led_by octet others)
-    (lines-last (next ∷ line) (λ is. let one = ap length is in omega (arith, one))
-    (others-other octet (next ∷ line) none))
-
 -- ---- a carriage return
-
--- the front of n octets of a line, where the next octet is a carriage return, or else the whole line
-abbrev cut-at : List ℕ → ℕ → ℕ → List ℕ
-cut-at line n octet = if octet == 13 then take n line else line
-
--- a line is cut by its last octet
-trimmed-by : (line : List ℕ) (octet : ℕ)
-    → trimmed_line (line ++ octet ∷ []) ≡ cut-at (line ++ octet ∷ []) (length line) octet
-trimmed-by line octet =
-    let all = length-append line (octet ∷ []) in
-    let before : length (line ++ octet ∷ []) - 1 ≡ length line = omega (arith, all) in
-    ap (λ (n : ℕ). cut-at (line ++ octet ∷ []) n (slice_index (line ++ octet ∷ []) n)) before
-    ∙ ap (λ (x : ℕ). cut-at (line ++ octet ∷ []) (length line) x) (get_or_push line octet 0 (length line) refl)
-
-pub trimmed-return : (line : List ℕ) → trimmed_line (line ++ 13 ∷ []) ≡ line
-trimmed-return line = trimmed-by line 13 ∙ take-append_seam line (13 ∷ [])
-
-pub trimmed-other : (line : List ℕ) (octet : ℕ) → octet ≢ 13
-    → trimmed_line (line ++ octet ∷ []) ≡ line ++ octet ∷ []
-trimmed-other line octet other =
-    let not_13 : (octet == 13) ≡ false = ne_eqb octet 13 other in
-    trimmed-by line octet
-    ∙ ap (λ (is : Bool). if is then take (length line) (line ++ octet ∷ []) else (line ++ octet ∷ [])) not_13
 
 count-feed : (octet : ℕ) (rest : List ℕ) → is_feed octet ≡ true → count (octet ∷ rest) ≡ 0
 count-feed octet rest h = rw h refl

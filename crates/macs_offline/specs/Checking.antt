@@ -1,5 +1,5 @@
 -- What `check` says of a command file, and of the commands on a disk.
-use Rattle.std.specs.Prelude.{◌≡◌, ◌⊎◌, ◌<◌, ◌≤◌, ◌==◌, ◌++◌, if◌then◌else◌, ℕ, List, length, codes, Option, Some}
+use Rattle.std.specs.Prelude.{◌≡◌, ◌⊎◌, ◌<◌, ◌≤◌, ◌==◌, ◌++◌, if◌then◌else◌, ℕ, List, [], length, codes, Option, Some}
 use Rattle.std.specs.Prelude.{◌-◌, Bool, false, None, IfSome, is_none, option_and_then}
 use Rattle.std.specs.Fmt.{decimal}
 use Rattle.std.specs.Io.KnownBytes.{Appends}
@@ -10,6 +10,7 @@ use Rattle.toml.specs.Data.{Members, as_table, at as item_at, get_member}
 use Rattle.toml.specs.Parse.{parse_document}
 use Rattle.macs_config.specs.declared.command.Command.{Command}
 use Rattle.macs_commands.specs.Ends.{HasFileFault}
+use Rattle.macs_commands.specs.Lines.{extra_key}
 use Rattle.macs_commands.specs.declared.config_fault.ConfigFault.{ConfigFault}
 use Rattle.macs_commands.specs.declared.config_fault.ConfigFault.TheVariants as config
 use Rattle.macs_commands.specs.declared.config_fault.KeyName.{KeyName}
@@ -21,6 +22,7 @@ use Rattle.macs_texts.specs.Lines.{line}
 use Rattle.macs_offline.specs.Applying.{SaidByFile, SaysCommands, longest_file}
 use Rattle.macs_offline.specs.FileModes.{mode_warning}
 use Rattle.macs_offline.specs.Reasons.{Complains, IsUnread}
+use Rattle.macs_offline.specs.ShownKeys.{shown_key}
 use Rattle.macs_offline.specs.TomlPlaces.{SaysNotToml}
 use Rattle.macs_offline.specs.declared.failure.Failure.{Failure}
 use Rattle.macs_offline.specs.declared.failure.Failure.TheVariants as failures
@@ -75,13 +77,18 @@ lacks file at name = elim (command_at file at) [
 abbrev pub key_fault : Members → ℕ → KeyName → List ℕ
 key_fault file at name = if lacks file at name then codes "missing" else key_reason name
 
+-- the first key of command `at` of a file that the command does not have
+abbrev pub extra_key_at : Members → ℕ → List ℕ
+extra_key_at file at = elim (option_and_then extra_key (command_at file at)) [ None ↦ [] | Some key ↦ key ]
+
 -- the first fault of the commands of a file, by its place, key and reason
 abbrev pub fault_text : Members → ConfigFault → List ℕ
 fault_text file config.Shape = codes "command file: not sci and tables [[command]] alone"
 fault_text file (config.Word at) = codes "command " ++ (decimal at ++ codes " do: not a command")
 fault_text file (config.Key at name) =
     codes "command " ++ (decimal at ++ (codes " " ++ (key_word name ++ (codes ": " ++ key_fault file at name))))
-fault_text file (config.Extra at) = codes "command " ++ (decimal at ++ codes ": a key that it does not have")
+fault_text file (config.Extra at) = codes "command " ++ (decimal at ++ (codes " "
+    ++ (shown_key (extra_key_at file at) ++ codes ": not a key of this command")))
 fault_text file config.Memory = codes "memory"
 
 -- the first fault of a file: that of its end, or of its commands

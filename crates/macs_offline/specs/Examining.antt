@@ -1,6 +1,7 @@
 -- What `examine` says of the disk in a file: what the recovery of its journal finds on a copy of it in memory, or its
 -- first fault.
-use Rattle.std.specs.Prelude.{◌≡◌, ◌≤◌, ◌⊎◌, ◌/◌, ◌%◌, ◌++◌, ℕ, List, [], length, map, codes, Option, Some, None}
+use Rattle.std.specs.Prelude.{◌≡◌, ◌≤◌, ◌⊎◌, ◌/◌, ◌%◌, ◌++◌, ℕ, Bool, List, [], length, map, codes, Option}
+use Rattle.std.specs.Prelude.{Some, None}
 use Rattle.std.specs.Fmt.{decimal}
 use Rattle.std.specs.Io.KnownBytes.{Appends}
 use Rattle.std.specs.List.{concat}
@@ -24,6 +25,7 @@ use Rattle.macs_record.specs.declared.record.Record.{Record}
 use Rattle.macs_store.specs.Found.{IsUnfitTo}
 use Rattle.macs_store.specs.Replay.{meaning_of}
 use Rattle.macs_store.specs.Standing.{Standing}
+use Rattle.macs_json.specs.Objects.{in_form}
 use Rattle.macs_texts.specs.Lines.{line}
 use Rattle.macs_texts.specs.Showing.{association_numbers}
 use Rattle.macs_offline.specs.Copying.{CopyFails, IsCopy}
@@ -164,10 +166,19 @@ ExaminationFails {F} state_of name failure =
 
 -- ---- whole
 
+-- what is printed of what is said: a report in the form that is wanted, and a refusal as it is
+abbrev pub said_text : Bool → Status → List ℕ → List ℕ
+said_text is_json ends.Done text = in_form is_json text
+said_text is_json ends.Usage text = text
+said_text is_json ends.Refused text = text
+said_text is_json ends.Disk text = text
+said_text is_json ends.Fault text = text
+
 -- that is printed
-abbrev pub PrintsExamined : {F : Type 0} → (F → FileState) → Option (List ℕ) → Option (List ℕ) → Status → Type 0
-PrintsExamined state_of before after status = (text : List ℕ) × ExaminesIn state_of text status
-    × Appends before after text
+abbrev pub PrintsExamined : {F : Type 0} → (F → FileState) → Bool → Option (List ℕ) → Option (List ℕ) → Status
+    → Type 0
+PrintsExamined state_of is_json before after status = (text : List ℕ) × ExaminesIn state_of text status
+    × Appends before after (said_text is_json status text)
 
 -- it is not: it cannot be printed, or nothing is said
 abbrev pub ExamineFails : {F : Type 0} → (F → FileState) → List ℕ → Failure → Type 0

@@ -1,5 +1,7 @@
 -- The list of the keys that the endpoints of a disk's name were given.
-use Rattle.std.specs.Prelude.{◌≡◌, ◌⊎◌, ◌≤◌, ◌++◌, ℕ, List, codes, length, Option, Some, None}
+use Rattle.std.specs.Prelude.{◌≡◌, ◌⊎◌, ◌≤◌, ◌-◌, ◌++◌, ℕ, List, [], codes, length, map, slice_index_or, take}
+use Rattle.std.specs.Prelude.{Option, Some, None}
+use Rattle.std.specs.List.{All, flat_map}
 use Rattle.std.specs.Fmt.{decimal}
 use Rattle.std.specs.Option.{option_map}
 use Rattle.hex.specs.Hex.{encode_lower}
@@ -7,6 +9,7 @@ use Rattle.macs_aes.specs.Keys.{octets_of_key}
 use Rattle.macs_config.specs.declared.command.Command.{Command}
 use Rattle.macs_config.specs.declared.command.Command.TheVariants.{TxInstall, RxInstall}
 use Rattle.macs_texts.specs.KeyTexts.{key_digest}
+use Rattle.macs_texts.specs.Lines.{line}
 use Rattle.macs_offline.specs.Reasons.{Complains}
 use Rattle.macs_offline.specs.declared.failure.Failure.{Failure}
 use Rattle.macs_offline.specs.declared.failure.Failure.TheVariants as failures
@@ -23,24 +26,42 @@ key_in command = None
 abbrev pub digits_of : Command → Option (List ℕ)
 digits_of command = option_map (λ key. encode_lower (key_digest key)) (key_in command)
 
--- the line behind the keys of an endpoint that is gone
+-- the line after the keys of an endpoint that is gone
 abbrev pub formatted : List ℕ
 formatted = codes "formatted\n"
+
+-- the line of a key, by its digits; of a command that installs none nothing
+abbrev pub key_line : Option (List ℕ) → List ℕ
+key_line None = []
+key_line (Some digits) = line digits
+
+-- the lines of keys, one after the other
+abbrev pub lines_text : List (Option (List ℕ)) → List ℕ
+lines_text keys = flat_map key_line keys
 
 -- these digits are somewhere before such a line
 abbrev pub HasSpent : List ℕ → List ℕ → Type 0
 HasSpent list digits = (before between after : List ℕ)
     × (list ≡ before ++ (digits ++ (between ++ (formatted ++ after))))
 
+-- a list has this key, by its digits, as one of an endpoint that is gone
+abbrev pub IsSpentIn : List ℕ → Option (List ℕ) → Type 0
+IsSpentIn list key = (digits : List ℕ) × (key ≡ Some digits) × HasSpent list digits
+
+-- this is the number, counted from 1, of the first of these keys that a list has so
+abbrev pub IsFirstSpent : List ℕ → List (Option (List ℕ)) → ℕ → Type 0
+IsFirstSpent list keys at = (1 ≤ at) × (at ≤ length keys) × IsSpentIn list (slice_index_or keys (at - 1) None)
+    × All (λ key. ¬ IsSpentIn list key) (take (at - 1) keys)
+
 -- what is said of the command with this number, counted from 1
 abbrev pub spent_text : ℕ → List ℕ
 spent_text at = codes "command " ++ (decimal at ++ codes " key: an earlier disk file of this name had it")
 
--- a failure says so of one of these commands, or that the list is not read
+-- a failure says so of the first of these commands whose key some list has, or that the list is not read
 abbrev pub SaysSpent : List Command → Failure → Type 0
 SaysSpent commands failure =
-    Complains (λ said. ((at : ℕ) × (1 ≤ at) × (at ≤ length commands) × (said ≡ spent_text at))
-    ⊎ (said ≡ codes "key list: cannot be read")) failure
+    Complains (λ said. ((list : List ℕ) × (at : ℕ) × IsFirstSpent list (map digits_of commands) at
+    × (said ≡ spent_text at)) ⊎ (said ≡ codes "key list: cannot be read")) failure
 
 -- where the keys of its commands are not noted, a command file says nothing that can be applied
 abbrev pub failure_of_keys : KeyFault → Failure

@@ -17,6 +17,7 @@ pub mod FileModes
 pub mod FirstFault
 pub mod RecordLines
 pub mod Examining
+pub mod ShownKeys
 pub mod Checking
 pub mod Plans
 pub mod Openings

@@ -23,7 +23,7 @@ use Rattle.macs_words.specs.declared.plan_words.PlanEnd.TheVariants as plan_end
 use Rattle.macs_words.specs.declared.plan_words.PlanStage.{PlanStage}
 use Rattle.macs_words.specs.declared.plan_words.PlanStage.TheVariants as plan_stage
 use Rattle.macs_offline.specs.Applying.{longest_file}
-use Rattle.macs_offline.specs.Reasons.{Complains, IsUnread}
+use Rattle.macs_offline.specs.Reasons.{Complains, IsLinkUnread}
 use Rattle.macs_offline.specs.TomlPlaces.{SaysNotToml}
 use Rattle.macs_offline.specs.declared.failure.Failure.{Failure}
 use Rattle.macs_offline.specs.declared.failure.Failure.TheVariants as failures
@@ -166,6 +166,6 @@ SaysWhyOfFile {F} left_in end stage failure =
 -- the file of this name is not read; or what is to be printed cannot be; or something is said of its octets or its link
 -- is refused, or there is no memory
 abbrev pub PlanFails : {F : Type 0} → (F → Option (List ℕ)) → List ℕ → End → Stage → Failure → Type 0
-PlanFails left_in name end stage failure = IsUnread name failure ⊎ (failure ≡ failures.Output)
+PlanFails left_in name end stage failure = IsLinkUnread name failure ⊎ (failure ≡ failures.Output)
     ⊎ ((octets : List ℕ) × SaysWhy end stage octets failure
     × ((failure ≡ failures.Memory) ⊎ SaysWhyOfFile left_in end stage failure))

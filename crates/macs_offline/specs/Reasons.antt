@@ -54,9 +54,13 @@ abbrev pub ComplainsOfDisk : (List ℕ → Type 0) → Failure → Type 0
 ComplainsOfDisk Holds failure =
     (failure ≡ failures.Memory) ⊎ ((text : _) × (failure ≡ failures.DiskFile text) × Holds (string_bytes text))
 
--- a command file, or a link's, is not read
+-- a command file is not read
 abbrev pub IsUnread : List ℕ → Failure → Type 0
 IsUnread name failure = Complains (TellsOfFile (codes "commands") name) failure
+
+-- a link's file is not read
+abbrev pub IsLinkUnread : List ℕ → Failure → Type 0
+IsLinkUnread name failure = Complains (TellsOfFile (codes "link file") name) failure
 
 -- the file of a disk is not opened to be read
 abbrev pub IsNotRead : List ℕ → Failure → Type 0

@@ -1,6 +1,8 @@
 -- Where a text stops to be TOML, and what is said of it.
-use Rattle.std.specs.Prelude.{◌≡◌, ◌≤◌, ◌+◌, ◌/◌, ◌==◌, ◌++◌, if◌then◌else◌, ℕ, List, [], ◌∷◌, length, take, codes}
+use Rattle.std.specs.Prelude.{◌≡◌, ◌+◌, ◌/◌, ◌==◌, ◌++◌, if◌then◌else◌, ℕ, List, [], ◌∷◌, take, codes}
 use Rattle.std.specs.Fmt.{decimal}
+use Rattle.toml.specs.Errors.{IsWithin, span_start}
+use Rattle.toml.specs.declared.de.error.Error.{Error}
 use Rattle.macs_offline.specs.declared.toml_place.TextPlace.{TextPlace}
 
 -- the place after one octet more: after a line feed (10) a line begins, and an octet that goes on with a character,
@@ -19,15 +21,16 @@ place_from place (octet ∷ octets) = place_from (place_step place octet) octets
 abbrev pub place_after : List ℕ → TextPlace
 place_after octets = place_from (record { line = 1; column = 1 }) octets
 
--- a place is that after some front of a text
-abbrev pub IsPlaceIn : List ℕ → TextPlace → Type 0
-IsPlaceIn text place = (at : ℕ) × (at ≤ length text) × (place ≡ place_after (take at text))
+-- the place where the span of an error in a text starts
+abbrev pub place_in : List ℕ → Error → TextPlace
+place_in text error = place_after (take (span_start error) text)
 
 -- what is said of a file that is not TOML from this place on
 abbrev pub not_toml_text : List ℕ → TextPlace → List ℕ
 not_toml_text file place = file ++ (codes ": line " ++ (decimal place.line ++ (codes " column "
     ++ (decimal place.column ++ codes ": not TOML"))))
 
--- this is said of a file with this text, that it is not TOML from some place on
+-- this is said of a file with this text, that it is not TOML from the place on where some error in it starts
 abbrev pub SaysNotToml : List ℕ → List ℕ → List ℕ → Type 0
-SaysNotToml file text said = (place : TextPlace) × IsPlaceIn text place × (said ≡ not_toml_text file place)
+SaysNotToml file text said =
+    (error : Error) × IsWithin text error × (said ≡ not_toml_text file (place_in text error))

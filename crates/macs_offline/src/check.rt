@@ -16,8 +16,9 @@ ghost use Rattle.std.specs.Prelude.{Ok, Some};
 ghost use Rattle.macs_offline.specs.Applying.{SaidByFile, SaysCommands, outcomes_status};
 ghost use Rattle.macs_offline.specs.Checking.{CheckEnds, Checks, ComplainsOfFile};
 ghost use Rattle.macs_offline.specs.Checking.{HasFault, IsSaidOfFile, IsSaidOfText, command_at};
-ghost use Rattle.macs_offline.specs.Checking.{count_line, fault_text, file_fault_text, key_fault};
-ghost use Rattle.macs_offline.specs.Checking.{key_reason, key_word, lacks};
+ghost use Rattle.macs_offline.specs.Checking.{count_line, extra_key_at, fault_text};
+ghost use Rattle.macs_offline.specs.Checking.{file_fault_text, key_fault, key_reason, key_word};
+ghost use Rattle.macs_offline.specs.Checking.{lacks};
 ghost use Rattle.macs_offline.specs.FileModes.{mode_warning};
 ghost use Rattle.macs_offline.specs.Reasons.{Complains, IsUnread};
 ghost use Rattle.macs_offline.specs.KeyLists.{SaysSpent, spent_text};
@@ -30,11 +31,14 @@ use crate::file_mode::{mode_of, print_mode};
 use crate::file_reason::failure_at;
 use crate::key_list::{KeyFault, KeyList};
 use crate::output::{Line, append_count, print, print_octets};
+use crate::shown_keys::shown_key;
 use crate::status::Status;
 use crate::stream::Stream;
 use crate::toml_place::failure_of_toml;
 use crate::trial::{outcomes_status, trial_report, try_in};
-use macs_commands::{CommandFile, CommandFileFault, ConfigFault, KeyName, command_file, value};
+use macs_commands::{
+    CommandFile, CommandFileFault, ConfigFault, KeyName, command_file, extra_key, value,
+};
 use macs_config::Command;
 use macs_fields::Sci;
 use std::alloc::{AllocError, Global};
@@ -111,6 +115,28 @@ fn key_fault(file: &Table, at: usize, name: KeyName) -> &'static str
     }
 }
 
+/// The first key of command `at` of a file that the command does not have, empty if there is none.
+fn extra_key_at(file: &Table, at: usize) -> &str
+    ensures { result.now ≡ extra_key_at (table_view file.now) at }
+{
+    match command_at(file, at) {
+        Some(command) => match extra_key(command) {
+            Some(key) => key,
+            None => "",
+        },
+        None => "",
+    }
+}
+
+/// What is said of a key of command `at` of a file that the command does not have.
+fn extra_text(alloc: Global, file: &Table, at: usize) -> Result<String, AllocError>
+    ensures { IfOk result
+        (λ text. string_bytes text ≡ fault_text (table_view file.now) (config.Extra at)) }
+{
+    let key = shown_key(alloc, extra_key_at(file, at))?;
+    format!(in alloc; "command {at} {key}: not a key of this command")
+}
+
 /// What is said of the first fault of the commands of a file: its place, key and reason.
 fn fault_text(alloc: Global, file: &Table, fault: ConfigFault) -> Result<String, AllocError>
     ensures { IfOk result (λ text. string_bytes text ≡ fault_text (table_view file.now) fault) }
@@ -125,7 +151,7 @@ fn fault_text(alloc: Global, file: &Table, fault: ConfigFault) -> Result<String,
             let reason = key_fault(file, at, name);
             format!(in alloc; "command {at} {key}: {reason}")
         }
-        ConfigFault::Extra { at } => format!(in alloc; "command {at}: a key that it does not have"),
+        ConfigFault::Extra { at } => extra_text(alloc, file, at),
         ConfigFault::Memory => String::from_str(alloc, "memory"),
     }
 }

@@ -2,6 +2,7 @@
 
 ghost use Rattle.std.specs.Prelude.{◌≡◌, ◌≢◌, ◌⊎◌, ◌≤◌, ◌%◌, true, Ok, IfErr, IfOk, IsErrOf};
 ghost use Rattle.std.specs.Prelude.{List, string_bytes};
+ghost use Rattle.std.specs.Io.KnownBytes.{Appends};
 ghost use Rattle.std.specs.declared.alloc.Global.{Global};
 ghost use Rattle.macs_config.specs.Config.{this_edition};
 ghost use Rattle.macs_disk.specs.Disk.{now};
@@ -22,7 +23,7 @@ ghost use Rattle.macs_offline.specs.Examining.{ExaminationFails, ExamineFails, E
 ghost use Rattle.macs_offline.specs.Examining.{IsNotExamined, IsNotOpened};
 ghost use Rattle.macs_offline.specs.RecordLines.{records_text};
 ghost use Rattle.macs_offline.specs.Examining.{PrintsExamined, Says, SaysFault, examined_text};
-ghost use Rattle.macs_offline.specs.Examining.{fault_line, figures_of};
+ghost use Rattle.macs_offline.specs.Examining.{fault_line, figures_of, said_text};
 ghost use Rattle.macs_offline.specs.Trying.{failure_in_memory};
 ghost use Rattle.macs_offline.specs.declared.failure.DiskFault.TheVariants.{Journal};
 
@@ -33,6 +34,7 @@ use crate::failure::{DiskFault, Failure};
 use crate::file_reason::failure_at_disk;
 use crate::files::open_shared;
 use crate::first_fault::fault_of;
+use crate::json_output::print_report;
 use crate::output::print_last;
 use crate::record_lines::records_text;
 use crate::status::Status;
@@ -237,22 +239,48 @@ where
     }
 }
 
-/// `examine`: prints what the journal of the disk in a file has, or its first fault, which is a
-/// refusal. The file is not changed.
+/// Prints what is said of a disk, as JSON where that is wanted. A refusal is no report, and is
+/// printed as it is.
+fn print_said<W: Stream>(
+    alloc: Global,
+    said: &Said,
+    is_json: bool,
+    out: &mut W,
+) -> Result<Status, Failure>
+    ensures printed { IfOk result (λ status. Appends (W.contents out.old) (W.contents out.new)
+        (said_text is_json said.now.status (string_bytes said.now.text))
+        × (status ≡ said.now.status)) }
+    ensures ended { IfErr result
+        (λ failure. (failure ≡ Failure.Memory) ⊎ (failure ≡ Failure.Output)) }
+    ensures silent { IfErr result (λ failure. failure ≢ Failure.Output → out.new ≡ out.old) }
+    ensures broken { IfErr result (λ failure. failure ≡ Failure.Output → W.failed out.new ≡ true) }
+{
+    match said.status {
+        Status::Done => {
+            print_report(alloc, said.text.as_str(), is_json, out)?;
+            Ok(Status::Done)
+        }
+        status => print_last(out, said.text.as_str(), status),
+    }
+}
+
+/// `examine`: prints what the journal of the disk in a file has, as JSON where that is wanted, or
+/// its first fault, which is a refusal. The file is not changed.
 pub fn examine<T: Files, W: Stream>(
     rt: &T,
     alloc: Global,
     path: &str,
+    is_json: bool,
     out: &mut W,
 ) -> Result<Status, Failure>
 where
     T::File: CaptureFile,
     ensures printed { IfOk result
-        (PrintsExamined T.File.file (W.contents out.old) (W.contents out.new)) }
+        (PrintsExamined T.File.file is_json (W.contents out.old) (W.contents out.new)) }
     ensures ended { IfErr result (ExamineFails T.File.file path.now) }
     ensures silent { IfErr result (λ failure. failure ≢ Failure.Output → out.new ≡ out.old) }
     ensures broken { IfErr result (λ failure. failure ≡ Failure.Output → W.failed out.new ≡ true) }
 {
     let said = examine_in(rt, alloc, path)?;
-    print_last(out, said.text.as_str(), said.status)
+    print_said(alloc, &said, is_json, out)
 }

@@ -3,10 +3,12 @@
 //! A new disk file does not know which keys the one before it had. Where that was lost, the list is
 //! what is left of them: no command that installs one of them is given to the new endpoint.
 
-ghost use Rattle.std.specs.Prelude.{◌≡◌, ◌↔◌, ◌⊎◌, ◌≤◌, IfErr, IfOk, IfSome, IsTrue, length};
-ghost use Rattle.std.specs.Prelude.{string_bytes};
+ghost use Rattle.std.specs.Prelude.{◌≡◌, ◌↔◌, ◌⊎◌, ◌++◌, IfErr, IfOk, IsTrue, MatchOption, OnOk};
+ghost use Rattle.std.specs.Prelude.{map, string_bytes};
+ghost use Rattle.std.specs.List.{All};
 ghost use Rattle.std.specs.Option.{option_map};
-ghost use Rattle.macs_offline.specs.KeyLists.{HasSpent, digits_of, key_in};
+ghost use Rattle.macs_offline.specs.KeyLists.{HasSpent, IsFirstSpent, IsSpentIn, digits_of, key_in};
+ghost use Rattle.macs_offline.specs.KeyLists.{key_line, lines_text};
 
 use crate::failure::Failure;
 use macs_config::Command;
@@ -19,7 +21,7 @@ use std::path::Path;
 use std::rt::Files;
 use std::{fs, io};
 
-/// The line behind the keys of the endpoints before.
+/// The line after the keys of the endpoints before.
 const FORMATTED: &str = "formatted\n";
 
 /// A list is for its owner alone to read and write, as a disk file is.
@@ -119,34 +121,73 @@ fn has_spent(list: &str, digits: &str) -> bool
     }
 }
 
-/// The number of the first of these commands, from 1 on, that installs a key of an endpoint that is
-/// gone, by a list.
-fn first_spent(alloc: Global, list: &str, commands: &[Command]) -> Result<Option<usize>, AllocError>
-    ensures { IfOk result (λ found.
-        IfSome found (λ at. (1 ≤ at) × (at ≤ length commands.now))) }
+/// What stands for the key of each of these commands.
+fn digits_of_each(alloc: Global, commands: &[Command]) -> Result<Vec<Option<String>>, AllocError>
+    ensures { IfOk result (λ keys.
+        map (option_map string_bytes) keys.items ≡ map digits_of commands.now) }
 {
-    for (at, command) in commands.iter().enumerate() {
-        match digits_of(alloc, command)? {
-            Some(digits) if has_spent(list, digits.as_str()) => return Ok(Some(at + 1)),
-            _ => {}
+    let mut keys = Vec::new(alloc);
+    for i in 0..commands.len() {
+        let digits = digits_of(alloc, &commands[i])?;
+        if keys.push(digits).is_err() {
+            return Err(AllocError);
         }
     }
-    Ok(None)
+    Ok(keys)
 }
 
-/// The lines of the keys that these commands install.
-fn lines_of(alloc: Global, commands: &[Command]) -> Result<String, AllocError> {
-    let mut lines = String::new(alloc);
-    for command in commands {
-        if let Some(digits) = digits_of(alloc, command)? {
-            lines.push_str(digits.as_str())?;
-            lines.push('\n')?;
+/// Whether a list has this key, by its digits, as one of an endpoint that is gone.
+fn is_spent(list: &str, key: &Option<String>) -> bool
+    ensures { IsTrue result ↔ IsSpentIn list.now (option_map string_bytes key.now) }
+{
+    match key {
+        Some(digits) => has_spent(list, digits.as_str()),
+        None => false,
+    }
+}
+
+/// The number, counted from 1, of the first of these keys, by their digits, that a list has as one
+/// of an endpoint that is gone.
+fn first_spent(list: &str, keys: &[Option<String>]) -> Option<usize>
+    ensures { MatchOption result
+        (All (λ key. ¬ IsSpentIn list.now key) (map (option_map string_bytes) keys.now))
+        (IsFirstSpent list.now (map (option_map string_bytes) keys.now)) }
+{
+    for i in 0..keys.len() {
+        if is_spent(list, &keys[i]) {
+            return Some(i + 1);
         }
+    }
+    None
+}
+
+/// Puts the line of a key, by its digits, after lines.
+fn push_line(lines: &mut String, key: &Option<String>) -> Result<(), AllocError>
+    ensures { OnOk result (string_bytes lines.new
+        ≡ string_bytes lines.old ++ key_line (option_map string_bytes key.now)) }
+{
+    match key {
+        Some(digits) => {
+            lines.push_str(digits.as_str())?;
+            lines.push('\n')
+        }
+        None => Ok(()),
+    }
+}
+
+/// The lines of these keys, by their digits.
+fn lines_of(alloc: Global, keys: &[Option<String>]) -> Result<String, AllocError>
+    ensures { IfOk result
+        (λ text. string_bytes text ≡ lines_text (map (option_map string_bytes) keys.now)) }
+{
+    let mut lines = String::new(alloc);
+    for i in 0..keys.len() {
+        push_line(&mut lines, &keys[i])?;
     }
     Ok(lines)
 }
 
-/// How a list is opened: what is written comes behind what it has.
+/// How a list is opened: what is written comes after what it has.
 fn how_to_append() -> OpenOptions {
     let mut options = OpenOptions::new();
     options.mode(OWNER_ALONE);
@@ -170,14 +211,6 @@ pub fn note_keys<T: Files>(
     Ok(())
 }
 
-/// The folder of a path, by its text alone.
-fn folder_of(path: &str) -> &str {
-    match Path::new(path).parent() {
-        Some(folder) if !folder.as_str().is_empty() => folder.as_str(),
-        _ => ".",
-    }
-}
-
 /// What a list has: nothing where there is none.
 fn read_list<T: Files>(rt: &T, alloc: Global, name: &str) -> io::Result<String> {
     match fs::read_to_string(&(rt, alloc), name) {
@@ -186,16 +219,21 @@ fn read_list<T: Files>(rt: &T, alloc: Global, name: &str) -> io::Result<String> 
     }
 }
 
-/// Puts lines behind what a list has, durably, and makes its name durable too.
+/// Puts lines after what a list has, durably, and makes its name durable too. The name is absolute.
 fn append<T: Files>(rt: &T, name: &str, lines: &str) -> io::Result<()> {
+    let folder = Path::new(name)
+        .parent()
+        .map_or("/", |folder| folder.as_str());
     let mut list = how_to_append().open(rt, name)?;
     list.write_all(lines.as_bytes())?;
     list.sync_all()?;
-    fs::open(rt, folder_of(name))?.sync_all()
+    fs::open(rt, folder)?.sync_all()
 }
 
 impl<T: Files> KeyList<'_, T> {
-    ghost use Rattle.std.specs.Prelude.{◌≤◌, IfOk, IfSome, length};
+    ghost use Rattle.std.specs.Prelude.{IfOk, List, MatchOption, map, ℕ};
+    ghost use Rattle.std.specs.List.{All};
+    ghost use Rattle.macs_offline.specs.KeyLists.{IsFirstSpent, IsSpentIn, digits_of};
 
     /// Its path.
     fn name(&self) -> Result<String, KeyFault> {
@@ -205,29 +243,33 @@ impl<T: Files> KeyList<'_, T> {
         Ok(name)
     }
 
-    /// The number of the first of these commands, from 1 on, that installs a key of an endpoint
-    /// that is gone.
+    /// The number, counted from 1, of the first of these commands that installs a key of an
+    /// endpoint that is gone.
     pub fn first_spent(&self, commands: &[Command]) -> Result<Option<usize>, KeyFault>
-        ensures { IfOk result (λ found.
-            IfSome found (λ at. (1 ≤ at) × (at ≤ length commands.now))) }
+        ensures { IfOk result (λ found. (list : List ℕ) × MatchOption found
+            (All (λ key. ¬ IsSpentIn list key) (map digits_of commands.now))
+            (IsFirstSpent list (map digits_of commands.now))) }
     {
+        let keys = digits_of_each(self.alloc, commands)?;
         let name = self.name()?;
         let list = read_list(self.rt, self.alloc, name.as_str())?;
-        let found = first_spent(self.alloc, list.as_str(), commands)?;
-        Ok(found)
+        Ok(first_spent(list.as_str(), keys.as_slice()))
     }
 
     /// Notes the keys that these commands install, durably, unless an endpoint that is gone was
     /// given one of them; then it notes none.
     pub fn note(&self, commands: &[Command]) -> Result<(), KeyFault> {
-        let lines = lines_of(self.alloc, commands)?;
+        let keys = digits_of_each(self.alloc, commands)?;
+        let lines = lines_of(self.alloc, keys.as_slice())?;
         if lines.is_empty() {
             return Ok(());
         }
-        if self.first_spent(commands)?.is_some() {
+        let name = self.name()?;
+        let list = read_list(self.rt, self.alloc, name.as_str())?;
+        if first_spent(list.as_str(), keys.as_slice()).is_some() {
             return Err(KeyFault::Spent);
         }
-        append(self.rt, self.name()?.as_str(), lines.as_str())?;
+        append(self.rt, name.as_str(), lines.as_str())?;
         Ok(())
     }
 

@@ -18,6 +18,7 @@ mod first_fault;
 mod four_lines;
 mod hex_text;
 pub mod inspect;
+mod json_output;
 pub mod key;
 mod key_list;
 mod open_input;
@@ -25,6 +26,7 @@ mod opened;
 mod output;
 pub mod plan;
 mod record_lines;
+mod shown_keys;
 mod status;
 mod stop;
 mod stream;
@@ -43,6 +45,7 @@ pub use files::{
     CaptureSink, CaptureSource, commands_of_file, failure_of, is_printed_to, make_capture,
     open_capture, open_disk,
 };
+pub use json_output::print_json;
 pub use key_list::{KeyFault, KeyList, note_keys};
 pub use open_input::{InputFault, OpenInput};
 pub use opened::{Opened, answer_of};

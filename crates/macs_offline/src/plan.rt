@@ -11,7 +11,7 @@ ghost use Rattle.macs_offline.specs.Plans.{IsPlanOfFile, PlanFails, PlansFile, P
 ghost use Rattle.macs_offline.specs.Plans.{RefusesSo, SaysWhy, SaysWhyOfFile, SaysWhyOfText};
 ghost use Rattle.macs_offline.specs.Plans.{end_of, extra_text, link_refusal, name_reason};
 ghost use Rattle.macs_offline.specs.Plans.{name_word, plan_fault_text, stage_of, value_text};
-ghost use Rattle.macs_offline.specs.Reasons.{Complains, IsUnread};
+ghost use Rattle.macs_offline.specs.Reasons.{Complains, IsLinkUnread};
 
 use crate::applying::{MAX_FILE, MAX_READ};
 use crate::check::failure_saying;
@@ -204,15 +204,15 @@ fn planned_read<R: Read>(
         (λ octets. PlansFile end stage octets (string_bytes text))) }
     ensures spelled { IfOk result
         (λ text. (octets : List ℕ) × PlansFile end stage octets (string_bytes text)) }
-    ensures fault { IfErr result (λ failure. IsUnread name.now failure
+    ensures fault { IfErr result (λ failure. IsLinkUnread name.now failure
         ⊎ IfSome (R.remaining file.old) (λ octets. SaysWhy end stage octets failure)) }
-    ensures ended { IfErr result (λ failure. IsUnread name.now failure
+    ensures ended { IfErr result (λ failure. IsLinkUnread name.now failure
         ⊎ ((octets : List ℕ) × SaysWhy end stage octets failure)) }
 {
     let mut octets = Vec::new(alloc);
     match file.take(MAX_READ as u64).read_to_end(&mut octets) {
         Ok(_) => planned_said(alloc, octets.as_slice(), end, stage),
-        Err(error) => Err(failure_at(alloc, "commands", name, error)),
+        Err(error) => Err(failure_at(alloc, "link file", name, error)),
     }
 }
 
@@ -230,13 +230,13 @@ fn planned_file<T: Files>(
         (λ text. IsPlanOfFile T.File.remaining end stage (string_bytes text)) }
     ensures spelled { IfOk result
         (λ text. (octets : List ℕ) × PlansFile end stage octets (string_bytes text)) }
-    ensures ended { IfErr result (λ failure. IsUnread path.now failure
+    ensures ended { IfErr result (λ failure. IsLinkUnread path.now failure
         ⊎ ((octets : List ℕ) × SaysWhy end stage octets failure
         × ((failure ≡ Failure.Memory) ⊎ SaysWhyOfFile T.File.remaining end stage failure))) }
 {
     match fs::open(rt, path) {
         Ok(mut file) => planned_read(alloc, path, &mut file, end, stage),
-        Err(error) => Err(failure_at(alloc, "commands", path, error)),
+        Err(error) => Err(failure_at(alloc, "link file", path, error)),
     }
 }
 

@@ -1,11 +1,10 @@
 //! Where a text stops to be TOML.
 
-ghost use Rattle.std.specs.Prelude.{◌≡◌, ◌⊎◌, ◌↔◌, ◌<◌, ◌^◌, ◌+◌, ℕ, List, length, IfOk, IfSome};
+ghost use Rattle.std.specs.Prelude.{◌≡◌, ◌⊎◌, ◌↔◌, ◌<◌, ◌^◌, ◌+◌, length, IfOk, IfSome};
 ghost use Rattle.std.specs.Prelude.{IsNone, string_bytes};
 ghost use Rattle.toml.specs.Errors.{IsMemory, IsWithin};
 ghost use Rattle.macs_offline.specs.Reasons.{Complains};
-ghost use Rattle.macs_offline.specs.TomlPlaces.{IsPlaceIn, SaysNotToml, not_toml_text, place_after};
-ghost use Rattle.macs_offline.specs.TomlPlaces.{place_step};
+ghost use Rattle.macs_offline.specs.TomlPlaces.{not_toml_text, place_after, place_in, place_step};
 
 use crate::check::failure_saying;
 use crate::failure::Failure;
@@ -50,11 +49,11 @@ fn place_after(front: &[u8]) -> TextPlace
     place
 }
 
-/// The place of an error in a text, unless it is want of memory.
+/// The place where an error in a text starts, unless it is want of memory.
 pub fn place_of(text: &str, error: &toml::de::Error) -> Option<TextPlace>
     requires { IsWithin text.now error.now }
     ensures memory { IsNone result ↔ IsMemory error.now }
-    ensures place { IfSome result (IsPlaceIn text.now) }
+    ensures place { IfSome result (λ place. place ≡ place_in text.now error.now) }
 {
     match error.span() {
         Some(span) => Some(place_after(&text.as_bytes()[..span.start])),
@@ -71,12 +70,13 @@ pub fn not_toml_text(alloc: Global, file: &str, place: TextPlace) -> Result<Stri
     format!(in alloc; "{file}: line {line} column {column}: not TOML")
 }
 
-/// The failure that an error in the text of a file is: its place is said, unless there is no
-/// memory.
+/// The failure that an error in the text of a file is: the place where it starts is said, unless
+/// there is no memory.
 pub fn failure_of_toml(alloc: Global, file: &str, text: &str, error: &toml::de::Error) -> Failure
     requires { IsWithin text.now error.now }
     ensures { (result ≡ Failure.Memory)
-        ⊎ ((¬ IsMemory error.now) × Complains (SaysNotToml file.now text.now) result) }
+        ⊎ ((¬ IsMemory error.now) × Complains
+        (λ said. said ≡ not_toml_text file.now (place_in text.now error.now)) result) }
 {
     match place_of(text, error) {
         Some(place) => failure_saying(not_toml_text(alloc, file, place)),

@@ -5,5 +5,3 @@ pub mod WrittenNumbers
 pub mod WrittenRecord
 pub mod WrittenHeader
 mod LetGo
-mod ReadingWords
-mod WritingWords

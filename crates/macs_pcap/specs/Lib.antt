@@ -7,5 +7,3 @@ pub mod States
 pub mod Reading
 pub mod Writing
 pub mod Value
-pub mod ReadingWords
-pub mod WritingWords

@@ -5,9 +5,7 @@ ghost use Rattle.macs_pcap.specs.Captures.{BeginsWithRecords, IsCaptureRecord, I
 ghost use Rattle.macs_pcap.specs.Captures.{records_text};
 ghost use Rattle.macs_pcap.specs.Faults.{header_fault, max_records, record_fault};
 ghost use Rattle.macs_pcap.specs.Header.{BeginsWithHeader, header_text};
-ghost use Rattle.macs_pcap.specs.ReadingWords.{HeaderWords, ReadWords};
 ghost use Rattle.macs_pcap.specs.Records.{BeginsWithRecord, CaptureRecord, record_text};
-ghost use Rattle.macs_pcap.specs.WritingWords.{WriteWords};
 ghost use Rattle.macs_pcap.specs.declared.header.Header.{Header};
 
 /// A header that was written is read as it was, whatever comes after it.
@@ -36,15 +34,4 @@ pub fn written_captures_are_read()
     ensures { (big : Bool) (records : List CaptureRecord) (rest : List ℕ)
         → All IsCaptureRecord records
         → BeginsWithRecords big (records_text big records ++ rest) records rest }
-{}
-
-/// The words of the calls that read and write say this: which headers and which capture records are
-/// taken, which fault is answered, what is left then, and what is written.
-pub fn words()
-    // Which headers are sound.
-    ensures headers { HeaderWords }
-    // What is read, or which fault is answered.
-    ensures reads { ReadWords }
-    // What is written, and which write failed.
-    ensures writes { WriteWords }
 {}

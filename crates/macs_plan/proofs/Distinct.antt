@@ -1,22 +1,10 @@
 -- Keys and numbers that come again, one pair after the other.
-use Rattle.std.proofs.Common.{◌≡◌, ◌∙◌, ◌<◌, ◌≤◌, ◌+◌, ◌==◌, ◌||◌, ◌&&◌, ℕ, Bool, true, false, not, List, [], ◌∷◌}
-use Rattle.std.proofs.Common.{length, drop, get_or, Option, Some, bytes_eq, refl, sym, ap, arith, drop_of_length-le}
+use Rattle.std.proofs.Common.{◌≡◌, ◌∙◌, ◌<◌, ◌≤◌, ◌+◌, ◌==◌, ◌||◌, ◌&&◌, ℕ, false, List, [], ◌∷◌}
+use Rattle.std.proofs.Common.{length, drop, get_or, Option, refl, sym, ap, arith, drop_of_length-le}
 use Rattle.std.proofs.Common.{length-drop}
 use Rattle.std.proofs.lemmas.List.{drop_more}
-use Rattle.macs_aes.specs.Keys.{octets_of_key}
-use Rattle.macs_config.specs.Config.{are_distinct, is_among}
-use Rattle.macs_plan.specs.Reading.{keys_of, newest_link, reuses_an}
+use Rattle.macs_plan.specs.Reading.{newest_link, reuses_an}
 use Rattle.macs_plan.specs.declared.link.KeyPair.{KeyPair}
-
--- ---- tests
-
-either : (a b c : Bool) → (a || (b || c)) ≡ ((a || b) || c)
-either true b c = refl
-either false b c = refl
-
-neither : (a b c : Bool) → (not a && (not b && c)) ≡ (not (a || b) && c)
-neither true b c = refl
-neither false b c = refl
 
 -- ---- the pair in hand is the first of those that are left
 
@@ -24,32 +12,6 @@ left_over : (pairs : List KeyPair) (i : ℕ) (pair : KeyPair) → i < length pai
     → drop i pairs ≡ pair ∷ drop (i + 1) pairs
 left_over pairs i pair within same = drop_more pairs i pair within
     ∙ ap (λ (x : KeyPair). x ∷ drop (i + 1) pairs) (sym same)
-
-abbrev pub test_key : KeyPair → List ℕ → Bool
-test_key pair key = bytes_eq (octets_of_key pair.left) key || bytes_eq (octets_of_key pair.right) key
-
--- it has the key, or those after it do
-pub key_next : (pairs : List KeyPair) (i : ℕ) (pair : KeyPair) (key : List ℕ) → i < length pairs
-    → pair ≡ get_or pairs i pair
-    → is_among (keys_of (drop i pairs)) key ≡ (test_key pair key || is_among (keys_of (drop (i + 1) pairs)) key)
-key_next pairs i pair key within same =
-    ap (λ (left : List KeyPair). is_among (keys_of left) key) (left_over pairs i pair within same)
-    ∙ either (bytes_eq (octets_of_key pair.left) key) (bytes_eq (octets_of_key pair.right) key)
-    (is_among (keys_of (drop (i + 1) pairs)) key)
-
-abbrev pub test_again : KeyPair → List KeyPair → Bool
-test_again pair later =
-    is_among (octets_of_key pair.right ∷ keys_of later) (octets_of_key pair.left)
-    || is_among (keys_of later) (octets_of_key pair.right)
-
--- its keys do not come again, nor do those of the ones after it
-pub distinct_next : (pairs : List KeyPair) (i : ℕ) (pair : KeyPair) → i < length pairs → pair ≡ get_or pairs i pair
-    → are_distinct (keys_of (drop i pairs))
-    ≡ (not (test_again pair (drop (i + 1) pairs)) && are_distinct (keys_of (drop (i + 1) pairs)))
-distinct_next pairs i pair within same =
-    ap (λ (left : List KeyPair). are_distinct (keys_of left)) (left_over pairs i pair within same)
-    ∙ neither (is_among (octets_of_key pair.right ∷ keys_of (drop (i + 1) pairs)) (octets_of_key pair.left))
-    (is_among (keys_of (drop (i + 1) pairs)) (octets_of_key pair.right)) (are_distinct (keys_of (drop (i + 1) pairs)))
 
 -- the one after it has its number, or one of those after that
 pub number_next : (pairs : List KeyPair) (i : ℕ) (pair next : KeyPair) → i + 1 < length pairs
@@ -84,12 +46,3 @@ module _ (left right : List ℕ) (earlier : Option KeyPair) (pairs : List KeyPai
   link_last within last =
       ap (λ (l : List KeyPair). newest_link left right earlier l) (left_over pairs i pair within here)
       ∙ ap (λ (l : List KeyPair). newest_link left right earlier (pair ∷ l)) (drop_of_length-le pairs last)
-
-  -- there is one after it
-  pub link_next : (next : KeyPair) → i + 1 < length pairs → next ≡ get_or pairs (i + 1) next
-      → newest_link left right earlier (drop i pairs) ≡ newest_link left right (Some pair) (drop (i + 1) pairs)
-  link_next next within there =
-      let after = left_over pairs (i + 1) next within there in
-      ap (λ (l : List KeyPair). newest_link left right earlier l) (left_over pairs i pair (omega (arith, within)) here)
-      ∙ ap (λ (l : List KeyPair). newest_link left right earlier (pair ∷ l)) after
-      ∙ ap (λ (l : List KeyPair). newest_link left right (Some pair) l) (sym after)

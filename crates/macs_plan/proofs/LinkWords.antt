@@ -1,17 +1,16 @@
 -- All that is to be drawn of the words on a link's file.
 use Rattle.std.proofs.Common.{◌≡◌, ◌≢◌, ◌∙◌, ◌≤◌, ◌+◌, ℕ, Bool, true, false, cond, List, [], ◌∷◌, length, Option, Some}
-use Rattle.std.proofs.Common.{None, Result, Ok, Err, bytes_eq, codes, nat_lt, refl, sym, ap, subst, arith, inl, inr}
+use Rattle.std.proofs.Common.{None, Result, Ok, Err, bytes_eq, codes, nat_lt, refl, sym, ap, subst, arith}
 use Rattle.std.specs.Prelude.{option_and_then}
-use Rattle.std.proofs.lemmas.Bool.{cases_Bool, le-ltb, lt-ltb, ltb-false, ne_eqb}
+use Rattle.std.proofs.lemmas.Bool.{ltb-false}
 use Rattle.toml.specs.Data.{Data, Items, Members, array, as_array, as_table, boolean, datetime, float, get_member}
 use Rattle.toml.specs.Data.{integer, item, no_items, string, table}
 use Rattle.macs_aes.specs.declared.keys.Key.{Key}
-use Rattle.macs_config.proofs.Channels.{bytes_eq-itself, same_octets}
 use Rattle.macs_commands.specs.CommandFiles.{count}
-use Rattle.macs_commands.specs.Fields.{an_in, sci_in}
-use Rattle.macs_plan.specs.LinkWords.{IsNewest, LinkWords, PairWords, RefusedWords}
-use Rattle.macs_plan.specs.Reading.{◌>>=◌, end_sci, file_link, followed, has_tables, items_at, key_at, key_pair}
-use Rattle.macs_plan.specs.Reading.{key_pairs, newest_link, required, reuses_an, sound_link, table_at, tables_link}
+use Rattle.macs_commands.specs.Fields.{an_in}
+use Rattle.macs_plan.specs.LinkWords.{IsNewest}
+use Rattle.macs_plan.specs.Reading.{◌>>=◌, end_sci, file_link, followed, items_at, key_at, key_pair}
+use Rattle.macs_plan.specs.Reading.{key_pairs, newest_link, required, reuses_an, table_at, tables_link}
 use Rattle.macs_plan.specs.declared.link.KeyPair.{KeyPair}
 use Rattle.macs_plan.specs.declared.link.Link.{Link}
 use Rattle.macs_plan.specs.declared.plan_fault.Place.{Place}
@@ -21,7 +20,7 @@ use Rattle.macs_plan.specs.declared.plan_fault.PlanFault.TheVariants as fault
 use Rattle.macs_plan.specs.declared.plan_fault.ValueName.{ValueName}
 use Rattle.macs_plan.specs.declared.plan_fault.ValueName.TheVariants as name
 use Rattle.macs_plan.proofs.Pairs.{is_table_of}
-use Rattle.macs_plan.proofs.Sound.{from_file, from_tables, link_with, passed, same_link, with_earlier, with_tables}
+use Rattle.macs_plan.proofs.Sound.{from_file, from_tables, link_with, passed, same_link, with_earlier}
 
 -- ---- values at a key
 
@@ -67,42 +66,6 @@ whole m link is =
       tables,
     )
 
-abbrev asked : Bool → Result Link PlanFault → Result Link PlanFault
-asked b r = cond b r (Err fault.Shape)
-
-taken : (m left right : Members) (items : Items) → get_member (codes "left") m ≡ Some (table left)
-    → get_member (codes "right") m ≡ Some (table right) → get_member (codes "key") m ≡ Some (array items)
-    → count m ≡ 3 → has_tables items ≡ true → file_link m ≡ tables_link left right items
-taken m left right items at_left at_right at_key three keys =
-    (λ i. with_tables (three i) (option_and_then as_table (at_left i)) (option_and_then as_table (at_right i))
-    (option_and_then as_array (at_key i)))
-    ∙ ap (λ (b : Bool). asked b (tables_link left right items)) keys
-
-no_tables : (m left right : Members) (items : Items) → get_member (codes "left") m ≡ Some (table left)
-    → get_member (codes "right") m ≡ Some (table right) → get_member (codes "key") m ≡ Some (array items)
-    → count m ≡ 3 → has_tables items ≡ false → file_link m ≡ Err fault.Shape
-no_tables m left right items at_left at_right at_key three none =
-    (λ i. with_tables (three i) (option_and_then as_table (at_left i)) (option_and_then as_table (at_right i))
-    (option_and_then as_array (at_key i)))
-    ∙ ap (λ (b : Bool). asked b (tables_link left right items)) none
-
-without_right : (n : ℕ) (left : Option Members) (items : Option Items)
-    → with_tables n left None items ≡ Err fault.Shape
-without_right n (Some left) items = refl
-without_right n None items = refl
-
-without_array : (n : ℕ) (left right : Option Members) → with_tables n left right None ≡ Err fault.Shape
-without_array n (Some left) (Some right) = refl
-without_array n (Some left) None = refl
-without_array n None right = refl
-
-no_shape : (n : ℕ) (left right : Option Members) (items : Option Items) → n ≢ 3
-    → with_tables n left right items ≡ Err fault.Shape
-no_shape n (Some left) (Some right) (Some items) other = rw (ne_eqb n 3 other) refl
-no_shape n (Some left) (Some right) None other = refl
-no_shape n (Some left) None items other = refl
-no_shape n None right items other = refl
-
 -- ---- the newest
 
 longer : (first pair next : KeyPair) (pairs : List KeyPair) (earlier : Option KeyPair) (newest : KeyPair)
@@ -145,18 +108,10 @@ ends left right items link is =
       (pairs, has_pairs, read.2),
     )
 
-abbrev tables_by : Result (List ℕ) PlanFault → Result (List ℕ) PlanFault → Result (List KeyPair) PlanFault
-    → Result Link PlanFault
-tables_by one other pairs =
-    one >>= (λ (l : List ℕ). other >>= (λ (r : List ℕ). pairs >>= (λ (p : List KeyPair). sound_link l r p)))
-
 -- ---- the ends
 
 abbrev limited : {X : Type 0} → Bool → Place → X → Result X PlanFault
 limited b at x = cond b (Err (fault.Extra at)) (Ok x)
-
-abbrev end_by : Place → Option (List ℕ) → Bool → Result (List ℕ) PlanFault
-end_by at o b = required at name.Sci o >>= (λ (s : List ℕ). limited b at s)
 
 had : {X Y : Type 0} (at : Place) (which : ValueName) (o : Option X) (f : X → Result Y PlanFault) (y : Y)
     → (required at which o >>= f) ≡ Ok y → (x : X) × (o ≡ Some x) × (f x ≡ Ok y)
@@ -168,25 +123,7 @@ kept : {X : Type 0} (b : Bool) (at : Place) (x y : X) → limited b at x ≡ Ok 
 kept true at x y is = absurd (cc)
 kept false at x y is = (refl, is)
 
-abbrev sci_as : List ℕ → Result (List ℕ) PlanFault
-sci_as s = Ok s
-
-same_sci : (a b : List ℕ) → sci_as a ≡ sci_as b → a ≡ b
-same_sci a b is = cc
-
-end_read : (at : Place) (m : Members) (octets : List ℕ) → end_sci at m ≡ Ok octets
-    → (sci_in m ≡ Some octets) × (count m ≤ 1)
-end_read at m octets is =
-    let (found, has, rest) = had at name.Sci (sci_in m) _ octets is in
-    let (few, same) = kept (nat_lt 1 (count m)) at found octets rest in
-    (has ∙ ap Some (same_sci found octets same), ltb-false 1 (count m) few)
-
 -- ---- the pairs
-
-abbrev pair_by : ℕ → Option ℕ → Option Key → Option Key → Bool → Result KeyPair PlanFault
-pair_by at a l r b = required (place.Key at) name.An a >>= (λ (an : ℕ). required (place.Key at) name.Left l
-    >>= (λ (left : Key). required (place.Key at) name.Right r
-    >>= (λ (right : Key). limited b (place.Key at) (record { an = an; left = left; right = right }))))
 
 abbrev made_of : ℕ → Key → Key → KeyPair
 made_of an left right = record { an = an; left = left; right = right }
@@ -240,68 +177,3 @@ one at (float x) items pairs is = absurd (cc)
 one at (boolean b) items pairs is = absurd (cc)
 one at (datetime dt) items pairs is = absurd (cc)
 one at (array xs) items pairs is = absurd (cc)
-
--- ---- what is refused
-
-differs : (a b : List ℕ) → a ≢ b → bytes_eq a b ≡ false
-differs a b apart = elim (cases_Bool (bytes_eq a b)) [
-  | inl same ↦ absurd (apart (same_octets a b same))
-  | inr other ↦ other
-]
-
-pub link-words : LinkWords
-link-words = record {
-  whole = whole;
-  taken = taken;
-  no_left = λ m none.
-      λ i. with_tables (count m) (none i) (table_at (codes "right") m) (items_at (codes "key") m);
-  no_right = λ m none.
-      (λ i. with_tables (count m) (table_at (codes "left") m) (none i) (items_at (codes "key") m))
-      ∙ without_right (count m) (table_at (codes "left") m) (items_at (codes "key") m);
-  no_array = λ m none.
-      (λ i. with_tables (count m) (table_at (codes "left") m) (table_at (codes "right") m) (none i))
-      ∙ without_array (count m) (table_at (codes "left") m) (table_at (codes "right") m);
-  no_tables = no_tables;
-  none_there = refl;
-  some_tables = λ first items. refl;
-  other_keys = λ m other.
-      no_shape (count m) (table_at (codes "left") m) (table_at (codes "right") m) (items_at (codes "key") m) other;
-  ends = ends;
-  wrong_left = λ left right items cause is. λ i. tables_by (is i) (end_sci place.Right right) (key_pairs 1 items);
-  wrong_right = λ left right items sci cause here is. λ i. tables_by (here i) (is i) (key_pairs 1 items);
-  wrong_pairs = λ left right items one other cause here there is. λ i. tables_by (here i) (there i) (is i);
-  sci = end_read;
-  sci_taken = λ at m sci is few. λ i. end_by at (is i) (le-ltb 1 (count m) few i);
-  no_sci = λ at m none. λ i. end_by at (none i) (nat_lt 1 (count m));
-  sci_more = λ at m sci is more. λ i. end_by at (is i) (lt-ltb 1 (count m) more i);
-}
-
-pub pair-words : PairWords
-pair-words = record {
-  sak = λ key m. refl;
-  last = last;
-  one = one;
-  next = λ at m items first rest here later. λ i. followed (here i) (later i);
-  first_fault = λ at m items cause is. ap (λ (r : Result KeyPair PlanFault). followed r (key_pairs (at + 1) items)) is;
-  later_fault = λ at m items first cause here later. λ i. followed (here i) (later i);
-  pair = pair_read;
-  taken = λ at m an left right a l r few. λ i. pair_by at (a i) (l i) (r i) (le-ltb 3 (count m) few i);
-  no_an =
-      λ at m none. λ i. pair_by at (none i) (key_at (codes "left") m) (key_at (codes "right") m) (nat_lt 3 (count m));
-  no_left = λ at m an a none. λ i. pair_by at (a i) (none i) (key_at (codes "right") m) (nat_lt 3 (count m));
-  no_right = λ at m an left a l none. λ i. pair_by at (a i) (l i) (none i) (nat_lt 3 (count m));
-  one_more = λ at m an left right a l r more. λ i. pair_by at (a i) (l i) (r i) (lt-ltb 3 (count m) more i);
-}
-
-pub refused-words : RefusedWords
-refused-words = record {
-  no_keys = refl;
-  keys_more = λ pair pairs. refl;
-  no_number = refl;
-  one_number = λ pair. refl;
-  numbers_more = λ pair next pairs. refl;
-  same_sci = λ sci pairs. rw (bytes_eq-itself sci) refl;
-  same_key = λ left right pairs apart again. rw (differs left right apart, again) refl;
-  an_in_use = λ left right pairs apart once again. rw (differs left right apart, once, again) refl;
-  sound = λ left right pairs apart once number. rw (differs left right apart, once, number) refl;
-}

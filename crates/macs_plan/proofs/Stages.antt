@@ -101,9 +101,6 @@ module _ (identity : Identity) (link : Link) (end : End) (earlier : KeyPair) (ol
   abbrev three : Config
   three = config_after removed (RxRemove peer earlier.an)
 
-  old_tx : TxSa
-  old_tx = record { key = octets_of_key (own_key earlier end); protection = sent.tx.0 }
-
   sends_three : Sends end new three
   sends_three = record {
     encoding = refl;

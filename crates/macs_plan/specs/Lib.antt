@@ -3,4 +3,3 @@ pub mod Reading
 pub mod Writing
 pub mod Accepting
 pub mod LinkWords
-pub mod PlanWords

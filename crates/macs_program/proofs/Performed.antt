@@ -311,22 +311,25 @@ module _ {F W : Type 0} (state_of : F → FileState) (left_in : F → Option (Li
   }
 
   -- how an answer ends that was printed
-  answer-status : (asked : Question) (status : Status) → PrintsAnswer asked (contents old) (contents new) status
+  answer-status : (asked : Question) (is_json : Bool) (status : Status)
+      → PrintsAnswer asked is_json (contents old) (contents new) status
       → (status ≡ ends.Done) ⊎ (status ≡ ends.Refused)
-  answer-status question.Show status printed = inl printed.2
-  answer-status question.Counters status printed = inl printed.2
-  answer-status question.Keys status printed = inl printed.2
-  answer-status question.About status printed = inl printed.2
-  answer-status question.Stop status printed = inl printed.2
-  answer-status (question.Apply file) status printed = applied-status printed.0 status printed.2
+  answer-status question.Show is_json status printed = inl printed.2
+  answer-status question.Counters is_json status printed = inl printed.2
+  answer-status question.Keys is_json status printed = inl printed.2
+  answer-status question.Traffic is_json status printed = inl printed.2
+  answer-status question.About is_json status printed = inl printed.2
+  answer-status question.Stop is_json status printed = inl printed.2
+  answer-status (question.Apply file) is_json status printed = applied-status printed.0 status printed.2
 
-  pub asks : (path : Bor (List ℕ)) (asked : Question) → IfOk result (PrintsAnswer asked (contents old) (contents new))
+  pub asks : (path : Bor (List ℕ)) (asked : Question) (is_json : Bool)
+      → IfOk result (PrintsAnswer asked is_json (contents old) (contents new))
       → IfErr result (AskFails path.now asked)
       → IfErr result (λ failure. failure ≢ Output → PrintsFront asked (contents old) (contents new)) → Broken
-      → Performs state_of left_in contents failed (Ask path asked) input old result new
-  asks path asked done fails front broken = record {
+      → Performs state_of left_in contents failed (Ask path asked is_json) input old result new
+  asks path asked is_json done fails front broken = record {
     does = done;
-    status = IfOk-weaker result _ _ (answer-status asked) done;
+    status = IfOk-weaker result _ _ (answer-status asked is_json) done;
     usage =
         IfErr-weaker result _ _ (λ failure is usage. absurd (asking-no-usage path.now asked failure is usage)) fails;
     disk = IfErr-weaker result _ _ (λ failure printed disk. ((λ is. absurd cc), printed (of-disk failure disk))) front;
@@ -412,10 +415,11 @@ module _ {F W : Type 0} (state_of : F → FileState) (left_in : F → Option (Li
     broken = broken;
   }
 
-  pub examines : (disk : Bor (List ℕ)) → IfOk result (PrintsExamined state_of (contents old) (contents new))
+  pub examines : (disk : Bor (List ℕ)) (is_json : Bool)
+      → IfOk result (PrintsExamined state_of is_json (contents old) (contents new))
       → IfErr result (ExamineFails state_of disk.now) → Silent → Broken
-      → Performs state_of left_in contents failed (Examine disk) input old result new
-  examines disk done fails silent broken = record {
+      → Performs state_of left_in contents failed (Examine disk is_json) input old result new
+  examines disk is_json done fails silent broken = record {
     does = done;
     status = IfOk-weaker result _ _ (λ status (text, is, printed). said-status _ _ _ _ is.says) done;
     usage = IfErr-weaker result _ _

@@ -134,6 +134,11 @@ module _ (Says : List ℕ → Type 0) where
   early-more Others more failure (inr (inr (inr (text, said, says)))) =
       inr (inr (inr (text, said, more (string_bytes text) says)))
 
+-- no memory, or a print that failed
+pub print-failed : (failure : Failure) → (failure ≡ Memory) ⊎ (failure ≡ Output) → IsOfAsking SaysNothing failure
+print-failed failure (inl memory) = subst (IsOfAsking SaysNothing) (sym memory) tt
+print-failed failure (inr output) = subst (IsOfAsking SaysNothing) (sym output) tt
+
 pub before-commands : (failure : Failure) → IsEarly SaysNothing failure → IsBeforeCommands failure
 before-commands failure early = (early-asking SaysNothing failure early, early-no-output SaysNothing failure early)
 
@@ -215,6 +220,7 @@ of-socket : (name : List ℕ) (asked : Question) (said : List ℕ) → SaysOfSoc
 of-socket name question.Show said is = is
 of-socket name question.Counters said is = is
 of-socket name question.Keys said is = is
+of-socket name question.Traffic said is = is
 of-socket name question.About said is = is
 of-socket name question.Stop said is = is
 of-socket name (question.Apply file) said is = inl is
@@ -230,6 +236,7 @@ other-so : (name : List ℕ) (asked : Question) (failure : Failure) → IsForOth
 other-so name question.Show failure complains = unanswered-so name question.Show failure complains
 other-so name question.Counters failure complains = unanswered-so name question.Counters failure complains
 other-so name question.Keys failure complains = unanswered-so name question.Keys failure complains
+other-so name question.Traffic failure complains = unanswered-so name question.Traffic failure complains
 other-so name question.About failure complains = unanswered-so name question.About failure complains
 other-so name question.Stop failure complains = unanswered-so name question.Stop failure complains
 other-so name (question.Apply file) failure complains =
@@ -245,6 +252,7 @@ other-no-output : (name : List ℕ) (asked : Question) (failure : Failure) → I
 other-no-output name question.Show failure complains = unanswered-no-output name failure complains
 other-no-output name question.Counters failure complains = unanswered-no-output name failure complains
 other-no-output name question.Keys failure complains = unanswered-no-output name failure complains
+other-no-output name question.Traffic failure complains = unanswered-no-output name failure complains
 other-no-output name question.About failure complains = unanswered-no-output name failure complains
 other-no-output name question.Stop failure complains = unanswered-no-output name failure complains
 other-no-output name (question.Apply file) failure complains =
@@ -280,11 +288,12 @@ module _ (name : List ℕ) (asked : Question) where
 module _ {W : Type 0} (Says : List ℕ → Type 0) (contents : W → Option (List ℕ)) (has_failed : W → Bool)
     (before : W) where
   -- no text comes, and nothing is printed
-  pub not-asked : (fault failure : Failure) (result : Result Status Failure) → result ≡ Err failure → failure ≡ fault
-      → IsEarly Says fault → AsksForText Says contents has_failed before result before
-  not-asked fault failure result is same early =
+  pub not-asked : (is_json : Bool) (fault failure : Failure) (result : Result Status Failure) → result ≡ Err failure
+      → failure ≡ fault → IsEarly Says fault → AsksForText is_json Says contents has_failed before result before
+  not-asked is_json fault failure result is same early =
       let named = subst (IsEarly Says) (sym same) early in
-      subst (λ (r : Result Status Failure). AsksForText Says contents has_failed before r before) (sym is) (record {
+      subst (λ (r : Result Status Failure). AsksForText is_json Says contents has_failed before r before) (sym is)
+      (record {
         printed = tt;
         failed = early-asking Says failure named;
         silent = λ other. refl;
@@ -341,9 +350,9 @@ module _ {W : Type 0} (Says : List ℕ → Type 0) (contents : W → Option (Lis
 module _ {W : Type 0} (Says Others : List ℕ → Type 0) (more : (said : List ℕ) → Says said → Others said)
     (contents : W → Option (List ℕ)) (has_failed : W → Bool) (before : W) (result : Result Status Failure)
     (after : W) where
-  pub text-more : AsksForText Says contents has_failed before result after
-      → AsksForText Others contents has_failed before result after
-  text-more is = record {
+  pub text-more : (is_json : Bool) → AsksForText is_json Says contents has_failed before result after
+      → AsksForText is_json Others contents has_failed before result after
+  text-more is_json is = record {
     printed = is.printed;
     failed = IfErr-weaker result _ _ (λ failure ours. asking-more Says Others more failure ours) is.failed;
     silent = is.silent;

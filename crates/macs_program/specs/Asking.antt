@@ -1,6 +1,6 @@
 -- What `ask` prints, and how it fails.
 use Rattle.std.specs.Prelude.{◌≡◌, ◌≢◌, ◌==◌, if◌then◌else◌, ⊤, ℕ, Bool, true, List, Option, Result, IfErr, IfOk}
-use Rattle.std.specs.Prelude.{◌⊎◌, ◌++◌, codes, Some, None, Err}
+use Rattle.std.specs.Prelude.{◌⊎◌, ◌++◌, ◌&&◌, codes, Some, None, Err}
 use Rattle.std.specs.Prelude.{◌∷◌, [], nat_eq, string_bytes}
 use Rattle.std.specs.Io.KnownBytes.{Appends}
 use Rattle.std.specs.List.{starts_with}
@@ -11,7 +11,9 @@ use Rattle.macs_control.specs.Asking.{BeginsWithAnswer, seat_of, unread}
 use Rattle.macs_control.specs.Links.{Link}
 use Rattle.macs_control.specs.Seats.{connection_of, held_by}
 use Rattle.macs_control.specs.declared.asking.Asker.{Asker}
+use Rattle.macs_json.specs.Objects.{in_form}
 use Rattle.macs_record.specs.Sectors.{Begins}
+use Rattle.macs_words.specs.Words.{is_report}
 use Rattle.macs_words.specs.declared.action.Question.{Question}
 use Rattle.macs_words.specs.declared.action.Question.TheVariants.{Apply}
 use Rattle.macs_offline.specs.Applying.{SaidByFile, outcome_lines, outcomes_status}
@@ -28,12 +30,14 @@ use Rattle.macs_offline.specs.declared.status.Status.TheVariants as ends
 use Rattle.macs_journal.specs.declared.fault.JournalFault.TheVariants as journal
 use Rattle.macs_texts.specs.Lines.{line}
 
--- a line a command, with its number, and the status of them all; or the text of the answer
-abbrev pub PrintsAnswer : Question → Option (List ℕ) → Option (List ℕ) → Status → Type 0
-PrintsAnswer (Apply file) before after status =
+-- a line a command, with its number, and the status of them all; or the text of the answer, a report as JSON where that
+-- is wanted
+abbrev pub PrintsAnswer : Question → Bool → Option (List ℕ) → Option (List ℕ) → Status → Type 0
+PrintsAnswer (Apply file) is_json before after status =
     (outcomes : List (Option Refusal)) × Appends before after (outcome_lines 1 outcomes)
     × (status ≡ outcomes_status outcomes)
-PrintsAnswer asked before after status = (text : List ℕ) × Appends before after text × (status ≡ ends.Done)
+PrintsAnswer asked is_json before after status = (text : List ℕ)
+    × Appends before after (in_form (is_report asked && is_json) text) × (status ≡ ends.Done)
 
 -- what was printed before a failure: the lines of the commands before it, and of other questions nothing
 abbrev pub PrintsFront : Question → Option (List ℕ) → Option (List ℕ) → Type 0
@@ -135,11 +139,12 @@ IsForRelay remaining all before result after =
     × SaidByFile remaining end commands × BeginsWithEnd all end rest)
     ⊎ ((failure : Failure) × (result ≡ Err failure) × (after ≡ before))
 
--- a relay is asked for a text, which is printed; or that fails, and then nothing is printed
-pub record AsksForText {W : Type 0} (Says : List ℕ → Type 0) (contents : W → Option (List ℕ)) (has_failed : W → Bool)
-    (before : W) (result : Result Status Failure) (after : W) : Type 0 where
-  pub printed : IfOk result (λ status. (text : List ℕ) × Appends (contents before) (contents after) text
-      × (status ≡ ends.Done))
+-- a relay is asked for a text, which is printed, as JSON where that is wanted; or that fails, and then nothing is
+-- printed
+pub record AsksForText {W : Type 0} (is_json : Bool) (Says : List ℕ → Type 0) (contents : W → Option (List ℕ))
+    (has_failed : W → Bool) (before : W) (result : Result Status Failure) (after : W) : Type 0 where
+  pub printed : IfOk result (λ status. (text : List ℕ)
+      × Appends (contents before) (contents after) (in_form is_json text) × (status ≡ ends.Done))
   pub failed : IfErr result (IsOfAsking Says)
   pub silent : IfErr result (λ failure. failure ≢ failures.Output → after ≡ before)
   pub broken : IfErr result (λ failure. failure ≡ failures.Output → has_failed after ≡ true)

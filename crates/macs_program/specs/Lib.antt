@@ -1,6 +1,5 @@
 pub mod Inputs
 pub mod NewDisks
-pub mod ContentWords
 pub mod Summing
 pub mod CaptureFiles
 pub mod Capturing
@@ -13,14 +12,4 @@ pub mod Asking
 pub mod About
 pub mod Overruns
 pub mod Run
-pub mod Drawn
-pub mod RelayDrawn
-pub mod RunWords
-pub mod TextWords
-pub mod ShowTexts
-pub mod AskWords
-pub mod ExamineTexts
-pub mod PlanTexts
-pub mod ReasonTexts
-pub mod CaptureOctets
 pub mod Sockets

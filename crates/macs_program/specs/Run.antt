@@ -83,13 +83,15 @@ Does state_of left_in (Validate disk from to is_all true) input before after sta
 Does state_of left_in (Relay disk controlled common running) input before after status =
     (summary : RelaySummary) × ComesTo state_of (course_of running) summary × SpellsBoth controlled common
     × Appends before after (relay_line summary) × (status ≡ ends.Done)
-Does state_of left_in (Ask path asked) input before after status = PrintsAnswer asked before after status
+Does state_of left_in (Ask path asked is_json) input before after status =
+    PrintsAnswer asked is_json before after status
 Does state_of left_in (Key is_long) input before after status = GivesKey is_long before after × (status ≡ ends.Done)
 Does state_of left_in (Inspect from) input before after status = Inspects before after × (status ≡ ends.Done)
 Does state_of left_in (Check file disk) input before after status = Checks state_of left_in disk before after status
 Does state_of left_in (Plan file end stage) input before after status =
     PrintsPlan left_in (end_of end) (stage_of stage) before after × (status ≡ ends.Done)
-Does state_of left_in (Examine disk) input before after status = PrintsExamined state_of before after status
+Does state_of left_in (Examine disk is_json) input before after status =
+    PrintsExamined state_of is_json before after status
 Does state_of left_in About input before after status = Appends before after about_text × (status ≡ ends.Done)
 
 -- a run that does not fail is asked for help and prints it, or its words are taken and name an action, and it does that
@@ -107,7 +109,7 @@ abbrev pub HasPrinted : Action → Option (List ℕ) → Option (List ℕ) → T
 HasPrinted (Apply disk file) before after = (outcomes : List (Option Refusal))
     × Appends before after (outcome_lines 1 outcomes)
 HasPrinted (Validate disk from to is_all true) before after = PrintsVerdicts before after
-HasPrinted (Ask path asked) before after = PrintsFront asked before after
+HasPrinted (Ask path asked is_json) before after = PrintsFront asked before after
 HasPrinted (Inspect from) before after = PrintsFrames before after
 HasPrinted action before after = after ≡ before
 
@@ -154,24 +156,24 @@ FailsAs state_of left_in (Relay disk controlled common running) octets before af
     × IsFirst (AddressFaultHolds controlled common) address_faults fault)
     ⊎ IsUnbound state_of failure ⊎ OpeningFails state_of failure
     ⊎ RelayEndsIn state_of (course_of running) failure
-FailsAs state_of left_in (Ask path asked) octets before after failure = AskFails path.now asked failure
+FailsAs state_of left_in (Ask path asked is_json) octets before after failure = AskFails path.now asked failure
 FailsAs state_of left_in (Key is_long) octets before after failure = IsOfKey failure
 FailsAs state_of left_in (Inspect from) octets before after failure = InspectFails from.now before after failure
 FailsAs state_of left_in (Check file disk) octets before after failure =
     CheckEnds state_of left_in file.now disk failure
 FailsAs state_of left_in (Plan file end stage) octets before after failure =
     PlanFails left_in file.now (end_of end) (stage_of stage) failure
-FailsAs state_of left_in (Examine disk) octets before after failure = ExamineFails state_of disk.now failure
+FailsAs state_of left_in (Examine disk is_json) octets before after failure = ExamineFails state_of disk.now failure
 FailsAs state_of left_in About octets before after failure = (failure ≡ Memory) ⊎ (failure ≡ Output)
 
 -- it is one that reads no standard input and opens no disk file to write it
 abbrev pub is_apart : Action → Bool
-is_apart (Ask path asked) = true
+is_apart (Ask path asked is_json) = true
 is_apart (Key is_long) = true
 is_apart (Inspect from) = true
 is_apart (Check file disk) = true
 is_apart (Plan file end stage) = true
-is_apart (Examine disk) = true
+is_apart (Examine disk is_json) = true
 is_apart About = true
 is_apart action = false
 

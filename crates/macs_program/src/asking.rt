@@ -1,11 +1,13 @@
 //! `ask`: what a running relay is asked over its control socket, and what it answers.
 
-ghost use Rattle.std.specs.Prelude.{◌≡◌, ◌≢◌, ◌⊎◌, ◌↔◌, ◌++◌, ℕ, List, Option, None, is_some, true};
+ghost use Rattle.std.specs.Prelude.{◌≡◌, ◌≢◌, ◌⊎◌, ◌↔◌, ◌++◌, ℕ, List, Option, None, is_some};
+ghost use Rattle.std.specs.Prelude.{true, false};
 ghost use Rattle.std.specs.Prelude.{IfErr, IfOk, IfSome, IsTrue, Ok, OnOk, codes, string_bytes};
 ghost use Rattle.std.specs.Io.KnownBytes.{Appends};
 ghost use Rattle.std.specs.IoError.{error_kind};
 ghost use Rattle.macs_config.specs.declared.refusal.Refusal.{Refusal};
 ghost use Rattle.macs_control.specs.Asking.{BeginsWithAnswer};
+ghost use Rattle.macs_json.specs.Objects.{in_form, json_text};
 ghost use Rattle.macs_offline.specs.Applying.{outcome_line};
 ghost use Rattle.macs_offline.specs.Reasons.{Complains, Tells};
 ghost use Rattle.macs_program.specs.Asking.{AskFails, AsksForText, BeginsWithEnd, BeginsWithOwn};
@@ -27,7 +29,8 @@ use macs_fields::Sci;
 use macs_journal::JournalFault;
 use macs_offline::check::commands_told;
 use macs_offline::{
-    DiskFault, Failure, Status, Stream, failure_told, outcome_line, print_octets, status_after,
+    DiskFault, Failure, Status, Stream, failure_told, outcome_line, print_json, print_octets,
+    status_after,
 };
 use macs_requests::{Request, line_of_request};
 use macs_texts::{ended, refusal_name};
@@ -105,32 +108,74 @@ fn failure_in(status: u8) -> Failure
     }
 }
 
-/// Prints the text of an answer, if the request was done.
-fn print_answer<W: Stream>(answer: &Answer, out: &mut W) -> Result<Status, Failure>
-    ensures asked { AsksForText SaysNothing W.contents W.failed out.old result out.new }
+/// Prints the text of an answer as JSON. It fails as `Memory`, as `Control` where the text is no
+/// UTF-8, as that of a relay is, and as `Output`.
+fn print_as_json<W: Stream>(alloc: Global, text: &[u8], out: &mut W) -> Result<(), Failure>
+    ensures printed { OnOk result
+        (Appends (W.contents out.old) (W.contents out.new) (json_text text.now)) }
+    ensures failed { IfErr result (IsOfAsking SaysNothing) }
+    ensures silent { IfErr result (λ failure. failure ≢ Failure.Output → out.new ≡ out.old) }
+    ensures broken { IfErr result (λ failure. failure ≡ Failure.Output → W.failed out.new ≡ true) }
+{
+    let Ok(text) = str::from_utf8(text) else {
+        return Err(Failure::Control);
+    };
+    print_json(alloc, text, out)
+}
+
+/// Prints the text of an answer, as JSON where that is wanted. It fails as `print_as_json`.
+fn print_text<W: Stream>(
+    alloc: Global,
+    text: &[u8],
+    is_json: bool,
+    out: &mut W,
+) -> Result<(), Failure>
+    ensures printed { OnOk result
+        (Appends (W.contents out.old) (W.contents out.new) (in_form is_json text.now)) }
+    ensures failed { IfErr result (IsOfAsking SaysNothing) }
+    ensures silent { IfErr result (λ failure. failure ≢ Failure.Output → out.new ≡ out.old) }
+    ensures broken { IfErr result (λ failure. failure ≡ Failure.Output → W.failed out.new ≡ true) }
+{
+    if is_json {
+        return print_as_json(alloc, text, out);
+    }
+    print_octets(out, text)
+}
+
+/// Prints the text of an answer, as JSON where that is wanted, if the request was done.
+fn print_answer<W: Stream>(
+    alloc: Global,
+    answer: &Answer,
+    is_json: bool,
+    out: &mut W,
+) -> Result<Status, Failure>
+    ensures asked { AsksForText is_json SaysNothing W.contents W.failed out.old result out.new }
     ensures text { IfOk result (λ status. (answer.now.status ≡ 0)
-        × Appends (W.contents out.old) (W.contents out.new) answer.now.text.items) }
+        × Appends (W.contents out.old) (W.contents out.new)
+        (in_form is_json answer.now.text.items)) }
 {
     if answer.status != 0 {
         return Err(failure_in(answer.status));
     }
-    print_octets(out, answer.text.as_slice())?;
+    print_text(alloc, answer.text.as_slice(), is_json, out)?;
     Ok(Status::Done)
 }
 
-/// Asks a relay for a text, and prints it.
+/// Asks a relay for a text, and prints it, as JSON where that is wanted.
 fn ask_once<N: Net, W: Stream>(
     net: &N,
     alloc: Global,
     path: &str,
     request: Request,
+    is_json: bool,
     out: &mut W,
 ) -> Result<Status, Failure>
-    ensures { AsksForText (SaysOfSocket path.now) W.contents W.failed out.old result out.new }
+    ensures { AsksForText is_json (SaysOfSocket path.now) W.contents W.failed out.old result
+        out.new }
 {
     let mut asker = asker_at(net, alloc, path)?;
     let answer = answer_to(alloc, &mut asker, &request)?;
-    print_answer(&answer, out)
+    print_answer(alloc, &answer, is_json, out)
 }
 
 /// Asks a relay to end, and waits until it did: its last line is printed then.
@@ -140,12 +185,12 @@ fn ask_stop<N: Net, W: Stream>(
     path: &str,
     out: &mut W,
 ) -> Result<Status, Failure>
-    ensures { AsksForText (SaysOfSocket path.now) W.contents W.failed out.old result out.new }
+    ensures { AsksForText false (SaysOfSocket path.now) W.contents W.failed out.old result out.new }
 {
     let mut asker = asker_at(net, alloc, path)?;
     let answer = answer_to(alloc, &mut asker, &Request::Stop)?;
     asker.outlast();
-    print_answer(&answer, out)
+    print_answer(alloc, &answer, false, out)
 }
 
 /// The refusal whose line a text is.
@@ -344,30 +389,33 @@ fn ask_apply<T: Files + Net, W: Stream>(
     apply_file(rt, alloc, &mut asker, file, out)
 }
 
-/// Asks a running relay, and prints its answer. It fails first as `Said`, where no relay is at the
-/// socket; then for the command file, as `Said`, and as `Commands` where the file names an end and
-/// the relay's endpoint has another SCI: before the first command the relay is asked for its text.
-/// Then it fails as `Disk` with `Stopped`, where the relay ended before it answered a command; and
-/// as `Control`, where it went away, or gave no answer that a relay gives.
+/// Asks a running relay, and prints its answer, a report as JSON where that is wanted. It fails
+/// first as `Said`, where no relay is at the socket; then for the command file, as `Said`, and as
+/// `Commands` where the file names an end and the relay's endpoint has another SCI: before the
+/// first command the relay is asked for its text. Then it fails as `Disk` with `Stopped`, where the
+/// relay ended before it answered a command; and as `Control`, where it went away, or gave no
+/// answer that a relay gives.
 fn put_question<T: Files + Net, W: Stream>(
     rt: &T,
     alloc: Global,
     path: &str,
     question: Question,
+    is_json: bool,
     out: &mut W,
 ) -> Result<Status, Failure>
     ensures printed { IfOk result
-        (PrintsAnswer question.entry (W.contents out.old) (W.contents out.new)) }
+        (PrintsAnswer question.entry is_json (W.contents out.old) (W.contents out.new)) }
     ensures failed { IfErr result (IsOfAsking (SaysOfAsking path.now question.entry)) }
     ensures front { IfErr result (λ failure. failure ≢ Failure.Output
         → PrintsFront question.entry (W.contents out.old) (W.contents out.new)) }
     ensures broken { IfErr result (λ failure. failure ≡ Failure.Output → W.failed out.new ≡ true) }
 {
     match question {
-        Question::Show => ask_once(rt, alloc, path, Request::Show, out),
-        Question::Counters => ask_once(rt, alloc, path, Request::Counters, out),
-        Question::Keys => ask_once(rt, alloc, path, Request::Keys, out),
-        Question::About => ask_once(rt, alloc, path, Request::About, out),
+        Question::Show => ask_once(rt, alloc, path, Request::Show, is_json, out),
+        Question::Counters => ask_once(rt, alloc, path, Request::Counters, is_json, out),
+        Question::Keys => ask_once(rt, alloc, path, Request::Keys, is_json, out),
+        Question::Traffic => ask_once(rt, alloc, path, Request::Traffic, is_json, out),
+        Question::About => ask_once(rt, alloc, path, Request::About, is_json, out),
         Question::Stop => ask_stop(rt, alloc, path, out),
         Question::Apply(file) => ask_apply(rt, alloc, path, file, out),
     }
@@ -380,8 +428,8 @@ fn unanswered(alloc: Global, path: &str) -> Failure
     failure_told(alloc, "control", path, SocketReason::NoAnswer.text())
 }
 
-/// The failure that says of which socket or file it is, for one that does not. Only where commands
-/// are asked for a file is for another end.
+/// Names the socket or the file in a failure that does not name it. Only a command file can be for
+/// another end.
 fn named_failure(alloc: Global, path: &str, question: Question, failure: Failure) -> Failure
     ensures gone { failure ≡ Failure.Control → IsUnanswered path.now result }
     ensures other_end { failure ≡ Failure.Commands → IsForOther path.now question.entry result }
@@ -395,6 +443,7 @@ fn named_failure(alloc: Global, path: &str, question: Question, failure: Failure
             Question::Show
             | Question::Counters
             | Question::Keys
+            | Question::Traffic
             | Question::About
             | Question::Stop => unanswered(alloc, path),
         },
@@ -402,25 +451,27 @@ fn named_failure(alloc: Global, path: &str, question: Question, failure: Failure
     }
 }
 
-/// `ask`: asks a running relay, and prints its answer. It fails as `Said`, with the reason, where
-/// no relay is at the socket, or gives no answer; where the command file cannot be read, has a
-/// fault, or names an end and the relay's endpoint has another SCI; as `Disk` with `Stopped`, where
-/// the relay ended before it answered a command; as `Memory`; and as `Output`.
+/// `ask`: asks a running relay, and prints its answer, a report as JSON where that is wanted. It
+/// fails as `Said`, with the reason, where no relay is at the socket, or gives no answer; where the
+/// command file cannot be read, has a fault, or names an end and the relay's endpoint has another
+/// SCI; as `Disk` with `Stopped`, where the relay ended before it answered a command; as `Memory`;
+/// and as `Output`.
 pub fn ask<T: Files + Net, W: Stream>(
     rt: &T,
     alloc: Global,
     path: &str,
     question: Question,
+    is_json: bool,
     out: &mut W,
 ) -> Result<Status, Failure>
     ensures printed { IfOk result
-        (PrintsAnswer question.entry (W.contents out.old) (W.contents out.new)) }
+        (PrintsAnswer question.entry is_json (W.contents out.old) (W.contents out.new)) }
     ensures failed { IfErr result (AskFails path.now question.entry) }
     ensures front { IfErr result (λ failure. failure ≢ Failure.Output
         → PrintsFront question.entry (W.contents out.old) (W.contents out.new)) }
     ensures broken { IfErr result (λ failure. failure ≡ Failure.Output → W.failed out.new ≡ true) }
 {
-    match put_question(rt, alloc, path, question, out) {
+    match put_question(rt, alloc, path, question, is_json, out) {
         Ok(status) => Ok(status),
         Err(failure) => Err(named_failure(alloc, path, question, failure)),
     }

@@ -28,8 +28,8 @@ fn limit_of(pace: Pace) -> u16 {
     }
 }
 
-/// The control socket, where there is to be one, over the sockets of both wires. It fails as
-/// `Memory`; and as `Control`, where it cannot be bound.
+/// The control socket, if the words name one, over the sockets of both wires. It fails as `Memory`;
+/// or as `Control`, if it cannot be bound.
 fn clients_for<'a, T: Files + Net + Clock>(
     rt: &'a T,
     alloc: Global,
@@ -44,8 +44,8 @@ fn clients_for<'a, T: Files + Net + Clock>(
 }
 
 /// A desk over the sockets of both wires, over this place of the counters, over the control socket,
-/// where there is to be one, and over the list of keys beside a disk file. It fails as `Memory`; and
-/// as `Control`, where the control socket cannot be bound.
+/// if the words name one, and over the list of keys beside a disk file. It fails as `Memory`; or as
+/// `Control`, if the control socket cannot be bound.
 fn desk_over<'a, T: Files + Net + Clock>(
     rt: &'a T,
     alloc: Global,
@@ -68,8 +68,8 @@ fn desk_over<'a, T: Files + Net + Clock>(
     Ok(ControlDesk::new(alloc, program, clients, metrics, system))
 }
 
-/// Where the counters are written to, if they are. It fails as `Memory`; and as `Control`, where
-/// another file has the name.
+/// Where the counters are written to, if they are. It fails as `Memory`; or as `Control`, if another
+/// file has the name.
 fn place_for<'a, T: Files + Clock>(
     rt: &'a T,
     alloc: Global,
@@ -84,9 +84,10 @@ fn place_for<'a, T: Files + Clock>(
     Ok(place)
 }
 
-/// A desk over the sockets of both wires, over the control socket and the file of counters, where
-/// there are to be ones, and over the list of keys beside a disk file. It fails as `Memory`; and as `Control`, where the control socket
-/// cannot be bound, or another file has the name of that of the counters.
+/// The desk of a relay: over the sockets of both wires, over the control socket and the file of
+/// counters, if the words name them, and over the list of keys beside a disk file. It fails as
+/// `Memory`; or as `Control`, if the control socket cannot be bound, or if another file has the name
+/// of the file of counters.
 pub fn desk_for<'a, T: Files + Net + Clock>(
     rt: &'a T,
     alloc: Global,

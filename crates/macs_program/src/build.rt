@@ -33,7 +33,7 @@ pub fn this_build(alloc: Global) -> Result<Build, AllocError>
 }
 
 /// How many seconds the clock is past the beginning of 1970 (UTC), where it can be read.
-fn seconds_now(clock: &impl Clock) -> Option<u64> {
+pub fn seconds_now(clock: &impl Clock) -> Option<u64> {
     let now = SystemTime::now(clock).ok()?;
     let since = now.duration_since(UNIX_EPOCH).ok()?;
     Some(since.as_secs())
@@ -45,5 +45,9 @@ pub fn this_program(clock: &impl Clock, alloc: Global) -> Result<Program, AllocE
 {
     let build = this_build(alloc)?;
     let started = seconds_now(clock);
-    Ok(Program { build, started })
+    Ok(Program {
+        build,
+        started,
+        last_good: None,
+    })
 }

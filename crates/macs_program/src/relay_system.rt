@@ -1,15 +1,16 @@
 //! What the desk of a relay asks of the system.
 
+use crate::build::seconds_now;
 use crate::overruns::dropped_at;
 use macs_config::Command;
 use macs_control::Wires;
-use macs_desk::{Dropped, KeyNotes, NoteFault, Overruns};
+use macs_desk::{Dropped, KeyNotes, NoteFault, Overruns, Time};
 use macs_offline::{KeyFault, KeyList};
 use std::alloc::Global;
-use std::rt::Files;
+use std::rt::{Clock, Files};
 use std::slice;
 
-/// Linux, of the sockets of both wires, and the list of keys beside the disk file.
+/// Linux, of the sockets of both wires and of time, and the list of keys beside the disk file.
 #[derive(Drop)]
 pub struct RelaySystem<'a, T> {
     pub rt: &'a T,
@@ -34,5 +35,11 @@ impl<T: Files> KeyNotes for RelaySystem<'_, T> {
             Err(KeyFault::Spent) => Err(NoteFault::Spent),
             Err(KeyFault::File | KeyFault::Memory) => Err(NoteFault::Failed),
         }
+    }
+}
+
+impl<T: Clock> Time for RelaySystem<'_, T> {
+    fn seconds(&self) -> Option<u64> {
+        seconds_now(self.rt)
     }
 }

@@ -125,12 +125,16 @@ where
         result out.new }
 {
     match action {
-        Action::Ask { path, question } => ask(rt, alloc, path, question, out),
+        Action::Ask {
+            path,
+            question,
+            is_json,
+        } => ask(rt, alloc, path, question, is_json, out),
         Action::Key { is_long } => key(rt, is_long, out),
         Action::Inspect { input: from } => inspect(rt, alloc, from, out),
         Action::Check { file, disk } => check(rt, alloc, file, disk, out),
         Action::Plan { file, end, stage } => plan(rt, alloc, file, end, stage, out),
-        Action::Examine { disk } => examine(rt, alloc, disk, out),
+        Action::Examine { disk, is_json } => examine(rt, alloc, disk, is_json, out),
         Action::About => about(alloc, out),
         _ => unreachable!(),
     }

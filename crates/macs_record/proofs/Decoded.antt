@@ -22,9 +22,6 @@ FieldsFound kind octets result left =
     (r : Record) (rest : List ℕ) → IsRecord r → kind_of r ≡ kind → octets ≡ fields_of r ++ rest
     → (result ≡ Some r) × (left ≡ rest)
 
-pub no_kind : (sector left : List ℕ) → KindFound sector None left → ¬ HasKind sector
-no_kind sector left found has = never _ (found has.0 has.1.0 has.1.1)
-
 pub no_fields : (kind : Kind) (sector behind left : List ℕ) → KindFound sector (Some kind) behind
     → FieldsFound kind behind None left → ¬ HasFields sector
 no_fields kind sector behind left kinds fields has =

@@ -14,10 +14,6 @@ append_nil : (xs : List ℕ) → xs ++ [] ≡ xs
 append_nil [] = refl
 append_nil (x ∷ xs) = ap (λ (ys : List ℕ). x ∷ ys) (append_nil xs)
 
-append_items_nil : (xs : List (List ℕ)) → xs ++ [] ≡ xs
-append_items_nil [] = refl
-append_items_nil (x ∷ xs) = ap (λ (ys : List (List ℕ)). x ∷ ys) (append_items_nil xs)
-
 -- one more after those that are joined
 pub concat_push : (items : List (List ℕ)) (item : List ℕ) → concat (items ++ item ∷ []) ≡ concat items ++ item
 concat_push items item = concat-append items (item ∷ []) ∙ ap (λ (end : List ℕ). concat items ++ end) (append_nil item)
@@ -46,13 +42,6 @@ next octets left result found item more rest are here =
     (here ∙ append_assoc item (concat more) rest)
 
 -- ---- the first
-
-pub first_none : (count : ℕ) (old octets left : List ℕ) → old ≡ count ∷ octets → OctetsFound octets None left
-    → (all : List (List ℕ)) (rest : List ℕ) → IsFingerprints all → old ≡ fingerprint_octets all ++ rest → ⊥
-first_none count old octets left whole found [] rest are here = absurd (omega (arith, are.0))
-first_none count old octets left whole found (item ∷ more) rest are here =
-    let behind : octets ≡ concat (item ∷ more) ++ rest = cc in
-    never item (next octets left None found item more rest are.2 behind)
 
 first_found : (count : ℕ) (old octets new first : List ℕ) → old ≡ count ∷ octets → OctetsFound octets (Some first) new
     → (all : List (List ℕ)) (rest : List ℕ) → IsFingerprints all → old ≡ fingerprint_octets all ++ rest
@@ -118,13 +107,6 @@ next_none count at old octets left items read below found all rest are here =
     never there.0
     (next octets left None found there.0 there.1 rest (behind all items (there.0 ∷ there.1) there.2 are.2) there.3)
 
--- there are no more than 15
-pub next_full : (count at : ℕ) (old octets : List ℕ) (items : List (List ℕ)) → IsRead count at old octets items
-    → at < count → (length items < 15 → ⊥)
-    → (all : List (List ℕ)) (rest : List ℕ) → IsFingerprints all → old ≡ fingerprint_octets all ++ rest → ⊥
-next_full count at old octets items read below full all rest are here =
-    let as_counted = counted count old _ rest all read.whole here in omega (arith, read.size, are.1, full)
-
 next_found : (count at : ℕ) (old octets new item : List ℕ) (items : List (List ℕ)) → IsRead count at old octets items
     → at < count
     → OctetsFound octets (Some item) new
@@ -155,32 +137,6 @@ next_read count at old octets new item items read below room here is found = rec
       ∙ ap (λ (xs : List ℕ). count ∷ (xs ++ new)) (sym (concat_push items item));
   found = next_found count at old octets new item items read below found;
 }
-
--- ---- the last
-
-pub all_read : (count at : ℕ) (old new : List ℕ) (items : List (List ℕ)) → IsRead count at old new items
-    → at ≡ count → 0 < count
-    → IsFingerprints items × (old ≡ fingerprint_octets items ++ new)
-all_read count at old new items read last some =
-    let size : count ≡ length items = omega (arith, read.size) in (
-      (omega (arith, read.size), omega (arith, read.size, read.few), read.each),
-      read.whole ∙ ap (λ (n : ℕ). n ∷ (concat items ++ new)) size,
-    )
-
-none_left : (all items more : List (List ℕ)) (new rest : List ℕ) → length all ≡ length items → all ≡ items ++ more
-    → new ≡ concat more ++ rest
-    → (Some items ≡ Some all) × (new ≡ rest)
-none_left all items [] new rest size split left = (ap Some (sym (split ∙ append_items_nil items)), left)
-none_left all items (item ∷ more) new rest size split left =
-    absurd (omega (arith, ap length split, length-append {A = List ℕ}))
-
-pub all_found : (count at : ℕ) (old new : List ℕ) (items : List (List ℕ)) → IsRead count at old new items → at ≡ count
-    → (all : List (List ℕ)) (rest : List ℕ) → IsFingerprints all → old ≡ fingerprint_octets all ++ rest
-    → (Some items ≡ Some all) × (new ≡ rest)
-all_found count at old new items read last all rest are here =
-    let before = read.found all rest are here in
-    let as_counted = counted count old _ rest all read.whole here in
-    none_left all items before.0 new rest (omega (arith, read.size)) before.1 before.2
 
 -- ---- written
 

@@ -1,6 +1,6 @@
 -- Texts that are cut at a blank, and texts that have none.
 use Rattle.std.proofs.Common.{◌≡◌, ◌≢◌, ℕ, zero, suc, ◌+◌, ◌<◌, ◌^◌, ◌==◌, ◌||◌, Bool, true, false, List, [], ◌∷◌, ◌++◌}
-use Rattle.std.proofs.Common.{length, get_or, take, drop, Option, Some, None, Ok, Bor, is_ok, decimal, refl, sym, ap}
+use Rattle.std.proofs.Common.{length, get_or, take, drop, Some, None, Bor, is_ok, decimal, refl, sym, ap}
 use Rattle.std.proofs.Common.{◌∙◌, subst, arith}
 use Rattle.std.specs.Char.{digit_value}
 use Rattle.std.specs.List.{after_first, before_first, list_any, position_or_len}
@@ -13,7 +13,7 @@ use Rattle.std.proofs.lemmas.List.{append_assoc, drop_all, drop_at, get_or_appen
 use Rattle.std.proofs.lemmas.List.{take_all, take_at}
 use Rattle.std.proofs.lemmas.List.Sums.{position_or_len_is}
 use Rattle.std.proofs.lemmas.Str.Pattern.{IsSplitOnceResult, split_once_first}
-use Rattle.hex.specs.Hex.{IsBytes, decode_sized, encode_lower, is_hex_digit}
+use Rattle.hex.specs.Hex.{IsBytes, encode_lower, is_hex_digit}
 use Rattle.hex.proofs.HexLemmas.{IsOk-decode_sized, decode_sized-encode_lower}
 use Rattle.macs_requests.specs.Cutting.{after_word, first_word, spaced}
 
@@ -63,12 +63,6 @@ hex_lacks n octets size bytes i within blank =
 
 same_test : (c : ℕ) → (c == c) ≡ true
 same_test c = grind (arith, nat_tests)
-
-position_or_len-Lacks : (c : ℕ) (xs : List ℕ) → Lacks c xs → position_or_len (λ x. x == c) xs ≡ length xs
-position_or_len-Lacks c xs h =
-    position_or_len_is (λ x. x == c) xs (length xs) 0 (omega arith) (λ k lt. let ne = h k lt in
-    grind (arith, nat_tests))
-    (λ lt. absurd (omega arith))
 
 position_or_len-at : (c : ℕ) (xs ys : List ℕ) → Lacks c xs → position_or_len (λ x. x == c) (xs ++ c ∷ ys) ≡ length xs
 position_or_len-at c xs ys h =

@@ -23,7 +23,7 @@ use Rattle.macs_requests.specs.Fields.{key_digits, protection_word, replay_word,
 use Rattle.macs_requests.specs.Lines.{IsTold, command_line, fields_of, word_of}
 use Rattle.macs_requests.specs.Requests.{IsAsked, request_line}
 use Rattle.macs_requests.specs.declared.requests.Request.{Request}
-use Rattle.macs_requests.specs.declared.requests.Request.TheVariants.{About, Apply, Counters, Keys, Show, Stop}
+use Rattle.macs_requests.specs.declared.requests.Request.TheVariants.{About, Apply, Counters, Keys, Show, Stop, Traffic}
 use Rattle.macs_requests.proofs.Values.{decoded, octets_are}
 
 literal : (text : List ℕ) (n most : ℕ) → length text ≡ n → n ≤ most → length text ≤ most
@@ -127,6 +127,7 @@ request_within : (request : Request) → IsAsked request → length (request_lin
 request_within Show asked = literal (codes "show") 4 255 refl (omega arith)
 request_within Counters asked = literal (codes "counters") 8 255 refl (omega arith)
 request_within Keys asked = literal (codes "keys") 4 255 refl (omega arith)
+request_within Traffic asked = literal (codes "traffic") 7 255 refl (omega arith)
 request_within About asked = literal (codes "about") 5 255 refl (omega arith)
 request_within Stop asked = literal (codes "stop") 4 255 refl (omega arith)
 request_within (Apply command) asked = command_short command asked

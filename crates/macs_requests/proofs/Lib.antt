@@ -4,4 +4,3 @@ mod Told
 mod Whole
 mod Lengths
 mod Feeds
-mod RequestWords

@@ -1,5 +1,5 @@
 -- What the texts of fields say.
-use Rattle.std.proofs.Common.{◌≡◌, ℕ, ◌<◌, ◌^◌, ◌%◌, ◌/◌, Bool, true, false, List, length, get_or, Option, Some, None}
+use Rattle.std.proofs.Common.{◌≡◌, ℕ, ◌<◌, ◌^◌, ◌%◌, ◌/◌, Bool, true, false, List, length, Option, Some, None}
 use Rattle.std.proofs.Common.{Result, Ok, Err}
 use Rattle.std.proofs.Common.{bytes_eq, codes, decimal, refl, sym, ap, ◌∙◌, arith, inl, inr}
 use Rattle.std.specs.List.{All}
@@ -20,7 +20,7 @@ use Rattle.macs_config.specs.declared.command.SciMode.{SciMode}
 use Rattle.macs_config.specs.declared.command.SciMode.TheVariants.{Explicit, EndStation, Implicit}
 use Rattle.macs_config.specs.declared.command.Validate.{Validate}
 use Rattle.macs_config.specs.declared.command.Validate.TheVariants.{Strict, Check}
-use Rattle.macs_fields.specs.Fields.{IsAn, IsOctets, IsSci}
+use Rattle.macs_fields.specs.Fields.{IsOctets, IsSci}
 use Rattle.macs_requests.specs.Fields.{key_digits, key_of, octets_of, protection_word, replay_word}
 use Rattle.macs_requests.specs.Fields.{sci_mode_of, sci_mode_word, validate_of, validate_word}
 use Rattle.macs_requests.proofs.Blanks.{Lacks, hex_lacks, lacks}

@@ -1,5 +1,5 @@
 -- What is read of a line, and of no other.
-use Rattle.std.proofs.Common.{◌≡◌, ◌∙◌, Bool, true, false, ℕ, List, Option, Some, None, bytes_eq, refl, sym, ap}
+use Rattle.std.proofs.Common.{◌≡◌, ◌∙◌, Bool, true, false, ℕ, List, Some, None, bytes_eq, refl, sym, ap}
 use Rattle.std.proofs.lemmas.Bool.{false≢true}
 use Rattle.std.proofs.lemmas.Slice.Eq.{bytes_eq-Decides}
 use Rattle.macs_config.specs.declared.command.Command.{Command}
@@ -9,7 +9,7 @@ use Rattle.macs_config.specs.declared.command.Command.TheVariants.{RxAdd, RxDrop
 use Rattle.macs_requests.specs.Lines.{IsTold, command_line}
 use Rattle.macs_requests.specs.Requests.{IsAsked, plain_request, request_line}
 use Rattle.macs_requests.specs.declared.requests.Request.{Request}
-use Rattle.macs_requests.specs.declared.requests.Request.TheVariants.{About, Apply, Counters, Keys, Show, Stop}
+use Rattle.macs_requests.specs.declared.requests.Request.TheVariants.{About, Apply, Counters, Keys, Show, Stop, Traffic}
 use Rattle.macs_requests.proofs.Values.{some_same}
 
 -- ---- one form
@@ -47,6 +47,7 @@ pub plain_read : (line : List ℕ) (found request : Request) → Some found ≡ 
 plain_read line found Show e is = some_same found Show (e ∙ ap (λ (l : List ℕ). plain_request l) is)
 plain_read line found Counters e is = some_same found Counters (e ∙ ap (λ (l : List ℕ). plain_request l) is)
 plain_read line found Keys e is = some_same found Keys (e ∙ ap (λ (l : List ℕ). plain_request l) is)
+plain_read line found Traffic e is = some_same found Traffic (e ∙ ap (λ (l : List ℕ). plain_request l) is)
 plain_read line found About e is = some_same found About (e ∙ ap (λ (l : List ℕ). plain_request l) is)
 plain_read line found Stop e is = some_same found Stop (e ∙ ap (λ (l : List ℕ). plain_request l) is)
 plain_read line found (Apply command) e is =
@@ -62,6 +63,8 @@ command_taken line taken Counters e read asked is =
     let both : None ≡ Some Counters = e ∙ ap (λ (l : List ℕ). plain_request l) is in absurd cc
 command_taken line taken Keys e read asked is =
     let both : None ≡ Some Keys = e ∙ ap (λ (l : List ℕ). plain_request l) is in absurd cc
+command_taken line taken Traffic e read asked is =
+    let both : None ≡ Some Traffic = e ∙ ap (λ (l : List ℕ). plain_request l) is in absurd cc
 command_taken line taken About e read asked is =
     let both : None ≡ Some About = e ∙ ap (λ (l : List ℕ). plain_request l) is in absurd cc
 command_taken line taken Stop e read asked is =

@@ -5,5 +5,3 @@ pub mod CommandWords
 pub mod Requests
 pub mod Inboxes
 pub mod Talks
-pub mod RequestWords
-pub mod TalkWords

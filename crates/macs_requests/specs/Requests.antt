@@ -5,7 +5,7 @@ use Rattle.std.specs.Str.{bytes_eq}
 use Rattle.macs_requests.specs.Cutting.{spaced}
 use Rattle.macs_requests.specs.Lines.{IsTold, command_line}
 use Rattle.macs_requests.specs.declared.requests.Request.{Request}
-use Rattle.macs_requests.specs.declared.requests.Request.TheVariants.{About, Apply, Counters, Keys, Show, Stop}
+use Rattle.macs_requests.specs.declared.requests.Request.TheVariants.{About, Apply, Counters, Keys, Show, Stop, Traffic}
 
 -- a request whose command, where it has one, is in the ranges that its types keep
 abbrev pub IsAsked : Request → Type 0
@@ -17,6 +17,7 @@ abbrev pub request_line : Request → List ℕ
 request_line Show = codes "show"
 request_line Counters = codes "counters"
 request_line Keys = codes "keys"
+request_line Traffic = codes "traffic"
 request_line About = codes "about"
 request_line Stop = codes "stop"
 request_line (Apply command) = command_line command
@@ -25,6 +26,7 @@ request_line (Apply command) = command_line command
 abbrev pub own_request : List ℕ → Option Request
 own_request line =
     if bytes_eq line (codes "keys") then Some Keys
+    else if bytes_eq line (codes "traffic") then Some Traffic
     else if bytes_eq line (codes "about") then Some About
     else None
 

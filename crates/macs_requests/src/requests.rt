@@ -18,6 +18,9 @@ pub enum Request {
     Counters,
     /// `keys`: which keys are installed, by their identifiers.
     Keys,
+    /// `traffic`: what the frames carried under each association number, and when the last one came
+    /// that verified.
+    Traffic,
     /// `about`: which program runs the relay, and since when.
     About,
     /// `stop`: that the relay ends.
@@ -35,6 +38,7 @@ pub fn line_of_request(alloc: Global, request: &Request) -> Result<String, Alloc
         Request::Show => String::from_str(alloc, "show"),
         Request::Counters => String::from_str(alloc, "counters"),
         Request::Keys => String::from_str(alloc, "keys"),
+        Request::Traffic => String::from_str(alloc, "traffic"),
         Request::About => String::from_str(alloc, "about"),
         Request::Stop => String::from_str(alloc, "stop"),
         Request::Apply(command) => line_of_command(alloc, command),
@@ -62,6 +66,8 @@ fn own_request(line: &str) -> Option<Request>
 {
     if line == "keys" {
         Some(Request::Keys)
+    } else if line == "traffic" {
+        Some(Request::Traffic)
     } else if line == "about" {
         Some(Request::About)
     } else {

@@ -44,10 +44,3 @@ pub mapped_more : {X : Type 0} (f : X → X) (xs ys : List X) (i : ℕ) (d new :
 mapped_more {X = X} f xs ys i d new within so_far changed =
     ap (set ys i) changed ∙ ap (λ (l : List X). set l i (f (get_or l i d))) so_far
     ∙ mapped_at f xs i d within ∙ ap (λ (n : ℕ). map f (take n xs) ++ drop n xs) (sym (add-one i))
-
-pub mapped_all : {X : Type 0} (f : X → X) (xs : List X) (i : ℕ) → length xs ≤ i
-    → map f (take i xs) ++ drop i xs ≡ map f xs
-mapped_all f [] zero past = refl
-mapped_all f [] (suc i) past = refl
-mapped_all f (x ∷ xs) zero past = absurd (omega arith)
-mapped_all f (x ∷ xs) (suc i) past = ap (λ l. f x ∷ l) (mapped_all f xs i (omega arith))

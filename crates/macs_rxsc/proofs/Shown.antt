@@ -26,7 +26,8 @@ use Rattle.macs_frame.specs.declared.tag.TagFault.TheVariants.{ForKay as IsForKa
 use Rattle.macs_rxsc.specs.Sound.{IsSoundRx}
 use Rattle.macs_rxsc.specs.Receive.{Numbers, IsOutcome, RxSide, Tag as TagStep, put_numbers, sci_named}
 use Rattle.macs_rxsc.specs.Receive.{standing_channel, verdict_at, numbers_under_window}
-use Rattle.macs_rxsc.specs.Counting.{channel_counters_after_verdict, counters_after_verdict_at, no_channel_counts}
+use Rattle.macs_frame.specs.declared.tag.SecTag.{SecTag}
+use Rattle.macs_rxsc.specs.Counting.{channel_counters_after, counters_after_verdict_at, no_channel_counts}
 use Rattle.macs_rxsc.specs.Value.{ceilings_among, ceilings_in, channel_at, counters_among, counters_in, numbers_in}
 use Rattle.macs_rxsc.specs.Value.{packet_numbers, sa_of, sas_in, scis_of, rx_side_in, association_under, channel_under}
 use Rattle.macs_rxsc.specs.Value.{association_in}
@@ -147,12 +148,14 @@ module _ (items : List Channel) (place : ℕ) (old new : Channel) (sci : List �
       ∙ sym (put_at-read numbers_in _ _ sci (Some new) each)
 
   -- one more is counted for the channel
-  pub counters-counted : (verdict : Verdict) → new.counters ≡ channel_counters_after_verdict verdict old.counters
-      → counters_among (set items place new) ≡ counters_after_verdict_at (Some sci) verdict (counters_among items)
-  counters-counted verdict is =
+  pub counters-counted : (tag : SecTag) (verdict : Verdict) (given : List ℕ)
+      → new.counters ≡ channel_counters_after tag verdict given old.counters
+      → counters_among (set items place new)
+      ≡ counters_after_verdict_at (Some sci) tag verdict given (counters_among items)
+  counters-counted tag verdict given is =
       counters-changed _ (ap Some is)
       ∙ ap (λ (o : Option Channel). put_at (counters_among items) sci
-      (option_map (channel_counters_after_verdict verdict) (counters_in o))) (sym at_old)
+      (option_map (channel_counters_after tag verdict given) (counters_in o))) (sym at_old)
 
 -- ---- a new channel
 
@@ -276,25 +279,28 @@ named_none items (Some sci) none = rw (found-none sci_of items items sci refl no
 
 -- ---- what is not counted for channels
 
-same_in : (o : Option ChannelCounters) (verdict : Verdict) → ((c : ChannelCounters)
-    → channel_counters_after_verdict verdict c ≡ c) → o ≡ option_map (channel_counters_after_verdict verdict) o
-same_in None verdict same = refl
-same_in (Some c) verdict same = ap Some (sym (same c))
+same_in : (o : Option ChannelCounters) (f : ChannelCounters → ChannelCounters) → ((c : ChannelCounters) → f c ≡ c)
+    → o ≡ option_map f o
+same_in None f same = refl
+same_in (Some c) f same = ap Some (sym (same c))
 
-pub uncounted : (channel : Option (List ℕ)) (verdict : Verdict) (table : List ℕ → Option ChannelCounters)
-    → ((c : ChannelCounters) → channel_counters_after_verdict verdict c ≡ c)
-    → counters_after_verdict_at channel verdict table ≡ table
-uncounted None verdict table same = refl
-uncounted (Some sci) verdict table same = put_at-same table sci _ (same_in (table sci) verdict same)
+pub uncounted : (channel : Option (List ℕ)) (tag : SecTag) (verdict : Verdict) (given : List ℕ)
+    (table : List ℕ → Option ChannelCounters)
+    → ((c : ChannelCounters) → channel_counters_after tag verdict given c ≡ c)
+    → counters_after_verdict_at channel tag verdict given table ≡ table
+uncounted None tag verdict given table same = refl
+uncounted (Some sci) tag verdict given table same =
+    put_at-same table sci _ (same_in (table sci) (channel_counters_after tag verdict given) same)
 
 pub tag_uncounted : (side : RxSide) (frame : List ℕ) (fault : TagFault) (validate : Validate) → side.validate ≡ validate
-    → (c : ChannelCounters) → channel_counters_after_verdict (verdict_at side frame (TagStep fault)) c ≡ c
-tag_uncounted side frame IsRunt validate is c = refl
-tag_uncounted side frame IsOversize validate is c = refl
-tag_uncounted side frame HasNoTag Strict is c = rw is refl
-tag_uncounted side frame HasNoTag Check is c = rw is refl
-tag_uncounted side frame HasBadTag validate is c = refl
-tag_uncounted side frame IsForKay validate is c = refl
+    → (tag : SecTag) (given : List ℕ) (c : ChannelCounters)
+    → channel_counters_after tag (verdict_at side frame (TagStep fault)) given c ≡ c
+tag_uncounted side frame IsRunt validate is tag given c = refl
+tag_uncounted side frame IsOversize validate is tag given c = refl
+tag_uncounted side frame HasNoTag Strict is tag given c = rw is refl
+tag_uncounted side frame HasNoTag Check is tag given c = rw is refl
+tag_uncounted side frame HasBadTag validate is tag given c = refl
+tag_uncounted side frame IsForKay validate is tag given c = refl
 
 -- ---- the window changes
 

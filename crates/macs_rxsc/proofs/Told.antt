@@ -1,6 +1,6 @@
 -- What a caller knows from what the readers report: which channels exist, and what a need says of a ceiling.
 use Rattle.std.proofs.Common.{◌≡◌, ◌≤◌, ◌<◌, ◌||◌, ℕ, Bool, true, false, cond, List, [], ◌∷◌, bytes_eq, Option, Some}
-use Rattle.std.proofs.Common.{None, IsSome, IfSome, refl, sym, ap, subst, arith}
+use Rattle.std.proofs.Common.{None, IsSome, IfSome, refl, sym, ap, subst}
 use Rattle.std.specs.Prelude.{IsSomeAnd}
 use Rattle.std.specs.List.{list_any}
 use Rattle.std.specs.Option.{is_some, option_map}
@@ -90,9 +90,3 @@ module _ (side : RxSide) (ceilings : List ℕ → ℕ → Option ℕ) (block : �
   need_higher None is = tt
   need_higher (Some need) is = if_some (ceilings need.sci need.an) (λ old. old < raised_ceiling block need.pn)
       (asked side ceilings block (need_shown need) (sym is))
-
--- a ceiling that is below one is at most that
-pub risen : (ceiling : Option ℕ) (below above : ℕ) → IfSome ceiling (λ old. old < below) → below ≤ above
-    → IfSome ceiling (λ old. old ≤ above)
-risen None below above some order = tt
-risen (Some ceiling) below above some order = omega arith

@@ -3,6 +3,8 @@ use Rattle.std.specs.Prelude.{ℕ, List, Option, Some, None}
 use Rattle.std.specs.Option.{option_map}
 use Rattle.macs_config.specs.Numbers.{one_more}
 use Rattle.macs_config.specs.Tables.{put_at}
+use Rattle.macs_frame.specs.Traffic.{no_channel_traffic, traffic_after}
+use Rattle.macs_frame.specs.declared.tag.SecTag.{SecTag}
 use Rattle.macs_rxsc.specs.declared.counters.RxCounters.{RxCounters}
 use Rattle.macs_rxsc.specs.declared.counters.ChannelCounters.{ChannelCounters}
 use Rattle.macs_rxsc.specs.declared.verdict.Kind.TheVariants.{Ok, Delayed, Invalid, Untagged, UnknownSci, UnusedSa}
@@ -60,23 +62,27 @@ channel_count_of (Discarded Late) c = c.late
 channel_count_of (Discarded NotValid) c = c.not_valid
 channel_count_of verdict c = 0
 
--- the counters of a channel after one more verdict on a frame that names it
-abbrev pub channel_counters_after_verdict : Verdict → ChannelCounters → ChannelCounters
-channel_counters_after_verdict (Delivered Ok) c = record c { ok = one_more c.ok }
-channel_counters_after_verdict (Delivered Delayed) c = record c { delayed = one_more c.delayed }
-channel_counters_after_verdict (Delivered Invalid) c = record c { invalid = one_more c.invalid }
-channel_counters_after_verdict (Delivered UnusedSa) c = record c { unused_sa = one_more c.unused_sa }
-channel_counters_after_verdict (Discarded NotUsingSa) c = record c { not_using_sa = one_more c.not_using_sa }
-channel_counters_after_verdict (Discarded Late) c = record c { late = one_more c.late }
-channel_counters_after_verdict (Discarded NotValid) c = record c { not_valid = one_more c.not_valid }
-channel_counters_after_verdict verdict c = c
+-- the counters of a channel after one more verdict on a frame that names it, by the frame's SecTAG and what was given:
+-- what a frame carried is counted where it verified
+abbrev pub channel_counters_after : SecTag → Verdict → List ℕ → ChannelCounters → ChannelCounters
+channel_counters_after tag (Delivered Ok) plain c =
+    record c { ok = one_more c.ok; traffic = traffic_after tag plain c.traffic }
+channel_counters_after tag (Delivered Delayed) plain c =
+    record c { delayed = one_more c.delayed; traffic = traffic_after tag plain c.traffic }
+channel_counters_after tag (Delivered Invalid) plain c = record c { invalid = one_more c.invalid }
+channel_counters_after tag (Delivered UnusedSa) plain c = record c { unused_sa = one_more c.unused_sa }
+channel_counters_after tag (Discarded NotUsingSa) plain c = record c { not_using_sa = one_more c.not_using_sa }
+channel_counters_after tag (Discarded Late) plain c = record c { late = one_more c.late }
+channel_counters_after tag (Discarded NotValid) plain c = record c { not_valid = one_more c.not_valid }
+channel_counters_after tag verdict plain c = c
 
 -- a verdict is counted for the channel that its frame names, if there is one
-abbrev pub counters_after_verdict_at : Option (List ℕ) → Verdict → (List ℕ → Option ChannelCounters) → List ℕ
+abbrev pub counters_after_verdict_at : Option (List ℕ) → SecTag → Verdict → List ℕ → (List ℕ → Option ChannelCounters)
+    → List ℕ
     → Option ChannelCounters
-counters_after_verdict_at None verdict table = table
-counters_after_verdict_at (Some sci) verdict table =
-    put_at table sci (option_map (channel_counters_after_verdict verdict) (table sci))
+counters_after_verdict_at None tag verdict given table = table
+counters_after_verdict_at (Some sci) tag verdict given table =
+    put_at table sci (option_map (channel_counters_after tag verdict given) (table sci))
 
 -- each count over all channels at 0
 abbrev pub no_counts : RxCounters
@@ -100,5 +106,13 @@ no_counts = record {
 
 -- each count of one channel at 0
 abbrev pub no_channel_counts : ChannelCounters
-no_channel_counts =
-    record { ok = 0; delayed = 0; invalid = 0; unused_sa = 0; not_using_sa = 0; late = 0; not_valid = 0 }
+no_channel_counts = record {
+  ok = 0;
+  delayed = 0;
+  traffic = no_channel_traffic;
+  invalid = 0;
+  unused_sa = 0;
+  not_using_sa = 0;
+  late = 0;
+  not_valid = 0;
+}

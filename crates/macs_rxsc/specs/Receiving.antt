@@ -3,6 +3,7 @@ use Rattle.std.specs.Prelude.{◌≡◌, ℕ, List, Option, Some}
 use Rattle.macs_config.specs.Tables.{put_at}
 use Rattle.macs_config.specs.declared.command.Replay.{Replay}
 use Rattle.macs_config.specs.declared.command.Validate.{Validate}
+use Rattle.macs_frame.specs.Tag.{tag_of}
 use Rattle.macs_rxsc.specs.Counting.{counters_after_verdict_at}
 use Rattle.macs_rxsc.specs.Receive.{IsOutcome, RxSide, channel_of}
 use Rattle.macs_rxsc.specs.Value.{ceilings_among, ceilings_in, counters_among, numbers_in, rx_side_in, sas_in}
@@ -29,4 +30,5 @@ pub record TableReceives (validate : Validate) (replay : Replay) (old new : List
       ≡ record (rx_side_in validate replay old) { numbers = (rx_side_in validate replay new).numbers }
   pub ceilings : ceilings_among new ≡ ceilings_among old
   pub counters : counters_among new
-      ≡ counters_after_verdict_at (channel_of (rx_side_in validate replay old) frame) verdict (counters_among old)
+      ≡ counters_after_verdict_at (channel_of (rx_side_in validate replay old) frame) (tag_of frame) verdict given
+      (counters_among old)

@@ -2,11 +2,11 @@
 
 ghost use Rattle.std.specs.Prelude.{◌≡◌, Option, ◌<◌, ◌∷◌, ℕ, List, [], Some, None, IsSome, map};
 ghost use Rattle.std.specs.Option.{option_map};
-ghost use Rattle.macs_frame.specs.Tag.{IsForKay, Tag};
+ghost use Rattle.macs_frame.specs.Tag.{IsForKay, Tag, tag_of};
 ghost use Rattle.macs_rxsc.specs.Receive.{Numbers};
 ghost use Rattle.macs_rxsc.specs.Receiving.{ChannelReceives};
 ghost use Rattle.macs_rxsc.specs.Needs.{Need, first_need, need_of};
-ghost use Rattle.macs_rxsc.specs.Counting.{channel_counters_after_verdict, no_channel_counts};
+ghost use Rattle.macs_rxsc.specs.Counting.{channel_counters_after, no_channel_counts};
 ghost use Rattle.macs_rxsc.specs.Value.{ceilings_in, numbers_in, packet_numbers, sa_of, sas_in};
 ghost use Rattle.macs_rxsc.specs.Value.{association_under, channel_under};
 ghost use Rattle.macs_config.specs.Tables.{put};
@@ -99,10 +99,10 @@ impl Channel {
         ensures sas { sas_in (Some self.new) ≡ sas_in (Some self.old) }
         ensures ceilings { ceilings_in (Some self.new) ≡ ceilings_in (Some self.old) }
         ensures counters { self.new.counters
-            ≡ channel_counters_after_verdict result self.old.counters }
+            ≡ channel_counters_after (tag_of frame.now) result out.new.items self.old.counters }
     {
         let verdict = self.decide(policy, frame, parts, out);
-        self.counters.add(verdict);
+        self.counters.add(&parts.tag, verdict, out.as_slice());
         verdict
     }
 

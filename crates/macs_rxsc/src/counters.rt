@@ -4,6 +4,7 @@ ghost use Rattle.std.specs.Prelude.{◌≡◌};
 ghost use Rattle.macs_config.specs.Numbers.{one_more};
 
 use crate::verdict::{Kind, Reason, Verdict};
+use macs_frame::{ChannelTraffic, SecTag};
 
 /// One more, up to 2^64 - 1.
 fn count_one(counter: &mut u64)
@@ -32,11 +33,13 @@ pub struct RxCounters {
     pub not_valid: u64,
 }
 
-/// How often each verdict was given that is counted for a channel. A counter stays at 2^64 - 1.
+/// How often each verdict was given that is counted for a channel, and what the frames carried that
+/// verified. A counter stays at 2^64 - 1.
 #[derive(Clone, Copy, Default)]
 pub struct ChannelCounters {
     pub ok: u64,
     pub delayed: u64,
+    pub traffic: ChannelTraffic,
     pub invalid: u64,
     pub unused_sa: u64,
     pub not_using_sa: u64,
@@ -122,7 +125,7 @@ impl RxCounters {
 
 impl ChannelCounters {
     ghost use Rattle.std.specs.Prelude.{◌≡◌};
-    ghost use Rattle.macs_rxsc.specs.Counting.{channel_count_of, channel_counters_after_verdict};
+    ghost use Rattle.macs_rxsc.specs.Counting.{channel_count_of, channel_counters_after};
     ghost use Rattle.macs_rxsc.specs.Counting.{no_channel_counts};
 
     /// Nothing is counted yet.
@@ -132,6 +135,7 @@ impl ChannelCounters {
         ChannelCounters {
             ok: 0,
             delayed: 0,
+            traffic: ChannelTraffic::new(),
             invalid: 0,
             unused_sa: 0,
             not_using_sa: 0,
@@ -156,13 +160,19 @@ impl ChannelCounters {
         }
     }
 
-    /// A verdict is given once more.
-    pub fn add(&mut self, verdict: Verdict)
-        ensures { self.new ≡ channel_counters_after_verdict verdict self.old }
+    /// A verdict is given once more, on a frame with this SecTAG, and this is what is given of it.
+    pub fn add(&mut self, tag: &SecTag, verdict: Verdict, given: &[u8])
+        ensures { self.new ≡ channel_counters_after tag.now verdict given.now self.old }
     {
         match verdict {
-            Verdict::Delivered(Kind::Ok) => count_one(&mut self.ok),
-            Verdict::Delivered(Kind::Delayed) => count_one(&mut self.delayed),
+            Verdict::Delivered(Kind::Ok) => {
+                count_one(&mut self.ok);
+                self.traffic.add(tag, given);
+            }
+            Verdict::Delivered(Kind::Delayed) => {
+                count_one(&mut self.delayed);
+                self.traffic.add(tag, given);
+            }
             Verdict::Delivered(Kind::Invalid) => count_one(&mut self.invalid),
             Verdict::Delivered(Kind::UnusedSa) => count_one(&mut self.unused_sa),
             Verdict::Discarded(Reason::NotUsingSa) => count_one(&mut self.not_using_sa),

@@ -1,7 +1,7 @@
 //! Laws of the definitions, for the layers above.
 
-ghost use Rattle.std.specs.Prelude.{◌≡◌, ◌⊎◌, ◌≤◌, ◌+◌, ◌^◌, ℕ, List, Option, Some, IsSome};
-ghost use Rattle.macs_fields.specs.First.{IsFirst, NoneHolds};
+ghost use Rattle.std.specs.Prelude.{◌≡◌, ◌⊎◌, ◌≤◌, ◌+◌, ◌^◌, ℕ, List, Option, Some};
+ghost use Rattle.macs_fields.specs.First.{IsFirst};
 ghost use Rattle.macs_rxsc.specs.Receive.{AreNumbered, AreOrdered, Arrival, Arrives, Numbers};
 ghost use Rattle.macs_rxsc.specs.Receive.{RxStepHolds, Outcome, IsOutcome, RxSide, RxStep};
 ghost use Rattle.macs_rxsc.specs.Receive.{rx_steps};

@@ -8,6 +8,8 @@ ghost use Rattle.std.specs.Str.{bytes_eq};
 ghost use Rattle.macs_aes.specs.Keys.{octets_of_key};
 ghost use Rattle.macs_config.specs.Config.{this_edition, is_ascending, put_among};
 ghost use Rattle.macs_config.specs.Tables.{put, put_at};
+ghost use Rattle.macs_frame.specs.Tag.{tag_of};
+ghost use Rattle.macs_frame.specs.Traffic.{traffic_under};
 ghost use Rattle.macs_rxsc.specs.Receive.{AreOrdered, Numbers, IsOutcome, channel_of, has_channel};
 ghost use Rattle.macs_rxsc.specs.Receive.{new_rx_side, put_numbers, first_numbers};
 ghost use Rattle.macs_rxsc.specs.Receive.{numbers_under_window};
@@ -15,6 +17,7 @@ ghost use Rattle.macs_rxsc.specs.Needs.{Need, first_need_of, raised_ceiling};
 ghost use Rattle.macs_rxsc.specs.Counting.{channel_count_of, count_of, counters_after_verdict};
 ghost use Rattle.macs_rxsc.specs.Counting.{counters_after_verdict_at, no_counts, no_channel_counts};
 ghost use Rattle.macs_rxsc.specs.Value.{ceilings_of, channel_counters_of, counters_of, rx_side_of};
+ghost use Rattle.macs_rxsc.specs.declared.counters.ChannelCounters.{ChannelCounters};
 
 use crate::association::{Association, RxNumbers};
 use crate::counters::RxCounters;
@@ -25,7 +28,7 @@ use crate::verdict::Verdict;
 use arrayvec::ArrayVec;
 use macs_aes::Key;
 use macs_config::{MAX_CHANNELS, Replay, Validate};
-use macs_frame::{An, FrameBuf, Offset, Sci};
+use macs_frame::{An, FrameBuf, Offset, Sci, Traffic};
 use macs_gcm::GcmKey;
 use std::marker::Model;
 
@@ -246,8 +249,8 @@ impl Rx {
         ensures counters { counters_of self.new
             ≡ counters_after_verdict result (counters_of self.old) }
         ensures channel_counters { channel_counters_of self.new
-            ≡ counters_after_verdict_at (channel_of (rx_side_of self.old) frame.now) result
-            (channel_counters_of self.old) }
+            ≡ counters_after_verdict_at (channel_of (rx_side_of self.old) frame.now)
+            (tag_of frame.now) result out.new.items (channel_counters_of self.old) }
     {
         let verdict = self.table.receive(self.policy, frame, out);
         self.counters.add(verdict);
@@ -269,6 +272,16 @@ impl Rx {
     {
         let channel = self.table.channel(sci)?;
         Some(channel.counters.of(verdict))
+    }
+
+    /// What the frames of a channel carried that verified under an association number, since the
+    /// channel was added. It is `None` where the channel does not exist.
+    pub fn traffic(&self, sci: Sci, an: An) -> Option<Traffic>
+        ensures { result ≡ option_map (λ (c : ChannelCounters). traffic_under c.traffic an)
+            (channel_counters_of self.now sci) }
+    {
+        let channel = self.table.channel(sci)?;
+        Some(channel.counters.traffic.of(an))
     }
 
     /// Whether another channel may be added: there are fewer than 32.

@@ -4,47 +4,19 @@ use Rattle.std.proofs.Common.{subst, arith}
 use Rattle.macs_disk.specs.Disk.{Disk, IsHonest, Works}
 use Rattle.macs_disk.specs.Runs.{Leaves}
 use Rattle.macs_disk.proofs.Moments.{FailsOnce-before, Leaves-join, Leaves-start, Works-on, Works-start}
-use Rattle.macs_journal.specs.Appending as journal
-use Rattle.macs_journal.specs.Stepping.{IsAppendHand}
-use Rattle.macs_journal.specs.Value.{left_of}
 use Rattle.macs_journal.specs.Work.{FailsAs}
-use Rattle.macs_journal.specs.declared.appending.AppendStage.{AppendStage}
-use Rattle.macs_journal.specs.declared.appending.AppendStage.TheVariants.{Body, BodySync, Gate, GateSync}
 use Rattle.macs_journal.specs.declared.fault.JournalFault.{JournalFault}
 use Rattle.macs_journal.specs.declared.fault.JournalFault.TheVariants as fault
-use Rattle.macs_journal.specs.declared.hand.Hand as journal_hand
-use Rattle.macs_journal.specs.declared.hand.Hand.TheVariants as journal_work
 use Rattle.macs_journal.specs.declared.work.JournalStep.{JournalStep}
 use Rattle.macs_journal.specs.declared.work.JournalStep.TheVariants.{Finished, Going, Idle}
 use Rattle.macs_store.specs.Found.{StandsForEither}
 use Rattle.macs_store.specs.Standing.{Standing}
 use Rattle.macs_store.specs.Stepping.{Finishes, Steps}
 use Rattle.macs_store.specs.Table.{standing_of}
-use Rattle.macs_store.specs.Value.{FitsChange, IsIdle, IsStored, StoreValue, calls_left, calls_with, disk_in}
+use Rattle.macs_store.specs.Value.{IsIdle, IsStored, StoreValue, calls_left, disk_in}
 use Rattle.macs_store.specs.Value.{generation_then, generation_with, is_stopped, slots_then, slots_with, standing_in}
 use Rattle.macs_store.specs.Value.{standing_then, standing_with}
-use Rattle.macs_store.specs.declared.change.Change.{Change}
-use Rattle.macs_store.specs.declared.change.Change.TheVariants.{Appending, Empty, Renewing}
 use Rattle.macs_store.proofs.Keeping.{in_hand-image, stored-image}
-
--- ---- a call is left while work is under way
-
-some-calls : (stage : AppendStage) → 1 ≤ journal.calls_left (Some stage)
-some-calls Body = omega arith
-some-calls BodySync = omega arith
-some-calls Gate = omega arith
-some-calls GateSync = omega arith
-
-append-calls : (hand : journal_hand.Hand) → IsAppendHand hand → 1 ≤ left_of hand
-append-calls journal_work.Empty is = absurd is
-append-calls (journal_work.Append work) is = some-calls work.stage
-append-calls (journal_work.Compact work) is = absurd is
-
-pub calls-some : {D : Type 0} (s : StoreValue D) (hand : Change) → FitsChange s.journal (standing_in s) hand
-    → (hand ≡ Empty → ⊥) → 1 ≤ calls_with s hand
-calls-some s Empty fits busy = absurd (busy refl)
-calls-some s (Renewing r) fits busy = omega arith
-calls-some s (Appending r) fits busy = append-calls s.journal.hand fits.2
 
 -- ---- what holds between two steps
 

@@ -8,7 +8,7 @@ use Rattle.macs_journal.specs.Areas.{slots}
 use Rattle.macs_journal.specs.Found.{content_with_record}
 use Rattle.macs_journal.specs.Renewal.{compacted}
 use Rattle.macs_journal.specs.Stepping as journal
-use Rattle.macs_journal.specs.Stepping.{Appends, IsAppendHand, IsTaskInHand, Renews, RenewsWith}
+use Rattle.macs_journal.specs.Stepping.{Appends, IsAppendHand, IsTaskInHand, Renews}
 use Rattle.macs_journal.specs.Value.{JournalValue}
 use Rattle.macs_journal.specs.declared.fault.JournalFault.{JournalFault}
 use Rattle.macs_journal.specs.declared.hand.Hand as journal_hand
@@ -63,13 +63,6 @@ pub task-appends : {D : Type 0} (j : JournalValue D) (r : Record) (hand : journa
 task-appends j r journal_work.Empty is = absurd is
 task-appends j r (journal_work.Append work) is = tt
 task-appends j r (journal_work.Compact work) is = absurd is
-
-pub task-renews : {D : Type 0} (j : JournalValue D) (records : List Record) (hand : journal_hand.Hand)
-    → IsTaskInHand j (Renews records) hand
-    → RenewsWith j.place hand records
-task-renews j records journal_work.Empty is = absurd is
-task-renews j records (journal_work.Append work) is = absurd is
-task-renews j records (journal_work.Compact work) is = is
 
 -- work that was started
 abbrev taken : Result (Unit {0}) JournalFault

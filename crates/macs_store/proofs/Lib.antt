@@ -23,4 +23,3 @@ pub mod Snapshots
 mod SnapshotLength
 mod Passing
 mod ReadFingerprints
-mod CeilingWords

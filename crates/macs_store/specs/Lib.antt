@@ -10,4 +10,3 @@ pub mod Value
 pub mod Keeps
 pub mod Stepping
 pub mod Opening
-pub mod CeilingWords

@@ -1,3 +1,1 @@
 pub mod Shown
-mod CounterWords
-mod MetricWords

@@ -2,8 +2,7 @@ pub mod Lines
 pub mod Refusals
 pub mod Showing
 pub mod Counting
-pub mod CounterWords
 pub mod Measuring
-pub mod MetricWords
 pub mod KeyTexts
 pub mod Programs
+pub mod TrafficTexts

@@ -150,6 +150,17 @@ overrun_metric own controlled common =
     (codes "Datagrams that the system dropped, since a wire had no room for them.")
     ++ known_numbers own (codes "macsec_wire_overrun_total") controlled common
 
+-- what went wrong at the wires, and what is kept for them
+abbrev pub trouble_metrics : List ℕ → WireCounts → WireCounts → List ℕ
+trouble_metrics own controlled common =
+    wire_metric own (codes "macsec_wire_strangers_total") (codes "Datagrams of another address than the peer's.")
+    controlled.strangers common.strangers
+    ++ (wire_metric own (codes "macsec_wire_failed_receives_total") (codes "Receives that failed.")
+    controlled.failed_receives common.failed_receives
+    ++ (wire_metric own (codes "macsec_wire_failed_sends_total") (codes "Sends that failed.")
+    controlled.failed_sends common.failed_sends
+    ++ buffer_metric own controlled.buffer common.buffer))
+
 -- what they counted, and what is kept for them
 abbrev pub wires_metrics : List ℕ → WireCounts → WireCounts → List ℕ
 wires_metrics own controlled common =
@@ -157,13 +168,7 @@ wires_metrics own controlled common =
     ++ (wire_metric own (codes "macsec_wire_too_long_total")
     (codes "Frames taken off a wire that were too long, and dropped.") controlled.too_long common.too_long
     ++ (wire_metric own (codes "macsec_wire_sent_total") (codes "Frames sent on a wire.") controlled.sent common.sent
-    ++ (wire_metric own (codes "macsec_wire_strangers_total") (codes "Datagrams of another address than the peer's.")
-    controlled.strangers common.strangers
-    ++ (wire_metric own (codes "macsec_wire_failed_receives_total") (codes "Receives that failed.")
-    controlled.failed_receives common.failed_receives
-    ++ (wire_metric own (codes "macsec_wire_failed_sends_total") (codes "Sends that failed.")
-    controlled.failed_sends common.failed_sends
-    ++ buffer_metric own controlled.buffer common.buffer)))))
+    ++ trouble_metrics own controlled common))
 
 -- and what was dropped of them
 abbrev pub report_metrics : List ℕ → WireReport → WireReport → List ℕ

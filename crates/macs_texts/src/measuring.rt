@@ -14,8 +14,8 @@ ghost use Rattle.macs_texts.specs.Measuring.{channel_labels, channel_metric, cha
 ghost use Rattle.macs_texts.specs.Measuring.{channel_samples, key_numbers, keys_metric};
 ghost use Rattle.macs_texts.specs.Measuring.{left_metric, left_sample};
 ghost use Rattle.macs_texts.specs.Measuring.{metrics_text, protected_sample, rx_metric, rx_sample};
-ghost use Rattle.macs_texts.specs.Measuring.{tx_front, tx_metric, tx_sample, wire_metric};
-ghost use Rattle.macs_texts.specs.Measuring.{wire_numbers, wires_metrics};
+ghost use Rattle.macs_texts.specs.Measuring.{trouble_metrics, tx_front, tx_metric, tx_sample};
+ghost use Rattle.macs_texts.specs.Measuring.{wire_metric, wire_numbers, wires_metrics};
 
 use crate::build::Build;
 use crate::counting::{CHANNEL_VERDICTS, RX_VERDICTS, TX_FAULTS, left_of};
@@ -321,15 +321,15 @@ fn overrun_metric(
     )
 }
 
-/// What the wires counted, and what is kept for them.
-fn wires_metrics(
+/// What went wrong at the wires, and what is kept for them.
+fn trouble_metrics(
     alloc: Global,
     own: Sci,
     controlled: &WireCounts,
     common: &WireCounts,
 ) -> Result<String, AllocError>
     ensures { IfOk result
-        (λ text. string_bytes text ≡ wires_metrics own controlled.now common.now) }
+        (λ text. string_bytes text ≡ trouble_metrics own controlled.now common.now) }
 {
     let text = buffer_metric(alloc, own, controlled.buffer, common.buffer);
     let more = wire_metric(
@@ -358,7 +358,20 @@ fn wires_metrics(
         controlled.strangers,
         common.strangers,
     );
-    let text = joined(more, text);
+    joined(more, text)
+}
+
+/// What the wires counted, and what is kept for them.
+fn wires_metrics(
+    alloc: Global,
+    own: Sci,
+    controlled: &WireCounts,
+    common: &WireCounts,
+) -> Result<String, AllocError>
+    ensures { IfOk result
+        (λ text. string_bytes text ≡ wires_metrics own controlled.now common.now) }
+{
+    let text = trouble_metrics(alloc, own, controlled, common);
     let more = wire_metric(
         alloc,
         own,

@@ -1,4 +1,4 @@
-//! Which program runs, and since when.
+//! A run of the program.
 
 ghost use Rattle.std.specs.Prelude.{◌≡◌, IfOk, string_bytes};
 ghost use Rattle.macs_texts.specs.Programs.{about_text, started_line, word_line};
@@ -13,6 +13,9 @@ pub struct Program {
     pub build: Build,
     /// When it began, in seconds since the beginning of 1970 (UTC), where the clock could be read.
     pub started: Option<u64>,
+    /// When a frame was last seen to have verified, in such seconds, where one has, and the clock
+    /// could be read then.
+    pub last_good: Option<u64>,
 }
 
 impl Program {
@@ -26,6 +29,7 @@ impl Program {
         Program {
             build,
             started: None,
+            last_good: None,
         }
     }
 }

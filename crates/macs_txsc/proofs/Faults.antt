@@ -9,13 +9,14 @@ use Rattle.macs_fields.specs.First.{first}
 use Rattle.macs_fields.specs.Fields.{octets_of}
 use Rattle.macs_frame.specs.Protection.{overhead, protected_frame}
 use Rattle.macs_frame.specs.declared.tag.ScName.{ScName}
+use Rattle.macs_frame.specs.declared.tag.SecTag.{SecTag}
 use Rattle.macs_txsc.specs.declared.association.Association.{Association}
 use Rattle.macs_txsc.specs.declared.channel.Tx.{Tx}
 use Rattle.macs_txsc.specs.declared.fault.TxFault.{TxFault}
 use Rattle.macs_txsc.specs.declared.fault.TxFault.TheVariants.{Runt, TooLong, ForeignSource, NoEncodingSa, Exhausted}
 use Rattle.macs_txsc.specs.declared.fault.TxFault.TheVariants.{NoNumber}
 use Rattle.macs_txsc.specs.Transmit.{Outgoing, TxSide, all_tx_faults, frame_of, is_at_ceiling, is_own_source}
-use Rattle.macs_txsc.specs.Transmit.{is_used_up, name_in, next_outgoing}
+use Rattle.macs_txsc.specs.Transmit.{is_used_up, name_in, next_outgoing, next_tag}
 use Rattle.macs_txsc.specs.Value.{ceilings_of, sa_of, tx_side_of}
 
 -- what lies in the frame, with its tests
@@ -93,6 +94,18 @@ in_numbers t plain an a none encoding place =
     let numbers : first (association_faults (ceilings_of t) (Some o)) ≡ first (number_faults a.next a.ceiling) =
     rw place refl in
     behind (tx_side_of t) (ceilings_of t) plain (Some o) none (chosen t an a encoding place) ∙ numbers
+
+-- the SecTAG that an association writes is that of the next frame
+pub tagged : (t : Tx) (an : ℕ) (a : Association) (pn : ℕ) (name : ScName) (tag : SecTag) → t.encoding ≡ Some an
+    → get_or t.associations an None ≡ Some a → pn ≡ a.next → name ≡ name_in t.mode t.sci
+    → tag ≡ record {
+      an = an;
+      pn = pn;
+      name = name;
+      encrypted = is_confidential a.protection;
+      changed = is_confidential a.protection;
+    } → next_tag (tx_side_of t) ≡ Some tag
+tagged t an a pn name tag encoding place number named is = rw (encoding, place, is, number, named) refl
 
 -- the frame that an association makes is the one that goes out
 pub goes_out : (t : Tx) (an : ℕ) (a : Association) (pn : ℕ) (name : ScName) (plain out : List ℕ) → t.encoding ≡ Some an

@@ -110,9 +110,6 @@ module _ (side : TxSide) (ceilings : ℕ → Option ℕ) (block an : ℕ) (need 
   top_below = ltb-true need.top (2 ^ 32)
       (and_parts (nat_le (need.top - need.next) (block / 2)) (nat_lt need.top (2 ^ 32)) need.test).1
 
-  pub tx-stands : IsSome (side.tx an)
-  tx-stands = ap is_some need.is_sa
-
   pub tx-ceiling : IsSome (ceilings an)
   tx-ceiling = ap is_some need.is_top
 
@@ -121,12 +118,6 @@ module _ (side : TxSide) (ceilings : ℕ → Option ℕ) (block an : ℕ) (need 
 
   pub tx-raised : option_map (λ (ceiling : ℕ). further block ceiling) (ceilings an) ≡ Some (further block need.top)
   tx-raised = ap (option_map (λ (ceiling : ℕ). further block ceiling)) need.is_top
-
-  pub tx-not_below : (top : ℕ) → top ≡ further block need.top → IfSome (ceilings an) (λ (old : ℕ). old ≤ top)
-  tx-not_below top same =
-      let under : need.top < 2 ^ 32 = top_below in
-      let within : need.top ≤ top = omega (arith, under, same) in
-      subst (λ (o : Option ℕ). IfSome o (λ (old : ℕ). old ≤ top)) (sym need.is_top) within
 
   -- with that ceiling there is no need
   pub tx-ends : (raised : ℕ → Option ℕ) → raised an ≡ Some (further block need.top) → 1 ≤ block → need.next ≤ need.top

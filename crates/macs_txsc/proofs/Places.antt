@@ -1,7 +1,7 @@
 -- The places of the associations after one of them has changed, and the answer to a frame.
-use Rattle.std.proofs.Common.{rules, ◌≡◌, ◌∙◌, ◌↔◌, ℕ, ◌<◌, ◌+◌, List, length, slice_set, Result, Ok, Err, refl, sym}
+use Rattle.std.proofs.Common.{rules, ◌≡◌, ◌∙◌, ℕ, ◌<◌, ◌+◌, List, length, slice_set, refl, sym}
 use Rattle.std.proofs.Common.{ap}
-use Rattle.std.specs.Prelude.{Option, Some, None, get_or, IfErr, OnOk}
+use Rattle.std.specs.Prelude.{Option, Some, None, get_or}
 use Rattle.std.specs.Option.{option_map}
 use Rattle.std.proofs.lemmas.List.{get_or_default}
 use Rattle.macs_config.specs.Tables.{put}
@@ -51,10 +51,3 @@ sent t an old new encoding within place sa next =
     → record side { tx = x; next = y } ≡ record side { next = put side.next an (Some (old.next + 1)) } =
     λ x y p q. rw (p, q) refl in
     changed _ _ sas numbers ∙ ap (side_after side) (sym outgoing_is)
-
--- an error that is the first fault is so exactly
-pub exactly : {X R : Type 0} (result : Result X R) (found : Option R) → IfErr result (λ fault. found ≡ Some fault)
-    → OnOk result (found ≡ None)
-    → (fault : R) → (result ≡ Err fault) ↔ (found ≡ Some fault)
-exactly (Ok x) found err none fault = search rules
-exactly (Err r) found err none fault = search rules

@@ -1,8 +1,8 @@
 -- The transmit channel (IEEE Std 802.1AE-2018, 10.5): which fault comes first, and the frame that goes out.
-use Rattle.std.specs.Prelude.{◌≡◌, ◌≤◌, ℕ, ◌+◌, ◌-◌, ◌/◌, ◌^◌, ◌==◌, min, nat_le, nat_lt, Bool, false, not, ◌&&◌}
+use Rattle.std.specs.Prelude.{◌≡◌, ◌≤◌, ℕ, ◌+◌, ◌-◌, ◌/◌, ◌^◌, ◌==◌, nat_le, nat_lt, Bool, false, not, ◌&&◌}
 use Rattle.std.specs.Prelude.{if◌then◌else◌, List, [], ◌∷◌, ◌++◌, length, take, slice_range, Option, Some, None}
 use Rattle.std.specs.Prelude.{is_none, Result, Ok, Err}
-use Rattle.std.specs.Option.{option_map_or}
+use Rattle.std.specs.Option.{option_map, option_map_or}
 use Rattle.std.specs.Str.{bytes_eq}
 use Rattle.macs_config.specs.Association.{is_confidential, is_end_station, offset_of}
 use Rattle.macs_config.specs.Numbers.{one_more}
@@ -12,6 +12,7 @@ use Rattle.macs_config.specs.declared.command.SciMode.{SciMode}
 use Rattle.macs_config.specs.declared.command.SciMode.TheVariants.{Explicit, EndStation, Implicit}
 use Rattle.macs_fields.specs.Fields.{octets_of}
 use Rattle.macs_frame.specs.Protection.{overhead, protected_frame}
+use Rattle.macs_frame.specs.Traffic.{no_channel_traffic, traffic_after}
 use Rattle.macs_frame.specs.declared.tag.ScName.{ScName}
 use Rattle.macs_frame.specs.declared.tag.ScName.TheVariants.{Explicit as NamesSci, EndStation as NamesStation}
 use Rattle.macs_frame.specs.declared.tag.ScName.TheVariants.{Implicit as NamesNone}
@@ -71,6 +72,10 @@ tag_for side o = record {
   encrypted = is_confidential o.sa.protection;
   changed = is_confidential o.sa.protection;
 }
+
+-- the SecTAG of the next frame, None where no encoding association exists
+abbrev pub next_tag : TxSide → Option SecTag
+next_tag side = option_map (tag_for side) (next_outgoing side)
 
 -- the frame that goes out for a plain frame
 abbrev pub frame_of : TxSide → Outgoing → List ℕ → List ℕ
@@ -150,6 +155,7 @@ AreOrdered side ceilings an = InOrder (side.next an) (ceilings an) × (is_none (
 abbrev pub no_counts : TxCounters
 no_counts = record {
   protected = 0;
+  traffic = no_channel_traffic;
   runt = 0;
   too_long = 0;
   foreign_source = 0;
@@ -176,7 +182,13 @@ counters_after_fault NoEncodingSa c = record c { no_encoding_sa = one_more c.no_
 counters_after_fault Exhausted c = record c { exhausted = one_more c.exhausted }
 counters_after_fault NoNumber c = record c { no_number = one_more c.no_number }
 
--- what an answer adds
-abbrev pub counters_after_answer : Result ℕ TxFault → TxCounters → TxCounters
-counters_after_answer (Ok pn) c = record c { protected = one_more c.protected }
-counters_after_answer (Err fault) c = counters_after_fault fault c
+-- the counters after one more plain frame was protected, under a SecTAG
+abbrev pub counters_after_frame : SecTag → List ℕ → TxCounters → TxCounters
+counters_after_frame tag plain c =
+    record c { protected = one_more c.protected; traffic = traffic_after tag plain c.traffic }
+
+-- what an answer to a plain frame adds, where the next frame of the channel has this SecTAG
+abbrev pub counters_after_answer : Option SecTag → List ℕ → Result ℕ TxFault → TxCounters → TxCounters
+counters_after_answer (Some tag) plain (Ok pn) c = counters_after_frame tag plain c
+counters_after_answer None plain (Ok pn) c = c
+counters_after_answer tag plain (Err fault) c = counters_after_fault fault c

@@ -47,21 +47,31 @@ impl Association {
         Ok(pn)
     }
 
-    /// Protects a plain frame under the next packet number, which is then used. `sci` is that of
-    /// the transmit channel, `an` the association's number in it, and `name` how frames name the
-    /// channel.
-    pub fn seal(&mut self, sci: Sci, an: An, pn: Pn, name: ScName, plain: &[u8], out: &mut FrameBuf)
+    /// Protects a plain frame under the next packet number, which is then used, and answers its
+    /// SecTAG. `sci` is that of the transmit channel, `an` the association's number in it, and
+    /// `name` how frames name the channel.
+    pub fn seal(
+        &mut self,
+        sci: Sci,
+        an: An,
+        pn: Pn,
+        name: ScName,
+        plain: &[u8],
+        out: &mut FrameBuf,
+    ) -> SecTag
         requires next { pn ≡ self.old.next }
         requires below { self.old.next < self.old.ceiling }
         requires long_enough { 14 ≤ length plain.now }
         requires fits { length plain.now + overhead name ≤ 9216 }
-        ensures frame { out.new.items ≡ protected_frame self.old.key sci (record {
+        ensures tag { result ≡ record {
           an = an;
           pn = pn;
           name = name;
           encrypted = is_confidential self.old.protection;
           changed = is_confidential self.old.protection;
-        }) (octets_of (offset_of self.old.protection)) plain.now }
+        } }
+        ensures frame { out.new.items ≡ protected_frame self.old.key sci result
+            (octets_of (offset_of self.old.protection)) plain.now }
         ensures next { self.new.next ≡ self.old.next + 1 }
         ensures key { self.new.key ≡ self.old.key }
         ensures protection { self.new.protection ≡ self.old.protection }
@@ -77,5 +87,6 @@ impl Association {
         };
         seal_frame(&self.key, sci, &tag, self.protection.offset(), plain, out);
         self.next += 1;
+        tag
     }
 }

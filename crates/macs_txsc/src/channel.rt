@@ -11,11 +11,12 @@ ghost use Rattle.macs_config.specs.Tables.{put};
 ghost use Rattle.macs_config.specs.declared.command.SciMode.TheVariants.{EndStation};
 ghost use Rattle.macs_fields.specs.First.{first};
 ghost use Rattle.macs_frame.specs.Protection.{overhead};
+ghost use Rattle.macs_frame.specs.Traffic.{traffic_under};
 ghost use Rattle.macs_txsc.specs.declared.fault.TxFault.TheVariants.{Runt, TooLong, ForeignSource};
 ghost use Rattle.macs_txsc.specs.Transmit.{AreOrdered, Outgoing, all_tx_faults, fault_count};
 ghost use Rattle.macs_txsc.specs.Transmit.{frame_of, is_own_source, name_in, need_of, new_tx_side};
 ghost use Rattle.macs_txsc.specs.Transmit.{no_counts, next_outgoing, side_after_frame};
-ghost use Rattle.macs_txsc.specs.Transmit.{counters_after_answer};
+ghost use Rattle.macs_txsc.specs.Transmit.{counters_after_answer, next_tag};
 ghost use Rattle.macs_txsc.specs.Value.{ceilings_of, counters_of, tx_side_of};
 
 use crate::association::Association;
@@ -25,6 +26,7 @@ use macs_aes::Key;
 use macs_config::{Protection, SciMode};
 use macs_frame::{
     ASSOCIATIONS, An, END_OF_NUMBERS, FrameBuf, MAX_FRAME, MIN_FRAME, Offset, Pn, ScName, Sci,
+    SecTag, Traffic,
 };
 use macs_gcm::GcmKey;
 
@@ -177,12 +179,20 @@ impl Tx {
         ensures ceilings { ceilings_of self.new ≡ ceilings_of self.old }
         ensures empty { OnErr result (out.new.items ≡ []) }
         ensures counters { counters_of self.new
-            ≡ counters_after_answer result (counters_of self.old) }
+            ≡ counters_after_answer (next_tag (tx_side_of self.old)) plain.now result
+            (counters_of self.old) }
     {
         out.clear();
-        let answer = self.send(plain, out);
-        self.counters.add(&answer);
-        answer
+        match self.send(plain, out) {
+            Ok(tag) => {
+                self.counters.add_frame(&tag, plain);
+                Ok(tag.pn)
+            }
+            Err(fault) => {
+                self.counters.add_fault(fault);
+                Err(fault)
+            }
+        }
     }
 
     /// How many frames met this fault, at most 2^64 - 1.
@@ -190,6 +200,14 @@ impl Tx {
         ensures { result ≡ fault_count fault (counters_of self.now) }
     {
         self.counters.fault_count(fault)
+    }
+
+    /// What the frames carried that were protected under an association number, since the channel
+    /// was made.
+    pub fn traffic(&self, an: An) -> Traffic
+        ensures { result ≡ traffic_under (counters_of self.now).traffic an }
+    {
+        self.counters.traffic.of(an)
     }
 
     /// How many frames were protected, at most 2^64 - 1.
@@ -205,16 +223,15 @@ impl Tx {
         ensures { (an : ℕ) → AreOrdered (tx_side_of self.now) (ceilings_of self.now) an }
     {}
 
-    /// Protects a plain frame as `protect` does, and counts nothing. After a fault `out` is as
-    /// before.
-    fn send(&mut self, plain: &[u8], out: &mut FrameBuf) -> Result<Pn, TxFault>
+    /// Protects a plain frame as `protect` does, answers its SecTAG, and counts nothing. After a
+    /// fault `out` is as before.
+    fn send(&mut self, plain: &[u8], out: &mut FrameBuf) -> Result<SecTag, TxFault>
         ensures fault { IfErr result
             (λ fault. first (all_tx_faults (tx_side_of self.old) (ceilings_of self.old) plain.now)
             ≡ Some fault) }
         ensures none { OnOk result
             (first (all_tx_faults (tx_side_of self.old) (ceilings_of self.old) plain.now) ≡ None) }
-        ensures number { IfOk result (λ pn.
-            option_map (λ (o : Outgoing). o.pn) (next_outgoing (tx_side_of self.old)) ≡ Some pn) }
+        ensures tag { IfOk result (λ tag. next_tag (tx_side_of self.old) ≡ Some tag) }
         ensures frame { OnOk result
             (option_map (λ (o : Outgoing). frame_of (tx_side_of self.old) o plain.now)
             (next_outgoing (tx_side_of self.old)) ≡ Some out.new.items) }
@@ -235,8 +252,7 @@ impl Tx {
             return Err(TxFault::NoEncodingSa);
         };
         let pn = association.packet_number()?;
-        association.seal(self.sci, an, pn, name, plain, out);
-        Ok(pn)
+        Ok(association.seal(self.sci, an, pn, name, plain, out))
     }
 
     /// How a SecTAG names the channel (9.5, 9.9).

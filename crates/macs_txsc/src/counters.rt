@@ -2,16 +2,18 @@
 
 ghost use Rattle.std.specs.Prelude.{◌≡◌};
 ghost use Rattle.macs_config.specs.Numbers.{one_more};
-ghost use Rattle.macs_txsc.specs.Transmit.{fault_count, counters_after_fault, no_counts};
-ghost use Rattle.macs_txsc.specs.Transmit.{counters_after_answer};
+ghost use Rattle.macs_txsc.specs.Transmit.{counters_after_fault, counters_after_frame};
+ghost use Rattle.macs_txsc.specs.Transmit.{fault_count, no_counts};
 
 use crate::fault::TxFault;
-use macs_frame::Pn;
+use macs_frame::{ChannelTraffic, SecTag};
 
-/// How many frames were protected, and how many met each fault. A counter stays at 2^64 - 1.
+/// How many frames were protected, what they carried, and how many met each fault. A counter stays
+/// at 2^64 - 1.
 #[derive(Clone, Copy)]
 pub struct TxCounters {
     pub protected: u64,
+    pub traffic: ChannelTraffic,
     pub runt: u64,
     pub too_long: u64,
     pub foreign_source: u64,
@@ -27,6 +29,7 @@ impl TxCounters {
     {
         TxCounters {
             protected: 0,
+            traffic: ChannelTraffic::new(),
             runt: 0,
             too_long: 0,
             foreign_source: 0,
@@ -51,7 +54,7 @@ impl TxCounters {
     }
 
     /// One more frame met this fault.
-    fn count_fault(&mut self, fault: TxFault)
+    pub fn add_fault(&mut self, fault: TxFault)
         ensures { self.new ≡ counters_after_fault fault self.old }
     {
         match fault {
@@ -64,14 +67,12 @@ impl TxCounters {
         }
     }
 
-    /// One more frame got this answer.
-    pub fn add(&mut self, answer: &Result<Pn, TxFault>)
-        ensures { self.new ≡ counters_after_answer answer.now self.old }
+    /// One more plain frame was protected, under this SecTAG.
+    pub fn add_frame(&mut self, tag: &SecTag, plain: &[u8])
+        ensures { self.new ≡ counters_after_frame tag.now plain.now self.old }
     {
-        match answer {
-            Ok(_) => count_one(&mut self.protected),
-            Err(fault) => self.count_fault(*fault),
-        }
+        count_one(&mut self.protected);
+        self.traffic.add(tag, plain);
     }
 }
 

@@ -5,6 +5,3 @@ pub mod PlannedWords
 pub mod Questions
 pub mod Subcommands
 pub mod Taken
-mod ActionWords
-mod TakenWords
-mod AskedWords

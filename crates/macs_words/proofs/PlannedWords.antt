@@ -75,12 +75,12 @@ plan_of rows (Validate disk input output is_all is_each) named =
     absurd (omega (arith, ap (λ (t : Text). slice_index t 0) named.0))
 plan_of rows (Relay disk controlled common running) named =
     absurd (omega (arith, ap (λ (t : Text). slice_index t 0) named.0))
-plan_of rows (Ask path asked) named = absurd (omega (arith, ap (λ (t : Text). slice_index t 0) named.0))
+plan_of rows (Ask path asked is_json) named = absurd (omega (arith, ap (λ (t : Text). slice_index t 0) named.0))
 plan_of rows (Key is_long) named = absurd (omega (arith, ap (λ (t : Text). slice_index t 0) named.0))
 plan_of rows (Inspect input) named = absurd (omega (arith, ap (λ (t : Text). slice_index t 0) named.0))
 plan_of rows (Check file disk) named = absurd (omega (arith, ap (λ (t : Text). slice_index t 0) named.0))
 plan_of rows (Plan file end stage) named = (end, stage, named.2)
-plan_of rows (Examine disk) named = absurd (omega (arith, ap (λ (t : Text). slice_index t 0) named.0))
+plan_of rows (Examine disk is_json) named = absurd (omega (arith, ap (λ (t : Text). slice_index t 0) named.0))
 plan_of rows About named = absurd (omega (arith, ap (λ (t : Text). slice_index t 0) named))
 
 -- whether a word says an end

@@ -1,6 +1,7 @@
 -- The subcommands of the program: how their words are built, and what each of them is given.
 use Rattle.std.proofs.Common.{◌≡◌, ◌∙◌, ◌↔◌, ◌⊎◌, ◌<◌, ◌^◌, ◌-◌, inl, inr, ℕ, Bool, true, false, ◌&&◌, ◌||◌, List, []}
-use Rattle.std.proofs.Common.{◌∷◌, Option, Some, None, codes, refl, ap, ap₂, arith, option_map, sym, if◌then◌else◌}
+use Rattle.std.proofs.Common.{◌∷◌, Option, Some, None, codes, refl, ap, ap₂, arith, option_map, subst, sym}
+use Rattle.std.proofs.Common.{if◌then◌else◌}
 use Rattle.std.specs.Prelude.{find, slice_index, unwrap_or}
 use Rattle.std.specs.List.{AllByRecursion, slice_index_or}
 use Rattle.std.specs.Option.{option_map_or}
@@ -38,10 +39,11 @@ use Rattle.macs_words.specs.declared.action.UsageFault.{UsageFault}
 use Rattle.macs_words.specs.declared.action.UsageFault.TheVariants.{Usage, Memory}
 use Rattle.macs_words.specs.Words.{FitsNumbers, FitsPace, HasNumber, HasPace, HasQuestion, IsClapCommand, IsFaultOf}
 use Rattle.macs_words.specs.Words.{IsFlagged, MayHaveRoom, Names, NamesNothing}
-use Rattle.macs_words.specs.Words.{bare_app, count_rule, flag_rule, last_rule, macsecd, number_rule, option_rule}
-use Rattle.macs_words.specs.Words.{room_rule, value_rule, wait_rule}
+use Rattle.macs_words.specs.Words.{bare_app, count_rule, flag_rule, is_report, last_rule, macsecd, number_rule}
+use Rattle.macs_words.specs.Words.{option_rule, room_rule, value_rule, wait_rule}
 use Rattle.macs_words.proofs.Given.{AreValueRules, IsValueRule, given, passes_where_given}
 use Rattle.macs_words.proofs.PlannedWords.{plans}
+use Rattle.macs_words.proofs.Questions.{same-report}
 use Rattle.macs_words.proofs.Taken.{is_bare_app, taken}
 
 -- ---- the words as they are built
@@ -99,12 +101,12 @@ blocks rows (Validate disk input output is_all is_each) named fits =
     absurd (omega (arith, ap (λ (t : Text). slice_index t 0) named.0))
 blocks rows (Relay disk controlled common running) named fits =
     absurd (omega (arith, ap (λ (t : Text). slice_index t 0) named.0))
-blocks rows (Ask path asked) named fits = absurd (omega (arith, ap (λ (t : Text). slice_index t 0) named.0))
+blocks rows (Ask path asked is_json) named fits = absurd (omega (arith, ap (λ (t : Text). slice_index t 0) named.0))
 blocks rows (Key is_long) named fits = absurd (omega (arith, ap (λ (t : Text). slice_index t 0) named.0))
 blocks rows (Inspect input) named fits = absurd (omega (arith, ap (λ (t : Text). slice_index t 0) named.0))
 blocks rows (Check file disk) named fits = absurd (omega (arith, ap (λ (t : Text). slice_index t 0) named.0))
 blocks rows (Plan file end stage) named fits = absurd (omega (arith, ap (λ (t : Text). slice_index t 0) named.0))
-blocks rows (Examine disk) named fits = absurd (omega (arith, ap (λ (t : Text). slice_index t 0) named.0))
+blocks rows (Examine disk is_json) named fits = absurd (omega (arith, ap (λ (t : Text). slice_index t 0) named.0))
 blocks rows About named fits = absurd (omega (arith, ap (λ (t : Text). slice_index t 0) named))
 
 -- ---- what `relay` is given
@@ -123,19 +125,20 @@ relay_of rows (Protect disk input output is_all) named fits =
 relay_of rows (Validate disk input output is_all is_each) named fits =
     absurd (omega (arith, ap (λ (t : Text). slice_index t 0) named.0))
 relay_of rows (Relay disk controlled common running) named fits = (disk, controlled, common, running, named, fits)
-relay_of rows (Ask path asked) named fits = absurd (omega (arith, ap (λ (t : Text). slice_index t 0) named.0))
+relay_of rows (Ask path asked is_json) named fits = absurd (omega (arith, ap (λ (t : Text). slice_index t 0) named.0))
 relay_of rows (Key is_long) named fits = absurd (omega (arith, ap (λ (t : Text). slice_index t 0) named.0))
 relay_of rows (Inspect input) named fits = absurd (omega (arith, ap (λ (t : Text). slice_index t 0) named.0))
 relay_of rows (Check file disk) named fits = absurd (omega (arith, ap (λ (t : Text). slice_index t 0) named.0))
 relay_of rows (Plan file end stage) named fits = absurd (omega (arith, ap (λ (t : Text). slice_index t 0) named.0))
-relay_of rows (Examine disk) named fits = absurd (omega (arith, ap (λ (t : Text). slice_index t 0) named.0))
+relay_of rows (Examine disk is_json) named fits = absurd (omega (arith, ap (λ (t : Text). slice_index t 0) named.0))
 relay_of rows About named fits = absurd (omega (arith, ap (λ (t : Text). slice_index t 0) named))
 
 -- ---- what `ask` is given
 
--- its question is there
+-- its question is there, and whether JSON is wanted of a report
 pub question_of : (rows : List Row) (action : Action) → Names (Some (codes "ask", rows)) action
-    → (asked : Question) × HasQuestion rows asked
+    → (asked : Question) × HasQuestion rows asked × (is_json : Bool) × IsFlagged rows (codes "json") is_json
+    × (is_json ≡ true → is_report asked ≡ true)
 question_of rows Open named = cc
 question_of rows (Format disk sci tx_block rx_block block is_over) named =
     absurd (omega (arith, ap (λ (t : Text). slice_index t 0) named.0))
@@ -147,12 +150,12 @@ question_of rows (Validate disk input output is_all is_each) named =
     absurd (omega (arith, ap (λ (t : Text). slice_index t 0) named.0))
 question_of rows (Relay disk controlled common running) named =
     absurd (omega (arith, ap (λ (t : Text). slice_index t 0) named.0))
-question_of rows (Ask path asked) named = (asked, named.2)
+question_of rows (Ask path asked is_json) named = (asked, named.2, is_json, named.3, named.4)
 question_of rows (Key is_long) named = absurd (omega (arith, ap (λ (t : Text). slice_index t 0) named.0))
 question_of rows (Inspect input) named = absurd (omega (arith, ap (λ (t : Text). slice_index t 0) named.0))
 question_of rows (Check file disk) named = absurd (omega (arith, ap (λ (t : Text). slice_index t 0) named.0))
 question_of rows (Plan file end stage) named = absurd (omega (arith, ap (λ (t : Text). slice_index t 0) named.0))
-question_of rows (Examine disk) named = absurd (omega (arith, ap (λ (t : Text). slice_index t 0) named.0))
+question_of rows (Examine disk is_json) named = absurd (omega (arith, ap (λ (t : Text). slice_index t 0) named.0))
 question_of rows About named = absurd (omega (arith, ap (λ (t : Text). slice_index t 1) named))
 
 -- ---- what each subcommand is given
@@ -493,20 +496,24 @@ asks rows word there = go (first_of (codes "FILE") rows) refl
     none-with file given other question.Show has = let e = sym given ∙ has.1 in cc
     none-with file given other question.Counters has = let e = sym given ∙ has.1 in cc
     none-with file given other question.Keys has = let e = sym given ∙ has.1 in cc
+    none-with file given other question.Traffic has = let e = sym given ∙ has.1 in cc
     none-with file given other question.About has = let e = sym given ∙ has.1 in cc
     none-with file given other question.Stop has = let e = sym given ∙ has.1 in cc
     none-with file given other (question.Apply name) has = differs (codes "apply") other has.0
 
     none-alone : first_of (codes "FILE") rows ≡ None → bytes_eq word (codes "show") ≡ false
         → bytes_eq word (codes "counters") ≡ false → bytes_eq word (codes "keys") ≡ false
-        → bytes_eq word (codes "about") ≡ false
+        → bytes_eq word (codes "traffic") ≡ false → bytes_eq word (codes "about") ≡ false
         → bytes_eq word (codes "stop") ≡ false → (asked : Question) → HasQuestion rows asked → ⊥
-    none-alone none first second third fourth fifth question.Show has = differs (codes "show") first has.0
-    none-alone none first second third fourth fifth question.Counters has = differs (codes "counters") second has.0
-    none-alone none first second third fourth fifth question.Keys has = differs (codes "keys") third has.0
-    none-alone none first second third fourth fifth question.About has = differs (codes "about") fourth has.0
-    none-alone none first second third fourth fifth question.Stop has = differs (codes "stop") fifth has.0
-    none-alone none first second third fourth fifth (question.Apply name) has = let e = sym none ∙ has.1 in cc
+    none-alone none shows counts keys carries abouts stops question.Show has = differs (codes "show") shows has.0
+    none-alone none shows counts keys carries abouts stops question.Counters has =
+        differs (codes "counters") counts has.0
+    none-alone none shows counts keys carries abouts stops question.Keys has = differs (codes "keys") keys has.0
+    none-alone none shows counts keys carries abouts stops question.Traffic has =
+        differs (codes "traffic") carries has.0
+    none-alone none shows counts keys carries abouts stops question.About has = differs (codes "about") abouts has.0
+    none-alone none shows counts keys carries abouts stops question.Stop has = differs (codes "stop") stops has.0
+    none-alone none shows counts keys carries abouts stops (question.Apply name) has = let e = sym none ∙ has.1 in cc
 
     with-file : (file : Text) → first_of (codes "FILE") rows ≡ Some file → (applies : Bool)
         → bytes_eq word (codes "apply") ≡ applies
@@ -514,37 +521,77 @@ asks rows word there = go (first_of (codes "FILE") rows) refl
     with-file file given true equal = inl (question.Apply (text_of file), (is (codes "apply") equal, given))
     with-file file given false other = inr (none-with file given other)
 
-    alone : first_of (codes "FILE") rows ≡ None → (shows counts keys abouts stops : Bool)
+    alone : first_of (codes "FILE") rows ≡ None → (shows counts keys carries abouts stops : Bool)
         → bytes_eq word (codes "show") ≡ shows → bytes_eq word (codes "counters") ≡ counts
-        → bytes_eq word (codes "keys") ≡ keys → bytes_eq word (codes "about") ≡ abouts
-        → bytes_eq word (codes "stop") ≡ stops
+        → bytes_eq word (codes "keys") ≡ keys → bytes_eq word (codes "traffic") ≡ carries
+        → bytes_eq word (codes "about") ≡ abouts → bytes_eq word (codes "stop") ≡ stops
         → ((asked : Question) × HasQuestion rows asked) ⊎ ((asked : Question) → ¬ HasQuestion rows asked)
-    alone none true counts keys abouts stops equal second third fourth fifth =
+    alone none true counts keys carries abouts stops equal second third fourth fifth sixth =
         inl (question.Show, (is (codes "show") equal, none))
-    alone none false true keys abouts stops first equal third fourth fifth =
+    alone none false true keys carries abouts stops first equal third fourth fifth sixth =
         inl (question.Counters, (is (codes "counters") equal, none))
-    alone none false false true abouts stops first second equal fourth fifth =
+    alone none false false true carries abouts stops first second equal fourth fifth sixth =
         inl (question.Keys, (is (codes "keys") equal, none))
-    alone none false false false true stops first second third equal fifth =
+    alone none false false false true abouts stops first second third equal fifth sixth =
+        inl (question.Traffic, (is (codes "traffic") equal, none))
+    alone none false false false false true stops first second third fourth equal sixth =
         inl (question.About, (is (codes "about") equal, none))
-    alone none false false false false true first second third fourth equal =
+    alone none false false false false false true first second third fourth fifth equal =
         inl (question.Stop, (is (codes "stop") equal, none))
-    alone none false false false false false first second third fourth fifth =
-        inr (none-alone none first second third fourth fifth)
+    alone none false false false false false false first second third fourth fifth sixth =
+        inr (none-alone none first second third fourth fifth sixth)
 
     go : (found : Option Text) → first_of (codes "FILE") rows ≡ found
         → ((asked : Question) × HasQuestion rows asked) ⊎ ((asked : Question) → ¬ HasQuestion rows asked)
     go None none = alone none (bytes_eq word (codes "show")) (bytes_eq word (codes "counters"))
-        (bytes_eq word (codes "keys")) (bytes_eq word (codes "about")) (bytes_eq word (codes "stop")) refl refl refl
-        refl refl
+        (bytes_eq word (codes "keys")) (bytes_eq word (codes "traffic")) (bytes_eq word (codes "about"))
+        (bytes_eq word (codes "stop")) refl refl refl refl refl refl
     go (Some file) given = with-file file given (bytes_eq word (codes "apply")) refl
+
+-- what is asked, and in which form its answer is wanted
+form : (rows : List Row) (path : Text) → first_of (codes "PATH") rows ≡ Some path → (asked : Question)
+    → HasQuestion rows asked → IsRead (Some (codes "ask", rows))
+form rows path there asked has = go (is_flagged rows (codes "json")) (is_report asked) refl refl
+  where
+    go : (is_json reports : Bool) → is_flagged rows (codes "json") ≡ is_json → is_report asked ≡ reports
+        → IsRead (Some (codes "ask", rows))
+    go false reports used e = inr (
+      Ask (text_of path) asked false,
+      (
+        refl,
+        there,
+        has,
+        subst (λ (b : Bool). IsFlagged rows (codes "json") b) used (flagged rows (codes "json")),
+        λ is. cc,
+      ),
+      tt,
+    )
+    go true true used e = inr (
+      Ask (text_of path) asked true,
+      (
+        refl,
+        there,
+        has,
+        subst (λ (b : Bool). IsFlagged rows (codes "json") b) used (flagged rows (codes "json")),
+        λ is. e,
+      ),
+      tt,
+    )
+    go true false used e = inl (inr (inr (inl (
+      refl,
+      (flagged rows (codes "json")).0 used,
+      λ other has-other. same-report rows other asked has-other has ∙ e,
+    ))))
 
 ask-named : IsNamed (shape_at 7)
 unfolding clap_on_literals
 ask-named words passes =
     let rules : AreValueRules (shape_at 7).rules = record {
-      each = (value-is 1 (codes "PATH"), (value-is 2 (codes "WORD"), (last-is 3 (codes "FILE"), tt)));
-      own = (refl, (refl, (refl, tt)));
+      each = (
+        value-is 1 (codes "PATH"),
+        (value-is 2 (codes "WORD"), (last-is 3 (codes "FILE"), (flag-is (codes "json"), tt))),
+      );
+      own = (refl, (refl, (refl, (refl, tt))));
     } in
     let path =
     given (shape_at 7) words (with_index 1 (filled (value_rule (codes "PATH")))) rules refl passes refl refl in
@@ -552,7 +599,7 @@ ask-named words passes =
     given (shape_at 7) words (with_index 2 (filled (value_rule (codes "WORD")))) rules refl passes refl refl in
     let rows = rows_after (shape_at 7).rules [] words in
     elim (asks rows word.0 word.1) [
-      | inl (asked, has) ↦ inr (Ask (text_of path.0) asked, (refl, path.1, has), tt)
+      | inl (asked, has) ↦ form rows path.0 path.1 asked has
       | inr none ↦ inl (inr (inl (refl, none)))
     ]
 
@@ -604,19 +651,23 @@ plan-named words passes =
     let rows = rows_after (shape_at 11).rules [] words in
     elim (plans rows end.0 stage.0 end.1 stage.1) [
       | inl (side, stage_is, has) ↦ inr (Plan (text_of file.0) side stage_is, (refl, file.1, has), tt)
-      | inr none ↦ inl (inr (inr (refl, none)))
+      | inr none ↦ inl (inr (inr (inr (refl, none))))
     ]
 
 examine-named : IsNamed (shape_at 12)
 unfolding clap_on_literals
 examine-named words passes =
     let rules : AreValueRules (shape_at 12).rules = record {
-      each = (value-is 1 (codes "DISK"), tt);
-      own = (refl, tt);
+      each = (value-is 1 (codes "DISK"), (flag-is (codes "json"), tt));
+      own = (refl, (refl, tt));
     } in
     let disk =
     given (shape_at 12) words (with_index 1 (filled (value_rule (codes "DISK")))) rules refl passes refl refl in
-    inr (Examine (text_of disk.0), (refl, disk.1), tt)
+    let rows = rows_after (shape_at 12).rules [] words in inr (
+      Examine (text_of disk.0) (is_flagged rows (codes "json")),
+      (refl, disk.1, flagged rows (codes "json")),
+      tt,
+    )
 
 about-named : IsNamed (shape_at 13)
 about-named words passes = inr (About, refl, tt)

@@ -103,7 +103,7 @@ frame_subcommands =
 -- the one that asks a running relay
 abbrev pub ask_subcommand : Shape
 ask_subcommand = subcommand_with (codes "ask")
-    (value_rule (codes "PATH") ∷ value_rule (codes "WORD") ∷ last_rule (codes "FILE") ∷ [])
+    (value_rule (codes "PATH") ∷ value_rule (codes "WORD") ∷ last_rule (codes "FILE") ∷ flag_rule (codes "json") ∷ [])
 
 -- those that change no endpoint
 abbrev pub lone_subcommands : List Shape
@@ -113,7 +113,7 @@ lone_subcommands =
     ∷ subcommand_with (codes "check") (value_rule (codes "FILE") ∷ last_rule (codes "DISK") ∷ [])
     ∷ subcommand_with (codes "plan")
     (value_rule (codes "FILE") ∷ value_rule (codes "END") ∷ value_rule (codes "STAGE") ∷ [])
-    ∷ subcommand_with (codes "examine") (value_rule (codes "DISK") ∷ [])
+    ∷ subcommand_with (codes "examine") (value_rule (codes "DISK") ∷ flag_rule (codes "json") ∷ [])
     ∷ subcommand_with (codes "about") []
     ∷ []
 
@@ -172,6 +172,7 @@ abbrev pub plain_word : Question → Option Text
 plain_word question.Show = Some (codes "show")
 plain_word question.Counters = Some (codes "counters")
 plain_word question.Keys = Some (codes "keys")
+plain_word question.Traffic = Some (codes "traffic")
 plain_word question.About = Some (codes "about")
 plain_word question.Stop = Some (codes "stop")
 plain_word (question.Apply file) = None
@@ -181,6 +182,16 @@ abbrev pub HasQuestion : List Row → Question → Type 0
 HasQuestion values (question.Apply file) = HasText values (codes "WORD") (codes "apply")
     × HasText values (codes "FILE") file.now
 HasQuestion values asked = (first_of (codes "WORD") values ≡ plain_word asked) × (first_of (codes "FILE") values ≡ None)
+
+-- the answer to a question is a report
+abbrev pub is_report : Question → Bool
+is_report question.Show = true
+is_report question.Counters = true
+is_report question.Keys = true
+is_report question.Traffic = true
+is_report question.About = true
+is_report question.Stop = false
+is_report (question.Apply file) = false
 
 -- the word of an end of a link
 abbrev pub end_word : PlanEnd → Text
@@ -228,15 +239,16 @@ Names (Some found) (Relay disk controlled common running) =
     × HasText found.1 (codes "OWN2") common.own.now × HasText found.1 (codes "PEER2") common.peer.now
     × HasPace found.1 running.pace × MayHaveRoom found.1 (codes "buffer") running.buffer
     × MayHaveText found.1 (codes "control") running.control × MayHaveText found.1 (codes "metrics") running.metrics
-Names (Some found) (Ask path asked) = (found.0 ≡ codes "ask") × HasText found.1 (codes "PATH") path.now
-    × HasQuestion found.1 asked
+Names (Some found) (Ask path asked is_json) = (found.0 ≡ codes "ask") × HasText found.1 (codes "PATH") path.now
+    × HasQuestion found.1 asked × IsFlagged found.1 (codes "json") is_json × (is_json ≡ true → is_report asked ≡ true)
 Names (Some found) (Key is_long) = (found.0 ≡ codes "key") × IsFlagged found.1 (codes "long") is_long
 Names (Some found) (Inspect input) = (found.0 ≡ codes "inspect") × HasText found.1 (codes "INPUT") input.now
 Names (Some found) (Check file disk) =
     (found.0 ≡ codes "check") × HasText found.1 (codes "FILE") file.now × MayHaveText found.1 (codes "DISK") disk
 Names (Some found) (Plan file end stage) =
     (found.0 ≡ codes "plan") × HasText found.1 (codes "FILE") file.now × HasPlan found.1 end stage
-Names (Some found) (Examine disk) = (found.0 ≡ codes "examine") × HasText found.1 (codes "DISK") disk.now
+Names (Some found) (Examine disk is_json) = (found.0 ≡ codes "examine") × HasText found.1 (codes "DISK") disk.now
+    × IsFlagged found.1 (codes "json") is_json
 Names (Some found) About = found.0 ≡ codes "about"
 
 -- a relay of which neither the turns nor a wait is given: it names no action
@@ -250,6 +262,12 @@ abbrev pub LacksQuestion : Option (Text × List Row) → Type 0
 LacksQuestion None = ⊥
 LacksQuestion (Some found) = (found.0 ≡ codes "ask") × ((asked : Question) → ¬ HasQuestion found.1 asked)
 
+-- an `ask` that wants JSON, and asks nothing whose answer is a report: it names no action
+abbrev pub LacksReport : Option (Text × List Row) → Type 0
+LacksReport None = ⊥
+LacksReport (Some found) = (found.0 ≡ codes "ask") × HasText found.1 (codes "json") (codes "true")
+    × ((asked : Question) → HasQuestion found.1 asked → is_report asked ≡ false)
+
 -- a `plan` whose words say no end or no stage: it names no action
 abbrev pub LacksPlan : Option (Text × List Row) → Type 0
 LacksPlan None = ⊥
@@ -258,7 +276,7 @@ LacksPlan (Some found) =
 
 -- words that clap takes and that name no action
 abbrev pub NamesNothing : Option (Text × List Row) → Type 0
-NamesNothing found = LacksPace found ⊎ LacksQuestion found ⊎ LacksPlan found
+NamesNothing found = LacksPace found ⊎ LacksQuestion found ⊎ LacksReport found ⊎ LacksPlan found
 
 -- the words are none that are taken: clap refuses them, or they name no action
 abbrev pub AreRefused : List Text → Type 0

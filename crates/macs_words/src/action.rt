@@ -59,11 +59,14 @@ pub enum Action<'a> {
         common: WireEnds<'a>,
         running: Running<'a>,
     },
-    /// Asks a running relay over its control socket: `ask PATH show`, and so on.
+    /// Asks a running relay over its control socket: `ask PATH show`, and so on, and `--json` where
+    /// it is given.
     Ask {
         /// The file of the socket.
         path: &'a str,
         question: Question<'a>,
+        /// Whether a report is printed as JSON.
+        is_json: bool,
     },
     /// Prints a fresh key: `key`, and `--long` where it is given.
     Key {
@@ -89,9 +92,12 @@ pub enum Action<'a> {
         end: PlanEnd,
         stage: PlanStage,
     },
-    /// Prints what the journal of a disk has, which is only read: `examine DISK`.
+    /// Prints what the journal of a disk has, which is only read: `examine DISK`, and `--json`
+    /// where it is given.
     Examine {
         disk: &'a str,
+        /// Whether the report is printed as JSON.
+        is_json: bool,
     },
     /// Prints which program this is: `about`.
     About,
@@ -106,6 +112,8 @@ pub enum Question<'a> {
     Counters,
     /// Which keys are installed, by their identifiers: `keys`.
     Keys,
+    /// What frames carried, and when the last one came that verified: `traffic`.
+    Traffic,
     /// Which program runs it, and since when: `about`.
     About,
     /// To end: `stop`.

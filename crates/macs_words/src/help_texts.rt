@@ -10,7 +10,7 @@ pub const HELP: &str = "usage: macsecd [SUBCOMMAND VALUES..]
   validate DISK INPUT OUTPUT   validates the frames of a capture
   relay DISK OWN1 PEER1 OWN2 PEER2 --turns n
                                relays frames between two wires of UDP
-  ask PATH show|counters|keys|about|stop|apply FILE
+  ask PATH show|counters|keys|traffic|about|stop|apply FILE
                                asks a running relay over its control socket
   key                          prints a fresh key
   inspect INPUT                prints what the SecTAG of each frame says
@@ -157,10 +157,11 @@ example: macsecd relay left.disk 127.0.0.1:4001 127.0.0.1:4000 \\
 status: 0 done, 2 usage, 4 disk, 5 wire, control, output or memory
 ";
 
-pub const ASK: &str = "usage: macsecd ask PATH show
-       macsecd ask PATH counters
-       macsecd ask PATH keys
-       macsecd ask PATH about
+pub const ASK: &str = "usage: macsecd ask PATH show [--json]
+       macsecd ask PATH counters [--json]
+       macsecd ask PATH keys [--json]
+       macsecd ask PATH traffic [--json]
+       macsecd ask PATH about [--json]
        macsecd ask PATH apply FILE
        macsecd ask PATH stop
 
@@ -170,11 +171,16 @@ Asks a running relay over its control socket, and prints its answer.
   counters     each counter of the endpoint and of both wires, a line each
   keys         the length and an identifier of each installed key, by which two
                ends compare them: 'tx 0 key 128 id 3f0a91c2'
+  traffic      frames under each association number and their octets, encrypted
+               or not; and when the last frame came that verified, in seconds
+               since 1970
   about        the program that runs it, and since when, in seconds since 1970
   apply FILE   applies the commands of a TOML file, as 'macsecd apply' does: a
                line for each once it is kept, '1 ok', '2 refused KeySpent';
                none of a file that names another end: 'commands', status 5
   stop         ends the relay, which prints its last line
+  --json       prints an object of JSON for each line of the answer, on a line
+               each: '{\"line\":\"blocks\",\"tx\":1024,\"rx\":16}'
 
 example: macsecd ask /run/macsecd/left/control apply new_keys.toml
 status: 0 done, 2 usage, 3 a command refused, 4 the relay ended, 5 nobody there,
@@ -258,11 +264,13 @@ status: 0 done, 2 usage, 3 the link is refused, 5 a fault of the file, output
         or memory
 ";
 
-pub const EXAMINE: &str = "usage: macsecd examine DISK
+pub const EXAMINE: &str = "usage: macsecd examine DISK [--json]
 
 Prints the state of the journal in a disk file. The file is only read; meanwhile
 others may read it, but no relay may run on it, and no program may write to it.
-  DISK   a disk file that was formatted
+  DISK     a disk file that was formatted
+  --json   prints an object of JSON for each of the lines, on a line each:
+           '{\"line\":\"area\",\"area\":0}'; a fault is said as without it
 It prints, a line each,
   format 2                           1 was written by programs before 0.1.0
   block 512                          octets of the device for a sector; or 4096

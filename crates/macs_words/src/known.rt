@@ -6,8 +6,8 @@ ghost use Rattle.macs_words.specs.Words.{IsClapCommand, app_with, ask_subcommand
 ghost use Rattle.macs_words.specs.Words.{first_subcommands, frame_subcommands, macsecd};
 
 use crate::subcommand_words::{
-    about_words, apply_words, ask_words, capture_words, check_words, file_words, format_words,
-    key_words, open_words, plan_words, relay_words, show_words, validate_words,
+    about_words, apply_words, ask_words, capture_words, check_words, examine_words, file_words,
+    format_words, key_words, open_words, plan_words, relay_words, show_words, validate_words,
 };
 use clap::Command;
 use std::alloc::{AllocError, Global};
@@ -78,6 +78,6 @@ pub fn known_words<'a>(alloc: Global) -> Result<Command<'a>, AllocError>
     let words = with_words(words, file_words(alloc, "inspect", "INPUT"));
     let words = with_words(words, check_words(alloc));
     let words = with_words(words, plan_words(alloc));
-    let words = with_words(words, file_words(alloc, "examine", "DISK"));
+    let words = with_words(words, examine_words(alloc));
     with_subcommand(words, about_words(alloc))
 }

@@ -6,7 +6,6 @@ mod arguments;
 mod help;
 mod help_texts;
 mod known;
-pub mod laws;
 mod pace;
 mod plain_text;
 mod plan_words;

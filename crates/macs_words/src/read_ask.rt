@@ -2,11 +2,11 @@
 
 ghost use Rattle.std.specs.Prelude.{◌≡◌, ◌↔◌, IfSome, IsSome, Some, codes};
 ghost use Rattle.clap.specs.Words.{found_of, rows_of};
-ghost use Rattle.macs_words.specs.Words.{HasQuestion, Names, plain_word};
+ghost use Rattle.macs_words.specs.Words.{HasQuestion, Names, is_report, plain_word};
 ghost use Rattle.macs_words.specs.declared.action.Question.{Question};
 
 use crate::action::{Action, Question};
-use crate::read_values::text_in;
+use crate::read_values::{is_flagged, text_in};
 use clap::ArgMatches;
 
 /// The question that a word alone asks, but for `apply`.
@@ -18,6 +18,7 @@ fn plain_question<'a>(word: &str) -> Option<Question<'a>>
         "show" => Some(Question::Show),
         "counters" => Some(Question::Counters),
         "keys" => Some(Question::Keys),
+        "traffic" => Some(Question::Traffic),
         "about" => Some(Question::About),
         "stop" => Some(Question::Stop),
         _ => None,
@@ -38,7 +39,21 @@ fn question_in<'a>(values: &ArgMatches<'a>) -> Option<Question<'a>>
     }
 }
 
-/// `ask` with its values.
+/// Whether the answer to a question is a report.
+fn is_report(question: Question) -> bool
+    ensures { result ≡ is_report question.entry }
+{
+    match question {
+        Question::Show
+        | Question::Counters
+        | Question::Keys
+        | Question::Traffic
+        | Question::About => true,
+        Question::Stop | Question::Apply(_) => false,
+    }
+}
+
+/// `ask` with its values: `None` also where JSON is wanted of what is no report.
 pub fn ask_in<'a>(values: &ArgMatches<'a>) -> Option<Action<'a>>
     ensures read { IfSome result
         (λ action. Names (Some (codes "ask", rows_of (found_of values.now))) action) }
@@ -48,5 +63,13 @@ pub fn ask_in<'a>(values: &ArgMatches<'a>) -> Option<Action<'a>>
 {
     let path = text_in(values, "PATH")?;
     let question = question_in(values)?;
-    Some(Action::Ask { path, question })
+    let is_json = is_flagged(values, "json");
+    if is_json && !is_report(question) {
+        return None;
+    }
+    Some(Action::Ask {
+        path,
+        question,
+        is_json,
+    })
 }

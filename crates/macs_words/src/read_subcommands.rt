@@ -132,7 +132,7 @@ pub fn check_in<'a>(values: &ArgMatches<'a>) -> Option<Action<'a>>
     })
 }
 
-/// `examine` with its value.
+/// `examine` with its values.
 pub fn examine_in<'a>(values: &ArgMatches<'a>) -> Option<Action<'a>>
     ensures read { IfSome result
         (λ action. Names (Some (codes "examine", rows_of (found_of values.now))) action) }
@@ -141,5 +141,8 @@ pub fn examine_in<'a>(values: &ArgMatches<'a>) -> Option<Action<'a>>
         → IsSome result }
 {
     let disk = text_in(values, "DISK")?;
-    Some(Action::Examine { disk })
+    Some(Action::Examine {
+        disk,
+        is_json: is_flagged(values, "json"),
+    })
 }

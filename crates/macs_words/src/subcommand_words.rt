@@ -146,12 +146,14 @@ pub fn relay_words<'a>(alloc: Global) -> Result<Command<'a>, AllocError>
 
 /// The words of `ask`.
 pub fn ask_words<'a>(alloc: Global) -> Result<Command<'a>, AllocError>
-    ensures { IfOk result (λ command. IsClapCommand command (with_rule (with_rule (with_rule
+    ensures { IfOk result
+        (λ command. IsClapCommand command (with_rule (with_rule (with_rule (with_rule
         (new_app (codes "ask")) (value_rule (codes "PATH"))) (value_rule (codes "WORD")))
-        (last_rule (codes "FILE")))) }
+        (last_rule (codes "FILE"))) (flag_rule (codes "json")))) }
 {
     let words = with_required(file_words(alloc, "ask", "PATH"), alloc, "WORD");
-    with_value(words, last(alloc, "FILE"))
+    let words = with_value(words, last(alloc, "FILE"));
+    with_value(words, flag(alloc, "json"))
 }
 
 /// The words of `key`.
@@ -178,6 +180,14 @@ pub fn plan_words<'a>(alloc: Global) -> Result<Command<'a>, AllocError>
 {
     let words = with_required(file_words(alloc, "plan", "FILE"), alloc, "END");
     with_required(words, alloc, "STAGE")
+}
+
+/// The words of `examine`.
+pub fn examine_words<'a>(alloc: Global) -> Result<Command<'a>, AllocError>
+    ensures { IfOk result (λ command. IsClapCommand command (with_rule (with_rule
+        (new_app (codes "examine")) (value_rule (codes "DISK"))) (flag_rule (codes "json")))) }
+{
+    with_value(file_words(alloc, "examine", "DISK"), flag(alloc, "json"))
 }
 
 /// The words of `about`: none of its own.

@@ -9,6 +9,7 @@ ghost use Rattle.macs_words.specs.Words.{NamesNothing, macsecd, texts};
 use crate::action::{Action, UsageFault};
 use crate::known::known_words;
 use crate::plain_text::printable;
+use crate::read_values::is_flagged;
 use crate::reading::action_in;
 use clap::ArgMatches;
 use clap::error::ErrorKind;
@@ -60,16 +61,22 @@ fn usage_fault_of(alloc: Global, error: &clap::Error) -> Result<UsageFault, Allo
     }
 }
 
-/// What is said where the words of a subcommand name no action: of `ask` what it may be asked, of
-/// `plan` its ends and stages, and of a relay that has neither `--turns` nor `--wait`, as clap says
-/// it, that one is missing.
+/// What is said where the words of a subcommand name no action: of `ask` what it may be asked, or
+/// which answers are JSON where that is wanted, of `plan` its ends and stages, and of a relay that
+/// has neither `--turns` nor `--wait`, as clap says it, that one is missing.
 fn missing_cause(alloc: Global, matches: &ArgMatches) -> Result<String, AllocError>
     ensures { IfOk result (λ cause. IsPrintable (string_bytes cause)) }
 {
     match matches.subcommand() {
+        Some(("ask", values)) if is_flagged(values, "json") => {
+            printable(
+                alloc,
+                "ask PATH show, counters, keys, traffic or about, with --json",
+            )
+        }
         Some(("ask", _)) => printable(
             alloc,
-            "ask PATH show, counters, keys, about, stop, or apply FILE",
+            "ask PATH show, counters, keys, traffic, about, stop, or apply FILE",
         ),
         Some(("plan", _)) => printable(
             alloc,
@@ -97,13 +104,14 @@ fn action_read<'a>(alloc: Global, matches: &ArgMatches<'a>) -> Result<Action<'a>
 
 /// The action that the words name, without the program's own name among them. Refused as `Usage`
 /// where clap refuses the words, or where they name a relay with neither `--turns` nor `--wait`,
-/// ask a relay nothing that it is asked, or plan for no end or no stage; else as `Memory` where
-/// there is no memory.
+/// ask a relay nothing that it is asked, ask for JSON of what is no report, or plan for no end or
+/// no stage; else as `Memory` where there is no memory.
 pub fn action_of<'a>(alloc: Global, words: &'a [&'a str]) -> Result<Action<'a>, UsageFault>
     // What is answered is what clap reads.
     ensures read { IfOk result (Names (subcommand_of macsecd (texts words.now))) }
     // What clap takes is refused for memory alone, but for a relay with neither turns nor a wait,
-    // a question that is none, and an end or a stage that is none.
+    // a question that is none or has no report as its answer where JSON is wanted, and an end or a
+    // stage that is none.
     ensures taken { takes macsecd (texts words.now) ≡ true → IfErr result (λ fault.
         (fault ≡ UsageFault.Memory) ⊎ NamesNothing (subcommand_of macsecd (texts words.now))) }
     // What is answered is nothing that clap refuses.

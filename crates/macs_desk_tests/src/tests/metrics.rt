@@ -3,7 +3,7 @@
 use super::clients::Asker;
 use super::{attended, program};
 use macs_config::Command;
-use macs_desk::{ControlDesk, Dropped, KeyNotes, NoteFault, Overruns};
+use macs_desk::{ControlDesk, Dropped, KeyNotes, NoteFault, Overruns, Time};
 use macs_requests::Metrics;
 use std::process::Abort;
 
@@ -38,6 +38,12 @@ impl Overruns for FirstLost {
             controlled: Some(17),
             common: None,
         }
+    }
+}
+
+impl Time for FirstLost {
+    fn seconds(&self) -> Option<u64> {
+        None
     }
 }
 

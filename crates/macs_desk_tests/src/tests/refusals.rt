@@ -3,7 +3,7 @@
 use super::clients::{Asker, expect_told};
 use super::{attended, program};
 use macs_config::Command;
-use macs_desk::{ControlDesk, Dropped, KeyNotes, NoSystem, NoteFault, Overruns};
+use macs_desk::{ControlDesk, Dropped, KeyNotes, NoSystem, NoteFault, Overruns, Time};
 use macs_disk::MemDisk;
 use macs_edge::{Desk, MemWire};
 use macs_endpoint::SubmitFault;
@@ -45,6 +45,12 @@ impl Overruns for NoteKeeper {
             controlled: None,
             common: None,
         }
+    }
+}
+
+impl Time for NoteKeeper {
+    fn seconds(&self) -> Option<u64> {
+        None
     }
 }
 

@@ -15,6 +15,7 @@ const CASES: &[(&str, &str)] = &[
 sci-mode explicit\nencoding none\nspent tx 0 rx 0\n5 end 0\n",
     ),
     ("keys", "5 5 end 0\n"),
+    ("traffic", "5 5 end 0\n"),
     (
         "about",
         "5 macsecd 7.8.9\ncommit abc\nproved no\nstarted 1234567890\n5 end 0\n",

@@ -23,6 +23,8 @@ const SPACED: &str = "story-examine/spaced";
 
 const EXAMINE: &[&str] = &["examine", DISK];
 
+const EXAMINE_IN_JSON: &[&str] = &["examine", DISK, "--json"];
+
 /// One record: the settings of a new endpoint.
 const NEW: Outcome = Outcome::Done(
     "format 2
@@ -79,6 +81,27 @@ whole
 ",
 );
 
+/// The same as JSON.
+const PROTECTED_IN_JSON: Outcome = Outcome::Done(
+    "{\"line\":\"format\",\"format\":2}
+{\"line\":\"block\",\"octets\":512}
+{\"line\":\"area\",\"area\":0}
+{\"line\":\"generation\",\"generation\":1}
+{\"line\":\"slots\",\"used\":6,\"of\":256}
+{\"line\":\"records\",\"kind\":\"settings\",\"count\":1}
+{\"line\":\"records\",\"kind\":\"tx-install\",\"count\":1}
+{\"line\":\"records\",\"kind\":\"tx-use\",\"count\":1}
+{\"line\":\"records\",\"kind\":\"rx-add\",\"count\":1}
+{\"line\":\"records\",\"kind\":\"rx-install\",\"count\":1}
+{\"line\":\"records\",\"kind\":\"tx-ceiling\",\"count\":1}
+{\"line\":\"ceiling\",\"an\":0,\"ceiling\":2049}
+{\"line\":\"ceiling\",\"sci\":\"0200000000020001\",\"an\":0,\"ceiling\":1}
+{\"line\":\"spent\",\"side\":\"tx\",\"keys\":1,\"of\":512}
+{\"line\":\"spent\",\"side\":\"rx\",\"keys\":1,\"of\":512}
+{\"line\":\"whole\"}
+",
+);
+
 const NEW_SPACED: Outcome = Outcome::Done(
     "format 2
 block 4096
@@ -115,8 +138,10 @@ const EXAMINED: &[Step] = &[
         Outcome::Done("protected 3 dropped 0\n"),
     ),
     Keeping(&[DISK], EXAMINE, PROTECTED),
+    Keeping(&[DISK], EXAMINE_IN_JSON, PROTECTED_IN_JSON),
     Shared(DISK, EXAMINE, PROTECTED),
     Closing(0, 0, EXAMINE),
+    Closing(0, 0, EXAMINE_IN_JSON),
     Closing(9, 0, EXAMINE),
     Run(
         &[
@@ -420,6 +445,10 @@ const SPOILED_SECTORS: &[Step] = &[
     Run(SPOILED_WORDS, Outcome::Refused("fault in sector 514\n")),
     Patch(SPOILED, 0, "ff"),
     Run(SPOILED_WORDS, Outcome::Refused("fault in sector 0\n")),
+    Run(
+        &["examine", SPOILED, "--json"],
+        Outcome::Refused("fault in sector 0\n"),
+    ),
 ];
 
 #[test]

@@ -150,11 +150,11 @@ fn what_is_planned_is_taken(rt: HostRuntime) -> Result<(), Fail> {
 const UNREAD: &[Step] = &[
     Run(
         &["plan", "story-plan-unread/missing", "left", "first"],
-        Outcome::Fault("macsecd: commands: story-plan-unread/missing: no such file\n"),
+        Outcome::Fault("macsecd: link file: story-plan-unread/missing: no such file\n"),
     ),
     Run(
         &["plan", "story-plan-unread", "left", "first"],
-        Outcome::Fault("macsecd: commands: story-plan-unread: a folder\n"),
+        Outcome::Fault("macsecd: link file: story-plan-unread: a folder\n"),
     ),
     Hex("story-plan-unread/octets", "ff"),
     Run(

@@ -292,6 +292,10 @@ const RELAYS: &[Step] = &[
         Fault("macsecd: control: story-relay/control: no such socket\n"),
     ),
     Run(
+        &["ask", CONTROL, "about", "--json"],
+        Fault("macsecd: control: story-relay/control: no such socket\n"),
+    ),
+    Run(
         &["ask", DISK, "stop"],
         Fault("macsecd: control: story-relay/disk: nobody listens\n"),
     ),

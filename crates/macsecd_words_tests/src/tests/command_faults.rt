@@ -71,7 +71,7 @@ const FURTHER_FAULTS: &[(&str, &str)] = &[
     ),
     (
         "[[command]]\ndo = 'tx-use'\nan = 0\nkey = ''\n",
-        "macsecd: command 1: a key that it does not have\n",
+        "macsecd: command 1 key: not a key of this command\n",
     ),
     (
         "key = '12153524c0895e81'\n",
@@ -85,6 +85,37 @@ const FURTHER_FAULTS: &[(&str, &str)] = &[
     (
         "# \u{e9}\nsci = '\u{e9}' x\n",
         "macsecd: command file: line 2 column 11: not TOML\n",
+    ),
+];
+
+/// The same of keys that a command does not have, of which the first in the order of their octets is
+/// named.
+const OTHER_KEYS: &[(&str, &str)] = &[
+    (
+        "[[command]]\ndo = 'tx-use'\nan = 0\nfrobnicate = 1\nconfidential = true\n",
+        "macsecd: command 1 confidential: not a key of this command\n",
+    ),
+    (
+        "[[command]]\ndo = 'tx-use'\nan = 0\n[[command]]\ndo = 'rx-add'\nsci = '12153524c0895e81'\nfrob.nicate = 1\n",
+        "macsecd: command 2 frob: not a key of this command\n",
+    ),
+    // A key may be of any characters.
+    (
+        "[[command]]\ndo = 'tx-use'\nan = 0\n\"\\u001b[1m\\n\" = 1\n",
+        "macsecd: command 1 ?[1m?: not a key of this command\n",
+    ),
+    (
+        "[[command]]\ndo = 'tx-use'\nan = 0\n'' = 1\n",
+        "macsecd: command 1 : not a key of this command\n",
+    ),
+    // 64 characters, and one more.
+    (
+        "[[command]]\ndo = 'tx-use'\nan = 0\n'0123456789abcdef0123456789abcdef0123456789abcdef0123456789abcde\u{e9}' = 1\n",
+        "macsecd: command 1 0123456789abcdef0123456789abcdef0123456789abcdef0123456789abcde\u{e9}: not a key of this command\n",
+    ),
+    (
+        "[[command]]\ndo = 'tx-use'\nan = 0\n'0123456789abcdef0123456789abcdef0123456789abcdef0123456789abcde\u{e9}.' = 1\n",
+        "macsecd: command 1 0123456789abcdef0123456789abcdef0123456789abcdef0123456789abcde\u{e9}..: not a key of this command\n",
     ),
 ];
 
@@ -109,7 +140,7 @@ const END_FAULTS: &[(&str, &str)] = &[
     // After a table `sci` is a key of that command.
     (
         "[[command]]\ndo = 'tx-use'\nan = 0\nsci = '12153524c0895e81'\n",
-        "macsecd: command 1: a key that it does not have\n",
+        "macsecd: command 1 sci: not a key of this command\n",
     ),
     (
         "[[command]]\ndo = 'rx-add'\nsci = '12153524c0895e83'\nsci = '12153524c0895e81'\n",
@@ -151,5 +182,6 @@ fn expect_each(
 fn the_first_fault_is_named(rt: HostRuntime) -> Result<(), Fail> {
     expect_each(&rt, rt.alloc(), FAULTS)?;
     expect_each(&rt, rt.alloc(), FURTHER_FAULTS)?;
+    expect_each(&rt, rt.alloc(), OTHER_KEYS)?;
     expect_each(&rt, rt.alloc(), END_FAULTS)
 }

@@ -126,7 +126,7 @@ const FORMS: &[&str] = &[
     "\n  protect DISK INPUT OUTPUT   ",
     "\n  validate DISK INPUT OUTPUT   ",
     "\n  relay DISK OWN1 PEER1 OWN2 PEER2 --turns n\n",
-    "\n  ask PATH show|counters|keys|about|stop|apply FILE\n",
+    "\n  ask PATH show|counters|keys|traffic|about|stop|apply FILE\n",
     "\n  key   ",
     "\n  inspect INPUT   ",
     "\n  check FILE [DISK]   ",

@@ -201,7 +201,7 @@ const WORDS_TOO_FEW: &[Row] = &[
 
 /// Words that ask nothing that a relay is asked, and the line that says what it is asked.
 const NO_QUESTION: Outcome = Outcome::Usage(
-    "macsecd: ask PATH show, counters, keys, about, stop, or apply FILE\n",
+    "macsecd: ask PATH show, counters, keys, traffic, about, stop, or apply FILE\n",
 );
 
 const WORDS_OF_NO_QUESTION: &[&[&str]] = &[
@@ -210,6 +210,23 @@ const WORDS_OF_NO_QUESTION: &[&[&str]] = &[
     &["ask", "control", "show", "left.toml"],
     &["ask", "control", "", "left.toml"],
 ];
+
+/// Words that want JSON of what is no report, and the line that says of what there is JSON.
+const NO_REPORT: Outcome = Outcome::Usage(
+    "macsecd: ask PATH show, counters, keys, traffic or about, with --json\n",
+);
+
+const WORDS_OF_NO_REPORT: &[&[&str]] = &[
+    &["ask", "control", "stop", "--json"],
+    &["ask", "control", "apply", "left.toml", "--json"],
+    &["ask", "--json", "control", "stop"],
+    &["ask", "control", "Show", "--json"],
+];
+
+#[test]
+fn refuses_json_of_what_is_no_report(rt: HostRuntime) {
+    expect_all(&rt, rt.alloc(), WORDS_OF_NO_REPORT, NO_REPORT);
+}
 
 #[test]
 fn refuses_a_question_that_is_none(rt: HostRuntime) {
@@ -399,6 +416,14 @@ const WORDS_WITH_OPTIONS: &[Row] = &[
     (
         &["key", "--long", "--long"],
         Outcome::Usage("macsecd: the argument '--long' cannot be used multiple times\n"),
+    ),
+    (
+        &["show", "left.disk", "--json"],
+        Outcome::Usage("macsecd: unexpected argument '--json' found\n"),
+    ),
+    (
+        &["ask", "control", "show", "--json", "--json"],
+        Outcome::Usage("macsecd: the argument '--json' cannot be used multiple times\n"),
     ),
     (
         &["inspect", "--long", "plain.pcap"],

@@ -136,6 +136,10 @@ const TAKEN: &[(&[&str], Parts<'static>)] = &[
         ("ask keys", ["p", "", "", "", ""], [0, 0]),
     ),
     (
+        &["ask", "p", "traffic"],
+        ("ask traffic", ["p", "", "", "", ""], [0, 0]),
+    ),
+    (
         &["ask", "p", "about"],
         ("ask about", ["p", "", "", "", ""], [0, 0]),
     ),
@@ -146,6 +150,26 @@ const TAKEN: &[(&[&str], Parts<'static>)] = &[
     (
         &["ask", "p", "apply", "show"],
         ("ask apply", ["p", "show", "", "", ""], [0, 0]),
+    ),
+    (
+        &["ask", "p", "show", "--json"],
+        ("ask show", ["p", "", "json", "", ""], [0, 0]),
+    ),
+    (
+        &["ask", "--json", "p", "counters"],
+        ("ask counters", ["p", "", "json", "", ""], [0, 0]),
+    ),
+    (
+        &["ask", "p", "--json", "keys"],
+        ("ask keys", ["p", "", "json", "", ""], [0, 0]),
+    ),
+    (
+        &["ask", "p", "about", "--json"],
+        ("ask about", ["p", "", "json", "", ""], [0, 0]),
+    ),
+    (
+        &["ask", "p", "apply", "--", "--json"],
+        ("ask apply", ["p", "--json", "", "", ""], [0, 0]),
     ),
     (
         &["protect", "--all", "d", "i", "o"],
@@ -199,6 +223,10 @@ const TAKEN: &[(&[&str], Parts<'static>)] = &[
     (
         &["examine", "show"],
         ("examine", ["show", "", "", "", ""], [0, 0]),
+    ),
+    (
+        &["examine", "d", "--json"],
+        ("examine", ["d", "json", "", "", ""], [0, 0]),
     ),
     (&["about"], ("about", ["", "", "", "", ""], [0, 0])),
 ];
@@ -312,7 +340,11 @@ fn is_of(action: Action<'_>, wanted: &Parts<'_>) -> bool {
             common,
             running,
         } => is_relay(disk, controlled, common, running.pace, wanted),
-        Action::Ask { path, question } => is_asked(path, question, wanted),
+        Action::Ask {
+            path,
+            question,
+            is_json,
+        } => is_asked(path, question, is_json, wanted),
         other => is_of_files(other, wanted),
     }
 }
@@ -363,7 +395,12 @@ fn is_of_files(action: Action<'_>, wanted: &Parts<'_>) -> bool {
             is_named(wanted, "check", [file, disk, "", "", ""], [0, 0])
         }
         Action::Plan { file, end, stage } => is_planned(file, end, stage, wanted),
-        Action::Examine { disk } => is_named(wanted, "examine", [disk, "", "", "", ""], [0, 0]),
+        Action::Examine { disk, is_json } => is_named(
+            wanted,
+            "examine",
+            [disk, if is_json { "json" } else { "" }, "", "", ""],
+            [0, 0],
+        ),
         Action::About => is_named(wanted, "about", ["", "", "", "", ""], [0, 0]),
         _ => false,
     }
@@ -408,9 +445,14 @@ fn is_relay(
 }
 
 /// The same of a question to a relay.
-fn is_asked(path: &str, question: Question<'_>, wanted: &Parts<'_>) -> bool {
+fn is_asked(path: &str, question: Question<'_>, is_json: bool, wanted: &Parts<'_>) -> bool {
     let (name, file) = question_parts(question);
-    is_named(wanted, name, [path, file, "", "", ""], [0, 0])
+    is_named(
+        wanted,
+        name,
+        [path, file, if is_json { "json" } else { "" }, "", ""],
+        [0, 0],
+    )
 }
 
 /// What a relay is asked, and the file of its commands.
@@ -419,6 +461,7 @@ fn question_parts<'a>(question: Question<'a>) -> (&'static str, &'a str) {
         Question::Show => ("ask show", ""),
         Question::Counters => ("ask counters", ""),
         Question::Keys => ("ask keys", ""),
+        Question::Traffic => ("ask traffic", ""),
         Question::About => ("ask about", ""),
         Question::Stop => ("ask stop", ""),
         Question::Apply(file) => ("ask apply", file),

@@ -6,6 +6,7 @@ use super::{
     ALL_VERDICTS, BAD_TAG, CHANNEL_VERDICTS, FOR_KAY, LATE, NO_SCI, NO_TAG, OTHER_VERDICTS,
     OVERSIZE, RUNT,
 };
+use macs_frame::{An, ChannelTraffic, Pn, ScName, SecTag};
 use macs_rxsc::{ChannelCounters, Rx, RxCounters, Verdict};
 use std::process::Abort;
 
@@ -32,15 +33,18 @@ const NEARLY_FULL: RxCounters = RxCounters {
 };
 
 /// Every counter of a channel is one below the greatest number.
-const NEARLY_FULL_FOR_CHANNEL: ChannelCounters = ChannelCounters {
-    ok: BEFORE,
-    delayed: BEFORE,
-    invalid: BEFORE,
-    unused_sa: BEFORE,
-    not_using_sa: BEFORE,
-    late: BEFORE,
-    not_valid: BEFORE,
-};
+fn nearly_full_for_channel() -> ChannelCounters {
+    ChannelCounters {
+        ok: BEFORE,
+        delayed: BEFORE,
+        traffic: ChannelTraffic::new(),
+        invalid: BEFORE,
+        unused_sa: BEFORE,
+        not_using_sa: BEFORE,
+        late: BEFORE,
+        not_valid: BEFORE,
+    }
+}
 
 fn count_of(counters: &RxCounters, verdict: Verdict) -> u64 {
     counters.of(verdict)
@@ -54,8 +58,19 @@ fn channel_count_of(counters: &ChannelCounters, verdict: Verdict) -> u64 {
     counters.of(verdict)
 }
 
-fn count_for_channel(counters: &mut ChannelCounters, verdict: Verdict) {
-    counters.add(verdict);
+/// The SecTAG of a frame with integrity alone.
+fn tag(rt: &impl Abort) -> SecTag {
+    SecTag {
+        an: An::new(2).expect(rt, "an"),
+        pn: Pn::new(1).expect(rt, "pn"),
+        name: ScName::Implicit,
+        encrypted: false,
+        changed: false,
+    }
+}
+
+fn count_for_channel(rt: &impl Abort, counters: &mut ChannelCounters, verdict: Verdict) {
+    counters.add(&tag(rt), verdict, &[0; 60]);
 }
 
 #[test]
@@ -72,17 +87,35 @@ fn counters_stay_at_their_greatest(rt: HostRuntime) {
 
 #[test]
 fn channel_counters_stay_at_their_greatest(rt: HostRuntime) {
-    let mut counters = NEARLY_FULL_FOR_CHANNEL;
+    let mut counters = nearly_full_for_channel();
     for verdict in CHANNEL_VERDICTS {
         for before in [BEFORE, u64::MAX] {
             assert_eq!(rt; channel_count_of(&counters, verdict), before, "{verdict:?}");
-            count_for_channel(&mut counters, verdict);
+            count_for_channel(&rt, &mut counters, verdict);
         }
         assert_eq!(rt;
             channel_count_of(&counters, verdict),
             u64::MAX,
             "{verdict:?}"
         );
+    }
+}
+
+/// Each frame that verified, Ok twice and Delayed twice, is counted under its association number
+/// with 48 octets of User Data, and no other frame is.
+#[test]
+fn what_verified_is_counted_as_traffic(rt: HostRuntime) {
+    let mut counters = nearly_full_for_channel();
+    for verdict in CHANNEL_VERDICTS {
+        count_for_channel(&rt, &mut counters, verdict);
+        count_for_channel(&rt, &mut counters, verdict);
+    }
+    for an in An::all() {
+        let traffic = counters.traffic.of(an);
+        let (frames, octets) = if an.get() == 2 { (4, 192) } else { (0, 0) };
+        assert_eq!(rt; traffic.plain.frames, frames);
+        assert_eq!(rt; traffic.plain.octets, octets);
+        assert_eq!(rt; traffic.encrypted.frames, 0);
     }
 }
 

@@ -135,7 +135,7 @@ fn counters_stay_at_their_greatest(rt: HostRuntime) {
     let mut counters = TxCounters::new();
     counters.runt = u64::MAX - 1;
     for _ in 0..2 {
-        counters.add(&Err(TxFault::Runt));
+        counters.add_fault(TxFault::Runt);
         assert_eq!(rt; counters.fault_count(TxFault::Runt), u64::MAX);
     }
 }

@@ -14,6 +14,9 @@ pub returns-in-Keys : goal.returns-in-Keys
 returns-in-Keys g c = rw c.in-Keys.is (c.tell-in-Keys.ensures _ (IfOk-weaker c.keys_lines.result _ _
     (λ text is. is ∙ ap keys_text c.config.ensures.config) c.keys_lines.ensures))
 
+pub returns-in-Traffic : goal.returns-in-Traffic
+returns-in-Traffic g c = rw c.in-Traffic.is (c.tell-in-Traffic.ensures _ c.traffic_lines-report.ensures)
+
 pub returns-in-About : goal.returns-in-About
 returns-in-About g c = rw c.in-About.is (c.tell-in-About.ensures _ c.about_lines.ensures)
 

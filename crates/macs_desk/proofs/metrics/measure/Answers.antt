@@ -1,4 +1,4 @@
-use Rattle.std.proofs.Common.{◌∙◌, true, [], ◌∷◌, inl, inr, refl}
+use Rattle.std.proofs.Common.{◌∙◌, true, [], ◌∷◌, inr, refl}
 use Rattle.macs_requests.specs.Talks.{Asked, Put}
 use Rattle.macs_desk.specs.Listening.{measured_of}
 use Rattle.macs_desk.proofs.Talking.{written}

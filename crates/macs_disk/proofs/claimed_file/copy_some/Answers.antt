@@ -1,5 +1,4 @@
 use Rattle.std.proofs.Common.{Result, inl, refl, rules, subst, ℕ}
-use Rattle.macs_disk.specs.Files.{FileState}
 use Rattle.std.specs.IoError.{error_kind}
 use Rattle.std.specs.declared.io.ErrorKind.TheVariants.{UnexpectedEof}
 use Rattle.std.specs.declared.io.Error.{Error}

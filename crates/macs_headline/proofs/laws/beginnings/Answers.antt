@@ -1,24 +1,15 @@
-use Rattle.macs_headline.proofs.AlikeEditions.{these-are-larger}
-use Rattle.macs_headline.proofs.Chains.{fitting-disks, fuses-change-none, new-disks, passed-on, settled-disks}
-use Rattle.macs_headline.proofs.Chains.{these-are-new}
+use Rattle.macs_headline.proofs.Chains.{fitting-disks, new-disks, passed-on, settled-disks}
 use Rattle.macs_headline.proofs.Older.{larger-find, older}
-use Rattle.macs_headline.proofs.DiskCalls.{disk-calls}
 use Rattle.macs_headline.proofs.laws.beginnings.Goals as goal
 
 pub returns-clause-new : goal.returns-clause-new
 returns-clause-new c = new-disks
-
-pub returns-clause-as_new : goal.returns-clause-as_new
-returns-clause-as_new c = these-are-new
 
 pub returns-clause-fitting : goal.returns-clause-fitting
 returns-clause-fitting c = fitting-disks
 
 pub returns-clause-settled : goal.returns-clause-settled
 returns-clause-settled c = settled-disks
-
-pub returns-clause-as_larger : goal.returns-clause-as_larger
-returns-clause-as_larger c = these-are-larger
 
 pub returns-clause-larger : goal.returns-clause-larger
 returns-clause-larger c = older
@@ -31,9 +22,3 @@ returns-clause-fits c = λ edition disk lives h. (h.honest, h.history, h.images)
 
 pub returns-clause-passed_on : goal.returns-clause-passed_on
 returns-clause-passed_on c = passed-on
-
-pub returns-clause-fuses : goal.returns-clause-fuses
-returns-clause-fuses c = fuses-change-none
-
-pub returns-clause-calls : goal.returns-clause-calls
-returns-clause-calls c = disk-calls

@@ -3,7 +3,6 @@ use Rattle.macs_disk.specs.Layouts.{sectors_in}
 use Rattle.macs_disk.specs.declared.layout.Layout.{Layout}
 use Rattle.macs_headline.proofs.DiskFiles.{blank-file-is-new, left-suited, lengthened, let-go, opened-again}
 use Rattle.macs_headline.proofs.DiskFiles.{opened-still}
-use Rattle.macs_headline.proofs.LayoutWords.{layout-words}
 use Rattle.macs_headline.proofs.laws.files.Goals as goal
 
 pub returns-clause-new : goal.returns-clause-new
@@ -40,6 +39,3 @@ returns-clause-whole_sectors g c = λ file least layout disk opened. opened.whol
 
 pub returns-clause-lengthened : goal.returns-clause-lengthened
 returns-clause-lengthened g c = lengthened
-
-pub returns-clause-layouts : goal.returns-clause-layouts
-returns-clause-layouts g c = layout-words

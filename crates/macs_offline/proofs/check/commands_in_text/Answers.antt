@@ -14,4 +14,4 @@ returns-in-Ok-clause-fault c =
 pub returns-in-Err-clause-fault : goal.returns-in-Err-clause-fault
 returns-in-Err-clause-fault c =
     not-toml c.args.text.now c.in-Err.error c.failure_of_toml.result c.in-Err.ensures.refused
-    c.failure_of_toml.ensures
+    c.in-Err.ensures.span c.failure_of_toml.ensures

@@ -5,8 +5,8 @@ use Rattle.macs_offline.proofs.check.refuse_spent.Goals as goal
 
 pub returns-in-Ok-Some : goal.returns-in-Ok-Some
 returns-in-Ok-Some g c =
-    let within = rw c.in-Ok-Some.field-0-is at c.in-Ok-Some.ensures in
-    spent-said c.args.commands.now c.failure_saying.result c.in-Ok-Some.at within.0 within.1
+    let (list, first) = rw c.in-Ok-Some.field-0-is at c.in-Ok-Some.ensures in
+    spent-said c.args.commands.now c.failure_saying.result list c.in-Ok-Some.at first
     (c.failure_saying.ensures (spent_text c.in-Ok-Some.at) c.spent_text.ensures)
 
 pub returns-in-Err-Spent : goal.returns-in-Err-Spent

@@ -1,6 +1,6 @@
 use Rattle.std.proofs.Common.{◌≡◌, ◌<◌, ◌≤◌, ◌∙◌, ◌+◌, ◌*◌, List, ℕ, arith, inl, inr, refl, subst, sym}
 use Rattle.std.proofs.lemmas.Bool.{cases_lt}
-use Rattle.macs_disk.specs.Files.{Behaves, FileState, HasZeros}
+use Rattle.macs_disk.specs.Files.{FileState, HasZeros}
 use Rattle.macs_offline.specs.Contents.{IsUnused, sector_in}
 use Rattle.macs_offline.proofs.Holes.{unused_before}
 use Rattle.macs_offline.proofs.Looks.{carried}

@@ -1,17 +1,17 @@
 use Rattle.std.proofs.Common.{inr}
 use Rattle.std.proofs.lemmas.Result.{IfErr-weaker, IfOk-weaker, err_from_is_err_and}
-use Rattle.macs_offline.proofs.Examined.{of-examination, printed-so}
+use Rattle.macs_offline.proofs.Examined.{of-examination, printed-so, unprinted-so}
 use Rattle.macs_offline.proofs.Failures.{copy-no-output}
 use Rattle.macs_offline.proofs.examine.examine.Goals as goal
 
 pub returns-clause-printed : goal.returns-clause-printed
-returns-clause-printed g c = IfOk-weaker c.print_last.result _ _
-    (λ status all. printed-so _ _ _ _ _ _ status c.in_ok-said.ensures.reported c.as_str.ensures.value all)
-    c.print_last.ensures.printed
+returns-clause-printed g c = IfOk-weaker c.print_said.result _ _
+    (λ status all. printed-so _ c.args.is_json _ _ _ _ status c.in_ok-said.ensures.reported all)
+    c.print_said.ensures.printed
 
-pub returns-clause-silent : goal.returns-clause-silent
-returns-clause-silent g c =
-    IfErr-weaker c.print_last.result _ _ (λ failure output other. absurd (other output)) c.print_last.ensures.failed
+pub returns-clause-ended : goal.returns-clause-ended
+returns-clause-ended g c = IfErr-weaker c.print_said.result _ _
+    (λ failure ends. unprinted-so _ _ _ _ failure c.in_ok-said.ensures.reported ends) c.print_said.ensures.ended
 
 pub returns-in_err-said-clause-ended : goal.returns-in_err-said-clause-ended
 returns-in_err-said-clause-ended g c =

@@ -1,4 +1,4 @@
-use Rattle.std.proofs.Common.{◌∙◌, ℕ, List, Option, Some, ap}
+use Rattle.std.proofs.Common.{◌∙◌, ℕ, List, Option, ap}
 use Rattle.std.specs.Option.{option_map}
 use Rattle.hex.specs.Hex.{encode_lower}
 use Rattle.macs_texts.specs.KeyTexts.{key_digest}

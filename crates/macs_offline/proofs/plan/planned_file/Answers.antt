@@ -16,4 +16,4 @@ returns-in-Ok-clause-ended g c =
 
 pub returns-in-Err-clause-ended : goal.returns-in-Err-clause-ended
 returns-in-Err-clause-ended g c =
-    inl (unread-for (codes "commands") c.args.path.now _ _ c.failure_at.ensures.reason)
+    inl (unread-for (codes "link file") c.args.path.now _ _ c.failure_at.ensures.reason)

@@ -7,4 +7,4 @@ returns-in-Ok-clause-fault c = c.planned_in_table.ensures.fault c.args.text.now 
 pub returns-in-Err-clause-fault : goal.returns-in-Err-clause-fault
 returns-in-Err-clause-fault c =
     why-not-toml c.args.end c.args.stage c.args.text.now c.in-Err.error c.failure_of_toml.result
-    c.in-Err.ensures.refused c.failure_of_toml.ensures
+    c.in-Err.ensures.refused c.in-Err.ensures.span c.failure_of_toml.ensures

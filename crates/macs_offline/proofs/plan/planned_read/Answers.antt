@@ -21,7 +21,7 @@ returns-in-Ok-clause-fault g c =
     c.planned_said.ensures.fault
 
 pub returns-clause-fault : goal.returns-clause-fault
-returns-clause-fault g c = inl (unread-for (codes "commands") c.args.name.now _ _ c.failure_at.ensures.reason)
+returns-clause-fault g c = inl (unread-for (codes "link file") c.args.name.now _ _ c.failure_at.ensures.reason)
 
 pub returns-clause-ended : goal.returns-clause-ended
-returns-clause-ended g c = inl (unread-for (codes "commands") c.args.name.now _ _ c.failure_at.ensures.reason)
+returns-clause-ended g c = inl (unread-for (codes "link file") c.args.name.now _ _ c.failure_at.ensures.reason)

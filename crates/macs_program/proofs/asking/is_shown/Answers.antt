@@ -1,4 +1,4 @@
-use Rattle.std.proofs.Common.{◌∙◌, drop, length, ap}
+use Rattle.std.proofs.Common.{◌∙◌}
 use Rattle.std.specs.Cmp.{unsigned_Decides}
 use Rattle.std.proofs.lemmas.Slice.Eq.{starts_is}
 use Rattle.macs_program.proofs.Told.{shown-by}

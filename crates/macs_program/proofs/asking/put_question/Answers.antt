@@ -34,6 +34,17 @@ returns-in-Keys g c =
       broken = said.broken;
     }
 
+pub returns-in-Traffic : goal.returns-in-Traffic
+returns-in-Traffic g c =
+    let said = c.ask_once-in-Traffic.ensures in record {
+      printed = rw c.in-Traffic.is said.printed;
+      failed = rw c.in-Traffic.is said.failed;
+      front = rw c.in-Traffic.is
+          (IfErr-weaker c.ask_once-in-Traffic.result _ _ (λ failure same other. ap g.W.Stream.contents (same other))
+          said.silent);
+      broken = said.broken;
+    }
+
 pub returns-in-About : goal.returns-in-About
 returns-in-About g c =
     let said = c.ask_once-in-About.ensures in record {

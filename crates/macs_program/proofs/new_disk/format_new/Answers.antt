@@ -1,4 +1,4 @@
-use Rattle.std.proofs.Common.{inl, inr, subst, sym}
+use Rattle.std.proofs.Common.{inl, inr, subst}
 use Rattle.std.proofs.lemmas.Result.{err_from_is_err_and}
 use Rattle.macs_disk.specs.FileDisks.{disk_in_file}
 use Rattle.macs_endpoint.specs.Formatting.{IsFormat}

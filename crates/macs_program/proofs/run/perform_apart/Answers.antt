@@ -3,7 +3,7 @@ use Rattle.macs_program.proofs.run.perform_apart.Goals as goal
 
 pub returns-in-Ask : goal.returns-in-Ask
 returns-in-Ask g c = λ input. rw c.in-Ask.is
-    (asks _ _ _ _ input _ _ _ _ _ c.ask.ensures.printed c.ask.ensures.failed c.ask.ensures.front c.ask.ensures.broken)
+    (asks _ _ _ _ input _ _ _ _ _ _ c.ask.ensures.printed c.ask.ensures.failed c.ask.ensures.front c.ask.ensures.broken)
 
 pub returns-in-Key : goal.returns-in-Key
 returns-in-Key g c = λ input. rw c.in-Key.is
@@ -22,7 +22,7 @@ returns-in-Plan g c = λ input. rw c.in-Plan.is (plans _ _ _ _ input _ _ _ c.in-
     c.plan.ensures.printed c.plan.ensures.ended c.plan.ensures.silent c.plan.ensures.broken)
 
 pub returns-in-Examine : goal.returns-in-Examine
-returns-in-Examine g c = λ input. rw c.in-Examine.is (examines _ _ _ _ input _ _ _ _ c.examine.ensures.printed
+returns-in-Examine g c = λ input. rw c.in-Examine.is (examines _ _ _ _ input _ _ _ _ _ c.examine.ensures.printed
     c.examine.ensures.ended c.examine.ensures.silent c.examine.ensures.broken)
 
 pub returns-in-About : goal.returns-in-About

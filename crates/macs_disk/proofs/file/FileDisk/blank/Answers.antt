@@ -1,4 +1,4 @@
-use Rattle.std.proofs.Common.{ap, ◌∙◌, refl, subst, sym, false}
+use Rattle.std.proofs.Common.{◌∙◌, refl, subst, sym, false}
 use Rattle.macs_disk.specs.FileDisks.{IsBlank}
 use Rattle.macs_disk.specs.declared.layout.Layout.{Layout}
 use Rattle.macs_disk.proofs.FileCalls.{disk_by}

@@ -2,11 +2,10 @@ use Rattle.std.proofs.Common.{◌≡◌, ◌≤◌, ◌+◌, ◌∙◌, arith, l
 use Rattle.std.proofs.lemmas.Result.{err_from_is_err_and}
 use Rattle.macs_disk.specs.Disk.{IsHonest}
 use Rattle.macs_disk.proofs.Moments.{Works-on, Works-start}
-use Rattle.macs_record.specs.Heads.{Head}
 use Rattle.macs_record.specs.declared.record.Record.{Record}
 use Rattle.macs_journal.specs.Areas.{other_area}
 use Rattle.macs_journal.specs.Compacting.{next_head}
-use Rattle.macs_journal.specs.Stages.{IsRewritten, IsUnderWay}
+use Rattle.macs_journal.specs.Stages.{IsUnderWay}
 use Rattle.macs_journal.specs.Stepping.{AtNextCall, IsCompactHand}
 use Rattle.macs_journal.specs.declared.hand.Hand.{Hand}
 use Rattle.macs_journal.specs.declared.hand.Hand.TheVariants.{Empty}

@@ -1,6 +1,5 @@
-use Rattle.std.proofs.Common.{◌≡◌, ℕ, ap, ◌∙◌, false, rules, subst, sym}
+use Rattle.std.proofs.Common.{◌≡◌, ℕ, ap, ◌∙◌, rules, subst, sym}
 use Rattle.macs_disk.specs.Files.{FileState, IsFileImage}
-use Rattle.macs_mem_file.specs.Blocks.{flag_in, octet_at}
 use Rattle.macs_mem_file.specs.MemFiles.{file_of}
 use Rattle.macs_mem_file.proofs.MemoryFile.{copied_ends, cut_kept, image_kept, kept_lost, left_of_seen, loss_leaves}
 use Rattle.macs_mem_file.proofs.MemoryFile.{nothing_lost, size_kept, size_lost}

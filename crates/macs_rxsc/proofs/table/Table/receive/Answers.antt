@@ -1,8 +1,9 @@
 use Rattle.std.proofs.Common.{◌∙◌, refl, ap, sym}
+use Rattle.macs_frame.specs.Tag.{tag_of}
 use Rattle.macs_rxsc.proofs.Shown.{tag_uncounted, uncounted}
 use Rattle.macs_rxsc.proofs.Steps.{first_fault, settles}
 use Rattle.macs_rxsc.specs.Receive.{Tag as TagStep, channel_of, given_at}
-use Rattle.macs_rxsc.specs.Counting.{channel_counters_after_verdict}
+use Rattle.macs_rxsc.specs.Counting.{channel_counters_after}
 use Rattle.macs_rxsc.specs.Value.{ceilings_among, counters_among, rx_side_in}
 use Rattle.macs_rxsc.specs.declared.counters.ChannelCounters.{ChannelCounters}
 use Rattle.macs_rxsc.specs.declared.verdict.Verdict.{Verdict}
@@ -24,8 +25,10 @@ returns-in-Err c =
           _ _ _ verdict (c.refuse.ensures.given ∙ ap (given_at c.args.frame.now) verdict) refl;
       side = refl;
       ceilings = refl;
-      counters = sym (uncounted (channel_of side c.args.frame.now) c.refuse.result
-          (counters_among c.args.self.now.channels.items)
-          (λ (k : ChannelCounters). ap (λ (v : Verdict). channel_counters_after_verdict v k) verdict
-          ∙ tag_uncounted side c.args.frame.now c.in-Err.fault c.args.policy.validate refl k));
+      counters = sym (uncounted (channel_of side c.args.frame.now) (tag_of c.args.frame.now) c.refuse.result
+          c.refuse.new.out.items (counters_among c.args.self.now.channels.items)
+          (λ (k : ChannelCounters). ap (λ (v : Verdict). channel_counters_after (tag_of c.args.frame.now) v
+          c.refuse.new.out.items k) verdict
+          ∙ tag_uncounted side c.args.frame.now c.in-Err.fault c.args.policy.validate refl (tag_of c.args.frame.now)
+          c.refuse.new.out.items k));
     }

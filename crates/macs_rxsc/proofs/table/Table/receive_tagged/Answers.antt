@@ -1,6 +1,6 @@
 use Rattle.std.proofs.Common.{◌≡◌, ◌∙◌, ℕ, List, Option, Some, None, get_or, refl, ap, sym, subst}
 use Rattle.std.specs.Option.{option_and_then}
-use Rattle.macs_frame.specs.Tag.{name_of}
+use Rattle.macs_frame.specs.Tag.{name_of, tag_of}
 use Rattle.macs_config.specs.Places.{IsPlace}
 use Rattle.macs_config.proofs.Lent.{lent, lent_old}
 use Rattle.macs_rxsc.proofs.Shown.{at_old, ceilings-kept, counters-counted, named_at, named_none, named_some}
@@ -69,8 +69,9 @@ returns-in-Some c =
       ceilings =
           ceilings-kept items c.in-Some.place (old p) new (sci p) (stands p) (was p) received.sci received.ceilings;
       counters = counters-counted items c.in-Some.place (old p) new (sci p) (stands p) (was p) received.sci
-          c.receive.result c.receive.ensures.counters
-          ∙ ap (λ (o : Option (List ℕ)). counters_after_verdict_at o c.receive.result (counters_among items))
+          (tag_of c.args.frame.now) c.receive.result c.receive.new.out.items c.receive.ensures.counters
+          ∙ ap (λ (o : Option (List ℕ)). counters_after_verdict_at o (tag_of c.args.frame.now) c.receive.result
+          c.receive.new.out.items (counters_among items))
           (sym (channel_is p));
     })
 
@@ -91,6 +92,7 @@ returns-in-None c =
           refl refl refl _ _ _ c.discard_or_deliver.ensures.verdict c.discard_or_deliver.ensures.given refl;
       side = refl;
       ceilings = refl;
-      counters = sym (ap (λ (o : Option (List ℕ)). counters_after_verdict_at o c.discard_or_deliver.result
+      counters = sym (ap (λ (o : Option (List ℕ)). counters_after_verdict_at o (tag_of c.args.frame.now)
+          c.discard_or_deliver.result c.discard_or_deliver.new.out.items
           (counters_among c.args.self.now.channels.items)) (absent p c.in-None.is));
     }

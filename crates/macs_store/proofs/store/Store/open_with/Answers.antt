@@ -1,4 +1,4 @@
-use Rattle.std.proofs.Common.{◌≡◌, ◌∙◌, if◌then◌else◌, List, Some, None, take, refl, ap, sym}
+use Rattle.std.proofs.Common.{◌≡◌, ◌∙◌, if◌then◌else◌, List, Some, None, take, refl, ap}
 use Rattle.std.proofs.lemmas.Result.{err_from_is_err_and}
 use Rattle.macs_config.specs.Config.{this_edition}
 use Rattle.macs_journal.specs.Value.{content_of}

@@ -1,4 +1,4 @@
-use Rattle.std.proofs.Common.{Ok, ap}
+use Rattle.std.proofs.Common.{ap}
 use Rattle.macs_config.specs.Config.{this_edition}
 use Rattle.macs_record.specs.declared.format.Format.{Format}
 use Rattle.macs_store.specs.Replay.{migrates}

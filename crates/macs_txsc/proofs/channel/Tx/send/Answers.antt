@@ -1,10 +1,12 @@
 use Rattle.std.proofs.Common.{rules, ◌≡◌, ◌∙◌, ◌<◌, length, refl, sym, ap, subst}
 use Rattle.std.specs.Prelude.{Some, None, IfErr, get_or}
-use Rattle.std.specs.Option.{option_map}
 use Rattle.macs_txsc.proofs.channel.Tx.send.Goals as goal
-use Rattle.macs_txsc.proofs.Faults.{behind, chosen, goes_out, has_length, in_frame, in_numbers, unset, vacant}
+use Rattle.macs_config.specs.Association.{offset_of}
+use Rattle.macs_fields.specs.Fields.{octets_of}
+use Rattle.macs_frame.specs.Protection.{protected_frame}
+use Rattle.macs_frame.specs.declared.tag.SecTag.{SecTag}
+use Rattle.macs_txsc.proofs.Faults.{behind, goes_out, has_length, in_frame, in_numbers, tagged, unset, vacant}
 use Rattle.macs_txsc.proofs.Places.{is_free, kept, sent, stands}
-use Rattle.macs_txsc.specs.Transmit.{Outgoing}
 use Rattle.macs_txsc.specs.Value.{ceilings_of, sa_of, tx_side_of}
 
 pub returns-in-Some-clause-fault : goal.returns-in-Some-clause-fault
@@ -46,14 +48,16 @@ returns-clause-none c =
     (sym c.frame_fault.ensures ∙ c.in_default.is)
     (c.in-Some-encoding.is ∙ ap Some (sym c.get.ensures.value)) here ∙ c.in_ok-pn.ensures.none
 
-pub returns-clause-number : goal.returns-clause-number
-returns-clause-number c =
+pub returns-clause-tag : goal.returns-clause-tag
+returns-clause-tag c =
     let within : c.get.result < length c.args.self.now.associations = search rules in
     let here = stands c.args.self.now.associations c.get.result c.index-self-get.result
     c.in-Some-associations.association within c.in-Some-associations.is in
-    ap (option_map (λ (o : Outgoing). o.pn)) (chosen c.args.self.now c.get.result c.in-Some-associations.association
-    (c.in-Some-encoding.is ∙ ap Some (sym c.get.ensures.value)) here)
-    ∙ ap Some (sym c.in_ok-pn.ensures.value)
+    let there = subst (λ an. get_or c.args.self.now.associations an None ≡ Some c.in-Some-associations.association)
+    c.get.ensures.value here in
+    tagged c.args.self.now c.in-Some-encoding.an c.in-Some-associations.association c.in_ok-pn.pn c.name-name.result
+    c.seal.result
+    c.in-Some-encoding.is there c.in_ok-pn.ensures.value c.name-name.ensures c.seal.ensures.tag
 
 pub returns-clause-frame : goal.returns-clause-frame
 returns-clause-frame c =
@@ -64,7 +68,10 @@ returns-clause-frame c =
     c.get.ensures.value here in
     goes_out c.args.self.now c.in-Some-encoding.an c.in-Some-associations.association c.in_ok-pn.pn c.name-name.result
     c.args.plain.now c.seal.new.out.items
-    c.in-Some-encoding.is there c.in_ok-pn.ensures.value c.name-name.ensures c.seal.ensures.frame
+    c.in-Some-encoding.is there c.in_ok-pn.ensures.value c.name-name.ensures
+    (c.seal.ensures.frame ∙ ap (λ (tag : SecTag). protected_frame c.in-Some-associations.association.key
+    c.args.self.now.sci tag (octets_of (offset_of c.in-Some-associations.association.protection)) c.args.plain.now)
+    c.seal.ensures.tag)
 
 pub returns-clause-sent : goal.returns-clause-sent
 returns-clause-sent c =

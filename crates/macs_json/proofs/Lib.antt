@@ -1,0 +1,3 @@
+pub mod Cut
+pub mod Made
+pub mod Back

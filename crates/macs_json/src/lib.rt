@@ -1,0 +1,13 @@
+//! The lines of a report as JSON, an object for each line.
+#![tactic(auto)]
+
+mod cutting;
+mod fitting;
+mod kinds;
+mod lines;
+mod objects;
+mod parts;
+#[cfg(test)]
+mod tests;
+
+pub use lines::{json_lines, json_of_line};

@@ -1,0 +1,9 @@
+use Rattle.std.proofs.Common.{◌≡◌, [], ◌++◌, take, map, string_bytes}
+use Rattle.std.specs.List.{concat}
+use Rattle.macs_rxsc.specs.Value.{channel_counters_of}
+use Rattle.macs_texts.specs.TrafficTexts.{rx_text}
+use Rattle.macs_texts.proofs.traffic.channel_text.Given as goal
+
+abbrev pub invariant-loop-an : goal.invariant-loop-an
+invariant-loop-an g l = string_bytes l.text
+    ≡ [] ++ concat (map (rx_text (channel_counters_of l.endpoint.rx) l.sci) (take l.an-index l.an-items))
