@@ -1,0 +1,291 @@
+-- What an opening finds, what a `format` answers, and what a call that is cut short leaves.
+use Rattle.std.proofs.Common.{◌≡◌, ◌&&◌, inl, inr, ℕ, Bool, true, false, cond, not, is_ok, List, [], ◌∷◌, Option, Some}
+use Rattle.std.proofs.Common.{None, Result, Ok, Err, refl, sym, ◌∙◌, ap, subst}
+use Rattle.std.specs.Option.{option_map, option_or}
+use Rattle.macs_config.specs.Apply.{apply}
+use Rattle.macs_config.specs.Config.{Config, this_edition}
+use Rattle.macs_config.specs.Identity.{Identity}
+use Rattle.macs_config.specs.declared.command.Command.{Command}
+use Rattle.macs_disk.specs.States.{Image}
+use Rattle.macs_rxsc.specs.Receive.{Numbers, first_numbers}
+use Rattle.macs_journal.specs.declared.fault.JournalFault.{JournalFault}
+use Rattle.macs_store.specs.Found.{StandingIs}
+use Rattle.macs_store.specs.Standing.{Standing, new_standing}
+use Rattle.macs_endpoint.specs.Restart.{Restart, Resumes, RxRises, TxRises, opened_state, state_during}
+use Rattle.macs_endpoint.specs.Restart.{state_taking_alone, state_taking_first}
+use Rattle.macs_endpoint.specs.State.{Advances, Call, Commands, Delivery, Protects, Receives, Refills, State, Submits}
+use Rattle.macs_endpoint.specs.State.{no_logs, state_with_in_hand}
+use Rattle.macs_endpoint.specs.Step.{state_after_command}
+use Rattle.macs_endpoint.specs.declared.queue.Waiting.{Waiting}
+use Rattle.macs_headline.specs.History.{Blank, FitsPast, FormatLeads, Formatted, Leads, Past, Refuses, logs_of}
+use Rattle.macs_headline.proofs.HandedIn.{none_some}
+use Rattle.macs_headline.proofs.Lists.{contains-none}
+use Rattle.macs_headline.proofs.Histories.{fits-restart, found-new}
+use Rattle.macs_headline.proofs.Openings.{refused-for-disk-or-spent}
+use Rattle.macs_theorem.specs.Shown.{Shown, settings_of, shown_numbers}
+use Rattle.macs_theorem.specs.Observer.{ExpectsFormat, ExpectsOpening, IsFound, IsKnown, IsResumed, Observer}
+use Rattle.macs_theorem.specs.Observer.{after_command, begin, begun_in, new_observer}
+use Rattle.macs_theorem.proofs.Commands.{IsFirst, begins-alone, begins-first}
+use Rattle.macs_theorem.proofs.Matches.{AreSpent, Follows, Matches, MatchesPast, after-command, is-new, may-begin}
+use Rattle.macs_theorem.proofs.Matches.{none-begins, none-spent, with-hand}
+
+-- ---- what is found
+
+-- what an observer knows after an opening that finds what it knew before, with these numbers
+abbrev resumed : Observer → Standing → Observer
+resumed o found = record o {
+  next = found.ceilings.tx;
+  numbers = λ sci an. option_map first_numbers (found.ceilings.rx sci an);
+  waiting = [];
+  tickets = 0;
+  begun = None;
+  stopped = false;
+  before = o.delivered;
+}
+
+-- it finds a state that this observer knows
+module _ (s : State) (found : Standing) (o : Observer) (m : Matches o.before s o)
+    (up : Resumes s (opened_state found s.logs)) where
+  as_known : IsResumed s.identity o (resumed o found)
+  as_known = (
+    λ an. subst (λ (next : ℕ → Option ℕ). TxRises s.identity.tx_block (next an) (found.ceilings.tx an)) (sym m.next)
+        (up.next an),
+    λ sci an. subst (λ (numbers : List ℕ → ℕ → Option Numbers). RxRises s.identity.rx_block (numbers sci an)
+        (option_map first_numbers (found.ceilings.rx sci an))) (sym m.numbers) (up.numbers sci an),
+    refl,
+  )
+
+  known_after : Follows s.logs.given (opened_state found s.logs) (resumed o found)
+  known_after = record {
+    matches = record {
+      formatted = m.formatted ∙ ap (λ (i : Identity). Some i) (sym up.identity);
+      settings = m.settings ∙ ap settings_of (sym up.config);
+      installed = subst (λ (c : Config). AreSpent c o.installed) (sym up.config) m.installed;
+      next = refl;
+      numbers = refl;
+      waiting = refl;
+      tickets = refl;
+      stopped = refl;
+      sent = m.sent;
+      delivered = m.delivered;
+      before = m.delivered;
+      hand = λ c is. absurd (none_some c is);
+    };
+    begins = none-begins (opened_state found s.logs) (resumed o found) refl;
+  }
+
+-- an opening is expected, and what is known after it is so
+abbrev Finds : Observer → (earlier : List Delivery) → State → Type 0
+Finds o earlier new = (later : Observer) × IsFound o o.formatted later × Follows earlier new later
+
+finds_in : (s : State) (found : Standing) (o : Observer) → Matches o.before s o → (later : Observer)
+    → IsFound o (Some s.identity) later → Follows s.logs.given (opened_state found s.logs) later
+    → Finds o s.logs.given (opened_state found s.logs)
+finds_in s found o m later is after =
+    (later, subst (λ (i : Option Identity). IsFound o i later) (sym m.formatted) is, after)
+
+restarted : (s : State) (found : Standing) (o : Observer) → Restart s (opened_state found s.logs) → Matches o.before s o
+    → Finds o s.logs.given (opened_state found s.logs)
+restarted s found o (inl up) m =
+    finds_in s found o m (resumed o found) (inl (as_known s found o m up)) (known_after s found o m up)
+restarted s found o (inr (c, mid, hand, makes, up)) m =
+    let config : Config = makes.0 in
+    let on : Resumes (state_after_command s c config) (opened_state found s.logs) =
+    subst (λ (x : State). Resumes x (opened_state found s.logs)) makes.2 up in
+    let after = after-command o.before s o c config makes.1 m in
+    finds_in s found o m (resumed (after_command c o) found)
+    (inr (
+      c,
+      m.hand c hand,
+      is-new o.before s o c config makes.1 m,
+      as_known (state_after_command s c config) found (after_command c o) after on,
+    ))
+    (known_after (state_after_command s c config) found (after_command c o) after on)
+
+module _ (sectors : ℕ) (image : Image) (found : Standing) (is : StandingIs this_edition sectors image (Ok found)) where
+  -- on a disk that may not be formatted
+  first_found : (identities : List Identity) → FitsPast this_edition sectors (Blank identities) image
+      → Finds (record new_observer { tried = identities }) [] (opened_state found no_logs)
+  first_found identities fits =
+      let new = found-new this_edition sectors image identities found fits is in
+      subst (λ (it : Standing). Finds (record new_observer { tried = identities }) [] (opened_state it no_logs)) new.2 (
+        record new_observer { tried = identities; formatted = Some new.0 },
+        (new.0, new.1, refl),
+        record {
+          matches = record {
+            formatted = refl;
+            settings = refl;
+            installed = none-spent (new_standing this_edition new.0).config;
+            next = refl;
+            numbers = refl;
+            waiting = refl;
+            tickets = refl;
+            stopped = refl;
+            sent = refl;
+            delivered = refl;
+            before = refl;
+            hand = λ c hand. absurd (none_some c hand);
+          };
+          begins = none-begins (opened_state (new_standing this_edition new.0) no_logs)
+              (record new_observer { tried = identities; formatted = Some new.0 }) refl;
+        },
+      )
+
+  pub found-is-expected : (past : Past) (o : Observer) → FitsPast this_edition sectors past image → MatchesPast past o
+      → Finds o (logs_of past).given (opened_state found (logs_of past))
+  found-is-expected (Blank identities) o fits m =
+      subst (λ (o : Observer). Finds o [] (opened_state found no_logs)) (sym m) (first_found identities fits)
+  found-is-expected (Formatted s) o fits m =
+      restarted s found o (fits-restart this_edition sectors image s found fits is) m
+
+-- ---- what an endpoint shows
+
+abbrev pub shown_in : State → Shown
+shown_in s = record {
+  identity = s.identity;
+  settings = settings_of s.config;
+  next = s.next;
+  numbers = λ sci an. option_map shown_numbers (s.numbers sci an);
+  waiting = s.waiting;
+}
+
+pub shown-is-known : (earlier : List Delivery) (s : State) (o : Observer) → Matches earlier s o
+    → IsKnown o (shown_in s)
+shown-is-known earlier s o m = (
+  m.formatted,
+  sym m.settings,
+  sym m.next,
+  ap (λ (numbers : List ℕ → ℕ → Option Numbers). λ (sci : List ℕ) (an : ℕ). option_map shown_numbers (numbers sci an))
+      (sym m.numbers),
+  sym m.waiting,
+)
+
+-- ---- what an opening is refused for
+
+pub refused-is-expected : (sectors : ℕ) (past : Past) (image : Image) (fault : JournalFault) (new : Past) (o : Observer)
+    → Leads sectors past (Refuses this_edition image fault) new → MatchesPast past o
+    → ExpectsOpening o (Err fault) o × MatchesPast new o
+refused-is-expected sectors (Blank identities) image fault new o leads m = (
+  (inl (ap (λ (o : Observer). o.formatted) m), refl),
+  subst (λ (p : Past). MatchesPast p o) (sym leads.2) m,
+)
+refused-is-expected sectors (Formatted s) image fault new o leads m = (
+  (
+    inr (elim (refused-for-disk-or-spent sectors s this_edition image fault new leads) [
+      | inl disk ↦ inl disk
+      | inr spent ↦ inr spent.0
+    ]),
+    refl,
+  ),
+  subst (λ (p : Past). MatchesPast p o) (sym leads.2) m,
+)
+
+-- ---- formats
+
+-- one that is not answered Ok
+pub tried-is-expected : (past : Past) (identity : Identity) (new : Past) (o : Observer)
+    → FormatLeads past this_edition identity false new → MatchesPast past o
+    → MatchesPast new (record o { tried = identity ∷ o.tried })
+tried-is-expected (Blank identities) identity new o leads m =
+    subst (λ (p : Past). MatchesPast p (record o { tried = identity ∷ o.tried })) (sym leads)
+    (ap (λ (o : Observer). record o { tried = identity ∷ o.tried }) m)
+tried-is-expected (Formatted s) identity new o leads m =
+    subst (λ (p : Past). MatchesPast p (record o { tried = identity ∷ o.tried })) (sym leads) (record {
+      formatted = m.formatted;
+      settings = m.settings;
+      installed = m.installed;
+      next = m.next;
+      numbers = m.numbers;
+      waiting = m.waiting;
+      tickets = m.tickets;
+      stopped = m.stopped;
+      sent = m.sent;
+      delivered = m.delivered;
+      before = m.before;
+      hand = m.hand;
+    })
+
+-- a `format` is expected, and what is known after it is so
+abbrev Formats : Observer → Identity → Result (Unit {0}) JournalFault → Past → Type 0
+Formats o identity result new = (later : Observer) × ExpectsFormat o identity result later × MatchesPast new later
+
+formatted_now : (past : Past) (identity : Identity) (new : Past) (o : Observer)
+    → FormatLeads past this_edition identity true new → MatchesPast past o → Formats o identity (Ok tt) new
+formatted_now (Blank identities) identity new o leads m =
+    subst (λ (o : Observer). Formats o identity (Ok tt) new) (sym m) (
+      record new_observer { tried = identities; formatted = Some identity },
+      (refl, refl),
+      subst (λ (p : Past). MatchesPast p (record new_observer { tried = identities; formatted = Some identity }))
+          (sym leads) (record {
+            formatted = refl;
+            settings = refl;
+            installed = λ it has. absurd (contains-none it has);
+            next = refl;
+            numbers = refl;
+            waiting = refl;
+            tickets = refl;
+            stopped = refl;
+            sent = refl;
+            delivered = refl;
+            before = refl;
+            hand = λ c is. absurd (none_some c is);
+          }),
+    )
+formatted_now (Formatted s) identity new o leads m = absurd leads
+
+pub formats-are-expected : (past : Past) (identity : Identity) (result : Result (Unit {0}) JournalFault) (new : Past)
+    (o : Observer) → FormatLeads past this_edition identity (is_ok result) new → MatchesPast past o
+    → Formats o identity result new
+formats-are-expected past identity (Ok done) new o leads m = formatted_now past identity new o leads m
+formats-are-expected past identity (Err fault) new o leads m =
+    (record o { tried = identity ∷ o.tried }, refl, tried-is-expected past identity new o leads m)
+
+-- ---- a call that is cut short
+
+-- none is taken where none waits
+pub taking-none : (earlier : List Delivery) (s : State) (o : Observer) → Matches earlier s o
+    → (in_hand : Option Command) (waiting : List Waiting) → waiting ≡ []
+    → Matches earlier (state_taking_first s in_hand waiting) o
+taking-none earlier s o m None [] is = m
+taking-none earlier s o m None (one ∷ rest) is = absurd (cc)
+taking-none earlier s o m (Some c) waiting is = m
+
+module _ (earlier : List Delivery) (s : State) (o : Observer) (follows : Follows earlier s o) where
+  abbrev m : Matches earlier s o
+  m = follows.matches
+
+  -- where the endpoint runs and accepts a command, that may be under way
+  taking : (stopped accepts : Bool) (call : Call) (c : Command) → s.stopped ≡ stopped
+      → (s.stopped ≡ false → option_or o.begun (begun_in o.stopped call o.waiting) ≡ Some c)
+      → Matches earlier (cond (not stopped && accepts) (state_with_in_hand s c) s) (begin call o)
+  taking true accepts call c is begins = may-begin earlier s o call m
+  taking false true call c is begins =
+      with-hand earlier s (begin call o) c (begins is) (may-begin earlier s o call m)
+  taking false false call c is begins = may-begin earlier s o call m
+
+  in_front : s.stopped ≡ false → IsFirst o
+  in_front running d begun = follows.begins d begun running
+
+  taking_alone : (waiting : List Waiting) (c : Command) → s.waiting ≡ waiting
+      → Matches earlier (state_taking_alone s c waiting) (begin (Commands c) o)
+  taking_alone [] c is = taking s.stopped (is_ok (apply s.edition s.identity s.config c)) (Commands c) c refl
+      (λ running. begins-alone o.stopped (m.stopped ∙ running) o.waiting o.begun (in_front running) c (m.waiting ∙ is))
+  taking_alone (one ∷ rest) c is = may-begin earlier s o (Commands c) m
+
+  taking_first : (in_hand : Option Command) (waiting : List Waiting) → s.waiting ≡ waiting
+      → Matches earlier (state_taking_first s in_hand waiting) (begin Advances o)
+  taking_first None [] is = may-begin earlier s o Advances m
+  taking_first None (one ∷ rest) is =
+      taking s.stopped (is_ok (apply s.edition s.identity s.config one.command)) Advances one.command refl
+      (λ running.
+      begins-first o.stopped (m.stopped ∙ running) o.waiting o.begun (in_front running) one rest (m.waiting ∙ is))
+  taking_first (Some c) waiting is = may-begin earlier s o Advances m
+
+  -- work may begin in it
+  pub cuts-may-begin : (call : Call) → Matches earlier (state_during s call) (begin call o)
+  cuts-may-begin (Commands c) = taking_alone s.waiting c refl
+  cuts-may-begin Refills = may-begin earlier s o Refills m
+  cuts-may-begin (Submits c) = may-begin earlier s o (Submits c) m
+  cuts-may-begin Advances = taking_first s.in_hand s.waiting refl
+  cuts-may-begin (Protects plain) = may-begin earlier s o (Protects plain) m
+  cuts-may-begin (Receives frame) = may-begin earlier s o (Receives frame) m

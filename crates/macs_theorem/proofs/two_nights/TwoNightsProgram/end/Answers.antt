@@ -1,0 +1,7 @@
+use Rattle.std.proofs.Common.{refl}
+use Rattle.macs_theorem.specs.Events.{Ends}
+use Rattle.macs_theorem.proofs.Kept.{first-kept}
+use Rattle.macs_theorem.proofs.two_nights.TwoNightsProgram.end.Goals as goal
+
+pub returns : goal.returns
+returns c = λ events kept. first-kept c.args.self.now.first c.args.self.now.second events Ends refl kept
