@@ -1,21 +1,19 @@
--- A state by its columns, each a word (FIPS 197 (2001), 3.5): the leftmost octet of a word is in the top row.
-use Rattle.std.specs.Prelude.{ℕ, ◌/◌, ◌%◌, List, [], ◌∷◌, ◌++◌, map, get_or, slice_index}
-use Rattle.std.specs.List.{range_with_len}
-use Rattle.std.specs.Int.{w32, to_be_bytes}
-use Rattle.macs_aes.specs.Cipher.{mixed_octet}
+-- Bits of vectors, crossed.
+use Rattle.std.specs.Prelude.{◌≡◌, ◌<◌, ◌+◌, ◌-◌, ◌*◌, ◌/◌, ◌%◌, ℕ, List, get_or}
+use Rattle.macs_aes.specs.Blocks.{bit_in, zeros}
 
--- the state whose columns are the words a, b, c and d, from the left
-abbrev pub state_of_columns : ℕ → ℕ → ℕ → ℕ → List ℕ
-state_of_columns a b c d = to_be_bytes w32 a ++ to_be_bytes w32 b ++ to_be_bytes w32 c ++ to_be_bytes w32 d
+-- a number with another one's bit of weight d, a power of two
+abbrev pub with_bit : ℕ → ℕ → ℕ → ℕ
+with_bit d n m = n - n / d % 2 * d + m / d % 2 * d
 
--- the column of the octets a, b, c and d, from the top, after MixColumns (5.1.3)
-abbrev pub mixed_column : ℕ → ℕ → ℕ → ℕ → List ℕ
-mixed_column a b c d = mixed_octet a b c d ∷ mixed_octet b c d a ∷ mixed_octet c d a b ∷ mixed_octet d a b c ∷ []
+-- x is vector k of the vectors xs, where the number of a vector and the place of a bit have exchanged their bits of
+-- weight d
+abbrev pub IsExchanged : ℕ → ℕ → ℕ → List (List ℕ) → List ℕ → Type 0
+IsExchanged lanes d k xs x = (i j : ℕ) → i < lanes → j < 16
+    → bit_in x i j ≡ bit_in (get_or xs (with_bit d k j) (zeros lanes)) i (with_bit d j k)
 
--- word k of four columns of words, taken from them in turn
-abbrev pub word_in : List ℕ → List ℕ → List ℕ → List ℕ → ℕ → ℕ
-word_in a b c d k = slice_index (get_or (a ∷ b ∷ c ∷ d ∷ []) (k % 4) []) (k / 4)
-
--- the 60 words of four columns of fifteen words, taken from them in turn
-unfoldable pub words_in : List ℕ → List ℕ → List ℕ → List ℕ → List ℕ
-words_in a b c d = map (word_in a b c d) (range_with_len 0 60)
+-- x is vector k of the vectors xs, crossed: bit m of each half of a lane is bit k of the same half in vector m. Bit j
+-- of a lane is bit m = j % 8 of its half j / 8
+abbrev pub IsCrossed : ℕ → ℕ → List (List ℕ) → List ℕ → Type 0
+IsCrossed lanes k xs x = (i j : ℕ) → i < lanes → j < 16
+    → bit_in x i j ≡ bit_in (get_or xs (j % 8) (zeros lanes)) i (8 * (j / 8) + k)

@@ -1,15 +1,14 @@
 //! The key expansion (FIPS 197, 5.2).
 
-ghost use Rattle.std.specs.Prelude.{◌≡◌, ◌<◌, ◌≤◌, ◌⊎◌, ◌+◌, ◌*◌, ℕ, length, take};
+ghost use Rattle.std.specs.Prelude.{◌≡◌, ◌<◌, ◌≤◌, ◌⊎◌, ◌+◌, ◌*◌, ℕ, [], get_or, length, take};
 ghost use Rattle.macs_aes.specs.Cipher.{round_key};
 ghost use Rattle.macs_aes.specs.KeyExpansion.{from_previous, key_word, key_words};
 ghost use Rattle.macs_aes.specs.Keys.{octets_of_key};
 ghost use Rattle.macs_aes.specs.KeyExpansion.{round_constant, rounds_of, sub_word};
 
 use crate::Block;
-use crate::key_columns::{KeyColumns, by_columns};
 use crate::keys::Key;
-use crate::sbox::substitute;
+use crate::planes::Planes;
 use std::marker::Model;
 
 /// Nr, how many rounds the cipher has under a key of 16 octets (FIPS 197, 5, figure 4).
@@ -19,10 +18,10 @@ const SHORT_ROUNDS: usize = 10;
 const LONG_ROUNDS: usize = 14;
 
 /// How many round keys there are at most: one before the first round, and one for each.
-pub(crate) const ROUND_KEYS: usize = LONG_ROUNDS + 1;
+const ROUND_KEYS: usize = LONG_ROUNDS + 1;
 
 /// How many words the key expansion has at most: four for each round key.
-pub(crate) const WORDS: usize = 4 * ROUND_KEYS;
+const WORDS: usize = 4 * ROUND_KEYS;
 
 /// The leftmost octets of Rcon\[1\] to Rcon\[10\]: x^0 to x^9.
 const ROUND_CONSTANTS: [u8; 10] = [0x01, 0x02, 0x04, 0x08, 0x10, 0x20, 0x40, 0x80, 0x1b, 0x36];
@@ -33,12 +32,12 @@ const ROUND_CONSTANTS: [u8; 10] = [0x01, 0x02, 0x04, 0x08, 0x10, 0x20, 0x40, 0x8
 pub struct Schedule {
     /// The value of a schedule. Its length says how many rounds there are.
     key: Key,
-    /// What comes after the words of a short key is not read.
-    words: KeyColumns,
+    /// The key of each round. What comes after those of a short key is not read.
+    round_keys: [Block; ROUND_KEYS],
 }
 
 impl Model for Schedule {
-    ghost use Rattle.std.specs.Prelude.{◌≡◌, ◌≤◌, List, ℕ};
+    ghost use Rattle.std.specs.Prelude.{◌≡◌, ◌≤◌, List, [], ℕ, get_or};
     ghost use Rattle.macs_aes.specs.Cipher.{round_key};
     ghost use Rattle.macs_aes.specs.KeyExpansion.{key_words, rounds_of};
     ghost use Rattle.macs_aes.specs.Keys.{HasItsLength, octets_of_key};
@@ -48,15 +47,18 @@ impl Model for Schedule {
     ghost view = { λ s. octets_of_key s.key };
 
     ghost invariant = { λ s. HasItsLength s.key × ((i : ℕ) → i ≤ rounds_of (octets_of_key s.key)
-        → round_key s.words i ≡ round_key (key_words (octets_of_key s.key)) i) };
+        → get_or s.round_keys i [] ≡ round_key (key_words (octets_of_key s.key)) i) };
 }
 
-/// SubWord: the S-box on each octet of a word.
+/// SubWord: the S-box on each octet of a word. The word's octets are the first of a block.
 fn sub_word(word: u32) -> u32
     ensures { result ≡ sub_word word }
 {
     let [a, b, c, d] = word.to_be_bytes();
-    u32::from_be_bytes([substitute(a), substitute(b), substitute(c), substitute(d)])
+    let mut planes = Planes::load(&[[a, b, c, d, 0, 0, 0, 0, 0, 0, 0, 0, 0, 0, 0, 0]]);
+    planes.sub_bytes();
+    let [block] = planes.store();
+    u32::from_be_bytes([block[0], block[1], block[2], block[3]])
 }
 
 /// Rcon\[j\], j from 1 to 10.
@@ -108,6 +110,31 @@ fn expand(key: &[u8]) -> [u32; WORDS]
     words
 }
 
+/// The key of a round: words 4 round to 4 round + 3, as the columns of a state (5.1.4).
+fn round_key_of(words: &[u32; WORDS], round: usize) -> Block
+    requires { round < ROUND_KEYS }
+    ensures { result ≡ round_key words.now round }
+{
+    let [a0, a1, a2, a3] = words[4 * round].to_be_bytes();
+    let [b0, b1, b2, b3] = words[4 * round + 1].to_be_bytes();
+    let [c0, c1, c2, c3] = words[4 * round + 2].to_be_bytes();
+    let [d0, d1, d2, d3] = words[4 * round + 3].to_be_bytes();
+    [
+        a0, a1, a2, a3, b0, b1, b2, b3, c0, c1, c2, c3, d0, d1, d2, d3,
+    ]
+}
+
+/// The keys of all rounds.
+fn round_keys_of(words: &[u32; WORDS]) -> [Block; ROUND_KEYS]
+    ensures { (i : ℕ) → i < ROUND_KEYS → get_or result i [] ≡ round_key words.now i }
+{
+    let mut keys = [[0; 16]; ROUND_KEYS];
+    for round in 0..ROUND_KEYS {
+        keys[round] = round_key_of(words, round);
+    }
+    keys
+}
+
 impl Schedule {
     /// The schedule of a key of 16 octets.
     pub fn new(key: &Block) -> Self
@@ -122,16 +149,8 @@ impl Schedule {
     {
         Schedule {
             key: *key,
-            words: by_columns(&expand(key.as_slice())),
+            round_keys: round_keys_of(&expand(key.as_slice())),
         }
-    }
-
-    /// The words of the key expansion. What comes after those of a short key is not read.
-    pub(crate) fn words(&self) -> &KeyColumns
-        ensures { (i : ℕ) → i ≤ rounds_of self.now
-            → round_key result.now i ≡ round_key (key_words self.now) i }
-    {
-        &self.words
     }
 
     /// The number of rounds, Nr (FIPS 197, 5, figure 4): 10 for a key of 16 octets, 14 for one of
@@ -152,6 +171,7 @@ impl Schedule {
         requires { i ≤ rounds_of self.now }
         ensures { result ≡ round_key (key_words self.now) i }
     {
-        self.words.round_key(i)
+        let keys = &self.round_keys;
+        keys[i]
     }
 }

@@ -7,10 +7,8 @@ ghost use Rattle.macs_aes.specs.Cipher.{encrypt};
 ghost use Rattle.macs_gcm.specs.Gcm.{Opens, hash_subkey, pre_counter_block, seal};
 ghost use Rattle.macs_gcm.specs.Gcm.{authentication_tag};
 
-use crate::counter::{
-    GROUPED, gctr_next_by_blocks, gctr_next_by_groups, mask_room, put_masks, xor_whole,
-};
-use macs_aes::{Block, Key, Schedule, encrypt_block};
+use crate::counter::{gctr_after_first, mask_room, put_masks, xor_whole};
+use macs_aes::{Block, Key, Schedule};
 use macs_ghash::{Powers, ghash};
 use macs_planes::{GroupKeys, key_room};
 use std::marker::Model;
@@ -32,29 +30,26 @@ impl Model for GcmKey {
     ghost invariant = { λ k. k.powers ≡ hash_subkey k.schedule };
 }
 
+/// H, the block of 128 zero bits encrypted (7.1, step 1): the first of a group.
+fn hash_subkey(schedule: &Schedule) -> u128
+    ensures { result ≡ hash_subkey schedule.now }
+{
+    let mut room = key_room();
+    let keys = GroupKeys::new(schedule, &mut room);
+    let mut masks = mask_room();
+    put_masks(&mut masks, &keys, &[0; 12], 0);
+    u128::from_be_bytes(masks[0])
+}
+
 impl GcmKey {
     /// Prepares a key of 128 or 256 bits.
     pub fn new(key: &Key) -> Self
         ensures { result ≡ octets_of_key key.now }
     {
         let schedule = Schedule::of(key);
-        let subkey = u128::from_be_bytes(encrypt_block(&schedule, &[0; 16]));
-        GcmKey {
-            schedule,
-            powers: Powers::new(subkey),
-        }
+        let powers = Powers::new(hash_subkey(&schedule));
+        GcmKey { schedule, powers }
     }
-}
-
-/// J0, the pre-counter block: the 96 bits of the initialisation vector, and a one in 32 bits (7.1,
-/// step 2).
-fn pre_counter_block(iv: &[u8; 12]) -> Block
-    ensures { result ≡ pre_counter_block iv.now }
-{
-    let mut block = [0; 16];
-    block[..12].copy_from_slice(iv);
-    block[15] = 1;
-    block
 }
 
 /// The tag of additional data and a ciphertext, where J0 is given encrypted (7.1, steps 4 to 6).
@@ -80,69 +75,6 @@ fn is_equal(one: &[u8; 16], other: &[u8; 16]) -> bool
     difference == 0
 }
 
-/// Sealing block by block.
-fn seal_by_blocks(key: &GcmKey, iv: &[u8; 12], aad: &[u8], text: &mut [u8]) -> [u8; 16]
-    requires aad { length aad.now < 2 ^ 32 }
-    requires text { length text.old < 2 ^ 32 }
-    ensures { (text.new, result) ≡ seal key.now iv.now aad.now text.old }
-{
-    let start = pre_counter_block(iv);
-    gctr_next_by_blocks(&key.schedule, &start, text);
-    tag_of(key, &encrypt_block(&key.schedule, &start), aad, text)
-}
-
-/// Sealing by groups of blocks, of which the first begins with J0.
-fn seal_by_groups(key: &GcmKey, iv: &[u8; 12], aad: &[u8], text: &mut [u8]) -> [u8; 16]
-    requires aad { length aad.now < 2 ^ 32 }
-    requires text { length text.old < 2 ^ 32 }
-    ensures { (text.new, result) ≡ seal key.now iv.now aad.now text.old }
-{
-    let start = pre_counter_block(iv);
-    let mut room = key_room();
-    let keys = GroupKeys::new(&key.schedule, &mut room);
-    let mut masks = mask_room();
-    put_masks(&mut masks, &keys, &start, 0);
-    gctr_next_by_groups(&key.schedule, &keys, &start, &masks, text);
-    tag_of(key, &masks[0], aad, text)
-}
-
-/// Opening block by block.
-fn open_by_blocks(key: &GcmKey, iv: &[u8; 12], aad: &[u8], text: &mut [u8], tag: &[u8; 16]) -> bool
-    requires aad { length aad.now < 2 ^ 32 }
-    requires text { length text.old < 2 ^ 32 }
-    ensures exactly { IsTrue result ↔ Opens key.now iv.now aad.now text.old tag.now }
-    ensures opened { OnTrue result (seal key.now iv.now aad.now text.new ≡ (text.old, tag.now)) }
-    ensures same { OnFalse result (text.new ≡ text.old) }
-{
-    let start = pre_counter_block(iv);
-    let mask = encrypt_block(&key.schedule, &start);
-    if !is_equal(&tag_of(key, &mask, aad, text), tag) {
-        return false;
-    }
-    gctr_next_by_blocks(&key.schedule, &start, text);
-    true
-}
-
-/// Opening by groups of blocks, of which the first begins with J0.
-fn open_by_groups(key: &GcmKey, iv: &[u8; 12], aad: &[u8], text: &mut [u8], tag: &[u8; 16]) -> bool
-    requires aad { length aad.now < 2 ^ 32 }
-    requires text { length text.old < 2 ^ 32 }
-    ensures exactly { IsTrue result ↔ Opens key.now iv.now aad.now text.old tag.now }
-    ensures opened { OnTrue result (seal key.now iv.now aad.now text.new ≡ (text.old, tag.now)) }
-    ensures same { OnFalse result (text.new ≡ text.old) }
-{
-    let start = pre_counter_block(iv);
-    let mut room = key_room();
-    let keys = GroupKeys::new(&key.schedule, &mut room);
-    let mut masks = mask_room();
-    put_masks(&mut masks, &keys, &start, 0);
-    if !is_equal(&tag_of(key, &masks[0], aad, text), tag) {
-        return false;
-    }
-    gctr_next_by_groups(&key.schedule, &keys, &start, &masks, text);
-    true
-}
-
 /// Encrypts the text in place, and answers the tag of 128 bits that authenticates it and the
 /// additional data (7.1).
 ///
@@ -153,11 +85,12 @@ pub fn seal(key: &GcmKey, iv: &[u8; 12], aad: &[u8], text: &mut [u8]) -> [u8; 16
     requires text { length text.old < 2 ^ 32 }
     ensures { (text.new, result) ≡ seal key.now iv.now aad.now text.old }
 {
-    if text.len() < GROUPED {
-        seal_by_blocks(key, iv, aad, text)
-    } else {
-        seal_by_groups(key, iv, aad, text)
-    }
+    let mut room = key_room();
+    let keys = GroupKeys::new(&key.schedule, &mut room);
+    let mut masks = mask_room();
+    put_masks(&mut masks, &keys, iv, 0);
+    gctr_after_first(&keys, iv, &masks, text);
+    tag_of(key, &masks[1], aad, text)
 }
 
 /// Decrypts the text in place and answers true where the tag of 128 bits authenticates the text and
@@ -172,9 +105,13 @@ pub fn open(key: &GcmKey, iv: &[u8; 12], aad: &[u8], text: &mut [u8], tag: &[u8;
     ensures opened { OnTrue result (seal key.now iv.now aad.now text.new ≡ (text.old, tag.now)) }
     ensures same { OnFalse result (text.new ≡ text.old) }
 {
-    if text.len() < GROUPED {
-        open_by_blocks(key, iv, aad, text, tag)
-    } else {
-        open_by_groups(key, iv, aad, text, tag)
+    let mut room = key_room();
+    let keys = GroupKeys::new(&key.schedule, &mut room);
+    let mut masks = mask_room();
+    put_masks(&mut masks, &keys, iv, 0);
+    if !is_equal(&tag_of(key, &masks[1], aad, text), tag) {
+        return false;
     }
+    gctr_after_first(&keys, iv, &masks, text);
+    true
 }

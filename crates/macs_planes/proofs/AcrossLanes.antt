@@ -8,12 +8,12 @@ use Rattle.std.proofs.lemmas.List.FromFn.{fill_by_all}
 use Rattle.macs_gf.specs.Gf256.{octet_product}
 use Rattle.macs_aes.specs.Cipher.{mixed_octet, xor_tables}
 use Rattle.macs_planes.specs.Across.{block_across, blocks_across, octet_across, octet_at, octet_of_words}
-use Rattle.macs_planes.specs.Bits.{IsBlock}
-use Rattle.macs_planes.specs.BlockSteps.{AreBlocks}
-use Rattle.macs_planes.specs.Blocks.{bit_in, octet, octet_basis, octet_in, zeros}
-use Rattle.macs_planes.specs.Columns.{IsCrossed}
-use Rattle.macs_planes.proofs.Bytes.{half_is, half_bits, stored_octet}
-use Rattle.macs_planes.proofs.EachBlock.{map_map, map_same, mixed_is}
+use Rattle.macs_aes.specs.Bits.{IsBlock}
+use Rattle.macs_aes.specs.BlockSteps.{AreBlocks}
+use Rattle.macs_aes.specs.Blocks.{bit_in, octet, octet_basis, octet_in, zeros}
+use Rattle.macs_aes.specs.Columns.{IsCrossed}
+use Rattle.macs_aes.proofs.Bytes.{half_is, half_bits, stored_octet}
+use Rattle.macs_aes.proofs.EachBlock.{map_map, map_same, mixed_is}
 use Rattle.macs_planes.proofs.Octets.{bit_of_octet}
 
 -- ---- where an octet is

@@ -8,10 +8,10 @@ use Rattle.std.proofs.lemmas.Nat.Bits.{bit_at_ones}
 use Rattle.std.proofs.lemmas.Simd.{Each1-from_get_or, get_or-replicate, get_or-sel_l, get_or-zip2, length-replicate}
 use Rattle.std.proofs.lemmas.Simd.{length-sel_l, length-zip2, tops_compared}
 use Rattle.macs_planes.specs.Across.{octet_of_words}
-use Rattle.macs_planes.specs.Bits.{tested}
-use Rattle.macs_planes.specs.Blocks.{bit_in, octet_basis, octet_in}
+use Rattle.macs_aes.specs.Bits.{tested}
+use Rattle.macs_aes.specs.Blocks.{bit_in, octet_basis, octet_in}
 use Rattle.macs_planes.proofs.AcrossLanes.{bit_by_octet}
-use Rattle.macs_planes.proofs.BitTests.{tested_octet}
+use Rattle.macs_aes.proofs.BitTests.{tested_octet}
 use Rattle.macs_planes.proofs.Octets.{octet_of_wider, octets_small}
 
 tests : ℕ → List ℕ → ℕ → List Bool

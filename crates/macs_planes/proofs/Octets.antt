@@ -10,7 +10,7 @@ use Rattle.std.proofs.lemmas.Nat.{div-add-mod'}
 use Rattle.std.proofs.lemmas.Simd.{get_or-chunk, get_or_narrower, get_or_wider, length-chunk}
 use native.Mathlib.Nat.{add_comm}
 use Rattle.macs_planes.specs.Across.{octet_of_words}
-use Rattle.macs_planes.proofs.Moves.{shr_bit}
+use Rattle.macs_aes.proofs.Moves.{shr_bit}
 
 low_bit : (n j : ℕ) → j < 8 → bit_at (n % 256) j ≡ bit_at n j
 low_bit n j h = sym (bit_at_cat_low (n / 256) 8 (n % 256) j h) ∙ ap (λ (m : ℕ). bit_at m j) (div-add-mod' n 256)

@@ -7,7 +7,7 @@ use Rattle.std.proofs.lemmas.Bool.{cases_lt}
 use Rattle.std.proofs.lemmas.List.FromFn.{get_or-map-range_with_len}
 use Rattle.std.proofs.lemmas.Simd.{Each1-from_get_or, SwzOk, SwzOk-from_below, get_or-swz_l_below, length-swz_l, swz_l}
 use Rattle.macs_planes.specs.Across.{octet_of_words, place_back, row_below}
-use Rattle.macs_planes.specs.Rows.{shifted}
+use Rattle.macs_aes.specs.Rows.{shifted}
 use Rattle.macs_planes.proofs.Octets.{beyond, octet_of_narrower, octet_of_wider}
 use Rattle.macs_planes.specs.declared.across.TheConstants.{AFTER, NEXT, TWICE}
 use Rattle.macs_planes.specs.declared.key_planes.TheConstants.{BACK}

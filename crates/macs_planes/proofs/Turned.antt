@@ -1,13 +1,13 @@
 -- Rows that ShiftRows has still to turn.
-use Rattle.std.proofs.Common.{◌≡◌, ℕ, zero, suc, ◌-◌, ◌%◌, ◌<◌, ◌≤◌, ◌∙◌, ◌⊎◌, List, [], ◌∷◌, map, slice_index, ap, ap₂}
+use Rattle.std.proofs.Common.{◌≡◌, ℕ, zero, suc, ◌+◌, ◌-◌, ◌*◌, ◌/◌, ◌%◌, ◌<◌, ◌≤◌, ◌∙◌, ◌⊎◌, List, [], ◌∷◌, map, slice_index, ap, ap₂}
 use Rattle.std.proofs.Common.{sym, refl, arith, inl, inr}
 use Rattle.std.specs.List.{range_with_len}
 use Rattle.std.proofs.lemmas.Bool.{cases_lt}
 use Rattle.std.proofs.lemmas.List.FromFn.{get_or-map-range_with_len}
 use Rattle.macs_aes.specs.Cipher.{mix_columns, mixed_octet, round_key, shift_rows, sub_bytes, xor_tables}
 use Rattle.macs_planes.specs.Across.{place_back, row_below, turned, turned_back}
-use Rattle.macs_planes.specs.RoundKeys.{keyed}
-use Rattle.macs_planes.specs.Rows.{shifted}
+use Rattle.macs_aes.specs.RoundKeys.{keyed}
+use Rattle.macs_aes.specs.Rows.{shifted}
 
 pub turned_keyed : (t : ℕ) (k s : List ℕ) → turned t (xor_tables s k) ≡ xor_tables (turned t s) (turned t k)
 unfolding turned
@@ -82,6 +82,13 @@ pub back_at : (t : ℕ) (block : List ℕ) (j : ℕ) → j < 16
     → slice_index (turned_back t block) j ≡ slice_index block (place_back t j)
 unfolding turned_back
 back_at t block j h = get_or-map-range_with_len (λ j. slice_index block (place_back t j)) 0 16 j j 0 h (omega arith)
+
+-- no turns move nothing
+pub not_turned : (block : List ℕ) (j : ℕ) → j < 16 → slice_index (turned_back 0 block) j ≡ slice_index block j
+unfolding place_back
+not_turned block j h =
+    let place : j % 4 + 4 * ((j / 4 + 3 * 0 * (j % 4)) % 4) ≡ j = omega arith in
+    back_at 0 block j h ∙ ap (slice_index block) place
 
 -- ---- MixColumns of a block whose rows are still to be turned
 

@@ -4,7 +4,7 @@ use Rattle.std.specs.Prelude.{◌≡◌, ◌<◌, ◌≤◌, ℕ, zero, suc, ◌
 use Rattle.std.specs.List.{range_with_len}
 use Rattle.macs_aes.specs.Cipher.{round_key, shift_rows}
 use Rattle.macs_aes.specs.KeyExpansion.{key_words, rounds_of}
-use Rattle.macs_planes.specs.Blocks.{ArePlanes, blocks_in, octet, octet_basis}
+use Rattle.macs_aes.specs.Blocks.{ArePlanes, blocks_in, octet, octet_basis}
 
 -- octet m of words
 abbrev pub octet_of_words : List ℕ → ℕ → ℕ

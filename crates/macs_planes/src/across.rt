@@ -1,21 +1,24 @@
 //! Blocks across the lanes of planes, and the cipher's four steps on all of them at a time.
 
 ghost use Rattle.std.specs.Prelude.{◌≡◌, ◌≢◌, ◌<◌, ℕ, List, [], ◌+◌, ◌*◌, ◌/◌, ◌%◌, get_or, length};
-ghost use Rattle.std.specs.Prelude.{map};
+ghost use Rattle.std.specs.Prelude.{map, slice_index};
+ghost use Rattle.std.specs.List.{range_with_len};
 ghost use Rattle.macs_aes.specs.Cipher.{mix_columns, mixed_octet, shift_rows, sub_bytes};
 ghost use Rattle.macs_planes.specs.Across.{IsKeyPlanes, blocks_across, octet_at, octet_of_words};
 ghost use Rattle.macs_planes.specs.Across.{row_below, turned};
-ghost use Rattle.macs_planes.specs.Bits.{IsBlock};
-ghost use Rattle.macs_planes.specs.Blocks.{ArePlanes, octet};
-ghost use Rattle.macs_planes.specs.RoundKeys.{keyed};
+ghost use Rattle.macs_planes.specs.Counters.{numbered};
+ghost use Rattle.macs_aes.specs.Bits.{IsBlock};
+ghost use Rattle.macs_aes.specs.Blocks.{ArePlanes, octet};
+ghost use Rattle.macs_aes.specs.RoundKeys.{keyed};
 
-use crate::columns::{Columns, cross};
+use crate::counters::numbers;
 use crate::key_planes::KeyPlanes;
-use crate::mixing::{twice, xor};
 use crate::places::{LANES, OCTETS, PlacesTable, moved_each, octet_in};
-use crate::planes::{Planes, are_blocks};
-use crate::sbox::s_boxes;
 use macs_aes::Block;
+use macs_aes::columns::{Columns, cross};
+use macs_aes::mixing::{twice, xor};
+use macs_aes::planes::{Planes, are_blocks};
+use macs_aes::sbox::s_boxes;
 use std::marker::Model;
 use std::simd::prelude::*;
 
@@ -212,6 +215,19 @@ fn mixed(x: &Planes<LANES>, turns: usize) -> Planes<LANES>
 }
 
 impl Across {
+    /// The blocks of a group that are the given one, but for the last octet, to which the number of
+    /// each is added. No octet is crossed: the planes of one block in each place are those of a round
+    /// key.
+    #[inline(always)]
+    pub(crate) fn numbered(first: &Block) -> Self
+        requires { slice_index first.now 15 % LANES ≡ 0 }
+        ensures { result ≡ map (numbered first.now) (range_with_len 0 LANES) }
+    {
+        let same = KeyPlanes::of(first, 0);
+        let rows = xor(&same.planes(), &numbers());
+        Across { rows }
+    }
+
     /// The blocks, across lanes.
     #[inline(always)]
     pub(crate) fn load(blocks: &[Block; LANES]) -> Self

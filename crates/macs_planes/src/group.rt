@@ -1,10 +1,12 @@
 //! The cipher (FIPS 197, 5.1) on groups of blocks.
 
-ghost use Rattle.std.specs.Prelude.{◌≡◌, ◌<◌, ◌≤◌, ◌%◌, ℕ, List, length, map};
+ghost use Rattle.std.specs.Prelude.{◌≡◌, ◌<◌, ◌≤◌, ◌%◌, ℕ, List, length, map, slice_index};
+ghost use Rattle.std.specs.List.{range_with_len};
 ghost use Rattle.macs_aes.specs.Cipher.{encrypt, mix_columns, sub_bytes};
 ghost use Rattle.macs_planes.specs.Across.{AreKeyPlanes, IsKeyPlanes, turned};
-ghost use Rattle.macs_planes.specs.Blocks.{ArePlanes};
-ghost use Rattle.macs_planes.specs.RoundKeys.{keyed};
+ghost use Rattle.macs_planes.specs.Counters.{numbered};
+ghost use Rattle.macs_aes.specs.Blocks.{ArePlanes};
+ghost use Rattle.macs_aes.specs.RoundKeys.{keyed};
 
 use crate::across::Across;
 use crate::key_planes::{KeyPlanes, ROUND_KEYS, fill, key_room};
@@ -33,18 +35,44 @@ fn take_round(blocks: &mut Across, key: &KeyPlanes, round: usize, rounds: usize)
     blocks.add_round_key(key);
 }
 
+/// Each block across planes encrypted under the schedule's key, whose round keys are given.
+#[inline(always)]
+fn encrypt_across(schedule: &Schedule, keys: &[KeyPlanes; ROUND_KEYS], planes: &mut Across)
+    requires { AreKeyPlanes LANES schedule.now keys.now }
+    ensures { planes.new ≡ map (encrypt schedule.now) planes.old }
+{
+    let rounds = schedule.rounds();
+    planes.add_round_key(&keys[0]);
+    for round in 1..rounds + 1 {
+        take_round(planes, &keys[round], round, rounds);
+    }
+    planes.shift_rows_twice();
+}
+
 /// Each block of a group encrypted under the schedule's key, whose round keys are given.
 fn encrypt_group(schedule: &Schedule, keys: &[KeyPlanes; ROUND_KEYS], blocks: &mut [Block; LANES])
     requires { AreKeyPlanes LANES schedule.now keys.now }
     ensures { blocks.new ≡ map (encrypt schedule.now) blocks.old }
 {
-    let rounds = schedule.rounds();
     let mut planes = Across::load(blocks);
-    planes.add_round_key(&keys[0]);
-    for round in 1..rounds + 1 {
-        take_round(&mut planes, &keys[round], round, rounds);
-    }
-    planes.shift_rows_twice();
+    encrypt_across(schedule, keys, &mut planes);
+    planes.store(blocks);
+}
+
+/// The blocks that are the first, but for the number of each in the last octet, encrypted under the
+/// schedule's key, whose round keys are given.
+fn encrypt_numbered(
+    schedule: &Schedule,
+    keys: &[KeyPlanes; ROUND_KEYS],
+    first: &Block,
+    blocks: &mut [Block; LANES],
+)
+    requires keys { AreKeyPlanes LANES schedule.now keys.now }
+    requires first { slice_index first.now 15 % LANES ≡ 0 }
+    ensures { blocks.new ≡ map (encrypt schedule.now) (map (numbered first.now) (range_with_len 0 LANES)) }
+{
+    let mut planes = Across::numbered(first);
+    encrypt_across(schedule, keys, &mut planes);
     planes.store(blocks);
 }
 
@@ -99,6 +127,18 @@ impl<'a> GroupKeys<'a> {
         ensures { blocks.new ≡ map (encrypt self.now) blocks.old }
     {
         encrypt_group(self.schedule, self.keys, blocks);
+    }
+
+    /// The counter blocks of a group, encrypted by AES under the key (FIPS 197, 5.1). They are the
+    /// first, whose last octet is a multiple of the group's size, but for this octet, to which the
+    /// number of each is added.
+    #[inline(always)]
+    pub fn encrypt_numbered(&self, first: &Block, blocks: &mut [Block; LANES])
+        requires { slice_index first.now 15 % LANES ≡ 0 }
+        ensures { blocks.new
+            ≡ map (encrypt self.now) (map (numbered first.now) (range_with_len 0 LANES)) }
+    {
+        encrypt_numbered(self.schedule, self.keys, first, blocks);
     }
 
     /// Sixteen blocks, each encrypted by AES under the key (FIPS 197, 5.1).

@@ -5,12 +5,11 @@ ghost use Rattle.std.specs.Prelude.{slice_index};
 ghost use Rattle.macs_aes.specs.Cipher.{round_key};
 ghost use Rattle.macs_aes.specs.KeyExpansion.{key_words, rounds_of};
 ghost use Rattle.macs_planes.specs.Across.{AreKeyPlanes, IsKeyPlanes, octet_of_words, turned_back};
-ghost use Rattle.macs_planes.specs.Bits.{tested};
-ghost use Rattle.macs_planes.specs.Blocks.{ArePlanes, blocks_in, octet_basis};
+ghost use Rattle.macs_aes.specs.Bits.{tested};
+ghost use Rattle.macs_aes.specs.Blocks.{ArePlanes, blocks_in, octet_basis};
 
 use crate::places::{LANES, OCTETS, PlacesTable, moved, octet_in, octets_of_words};
-use crate::planes::Planes;
-use macs_aes::{Block, Schedule};
+use macs_aes::{Block, Planes, Schedule};
 use std::marker::Model;
 use std::simd::prelude::*;
 

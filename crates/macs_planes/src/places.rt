@@ -3,10 +3,9 @@
 
 ghost use Rattle.std.specs.Prelude.{◌≡◌, ◌<◌, ℕ, ◌+◌, ◌*◌, ◌/◌, ◌%◌, length, slice_index};
 ghost use Rattle.macs_planes.specs.Across.{octet_at, octet_of_words};
-ghost use Rattle.macs_planes.specs.Bits.{IsBlock};
+ghost use Rattle.macs_aes.specs.Bits.{IsBlock};
 
-use crate::planes::Planes;
-use macs_aes::Block;
+use macs_aes::{Block, Planes};
 use macs_lanes::REGISTER_BITS;
 use std::simd::prelude::*;
 

@@ -1,7 +1,6 @@
 use Rattle.std.proofs.Common.{◌≡◌, ◌+◌, ◌*◌, ◌<◌, ◌∙◌, ℕ, [], ap, arith, length, slice_index, inl, inr}
 use Rattle.std.proofs.lemmas.Bool.{cases_lt}
 use Rattle.std.proofs.lemmas.List.{get_or-set_other, get_or-set_same, length-set}
-use Rattle.macs_planes.specs.declared.places.TheConstants.{LANES}
 use Rattle.macs_planes.proofs.across.put_apart.Goals as goal
 
 pub loop-g-preserved : goal.loop-g-preserved

@@ -1,6 +1,6 @@
 use Rattle.std.proofs.Common.{◌≡◌, ◌≢◌, ◌+◌, ◌*◌, ◌%◌, ◌<◌, ℕ, [], get_or, length}
 use Rattle.macs_planes.specs.Across.{octet_of_words}
-use Rattle.macs_planes.specs.Blocks.{octet}
+use Rattle.macs_aes.specs.Blocks.{octet}
 use Rattle.macs_planes.specs.declared.places.TheConstants.{LANES}
 use Rattle.macs_planes.proofs.across.put_apart.Given as goal
 

@@ -1,8 +1,8 @@
 use Rattle.std.proofs.Common.{◌≡◌, ◌+◌, ◌*◌, ◌/◌, ◌%◌, ◌<◌, ◌∙◌, ℕ, [], arith, get_or, subst}
 use Rattle.std.proofs.lemmas.List.{length-set}
 use Rattle.std.proofs.lemmas.Simd.{Each1-from_get_or}
-use Rattle.macs_planes.specs.Bits.{IsBlock}
-use Rattle.macs_planes.specs.Blocks.{octet}
+use Rattle.macs_aes.specs.Bits.{IsBlock}
+use Rattle.macs_aes.specs.Blocks.{octet}
 use Rattle.macs_planes.proofs.Octets.{fact_more, filled_more, octet_of_wider, octets_small}
 use Rattle.macs_planes.specs.declared.places.TheConstants.{LANES, OCTETS}
 use Rattle.macs_planes.proofs.across.side_by_side.Goals as goal

@@ -1,6 +1,6 @@
 use Rattle.std.proofs.Common.{◌≡◌, ◌+◌, ◌*◌, ◌/◌, ◌%◌, ◌<◌, ℕ, [], get_or, length}
-use Rattle.macs_planes.specs.Bits.{IsBlock}
-use Rattle.macs_planes.specs.Blocks.{octet}
+use Rattle.macs_aes.specs.Bits.{IsBlock}
+use Rattle.macs_aes.specs.Blocks.{octet}
 use Rattle.macs_planes.specs.declared.places.TheConstants.{OCTETS}
 use Rattle.macs_planes.proofs.across.side_by_side.Given as goal
 

@@ -1,10 +1,10 @@
 use Rattle.std.proofs.Common.{◌≡◌, ◌+◌, ◌*◌, ◌/◌, ◌%◌, ◌<◌, ◌∙◌, ℕ, List, [], ◌∷◌, arith, get_or, refl}
 use Rattle.macs_planes.specs.Across.{block_across, octet_at, octet_of_words}
-use Rattle.macs_planes.specs.Blocks.{octet_basis}
-use Rattle.macs_planes.specs.Columns.{IsCrossed}
+use Rattle.macs_aes.specs.Blocks.{octet_basis}
+use Rattle.macs_aes.specs.Columns.{IsCrossed}
 use Rattle.macs_planes.proofs.AcrossLanes.{across_filled, below_eight_bit, bit_within, eighth_more, eighth_put}
 use Rattle.macs_planes.proofs.AcrossLanes.{lane_within, stored_word}
-use Rattle.macs_planes.proofs.Circuit.{octet_was}
+use Rattle.macs_aes.proofs.Circuit.{octet_was}
 use Rattle.macs_planes.specs.declared.places.TheConstants.{LANES}
 use Rattle.macs_planes.proofs.across.store_all.Goals as goal
 

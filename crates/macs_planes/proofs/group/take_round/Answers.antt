@@ -1,7 +1,7 @@
 use Rattle.std.proofs.Common.{◌%◌, ◌∙◌, ℕ, ap, arith, map}
 use Rattle.macs_aes.specs.Cipher.{mix_columns}
 use Rattle.macs_planes.specs.Across.{turned}
-use Rattle.macs_planes.specs.RoundKeys.{keyed}
+use Rattle.macs_aes.specs.RoundKeys.{keyed}
 use Rattle.macs_planes.proofs.Turned.{all_keyed}
 use Rattle.macs_planes.proofs.group.take_round.Goals as goal
 use Rattle.macs_planes.proofs.group.take_round.Goals.{then-round-rounds, else-round-rounds}

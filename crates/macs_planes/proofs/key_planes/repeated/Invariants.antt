@@ -1,5 +1,5 @@
 use Rattle.std.proofs.Common.{◌≡◌, ◌%◌, ◌<◌, ℕ, get_or, length}
-use Rattle.macs_planes.specs.Bits.{IsBlock}
+use Rattle.macs_aes.specs.Bits.{IsBlock}
 use Rattle.macs_planes.specs.declared.places.TheConstants.{OCTETS}
 use Rattle.macs_planes.proofs.key_planes.repeated.Given as goal
 

@@ -1,6 +1,6 @@
 use Rattle.std.proofs.Common.{◌∙◌, ◌+◌, ◌*◌, ◌/◌, ◌%◌, ℕ, [], ◌∷◌, arith, refl, slice_index}
-use Rattle.macs_planes.specs.Blocks.{octet_basis}
-use Rattle.macs_planes.proofs.Circuit.{octet_of, octet_was}
+use Rattle.macs_aes.specs.Blocks.{octet_basis}
+use Rattle.macs_aes.proofs.Circuit.{octet_of, octet_was}
 use Rattle.macs_planes.proofs.AcrossLanes.{bit_within, lane_within, same_elsewhere, same_octet_bits, sixteen_within}
 use Rattle.macs_planes.specs.declared.places.TheConstants.{LANES}
 use Rattle.macs_planes.proofs.places.moved_each.Goals as goal

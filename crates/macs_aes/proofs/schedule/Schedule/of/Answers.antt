@@ -1,5 +1,5 @@
-use Rattle.std.proofs.Common.{◌∙◌, ap, take, ◌+◌, ◌*◌}
-use Rattle.macs_aes.proofs.KeyLengths.{either_length}
+use Rattle.std.proofs.Common.{◌∙◌, arith}
+use Rattle.macs_aes.proofs.KeyLengths.{either_length, words_in_key-most}
 use Rattle.macs_aes.proofs.Words.{expanded, round_key-take}
 use Rattle.macs_aes.specs.KeyExpansion.{key_words, rounds_of}
 use Rattle.macs_aes.specs.Keys.{octets_of_key}
@@ -10,9 +10,10 @@ expand-requires c = rw c.as_slice.ensures.octets (either_length c.args.key.now c
 
 pub invariant_of-result : goal.invariant_of-result
 invariant_of-result c =
-    let octets = octets_of_key c.args.key.now in (
+    let octets = octets_of_key c.args.key.now in
+    let most = words_in_key-most octets (either_length c.args.key.now c.as_slice.ensures.size) in (
       c.as_slice.ensures.size,
-      λ i within. round_key-take c.by_columns.result (key_words octets) (rounds_of octets) i
-          (ap (take (4 * (rounds_of octets + 1))) c.by_columns.ensures ∙ expanded c.as_slice.result.now octets
-          c.expand.result c.as_slice.ensures.octets c.expand.ensures) within,
+      λ i within. c.round_keys_of.ensures i (omega (arith, within, most))
+          ∙ round_key-take c.expand.result (key_words octets) (rounds_of octets) i
+          (expanded c.as_slice.result.now octets c.expand.result c.as_slice.ensures.octets c.expand.ensures) within,
     )

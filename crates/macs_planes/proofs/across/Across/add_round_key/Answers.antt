@@ -1,7 +1,7 @@
 use Rattle.std.proofs.Common.{◌+◌, ◌*◌, ◌/◌, ◌%◌, ◌∙◌, ap, bit_xor, refl, slice_index}
 use Rattle.macs_aes.specs.Cipher.{xor_tables}
 use Rattle.macs_planes.specs.Across.{octet_at}
-use Rattle.macs_planes.specs.RoundKeys.{keyed}
+use Rattle.macs_aes.specs.RoundKeys.{keyed}
 use Rattle.macs_planes.proofs.AcrossLanes.{across_step_at, bit_within, lane_within, place_of_block, xor_key_is}
 use Rattle.macs_planes.specs.declared.places.TheConstants.{LANES}
 use Rattle.macs_planes.proofs.across.Across.add_round_key.Goals as goal

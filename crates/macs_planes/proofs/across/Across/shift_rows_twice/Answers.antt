@@ -1,6 +1,6 @@
 use Rattle.std.proofs.Common.{◌+◌, ◌*◌, ◌/◌, ◌%◌, ◌<◌, ◌∙◌, ℕ, ap, ap₂, arith, map, refl, subst, sym}
 use Rattle.macs_planes.specs.Across.{octet_at, turned}
-use Rattle.macs_planes.specs.Rows.{shifted}
+use Rattle.macs_aes.specs.Rows.{shifted}
 use Rattle.macs_planes.proofs.Shuffles.{shifted_lt, twice_place}
 use Rattle.macs_planes.proofs.Turned.{turned_twice_is}
 use Rattle.macs_planes.proofs.AcrossLanes.{across_step_at, place_of_block, sixteen_of_block}

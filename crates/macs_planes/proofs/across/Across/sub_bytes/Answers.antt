@@ -1,7 +1,7 @@
 use Rattle.std.proofs.Common.{◌+◌, ◌*◌, ◌/◌, ◌%◌, ◌∙◌, ap, map, refl}
 use Rattle.macs_aes.specs.Cipher.{sub_bytes}
 use Rattle.macs_aes.specs.SBox.{s_box}
-use Rattle.macs_planes.proofs.EachBlock.{sub_bytes_is}
+use Rattle.macs_aes.proofs.EachBlock.{sub_bytes_is}
 use Rattle.macs_planes.proofs.AcrossLanes.{across_step_at, bit_within, lane_within}
 use Rattle.macs_planes.specs.declared.places.TheConstants.{LANES}
 use Rattle.macs_planes.proofs.across.Across.sub_bytes.Goals as goal

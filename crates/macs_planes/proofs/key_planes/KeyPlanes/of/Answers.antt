@@ -1,10 +1,10 @@
 use Rattle.std.proofs.Common.{◌+◌, ◌*◌, ◌/◌, ◌%◌, ◌<◌, ◌∙◌, ℕ, List, [], ◌∷◌, ap, arith, get_or, refl, slice_index}
 use Rattle.std.proofs.Common.{subst, sym}
 use Rattle.macs_planes.specs.Across.{octet_of_words, place_back}
-use Rattle.macs_planes.specs.Blocks.{octet_basis}
+use Rattle.macs_aes.specs.Blocks.{octet_basis}
 use Rattle.macs_planes.proofs.AcrossLanes.{bit_within, lane_within, sixteen_within}
 use Rattle.macs_planes.proofs.BitPlanes.{octet_of_planes}
-use Rattle.macs_planes.proofs.Circuit.{octet_of}
+use Rattle.macs_aes.proofs.Circuit.{octet_of}
 use Rattle.macs_planes.proofs.Shuffles.{back_place, place_back-lt, same_sixteen}
 use Rattle.macs_planes.proofs.Turned.{back_at}
 use Rattle.macs_planes.specs.declared.places.TheConstants.{LANES}

@@ -1,0 +1,24 @@
+use Rattle.std.proofs.Common.{◌∙◌, ap₂, refl, [], ◌∷◌, bit_xor}
+use Rattle.macs_aes.specs.Blocks.{octet_basis}
+use Rattle.macs_aes.proofs.Circuit.{octet_of, octet_was, xor_each, xor_octets, xor_planes}
+use Rattle.macs_aes.proofs.mixing.xor.Goals as goal
+
+pub invariant_of-result : goal.invariant_of-result
+unfolding xor_each
+invariant_of-result g c =
+    let x = c.x.inside in
+    let y = c.y.inside in
+    xor_planes g.row.N (x.p0 ∷ x.p1 ∷ x.p2 ∷ x.p3 ∷ x.p4 ∷ x.p5 ∷ x.p6 ∷ x.p7 ∷ [])
+    (y.p0 ∷ y.p1 ∷ y.p2 ∷ y.p3 ∷ y.p4 ∷ y.p5 ∷ y.p6 ∷ y.p7 ∷ []) c.x.invariant c.y.invariant
+
+pub returns : goal.returns
+unfolding xor_each
+returns g c = λ i j h k.
+    let x = c.x.inside in
+    let y = c.y.inside in
+    let xs = x.p0 ∷ x.p1 ∷ x.p2 ∷ x.p3 ∷ x.p4 ∷ x.p5 ∷ x.p6 ∷ x.p7 ∷ [] in
+    let ys = y.p0 ∷ y.p1 ∷ y.p2 ∷ y.p3 ∷ y.p4 ∷ y.p5 ∷ y.p6 ∷ y.p7 ∷ [] in
+    octet_of g.row.N octet_basis (xor_each xs ys) i j h k
+    ∙ xor_octets g.row.N octet_basis xs ys i j refl c.x.invariant c.y.invariant h
+    ∙ ap₂ bit_xor (octet_was g.row.N octet_basis xs c.args.x.now i j c.x.view_is h k)
+    (octet_was g.row.N octet_basis ys c.args.y.now i j c.y.view_is h k)

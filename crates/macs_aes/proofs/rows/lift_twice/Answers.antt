@@ -1,0 +1,44 @@
+use Rattle.std.proofs.Common.{◌∙◌, [], ◌∷◌}
+use Rattle.macs_aes.specs.Blocks.{octet_basis}
+use Rattle.macs_aes.specs.Rows.{below}
+use Rattle.macs_aes.proofs.Circuit.{octet_of, octet_was}
+use Rattle.macs_aes.proofs.EachBlock.{below-lt, same_eight}
+use Rattle.macs_aes.proofs.rows.lift_twice.Goals as goal
+
+pub invariant_of-result : goal.invariant_of-result
+invariant_of-result g c = (
+  c.lift_plane_twice.ensures.lanes,
+  (
+    c.lift_plane_twice-2.ensures.lanes,
+    (
+      c.lift_plane_twice-3.ensures.lanes,
+      (
+        c.lift_plane_twice-4.ensures.lanes,
+        (
+          c.lift_plane_twice-5.ensures.lanes,
+          (
+            c.lift_plane_twice-6.ensures.lanes,
+            (c.lift_plane_twice-7.ensures.lanes, (c.lift_plane_twice-8.ensures.lanes, tt)),
+          ),
+        ),
+      ),
+    ),
+  ),
+)
+
+pub returns : goal.returns
+returns g c = λ i j h k.
+    let x = c.x.inside in
+    octet_of g.row.N octet_basis (c.lift_plane_twice.result ∷ c.lift_plane_twice-2.result ∷ c.lift_plane_twice-3.result
+    ∷ c.lift_plane_twice-4.result ∷ c.lift_plane_twice-5.result ∷ c.lift_plane_twice-6.result
+    ∷ c.lift_plane_twice-7.result ∷ c.lift_plane_twice-8.result ∷ []) i j h k
+    ∙ same_eight c.lift_plane_twice.result c.lift_plane_twice-2.result c.lift_plane_twice-3.result
+    c.lift_plane_twice-4.result c.lift_plane_twice-5.result c.lift_plane_twice-6.result c.lift_plane_twice-7.result
+    c.lift_plane_twice-8.result
+    x.p0 x.p1 x.p2 x.p3 x.p4 x.p5 x.p6 x.p7 i j (below 2 j)
+    (c.lift_plane_twice.ensures.bits i j h k) (c.lift_plane_twice-2.ensures.bits i j h k)
+    (c.lift_plane_twice-3.ensures.bits i j h k) (c.lift_plane_twice-4.ensures.bits i j h k)
+    (c.lift_plane_twice-5.ensures.bits i j h k) (c.lift_plane_twice-6.ensures.bits i j h k)
+    (c.lift_plane_twice-7.ensures.bits i j h k) (c.lift_plane_twice-8.ensures.bits i j h k)
+    ∙ octet_was g.row.N octet_basis (x.p0 ∷ x.p1 ∷ x.p2 ∷ x.p3 ∷ x.p4 ∷ x.p5 ∷ x.p6 ∷ x.p7 ∷ []) c.args.x.now i
+    (below 2 j) c.x.view_is h (below-lt 2 j k)

@@ -1,5 +1,0 @@
-use Rattle.macs_planes.proofs.BitTests.{word_bit}
-use Rattle.macs_planes.proofs.bits.bit_word.Goals as goal
-
-pub returns : goal.returns
-returns c = λ j h. word_bit c.args.octets c.args.mask j c.requires h
