@@ -13,7 +13,7 @@ mod traffic;
 pub use macs_fields::{ASSOCIATIONS, An, END_OF_NUMBERS, Offset, Pn, Sci};
 pub use opening::{OpenFault, end_station_sci, open_frame, open_parts};
 pub use reading::read_tag;
-pub use sealing::{seal_frame, write_tag};
+pub use sealing::{seal_frame, seal_next_frame, write_tag};
 pub use shared::append;
 pub use tag::{ADDRESS_OCTETS, FrameBuf, MAX_FRAME, MIN_FRAME, Parts, ScName, SecTag, TagFault};
 pub use traffic::{Carried, ChannelTraffic, Traffic};

@@ -5,7 +5,9 @@ ghost use Rattle.std.specs.Bool.{OnFalse, OnTrue};
 ghost use Rattle.macs_aes.specs.Keys.{octets_of_key};
 ghost use Rattle.macs_aes.specs.Cipher.{encrypt};
 ghost use Rattle.macs_gcm.specs.Gcm.{Opens, hash_subkey, pre_counter_block, seal};
-ghost use Rattle.macs_gcm.specs.Gcm.{authentication_tag};
+ghost use Rattle.macs_gcm.specs.Gcm.{authentication_tag, ciphertext_of};
+ghost use Rattle.macs_gf.specs.Ghash.{blocks_of, ghash, hash_input};
+ghost use Rattle.std.specs.Int.{to_be_bytes, w128};
 
 use crate::counter::{gctr_after_first, mask_room, put_masks, xor_whole};
 use macs_aes::{Block, Key, Schedule};
@@ -31,7 +33,7 @@ impl Model for GcmKey {
 }
 
 /// H, the block of 128 zero bits encrypted (7.1, step 1): the first of a group.
-fn hash_subkey(schedule: &Schedule) -> u128
+pub(crate) fn hash_subkey(schedule: &Schedule) -> u128
     ensures { result ≡ hash_subkey schedule.now }
 {
     let mut room = key_room();
@@ -52,16 +54,32 @@ impl GcmKey {
     }
 }
 
-/// The tag of additional data and a ciphertext, where J0 is given encrypted (7.1, steps 4 to 6).
-fn tag_of(key: &GcmKey, mask: &Block, aad: &[u8], ciphertext: &[u8]) -> [u8; 16]
-    requires aad { length aad.now < 2 ^ 32 }
-    requires text { length ciphertext.now < 2 ^ 32 }
-    ensures { (iv : List ℕ) → mask.now ≡ encrypt key.now (pre_counter_block iv)
-        → result ≡ authentication_tag key.now iv aad.now ciphertext.now }
+/// The tag from the hash of additional data and ciphertext and from J0 encrypted (7.1, steps 4 to
+/// 6).
+pub(crate) fn tag_of(hash: [u8; 16], mask: &Block) -> [u8; 16]
+    requires { length hash ≡ 16 }
+    ensures { (key iv aad text : List ℕ)
+        → hash ≡ to_be_bytes w128 (ghash (hash_subkey key) (blocks_of (hash_input aad text)))
+        → mask.now ≡ encrypt key (pre_counter_block iv)
+        → result ≡ authentication_tag key iv aad text }
 {
-    let mut tag = ghash(&key.powers, aad, ciphertext);
+    let mut tag = hash;
     xor_whole(&mut tag, 0, mask);
     tag
+}
+
+/// Encrypts the text in place (7.1, step 3), and returns J0 encrypted.
+pub(crate) fn encipher(schedule: &Schedule, iv: &[u8; 12], text: &mut [u8]) -> Block
+    requires { length text.old < 2 ^ 32 }
+    ensures text { text.new ≡ ciphertext_of schedule.now iv.now text.old }
+    ensures mask { result ≡ encrypt schedule.now (pre_counter_block iv.now) }
+{
+    let mut room = key_room();
+    let keys = GroupKeys::new(schedule, &mut room);
+    let mut masks = mask_room();
+    put_masks(&mut masks, &keys, iv, 0);
+    gctr_after_first(&keys, iv, &masks, text);
+    masks[1]
 }
 
 /// Whether two tags are equal. It reads all sixteen octets of both, wherever they differ.
@@ -85,12 +103,8 @@ pub fn seal(key: &GcmKey, iv: &[u8; 12], aad: &[u8], text: &mut [u8]) -> [u8; 16
     requires text { length text.old < 2 ^ 32 }
     ensures { (text.new, result) ≡ seal key.now iv.now aad.now text.old }
 {
-    let mut room = key_room();
-    let keys = GroupKeys::new(&key.schedule, &mut room);
-    let mut masks = mask_room();
-    put_masks(&mut masks, &keys, iv, 0);
-    gctr_after_first(&keys, iv, &masks, text);
-    tag_of(key, &masks[1], aad, text)
+    let mask = encipher(&key.schedule, iv, text);
+    tag_of(ghash(&key.powers, aad, text), &mask)
 }
 
 /// Decrypts the text in place and answers true where the tag of 128 bits authenticates the text and
@@ -109,7 +123,7 @@ pub fn open(key: &GcmKey, iv: &[u8; 12], aad: &[u8], text: &mut [u8], tag: &[u8;
     let keys = GroupKeys::new(&key.schedule, &mut room);
     let mut masks = mask_room();
     put_masks(&mut masks, &keys, iv, 0);
-    if !is_equal(&tag_of(key, &masks[1], aad, text), tag) {
+    if !is_equal(&tag_of(ghash(&key.powers, aad, text), &masks[1]), tag) {
         return false;
     }
     gctr_after_first(&keys, iv, &masks, text);

@@ -8,6 +8,7 @@
 
 mod filling;
 mod hash;
+mod kept;
 mod octets;
 mod powers;
 mod reduction;
@@ -16,4 +17,5 @@ mod strings;
 mod tables;
 
 pub use hash::ghash;
+pub use kept::Tables;
 pub use powers::Powers;

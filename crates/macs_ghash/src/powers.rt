@@ -5,7 +5,7 @@ ghost use Rattle.macs_gf.specs.Gf128.{block_product};
 ghost use Rattle.macs_gf.specs.Ghash.{blocks_of, ghash, hash_input, subkey_power};
 ghost use Rattle.macs_ghash.specs.Tables.{AreEightPowers, AreTables};
 ghost use Rattle.macs_ghash.specs.declared.octets.TheConstants.{SIXTEENS};
-ghost use Rattle.macs_ghash.specs.declared.tables.TheConstants.{TWO};
+ghost use Rattle.macs_ghash.specs.declared.tables.TheConstants.{EIGHT, TWO};
 
 use crate::filling::{fill, room};
 use crate::octets::SIXTEENS;
@@ -101,7 +101,17 @@ impl Powers {
         ensures { result ≡ ghash self.now (blocks_of (hash_input aad.now text.now)) }
     {
         let mut tables = room();
-        fill(&mut tables, &self.powers);
+        self.fill_eight(&mut tables);
         hashed::<EIGHT, 128>(&tables, aad, text, count)
+    }
+
+    /// The tables of the eight powers, made in the room that is lent. It returns the subkey.
+    #[inline(always)]
+    pub(crate) fn fill_eight(&self, tables: &mut [[Part; EIGHT]; 16]) -> u128
+        ensures key { result ≡ self.now }
+        ensures tables { AreTables SIXTEENS EIGHT (λ l. subkey_power self.now (8 - l)) tables.new }
+    {
+        fill(tables, &self.powers);
+        self.key
     }
 }

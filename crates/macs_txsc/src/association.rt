@@ -11,14 +11,14 @@ ghost use Rattle.macs_txsc.specs.declared.fault.TxFault.TheVariants.{Exhausted, 
 
 use crate::fault::TxFault;
 use macs_config::Protection;
-use macs_frame::{An, FrameBuf, Pn, ScName, Sci, SecTag, seal_frame};
-use macs_gcm::GcmKey;
+use macs_frame::{An, FrameBuf, Pn, ScName, Sci, SecTag, seal_next_frame};
+use macs_gcm::SealingKey;
 
 /// A transmit association: its key, what it does with User Data, the next packet number, 1 to 2^32,
 /// and the ceiling: only numbers below it are used.
 #[derive(Drop)]
 pub struct Association {
-    pub key: GcmKey,
+    pub key: SealingKey,
     pub protection: Protection,
     pub next: u64,
     pub ceiling: u64,
@@ -85,7 +85,14 @@ impl Association {
             encrypted: is_confidential,
             changed: is_confidential,
         };
-        seal_frame(&self.key, sci, &tag, self.protection.offset(), plain, out);
+        seal_next_frame(
+            &mut self.key,
+            sci,
+            &tag,
+            self.protection.offset(),
+            plain,
+            out,
+        );
         self.next += 1;
         tag
     }

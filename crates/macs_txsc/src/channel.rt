@@ -28,7 +28,7 @@ use macs_frame::{
     ASSOCIATIONS, An, END_OF_NUMBERS, FrameBuf, MAX_FRAME, MIN_FRAME, Offset, Pn, ScName, Sci,
     SecTag, Traffic,
 };
-use macs_gcm::GcmKey;
+use macs_gcm::SealingKey;
 
 /// A transmit channel: its SCI, how its frames name it, its associations by their numbers, and the
 /// one that frames go out under.
@@ -93,7 +93,7 @@ impl Tx {
         ensures counters { counters_of self.new ≡ counters_of self.old }
     {
         self.associations[an.get() as usize] = Some(Association {
-            key: GcmKey::new(key),
+            key: SealingKey::new(key),
             protection: Protection::new(confidential, offset),
             next,
             ceiling,

@@ -3,6 +3,7 @@
 //! Octets are written as the blocks of 16 that they fill, each a number whose highest octet is the
 //! first.
 
+mod ahead;
 mod changed;
 mod single_blocks;
 mod vectors;
