@@ -15,7 +15,10 @@
 #include <string.h>
 #include <time.h>
 
-enum { ROOM = 9216, AAD = 28, LENGTHS = 4, LIBRARIES = 4 };
+enum { ROOM = 9216, AAD = 28, LENGTHS = 4 };
+
+/* Ours for each level of processors, the same under a key that makes key stream ahead, and others'. */
+enum { V2, V3, V2_NEXT, V3_NEXT, OPENSSL, NETTLE, LIBRARIES };
 
 /* Texts of 0 to so many octets are compared, and one of the longest frame. */
 enum { COMPARED = 2100, LONGEST = 9172 };
@@ -26,6 +29,8 @@ enum { SHORT, LONG, KEYS };
 #define CALLS(cpu, length)                                                                                                      \
     void cpu##_kernel_seal##length(const uint8_t *key, const uint8_t *iv, const uint8_t *aad, size_t aad_len, uint8_t *text,     \
                                    size_t len, uint8_t *tag, uint32_t count);                                                   \
+    void cpu##_kernel_seal_next##length(const uint8_t *key, const uint8_t *iv, const uint8_t *aad, size_t aad_len,              \
+                                        uint8_t *text, size_t len, uint8_t *tag, uint32_t count);                               \
     bool cpu##_kernel_open_all##length(const uint8_t *key, const uint8_t *iv, const uint8_t *aad, size_t aad_len, uint8_t *text, \
                                        size_t len, const uint8_t *sealed, size_t sealed_len, const uint8_t *tag,                \
                                        uint32_t count);
@@ -57,7 +62,8 @@ static double seconds(void) {
     return (double)now.tv_sec + 1e-9 * (double)now.tv_nsec;
 }
 
-/* One library: under a key of this length it seals the text in place, so many times, and opens copies of a sealed text. */
+/* One library: under a key of this length it seals the text in place, so many times, and opens copies of a sealed text, where it
+ * has a way of its own to do so. */
 struct library {
     const char *name;
     void (*seal)(int keys, uint8_t *text, size_t len, uint8_t *tag, uint32_t count);
@@ -68,12 +74,20 @@ static void v2_seal(int keys, uint8_t *text, size_t len, uint8_t *tag, uint32_t 
     (keys == LONG ? v2_kernel_seal_long : v2_kernel_seal)(key, iv, aad, AAD, text, len, tag, count);
 }
 
+static void v2_seal_next(int keys, uint8_t *text, size_t len, uint8_t *tag, uint32_t count) {
+    (keys == LONG ? v2_kernel_seal_next_long : v2_kernel_seal_next)(key, iv, aad, AAD, text, len, tag, count);
+}
+
 static bool v2_open(int keys, uint8_t *text, size_t len, const uint8_t *sealed, const uint8_t *tag, uint32_t count) {
     return (keys == LONG ? v2_kernel_open_all_long : v2_kernel_open_all)(key, iv, aad, AAD, text, len, sealed, len, tag, count);
 }
 
 static void v3_seal(int keys, uint8_t *text, size_t len, uint8_t *tag, uint32_t count) {
     (keys == LONG ? v3_kernel_seal_long : v3_kernel_seal)(key, iv, aad, AAD, text, len, tag, count);
+}
+
+static void v3_seal_next(int keys, uint8_t *text, size_t len, uint8_t *tag, uint32_t count) {
+    (keys == LONG ? v3_kernel_seal_next_long : v3_kernel_seal_next)(key, iv, aad, AAD, text, len, tag, count);
 }
 
 static bool v3_open(int keys, uint8_t *text, size_t len, const uint8_t *sealed, const uint8_t *tag, uint32_t count) {
@@ -148,10 +162,12 @@ static bool nettle_open(int keys, uint8_t *text, size_t len, const uint8_t *seal
 }
 
 static const struct library libraries[LIBRARIES] = {
-    {"x86-64-v2", v2_seal, v2_open},
-    {"x86-64-v3", v3_seal, v3_open},
-    {"OpenSSL", openssl_seal, openssl_open},
-    {"nettle", nettle_seal, nettle_open},
+    [V2] = {"x86-64-v2", v2_seal, v2_open},
+    [V3] = {"x86-64-v3", v3_seal, v3_open},
+    [V2_NEXT] = {"v2, ahead", v2_seal_next, NULL},
+    [V3_NEXT] = {"v3, ahead", v3_seal_next, NULL},
+    [OPENSSL] = {"OpenSSL", openssl_seal, openssl_open},
+    [NETTLE] = {"nettle", nettle_seal, nettle_open},
 };
 
 static void check_length(int keys, size_t len) {
@@ -163,6 +179,7 @@ static void check_length(int keys, size_t len) {
         memcpy(text, plain, len);
         libraries[i].seal(keys, text, len, found, 1);
         must(memcmp(text, expected, len) == 0 && memcmp(found, tag, 16) == 0, "other octets are sealed");
+        if (!libraries[i].open) continue;
         must(libraries[i].open(keys, text, len, expected, tag, 1) && memcmp(text, plain, len) == 0, "other octets are opened");
         memcpy(changed, tag, 16);
         changed[len % 16] ^= 1;
@@ -198,7 +215,7 @@ static void time_opening(const struct library *library, int keys, int n, struct 
     uint8_t text[ROOM], sealed[ROOM], tag[16];
     size_t len = octets_of_frames[n] - 12;
     memcpy(sealed, plain, len);
-    libraries[2].seal(keys, sealed, len, tag, 1);
+    libraries[OPENSSL].seal(keys, sealed, len, tag, 1);
     double start = seconds();
     bool first = library->open(keys, text, len, sealed, tag, 1);
     double one = seconds();
@@ -212,21 +229,23 @@ static double nanoseconds(const struct least *least, int n) { return 1e9 * (leas
 
 typedef struct least rows[LIBRARIES][LENGTHS];
 
-static void print_rows(const char *what, int keys, rows times) {
+static void print_rows(const char *what, bool seals, int keys, rows times) {
     for (int i = 0; i < LIBRARIES; i++) {
+        if (!seals && !libraries[i].open) continue;
         printf("%-5s %-8s %-10s", what, ciphers[keys], libraries[i].name);
         for (int n = 0; n < LENGTHS; n++) printf(" %9.0f", nanoseconds(&times[i][n], n));
         printf("  | of OpenSSL");
-        for (int n = 0; n < LENGTHS; n++) printf(" %5.2f", nanoseconds(&times[2][n], n) / nanoseconds(&times[i][n], n));
+        for (int n = 0; n < LENGTHS; n++) printf(" %5.2f", nanoseconds(&times[OPENSSL][n], n) / nanoseconds(&times[i][n], n));
         printf("  | of nettle");
-        for (int n = 0; n < LENGTHS; n++) printf(" %5.2f", nanoseconds(&times[3][n], n) / nanoseconds(&times[i][n], n));
+        for (int n = 0; n < LENGTHS; n++) printf(" %5.2f", nanoseconds(&times[NETTLE][n], n) / nanoseconds(&times[i][n], n));
         printf("\n");
     }
 }
 
 /* How much longer AES-256 takes than AES-128. */
-static void print_ratios(const char *what, rows short_times, rows long_times) {
+static void print_ratios(const char *what, bool seals, rows short_times, rows long_times) {
     for (int i = 0; i < LIBRARIES; i++) {
+        if (!seals && !libraries[i].open) continue;
         printf("%-5s %-10s", what, libraries[i].name);
         for (int n = 0; n < LENGTHS; n++) printf(" %5.2f", nanoseconds(&long_times[i][n], n) / nanoseconds(&short_times[i][n], n));
         printf("\n");
@@ -267,15 +286,15 @@ int main(int count, char **words) {
             for (int keys = 0; keys < KEYS; keys++)
                 for (int i = 0; i < LIBRARIES; i++) {
                     time_sealing(&libraries[i], keys, n, &seal[keys][i][n]);
-                    time_opening(&libraries[i], keys, n, &open[keys][i][n]);
+                    if (libraries[i].open) time_opening(&libraries[i], keys, n, &open[keys][i][n]);
                 }
     printf("nanoseconds for frames of 64, 256, 1500 and 9184 octets, and speed relative to OpenSSL and nettle\n");
     for (int keys = 0; keys < KEYS; keys++) {
-        print_rows("seal", keys, seal[keys]);
-        print_rows("open", keys, open[keys]);
+        print_rows("seal", true, keys, seal[keys]);
+        print_rows("open", false, keys, open[keys]);
     }
     printf("times of AES-256 by those of AES-128\n");
-    print_ratios("seal", seal[SHORT], seal[LONG]);
-    print_ratios("open", open[SHORT], open[LONG]);
+    print_ratios("seal", true, seal[SHORT], seal[LONG]);
+    print_ratios("open", false, open[SHORT], open[LONG]);
     return 0;
 }
