@@ -2,7 +2,7 @@ pub mod OffsetChoice
 pub mod StoredChannels
 pub mod Channels
 pub mod Spent
-pub mod Flags
+pub mod Comparison
 pub mod Tables
 pub mod Keyed
 pub mod Lent

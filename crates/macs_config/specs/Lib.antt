@@ -7,6 +7,5 @@ pub mod Apply
 pub mod Snapshot
 pub mod Value
 pub mod Places
-pub mod Filter
 pub mod Judged
 pub mod SnapshotWords

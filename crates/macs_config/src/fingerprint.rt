@@ -1,6 +1,7 @@
 //! What stands for a key that is spent.
 
 ghost use Rattle.std.specs.Prelude.{◌≡◌};
+ghost use Rattle.std.specs.Str.{bytes_eq};
 ghost use Rattle.macs_config.specs.Config.{is_spent, rx_fingerprint, tx_fingerprint};
 
 use macs_fields::Sci;
@@ -27,9 +28,25 @@ pub(crate) fn rx_fingerprint(sci: Sci, key: &[u8]) -> Fingerprint
     hasher.finalize()
 }
 
-/// Whether a fingerprint is among these.
+/// Whether a fingerprint is among these. It is compared with each of them, wherever it is found.
 pub(crate) fn is_spent(spent: &[Fingerprint], fingerprint: &Fingerprint) -> bool
     ensures { result ≡ is_spent spent.now fingerprint.now }
 {
-    spent.contains(fingerprint)
+    let mut found = false;
+    for other in spent {
+        found |= is_equal(other, fingerprint);
+    }
+    found
+}
+
+/// Whether two fingerprints are equal. It reads all 32 octets of both, wherever they differ.
+#[inline(never)] // Else sixteen pairs are compared at a time, octet by octet, which is slower.
+fn is_equal(one: &Fingerprint, other: &Fingerprint) -> bool
+    ensures { result ≡ bytes_eq one.now other.now }
+{
+    let mut difference = 0;
+    for i in 0..32 {
+        difference |= one[i] ^ other[i];
+    }
+    difference == 0
 }
