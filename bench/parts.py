@@ -22,7 +22,6 @@ ADDRESSES = 12
 # Parts by the names of their functions, with their colours: a function belongs to the first that its name begins with.
 PARTS = {
     "macs_planes::group": ("AES by groups of blocks", "#2171b5"),
-    "macs_aes::rounds": ("AES block by block", "#6baed6"),
     "macs_ghash::tables": ("GHASH: products", "#238b45"),
     "macs_ghash::filling": ("GHASH: tables", "#74c476"),
     "": ("counter blocks, round keys, input of GHASH", "#bdbdbd"),
