@@ -35,18 +35,21 @@ fn take_round(blocks: &mut Across, key: &KeyPlanes, round: usize, rounds: usize)
     blocks.add_round_key(key);
 }
 
-/// Each block across planes encrypted under the schedule's key, whose round keys are given.
-#[inline(always)]
-fn encrypt_across(schedule: &Schedule, keys: &[KeyPlanes; ROUND_KEYS], planes: &mut Across)
+/// Each block across planes encrypted under the schedule's key, whose round keys are given. It is in
+/// the code once, and has the planes as a value: so the compiler keeps them in registers.
+#[inline(never)]
+fn encrypt_across(schedule: &Schedule, keys: &[KeyPlanes; ROUND_KEYS], start: Across) -> Across
     requires { AreKeyPlanes LANES schedule.now keys.now }
-    ensures { planes.new ≡ map (encrypt schedule.now) planes.old }
+    ensures { result ≡ map (encrypt schedule.now) start }
 {
     let rounds = schedule.rounds();
+    let mut planes = start;
     planes.add_round_key(&keys[0]);
     for round in 1..rounds + 1 {
-        take_round(planes, &keys[round], round, rounds);
+        take_round(&mut planes, &keys[round], round, rounds);
     }
     planes.shift_rows_twice();
+    planes
 }
 
 /// Each block of a group encrypted under the schedule's key, whose round keys are given.
@@ -54,9 +57,7 @@ fn encrypt_group(schedule: &Schedule, keys: &[KeyPlanes; ROUND_KEYS], blocks: &m
     requires { AreKeyPlanes LANES schedule.now keys.now }
     ensures { blocks.new ≡ map (encrypt schedule.now) blocks.old }
 {
-    let mut planes = Across::load(blocks);
-    encrypt_across(schedule, keys, &mut planes);
-    planes.store(blocks);
+    encrypt_across(schedule, keys, Across::load(blocks)).store(blocks);
 }
 
 /// The blocks that are the first, but for the number of each in the last octet, encrypted under the
@@ -69,11 +70,10 @@ fn encrypt_numbered(
 )
     requires keys { AreKeyPlanes LANES schedule.now keys.now }
     requires first { slice_index first.now 15 % LANES ≡ 0 }
-    ensures { blocks.new ≡ map (encrypt schedule.now) (map (numbered first.now) (range_with_len 0 LANES)) }
+    ensures { blocks.new
+        ≡ map (encrypt schedule.now) (map (numbered first.now) (range_with_len 0 LANES)) }
 {
-    let mut planes = Across::numbered(first);
-    encrypt_across(schedule, keys, &mut planes);
-    planes.store(blocks);
+    encrypt_across(schedule, keys, Across::numbered(first)).store(blocks);
 }
 
 /// Each block of whole groups encrypted under the schedule's key, whose round keys are given.

@@ -27,7 +27,7 @@ loop-round-init c =
     let left = two_left c.rounds-rounds.result c.rounds-rounds.ensures.ten_or_fourteen in
     record {
       before = λ _. none_turned c.add_round_key.new.self
-          ∙ rounds_first w (turned_back 0 (round_key w 0)) c.args.planes.now c.args.planes.now
+          ∙ rounds_first w (turned_back 0 (round_key w 0)) c.args.start c.args.start
           c.add_round_key.new.self
           refl (back_first w 0) (c.add_round_key.ensures (turned_back 0 (round_key w 0))
           (subst (IsKeyPlanes LANES (turned_back 0 (round_key w 0))) (any_default c.args.keys.now 0 []
@@ -52,14 +52,14 @@ loop-round-preserved c =
     let here : r + 1 - 1 ≡ r = omega arith in
     record {
       before = λ more. ap (λ (n : ℕ). map (turned (n % 4)) new) here
-          ∙ rounds_next w (turned (r % 4) k) c.args.planes.now (map (turned ((r - 1) % 4)) old)
+          ∙ rounds_next w (turned (r % 4) k) c.args.start (map (turned ((r - 1) % 4)) old)
           (map (turned (r % 4)) new) r low before
           (back_turned (r % 4) w r (omega arith))
           (c.take_round.ensures.inner k is (omega (arith, more))
           ∙ ap (λ b. keyed (turned (r % 4) k) (map mix_columns b)) (next_turns r old low));
       done = λ last.
           let two : 2 ≡ r % 4 = omega (arith, last, left) in
-          rounds_last c.args.schedule.now (turned 2 k) c.args.planes.now (map (turned ((r - 1) % 4)) old)
+          rounds_last c.args.schedule.now (turned 2 k) c.args.start (map (turned ((r - 1) % 4)) old)
           (map (turned 2) new) r c.rounds-rounds.result
           (omega (arith, last)) rounds before (ap (λ (t : ℕ). turned t k) two ∙ back_turned (r % 4) w r (omega arith))
           (ap (map (turned 2)) (c.take_round.ensures.last k is (omega (arith, last)))
