@@ -14,10 +14,12 @@ abbrev pub numbers_of : Result ℕ ProtectFault → List ℕ
 numbers_of (Ok pn) = pn ∷ []
 numbers_of (Err fault) = []
 
+-- the numbers of a frame, one or none
 abbrev pub number_list : Option ℕ → List ℕ
 number_list (Some pn) = pn ∷ []
 number_list None = []
 
+-- that of a frame whose answer was heard
 abbrev pub number_in : Event Shown → List ℕ
 number_in (Answers (Calls (Protects plain) (Protected result out))) = numbers_of result
 number_in event = []
