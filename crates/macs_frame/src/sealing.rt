@@ -134,8 +134,8 @@ pub fn seal_frame(
     append(out, &icv);
 }
 
-/// Protects a plain frame as `seal_frame` does, under a key that makes key stream ahead: where
-/// packet numbers follow one another and frames are short, in less than half the time.
+/// Protects a plain frame as `seal_frame` does, under a key that makes key stream ahead, which is
+/// faster where packet numbers follow one another.
 pub fn seal_next_frame(
     key: &mut SealingKey,
     sci: Sci,

@@ -87,7 +87,7 @@ pub(crate) struct KeyStream {
 }
 
 impl KeyStream {
-    /// None.
+    /// No counter blocks.
     pub(crate) fn new() -> Self
         ensures { result.depth ≡ 0 }
     {
@@ -133,8 +133,8 @@ impl KeyStream {
         }
     }
 
-    /// The place of an initialisation vector, of which there are so many counter blocks then, 1 to
-    /// 20. Where they are not there, those that follow it are made.
+    /// The place of an initialisation vector. Where it does not have so many counter blocks yet, 1
+    /// to 20, they are made for it and for those that follow it.
     pub(crate) fn place_for(&mut self, schedule: &Schedule, iv: &[u8; 12], depth: usize) -> usize
         requires depth { depth ≤ DEPTH }
         requires stream { IsStream GROUP schedule.now self.old.fixed self.old.first self.old.depth

@@ -1,6 +1,6 @@
 //! A key for sealing one text after another (NIST SP 800-38D, 7.1).
 
-ghost use Rattle.std.specs.Prelude.{◌≡◌, ◌-◌, ◌*◌, ◌^◌, ◌<◌, ◌≤◌, length};
+ghost use Rattle.std.specs.Prelude.{◌≡◌, ◌^◌, ◌<◌, length};
 ghost use Rattle.macs_aes.specs.Cipher.{encrypt};
 ghost use Rattle.macs_aes.specs.Keys.{octets_of_key};
 ghost use Rattle.macs_gcm.specs.Gcm.{ciphertext_of, hash_subkey, pre_counter_block, seal};
@@ -14,12 +14,12 @@ use std::marker::Model;
 /// A key of AES, prepared for sealing texts whose initialisation vectors follow one another: the
 /// first 64 bits are the same, and the last 32 count (8.2.1), as those of frames under an
 /// association do. Key stream of short texts is made ahead, for several at a time; with other
-/// initialisation vectors it seals as well, but slower. It takes 8 KB. In clauses it is its key, a
+/// initialisation vectors it seals as well, but slower. It takes 5 to 8 KB. In clauses it is its key, a
 /// list of 16 octets or of 32.
 #[derive(Drop)]
 pub struct SealingKey {
     schedule: Schedule,
-    /// The powers of H, the block of 128 zero bits encrypted (7.1, step 1).
+    /// Those of H, the block of 128 zero bits encrypted (7.1, step 1).
     tables: Tables,
     stream: KeyStream,
 }

@@ -3,7 +3,7 @@
 //! one octet's place in eight blocks, so that rows are moved by shuffles.
 //!
 //! There is no table that a key or a block indexes, and no octet is taken by itself, so that no
-//! address, no branch and no time depends on a key or on a block.
+//! address and no branch depends on a key or on a block.
 #![tactic(auto)]
 
 mod across;
