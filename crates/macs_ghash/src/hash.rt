@@ -7,9 +7,9 @@ ghost use Rattle.macs_gf.specs.Ghash.{blocks_of, ghash, hash_input};
 use crate::octets::SIXTEENS;
 use crate::powers::Powers;
 
-/// From so many blocks on, tables of eight powers are made for the string. With fewer they cost
-/// more than they save.
-const MANY: usize = 8 + 20 / SIXTEENS;
+/// The number of blocks from which on tables of eight powers are made for the string. With fewer
+/// they cost more than they save.
+const MANY: usize = 32 + 80 / SIXTEENS;
 
 /// GHASH (NIST SP 800-38D, 6.4) under a prepared hash subkey, of the additional data and the text,
 /// which is the ciphertext, each padded to whole blocks, and of the block of their lengths (7.1,
@@ -22,7 +22,7 @@ pub fn ghash(powers: &Powers, aad: &[u8], text: &[u8]) -> [u8; 16]
 {
     let count = aad.len().div_ceil(16) + text.len().div_ceil(16) + 1;
     let state = if count < MANY {
-        powers.by_twos(aad, text, count)
+        powers.by_fours(aad, text, count)
     } else {
         powers.by_eights(aad, text, count)
     };

@@ -1,5 +1,5 @@
 //! GHASH (NIST SP 800-38D, 6.4) of the string that GCM hashes (7.1, step 5), by tables of four
-//! bits: a text of few blocks by tables of two powers of the hash subkey, which are kept with it,
+//! bits: a text of few blocks by tables of four powers of the hash subkey, which are kept with it,
 //! another by tables of eight, which are made for it.
 //!
 //! Blocks are numbers as in `macs_gf`. No branch and no index of the code depends on a subkey or on

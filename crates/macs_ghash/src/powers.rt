@@ -5,22 +5,23 @@ ghost use Rattle.macs_gf.specs.Gf128.{block_product};
 ghost use Rattle.macs_gf.specs.Ghash.{blocks_of, ghash, hash_input, subkey_power};
 ghost use Rattle.macs_ghash.specs.Tables.{AreEightPowers, AreTables};
 ghost use Rattle.macs_ghash.specs.declared.octets.TheConstants.{SIXTEENS};
-ghost use Rattle.macs_ghash.specs.declared.tables.TheConstants.{EIGHT, TWO};
+ghost use Rattle.macs_ghash.specs.declared.tables.TheConstants.{EIGHT, FOUR, TWO};
 
 use crate::filling::{fill, room};
 use crate::octets::SIXTEENS;
 use crate::strides::{add_state, hashed};
-use crate::tables::{EIGHT, Part, TWO, products};
+use crate::tables::{EIGHT, FOUR, Part, TWO, products};
 use std::marker::Model;
 use std::simd::prelude::*;
 
 /// A hash subkey (NIST SP 800-38D, 7.1, step 1) prepared for `ghash`: its powers from the eighth
-/// down to the first, and the tables of its square and of itself. In clauses it is the subkey.
+/// down to the first, and the tables of the last four of them, which take 1 KB. In clauses it is
+/// the subkey.
 #[derive(Drop)]
 pub struct Powers {
     key: u128,
     powers: [u128; 8],
-    pair: [[Part; TWO]; 16],
+    four: [[Part; FOUR]; 16],
 }
 
 impl Model for Powers {
@@ -29,7 +30,7 @@ impl Model for Powers {
     ghost view = { λ s. s.key };
 
     ghost invariant = { λ s. AreEightPowers s.key s.powers
-        × AreTables SIXTEENS TWO (λ l. subkey_power s.key (2 - l)) s.pair };
+        × AreTables SIXTEENS FOUR (λ l. subkey_power s.key (4 - l)) s.four };
 }
 
 /// The product of a block and the first of two powers.
@@ -69,6 +70,14 @@ fn powers_of(key: u128, square: u128, pair: &[[Part; TWO]; 16]) -> [u128; 8]
     [eighth, seventh, sixth, fifth, fourth, third, square, key]
 }
 
+/// The tables of the first four powers of a key, made in the room that is lent.
+fn fill_four(four: &mut [[Part; FOUR]; 16], key: u128, powers: &[u128; 8])
+    requires { AreEightPowers key powers.now }
+    ensures { AreTables SIXTEENS FOUR (λ l. subkey_power key (4 - l)) four.new }
+{
+    fill(four, &[powers[4], powers[5], powers[6], powers[7]]);
+}
+
 impl Powers {
     /// A hash subkey, prepared.
     pub fn new(h: u128) -> Self
@@ -76,21 +85,24 @@ impl Powers {
     {
         let mut pair = room();
         let square = fill_pair(&mut pair, h);
+        let powers = powers_of(h, square, &pair);
+        let mut four = room();
+        fill_four(&mut four, h, &powers);
         Powers {
             key: h,
-            powers: powers_of(h, square, &pair),
-            pair,
+            powers,
+            four,
         }
     }
 
-    /// The hash of few blocks, two a stride.
-    pub(crate) fn by_twos(&self, aad: &[u8], text: &[u8], count: usize) -> u128
+    /// The hash of few blocks, four a stride.
+    pub(crate) fn by_fours(&self, aad: &[u8], text: &[u8], count: usize) -> u128
         requires aad { length aad.now < 2 ^ 32 }
         requires text { length text.now < 2 ^ 32 }
         requires all { count ≡ (length aad.now + 15) / 16 + (length text.now + 15) / 16 + 1 }
         ensures { result ≡ ghash self.now (blocks_of (hash_input aad.now text.now)) }
     {
-        hashed::<TWO, 32>(&self.pair, aad, text, count)
+        hashed::<FOUR, 64>(&self.four, aad, text, count)
     }
 
     /// The hash of many blocks, eight a stride, under tables of 2 KB that are made for it.

@@ -18,6 +18,9 @@ use std::simd::prelude::*;
 /// How many vectors have the octets of two blocks.
 pub(crate) const TWO: usize = 2 / SIXTEENS;
 
+/// How many vectors have the octets of four blocks.
+pub(crate) const FOUR: usize = 4 / SIXTEENS;
+
 /// How many vectors have the octets of eight blocks.
 pub(crate) const EIGHT: usize = 8 / SIXTEENS;
 

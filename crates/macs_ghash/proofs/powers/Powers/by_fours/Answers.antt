@@ -1,6 +1,6 @@
 use Rattle.std.proofs.Common.{◌∙◌, ℕ, ap}
 use Rattle.macs_gf.specs.Ghash.{blocks_of, ghash, hash_input}
-use Rattle.macs_ghash.proofs.powers.Powers.by_twos.Goals as goal
+use Rattle.macs_ghash.proofs.powers.Powers.by_fours.Goals as goal
 
 pub returns : goal.returns
 returns c =
