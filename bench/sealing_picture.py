@@ -4,8 +4,9 @@
     bench/run 400 | tee run.txt
     python3 bench/sealing_picture.py run.txt [docs/sealing.svg]
 
-It takes Python alone. Keys have 128 bits. OpenSSL and nettle went without the processor's instructions for AES and for products of
-polynomials: these rows come first in what is printed. Each length of frames has a scale of its own.
+It takes Python alone. Keys have 128 bits, and this program makes key stream ahead, as an endpoint does. OpenSSL and nettle went without
+the processor's instructions for AES and for products of polynomials: these rows come first in what is printed. Each length of frames has
+a scale of its own.
 """
 
 import os
@@ -16,8 +17,8 @@ TOP = os.path.dirname(os.path.dirname(os.path.realpath(__file__)))
 LENGTHS = (64, 256, 1500, 9184)
 # How a library is named in the figures of `bench/run`: its words in the picture, and its colour.
 LIBRARIES = {
-    "x86-64-v2": ("macsecd, x86-64-v2", "#6baed6"),
-    "x86-64-v3": ("macsecd, x86-64-v3", "#2171b5"),
+    "v2, ahead": ("macsecd, x86-64-v2", "#6baed6"),
+    "v3, ahead": ("macsecd, x86-64-v3", "#2171b5"),
     "OpenSSL": ("OpenSSL", "#bdbdbd"),
     "nettle": ("nettle", "#636363"),
 }
@@ -36,7 +37,7 @@ def box(x, y, wide, high, colour):
 def times(said):
     """Nanoseconds for a frame of each length, by library: the first row of each."""
     found = {}
-    for name, numbers in re.findall(r"^seal +AES-128 +(\S+)((?: +\d+){%d})  \|" % len(LENGTHS), said, re.M):
+    for name, numbers in re.findall(r"^seal +AES-128 +(\S+(?:, ahead)?)((?: +\d+){%d})  \|" % len(LENGTHS), said, re.M):
         found.setdefault(name, [int(it) for it in numbers.split()])
     return found
 

@@ -1,6 +1,7 @@
 /* Seals and opens texts of many lengths under valgrind's memcheck, with keys and texts marked as undefined: so memcheck reports each branch
  * and each address that depends on one of them. It is for tools/secret_addresses. What comes out is public: the ciphertext, the tag, and
- * whether a tag is right. Each call also sets up its key. A call that gives a wrong answer ends the program with status 1. */
+ * whether a tag is right. Each call also sets up its key; half of those that seal have one that makes key stream ahead. A call that gives
+ * a wrong answer ends the program with status 1. */
 #include <stdbool.h>
 #include <stdint.h>
 #include <stdio.h>
@@ -14,7 +15,7 @@ typedef void sealing(const uint8_t *key, const uint8_t *iv, const uint8_t *aad, 
 typedef bool opening(const uint8_t *key, const uint8_t *iv, const uint8_t *aad, size_t aad_length, uint8_t *text, size_t length,
                      const uint8_t *sealed, size_t sealed_length, const uint8_t *tag, uint32_t count);
 
-sealing kernel_seal, kernel_seal_long;
+sealing kernel_seal, kernel_seal_long, kernel_seal_next, kernel_seal_next_long;
 opening kernel_open_all, kernel_open_all_long;
 
 static const size_t LONGER[] = {244, 1488, 1500};
@@ -64,7 +65,9 @@ static bool is_sound(sealing *seal, opening *open_all, size_t length) {
 }
 
 static bool are_sound(size_t length) {
-    if (is_sound(kernel_seal, kernel_open_all, length) && is_sound(kernel_seal_long, kernel_open_all_long, length)) return true;
+    if (is_sound(kernel_seal, kernel_open_all, length) && is_sound(kernel_seal_next, kernel_open_all, length)
+        && is_sound(kernel_seal_long, kernel_open_all_long, length) && is_sound(kernel_seal_next_long, kernel_open_all_long, length))
+        return true;
     fprintf(stderr, "secret_calls: a wrong answer at %zu octets\n", length);
     return false;
 }

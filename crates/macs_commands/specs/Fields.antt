@@ -1,16 +1,14 @@
 -- What is at a key of a table: a number, a flag, a text, a mode, an association number, an SCI or a key.
 use Rattle.std.specs.Prelude.{◌-◌, ◌^◌, ℕ, nat_le, pos, codes, if◌then◌else◌, Bool, List, Option, Some, None}
-use Rattle.std.specs.Prelude.{option_and_then, Ok, Err}
+use Rattle.std.specs.Prelude.{option_and_then}
 use Rattle.std.specs.Str.{bytes_eq}
-use Rattle.std.specs.Option.{option_map}
-use Rattle.hex.specs.Hex.{decode_sized}
 use Rattle.toml.specs.Data.{Data, Members, as_bool, as_str, get_member, integer}
 use Rattle.macs_aes.specs.declared.keys.Key.{Key}
-use Rattle.macs_aes.specs.declared.keys.Key.TheVariants.{Long, Short}
 use Rattle.macs_config.specs.declared.command.SciMode.{SciMode}
 use Rattle.macs_config.specs.declared.command.SciMode.TheVariants.{Explicit, EndStation, Implicit}
 use Rattle.macs_config.specs.declared.command.Validate.{Validate}
 use Rattle.macs_config.specs.declared.command.Validate.TheVariants.{Strict, Check}
+use Rattle.macs_secrets.specs.Digits.{key_of, octets_of}
 
 -- ---- kinds of values
 
@@ -18,17 +16,6 @@ use Rattle.macs_config.specs.declared.command.Validate.TheVariants.{Strict, Chec
 abbrev pub number_to : ℕ → Data → Option ℕ
 number_to most (integer (pos n)) = if nat_le n most then Some n else None
 number_to most other = None
-
--- so many octets, from a text of twice as many hex digits
-abbrev pub octets_of : ℕ → List ℕ → Option (List ℕ)
-octets_of count text = elim (decode_sized text count) [ Ok octets ↦ Some octets | Err cause ↦ None ]
-
--- a key, from a text of 32 hex digits or of 64
-abbrev pub key_of : List ℕ → Option Key
-key_of text = elim (octets_of 16 text) [
-  | Some short ↦ Some (Short short)
-  | None ↦ option_map Long (octets_of 32 text)
-]
 
 -- what is done with frames that do not verify, by its word
 abbrev pub validate_of : List ℕ → Option Validate

@@ -3,8 +3,8 @@
 ghost use Rattle.std.specs.Prelude.{◌≡◌, ◌<◌, codes, option_map};
 ghost use Rattle.toml.specs.Data.{get_member};
 ghost use Rattle.toml.specs.View.{table_view, view};
-ghost use Rattle.macs_commands.specs.Fields.{an_in, confidential_in, flag_at, key_in, key_of};
-ghost use Rattle.macs_commands.specs.Fields.{number_at, number_to, octets_of, offset_in, on_in};
+ghost use Rattle.macs_commands.specs.Fields.{an_in, confidential_in, flag_at, key_in};
+ghost use Rattle.macs_commands.specs.Fields.{number_at, number_to, offset_in, on_in};
 ghost use Rattle.macs_commands.specs.Fields.{sci_in, sci_mode_in, start_in, text_at, validate_in};
 ghost use Rattle.macs_commands.specs.Fields.{window_in};
 ghost use Rattle.macs_commands.specs.Lines.{required, word_in};
@@ -16,6 +16,7 @@ use crate::word::Word;
 use macs_aes::Key;
 use macs_config::{SciMode, Validate};
 use macs_fields::{An, Sci};
+use macs_secrets::{key_of, octets};
 use toml::{Table, Value};
 
 /// The value at a key.
@@ -68,17 +69,6 @@ pub fn text<'a>(table: &'a Table, key: &str) -> Option<&'a str>
     }
 }
 
-/// Octets, from a text of twice as many hex digits.
-pub fn octets<const N: usize>(text: &str) -> Option<[u8; N]>
-    ensures { result ≡ octets_of N text.now }
-{
-    let mut octets = [0; N];
-    match hex::decode_to_slice(text, &mut octets) {
-        Ok(()) => Some(octets),
-        Err(_) => None,
-    }
-}
-
 /// The word of a table.
 pub(crate) fn word(table: &Table) -> Option<Word>
     ensures { result ≡ word_in (table_view table.now) }
@@ -107,7 +97,7 @@ pub(crate) fn sci_at(table: &Table) -> Option<Sci>
     ensures { result ≡ sci_in (table_view table.now) }
 {
     match text(table, "sci") {
-        Some(text) => match octets(text) {
+        Some(text) => match octets(text.as_bytes()) {
             Some(octets) => Some(Sci(octets)),
             None => None,
         },
@@ -127,21 +117,8 @@ pub(crate) fn key(table: &Table) -> Result<Key, KeyName>
     ensures { result ≡ required name.Key (key_in (table_view table.now)) }
 {
     match text(table, "key") {
-        Some(text) => key_of(text).ok_or(KeyName::Key),
+        Some(text) => key_of(text.as_bytes()).ok_or(KeyName::Key),
         None => Err(KeyName::Key),
-    }
-}
-
-/// A key, from a text of 32 hex digits or of 64.
-pub fn key_of(text: &str) -> Option<Key>
-    ensures { result ≡ key_of text.now }
-{
-    match octets(text) {
-        Some(short) => Some(Key::Short(short)),
-        None => match octets(text) {
-            Some(long) => Some(Key::Long(long)),
-            None => None,
-        },
     }
 }
 

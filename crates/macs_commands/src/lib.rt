@@ -8,9 +8,11 @@ mod ends;
 mod fields;
 mod lines;
 mod modes;
+mod secret_table;
 mod word;
 
 pub use command_files::{are_tables, commands_of, extra_key, keys};
 pub use config_fault::{ConfigFault, KeyName};
 pub use ends::{CommandFile, CommandFileFault, command_file};
-pub use fields::{key_of, octets, text, value};
+pub use fields::{text, value};
+pub use secret_table::SecretTable;

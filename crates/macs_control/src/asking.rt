@@ -6,6 +6,7 @@ ghost use Rattle.macs_requests.specs.Requests.{end_line};
 use crate::connection::Connection;
 use crate::seat::{Hearing, Seat};
 use macs_requests::{Client, Line, MAX_LINE, end_of_line};
+use macs_secrets::{SecretText, text_of};
 use std::alloc::{AllocError, Global};
 use std::str;
 
@@ -87,8 +88,8 @@ impl<S: Connection> Asker<S> {
             (S.link (connection_of (seat_of self.new))) (line.now ++ 10 ∷ []) true) }
         ensures held { held_by (seat_of self.new) ≡ held_by (seat_of self.old) }
     {
-        let text = format!(in alloc; "{line}\n")?;
-        if self.relay.give(text.as_str().as_bytes()) {
+        let text = SecretText(text_of(alloc, MAX_LINE, format_args!("{line}\n"))?);
+        if self.relay.give(text.0.as_str().as_bytes()) {
             return Ok(());
         }
         Err(AskFault::Gone)

@@ -4,6 +4,7 @@ ghost use Rattle.std.specs.Prelude.{◌≡◌, ◌≤◌, length};
 
 use crate::connection::{Connection, Taken};
 use macs_requests::{Client, Inbox, Line, MAX_LINE};
+use macs_secrets::wipe;
 
 /// What is heard of a client.
 #[derive(Drop)]
@@ -74,6 +75,7 @@ impl<S: Connection> Seat<S> {
         if let Taken::Octets(count) = taken {
             self.inbox.push(&part[..count]);
         }
+        wipe(part);
         taken
     }
 

@@ -22,7 +22,7 @@ use crate::output::{Line, print_octets};
 use crate::status::Status;
 use crate::stream::Stream;
 use itoa::Buffer;
-use macs_commands::{CommandFile, command_file};
+use macs_commands::{CommandFile, SecretTable, command_file};
 use macs_config::{Command, Refusal};
 use macs_disk::SectorDisk;
 use macs_endpoint::{CommandFault, Endpoint};
@@ -79,8 +79,8 @@ pub fn commands_in(alloc: Global, octets: &[u8]) -> Result<CommandFile<Global>, 
     let Ok(text) = str::from_utf8(octets) else {
         return Err(Failure::Commands);
     };
-    let table = table_of(alloc, text)?;
-    commands_told(alloc, &table)
+    let table = SecretTable(table_of(alloc, text)?);
+    commands_told(alloc, &table.0)
 }
 
 /// Whether a command file is for the end with this SCI: it names that, or none.

@@ -37,10 +37,12 @@ use crate::stream::Stream;
 use crate::toml_place::failure_of_toml;
 use crate::trial::{outcomes_status, trial_report, try_in};
 use macs_commands::{
-    CommandFile, CommandFileFault, ConfigFault, KeyName, command_file, extra_key, value,
+    CommandFile, CommandFileFault, ConfigFault, KeyName, SecretTable, command_file, extra_key,
+    value,
 };
 use macs_config::Command;
 use macs_fields::Sci;
+use macs_secrets::SecretOctets;
 use std::alloc::{AllocError, Global};
 use std::fs;
 use std::io::Read;
@@ -214,7 +216,7 @@ fn commands_in_text(alloc: Global, text: &str) -> Result<CommandFile<Global>, Fa
     ensures fault { IfErr result (Complains (IsSaidOfText text.now)) }
 {
     match toml::table_from_str(alloc, text) {
-        Ok(table) => commands_in_table(alloc, &table),
+        Ok(table) => commands_in_table(alloc, &SecretTable(table).0),
         Err(error) => Err(failure_of_toml(alloc, "command file", text, &error)),
     }
 }
@@ -251,9 +253,9 @@ fn commands_read<R: Read>(
     ensures ended { IfErr result (λ failure. IsUnread name.now failure
         ⊎ ((octets : List ℕ) × Complains (IsSaidOfFile octets) failure)) }
 {
-    let mut octets = Vec::new(alloc);
-    match file.take(MAX_READ as u64).read_to_end(&mut octets) {
-        Ok(_) => commands_said(alloc, octets.as_slice()),
+    let mut octets = SecretOctets(Vec::with_capacity(alloc, MAX_READ)?);
+    match file.take(MAX_READ as u64).read_to_end(&mut octets.0) {
+        Ok(_) => commands_said(alloc, octets.0.as_slice()),
         Err(error) => Err(failure_at(alloc, "commands", name, error)),
     }
 }

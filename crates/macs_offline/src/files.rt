@@ -22,6 +22,7 @@ use crate::whole_writes::WholeWrites;
 use macs_commands::CommandFile;
 use macs_disk::{DiskFile, FileDisk};
 use macs_pcap::{ReaderSource, Sink, Source, WriterSink};
+use macs_secrets::SecretOctets;
 use std::alloc::Global;
 use std::fs::{OpenFile, OpenOptions};
 use std::io::{BufReader, BufWriter, Read, Write};
@@ -115,9 +116,9 @@ fn read_commands<R: Read>(alloc: Global, file: &mut R) -> Result<CommandFile<Glo
     ensures failed { IfErr result
         (λ failure. (failure ≡ Failure.Memory) ⊎ (failure ≡ Failure.Commands)) }
 {
-    let mut octets = Vec::new(alloc);
-    match file.take(MAX_READ as u64).read_to_end(&mut octets) {
-        Ok(_) => commands_in(alloc, octets.as_slice()),
+    let mut octets = SecretOctets(Vec::with_capacity(alloc, MAX_READ)?);
+    match file.take(MAX_READ as u64).read_to_end(&mut octets.0) {
+        Ok(_) => commands_in(alloc, octets.0.as_slice()),
         Err(error) => Err(failure_of(error, Failure::Commands)),
     }
 }

@@ -11,6 +11,7 @@ use crate::failure::Failure;
 use crate::output::{Line, print_octets};
 use crate::status::Status;
 use crate::stream::Stream;
+use macs_secrets::{wipe, write_digits};
 use std::random::RandomSource;
 
 /// The longest key, in octets.
@@ -64,10 +65,11 @@ fn key_line(octets: &[u8]) -> Line
 {
     let mut room = [0; 2 * LONGEST];
     let digits = &mut room[..2 * octets.len()];
-    hex::encode_to_slice(octets, digits).unwrap();
+    write_digits(octets, digits);
     let mut line = Line::new();
     line.try_extend_from_slice(digits).unwrap();
     line.push(b'\n');
+    wipe(digits);
     line
 }
 
@@ -91,7 +93,11 @@ pub fn print_key<S: OctetSource, W: Stream>(
     if source.fill(octets).is_err() {
         return Err(Failure::Random);
     }
-    print_octets(out, key_line(octets).as_slice())?;
+    let mut line = key_line(octets);
+    wipe(octets);
+    let printed = print_octets(out, line.as_slice());
+    wipe(line.as_mut_slice());
+    printed?;
     Ok(Status::Done)
 }
 

@@ -5,7 +5,6 @@ ghost use Rattle.macs_aes.specs.Keys.{octets_of_key};
 ghost use Rattle.macs_fields.specs.First.{IsFirst};
 ghost use Rattle.macs_offline.specs.OpenInput.{InputFaultHolds, Spells, input_faults};
 ghost use Rattle.macs_offline.specs.OpenInput.{SpellsKey, SpellsOctets, SpellsOffset, SpellsSci};
-ghost use Rattle.macs_offline.specs.OpenInput.{SpellsSized};
 
 use crate::four_lines::four_lines;
 use arrayvec::ArrayVec;
@@ -68,34 +67,12 @@ impl InputFault {
     }
 }
 
-/// The 16 octets that a line spells.
-fn short_key_of(line: &[u8]) -> Option<[u8; 16]>
-    ensures { MatchOption result ((octets : List ℕ) → ¬ SpellsSized line.now 16 octets)
-        (SpellsSized line.now 16) }
-{
-    <[u8; 16] as FromHex>::from_hex(line).ok()
-}
-
-/// The 32 octets that a line spells.
-fn long_key_of(line: &[u8]) -> Option<[u8; 32]>
-    ensures { MatchOption result ((octets : List ℕ) → ¬ SpellsSized line.now 32 octets)
-        (SpellsSized line.now 32) }
-{
-    <[u8; 32] as FromHex>::from_hex(line).ok()
-}
-
 /// The key that a line spells.
 fn key_of(line: &[u8]) -> Option<Key>
     ensures { MatchOption result ((key : List ℕ) → ¬ SpellsKey line.now key)
         (λ key. SpellsKey line.now (octets_of_key key)) }
 {
-    match short_key_of(line) {
-        Some(short) => Some(Key::Short(short)),
-        None => match long_key_of(line) {
-            Some(long) => Some(Key::Long(long)),
-            None => None,
-        },
-    }
+    macs_secrets::key_of(line)
 }
 
 /// The SCI that a line spells.

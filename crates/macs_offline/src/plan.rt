@@ -21,7 +21,9 @@ use crate::output::print;
 use crate::status::Status;
 use crate::stream::Stream;
 use crate::toml_place::failure_of_toml;
+use macs_commands::SecretTable;
 use macs_plan::{End, Place, PlanFault, Stage, ValueName};
+use macs_secrets::{SecretOctets, SecretText};
 use macs_words::{PlanEnd, PlanStage};
 use std::alloc::{AllocError, Global};
 use std::fs;
@@ -168,7 +170,7 @@ fn planned_in_text(alloc: Global, text: &str, end: End, stage: Stage) -> Result<
     ensures fault { IfErr result (SaysWhyOfText end stage text.now) }
 {
     match toml::table_from_str(alloc, text) {
-        Ok(table) => planned_in_table(alloc, &table, end, stage),
+        Ok(table) => planned_in_table(alloc, &SecretTable(table).0, end, stage),
         Err(error) => Err(failure_of_toml(alloc, "link file", text, &error)),
     }
 }
@@ -209,9 +211,9 @@ fn planned_read<R: Read>(
     ensures ended { IfErr result (λ failure. IsLinkUnread name.now failure
         ⊎ ((octets : List ℕ) × SaysWhy end stage octets failure)) }
 {
-    let mut octets = Vec::new(alloc);
-    match file.take(MAX_READ as u64).read_to_end(&mut octets) {
-        Ok(_) => planned_said(alloc, octets.as_slice(), end, stage),
+    let mut octets = SecretOctets(Vec::with_capacity(alloc, MAX_READ)?);
+    match file.take(MAX_READ as u64).read_to_end(&mut octets.0) {
+        Ok(_) => planned_said(alloc, octets.0.as_slice(), end, stage),
         Err(error) => Err(failure_at(alloc, "link file", name, error)),
     }
 }
@@ -261,7 +263,7 @@ pub fn plan<T: Files, W: Stream>(
     ensures silent { IfErr result (λ failure. failure ≢ Failure.Output → out.new ≡ out.old) }
     ensures broken { IfErr result (λ failure. failure ≡ Failure.Output → W.failed out.new ≡ true) }
 {
-    let text = planned_file(rt, alloc, path, end_of(end), stage_of(stage))?;
-    print(out, text.as_str())?;
+    let text = SecretText(planned_file(rt, alloc, path, end_of(end), stage_of(stage))?);
+    print(out, text.0.as_str())?;
     Ok(Status::Done)
 }

@@ -10,7 +10,8 @@ use Rattle.toml.specs.Data.{Items, Members, item, no_items}
 use Rattle.macs_aes.specs.Keys.{HasItsLength}
 use Rattle.macs_aes.specs.declared.keys.Key.{Key}
 use Rattle.macs_aes.specs.declared.keys.Key.TheVariants.{Long, Short}
-use Rattle.macs_commands.specs.Fields.{key_of, octets_of, text_at}
+use Rattle.macs_commands.specs.Fields.{text_at}
+use Rattle.macs_secrets.specs.Digits.{key_of, octets_of}
 use Rattle.macs_plan.specs.Accepting.{HasKeys, Refuses}
 use Rattle.macs_plan.specs.LinkWords.{IsNewest}
 use Rattle.macs_plan.specs.Reading.{file_link, key_at, key_pair, key_pairs}

@@ -19,7 +19,7 @@ use Rattle.macs_config.specs.declared.command.Command.TheVariants.{TxRemove, RxA
 use Rattle.macs_config.specs.declared.command.SciMode.TheVariants.{Explicit, EndStation, Implicit}
 use Rattle.macs_config.specs.declared.command.Validate.TheVariants.{Strict, Check}
 use Rattle.macs_commands.specs.CommandFiles.{table_command}
-use Rattle.macs_commands.specs.Fields.{key_of, octets_of}
+use Rattle.macs_secrets.specs.Digits.{key_of, octets_of}
 use Rattle.macs_plan.specs.Writing.{HasItsKey, table_of}
 
 -- ---- octets and keys

@@ -7,7 +7,8 @@ use Rattle.macs_aes.specs.Keys.{octets_of_key}
 use Rattle.macs_aes.specs.declared.keys.Key.{Key}
 use Rattle.macs_config.specs.Config.{are_distinct}
 use Rattle.macs_commands.specs.CommandFiles.{are_tables, count}
-use Rattle.macs_commands.specs.Fields.{an_in, key_of, sci_in, text_at}
+use Rattle.macs_commands.specs.Fields.{an_in, sci_in, text_at}
+use Rattle.macs_secrets.specs.Digits.{key_of}
 use Rattle.macs_plan.specs.declared.link.KeyPair.{KeyPair}
 use Rattle.macs_plan.specs.declared.link.Link.{Link}
 use Rattle.macs_plan.specs.declared.plan_fault.Place.{Place}

@@ -6,8 +6,9 @@ ghost use Rattle.macs_commands.specs.Fields.{an_in, number_to, sci_in};
 ghost use Rattle.macs_plan.specs.Reading.{items_at, key_at, table_at};
 
 use macs_aes::Key;
-use macs_commands::{key_of, octets, text, value};
+use macs_commands::{text, value};
 use macs_fields::{An, Sci};
+use macs_secrets::{key_of, octets};
 use toml::value::Array;
 use toml::{Table, Value};
 
@@ -59,7 +60,7 @@ pub(crate) fn sci(table: &Table) -> Option<Sci>
     ensures { result ≡ sci_in (table_view table.now) }
 {
     match text(table, "sci") {
-        Some(text) => match octets(text) {
+        Some(text) => match octets(text.as_bytes()) {
             Some(octets) => Some(Sci(octets)),
             None => None,
         },
@@ -72,7 +73,7 @@ pub(crate) fn key(table: &Table, name: &str) -> Option<Key>
     ensures { result ≡ key_at name.now (table_view table.now) }
 {
     match text(table, name) {
-        Some(text) => key_of(text),
+        Some(text) => key_of(text.as_bytes()),
         None => None,
     }
 }

@@ -15,6 +15,7 @@ use macs_aes::Key;
 use macs_config::laws::command_in_range;
 use macs_config::{Command, SciMode, Validate};
 use macs_fields::{An, Sci};
+use macs_secrets::digits_of;
 use std::alloc::{AllocError, Global};
 use toml::{Table, Value};
 
@@ -82,7 +83,7 @@ fn flag(on: bool) -> Result<Value, AllocError>
 fn digits(alloc: Global, octets: &[u8]) -> Result<Value, AllocError>
     ensures { IfOk result (λ v. view v ≡ digits octets.now) }
 {
-    match hex::encode(alloc, octets) {
+    match digits_of(alloc, octets) {
         Ok(text) => Ok(Value::from(text)),
         Err(_) => Err(AllocError),
     }

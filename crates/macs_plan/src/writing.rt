@@ -6,6 +6,7 @@ ghost use Rattle.toml.specs.View.{table_view, view};
 ghost use Rattle.macs_plan.specs.Writing.{IsTextOf, SaysCommands, digits};
 
 use crate::lines::{command_table, is_read, sci_value, with};
+use macs_commands::SecretTable;
 use macs_config::Command;
 use macs_fields::Sci;
 use macs_fields::laws::sci_in_range;
@@ -50,7 +51,8 @@ fn written(alloc: Global, file: Result<Table, AllocError>) -> Result<String, All
     let Ok(file) = file else {
         return Err(AllocError);
     };
-    match toml::table_to_string(alloc, &file) {
+    let file = SecretTable(file);
+    match toml::table_to_string(alloc, &file.0) {
         Ok(text) => Ok(text),
         Err(_) => Err(AllocError),
     }

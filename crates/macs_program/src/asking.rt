@@ -33,6 +33,7 @@ use macs_offline::{
     status_after,
 };
 use macs_requests::{Request, line_of_request};
+use macs_secrets::SecretText;
 use macs_texts::{ended, refusal_name};
 use macs_words::Question;
 use std::alloc::{AllocError, Global};
@@ -91,8 +92,8 @@ fn answer_to<S: Connection>(
     ensures failed { IfErr result
         (λ failure. (failure ≡ Failure.Memory) ⊎ (failure ≡ Failure.Control)) }
 {
-    let line = line_of_request(alloc, request)?;
-    asker.send(alloc, line.as_str())?;
+    let line = SecretText(line_of_request(alloc, request)?);
+    asker.send(alloc, line.0.as_str())?;
     let answer = asker.answer(alloc)?;
     Ok(answer)
 }

@@ -31,6 +31,7 @@ use macs_offline::plan::plan;
 use macs_offline::{
     CaptureFile, Failure, InputFault, Opened, PrintFailed, Status, Stream, answer_of, print,
 };
+use macs_secrets::wipe;
 use macs_words::{Action, action_of, topic_of};
 use std::alloc::{AllocError, Allocator, Global};
 use std::net::Net;
@@ -72,8 +73,10 @@ fn open_input<R: Input, W: Stream>(
     ensures silent { IfErr result (λ failure. failure ≢ Failure.Output → out.new ≡ out.old) }
     ensures broken { IfErr result (λ failure. failure ≡ Failure.Output → W.failed out.new ≡ true) }
 {
-    let text = read_input(input)?;
-    let answer = answer_of(text.as_slice())?;
+    let mut text = read_input(input)?;
+    let answer = answer_of(text.as_slice());
+    wipe(text.as_mut_slice());
+    let answer = answer?;
     print(out, line_of(alloc, &answer)?.as_str())?;
     Ok(answer.status())
 }

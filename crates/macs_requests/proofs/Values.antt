@@ -21,7 +21,8 @@ use Rattle.macs_config.specs.declared.command.SciMode.TheVariants.{Explicit, End
 use Rattle.macs_config.specs.declared.command.Validate.{Validate}
 use Rattle.macs_config.specs.declared.command.Validate.TheVariants.{Strict, Check}
 use Rattle.macs_fields.specs.Fields.{IsOctets, IsSci}
-use Rattle.macs_requests.specs.Fields.{key_digits, key_of, octets_of, protection_word, replay_word}
+use Rattle.macs_requests.specs.Fields.{key_digits, protection_word, replay_word}
+use Rattle.macs_secrets.specs.Digits.{key_of, octets_of}
 use Rattle.macs_requests.specs.Fields.{sci_mode_of, sci_mode_word, validate_of, validate_word}
 use Rattle.macs_requests.proofs.Blanks.{Lacks, hex_lacks, lacks}
 

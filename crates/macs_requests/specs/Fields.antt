@@ -1,11 +1,9 @@
 -- The fields of commands, as they are written: one form for each.
-use Rattle.std.specs.Prelude.{ℕ, if◌then◌else◌, Bool, true, false, List, codes, Option, Some, None, Ok, Err}
-use Rattle.std.specs.Option.{option_map}
+use Rattle.std.specs.Prelude.{ℕ, if◌then◌else◌, Bool, true, false, List, codes}
 use Rattle.std.specs.Str.{bytes_eq}
-use Rattle.hex.specs.Hex.{decode_sized, encode_lower}
+use Rattle.hex.specs.Hex.{encode_lower}
 use Rattle.macs_aes.specs.Keys.{octets_of_key}
 use Rattle.macs_aes.specs.declared.keys.Key.{Key}
-use Rattle.macs_aes.specs.declared.keys.Key.TheVariants.{Long, Short}
 use Rattle.macs_config.specs.declared.command.SciMode.{SciMode}
 use Rattle.macs_config.specs.declared.command.SciMode.TheVariants.{Explicit, EndStation, Implicit}
 use Rattle.macs_config.specs.declared.command.Validate.{Validate}
@@ -39,17 +37,6 @@ abbrev pub key_digits : Key → List ℕ
 key_digits key = encode_lower (octets_of_key key)
 
 -- ---- as they are read
-
--- so many octets, from a text of twice as many hex digits
-abbrev pub octets_of : ℕ → List ℕ → Option (List ℕ)
-octets_of count text = elim (decode_sized text count) [ Ok octets ↦ Some octets | Err cause ↦ None ]
-
--- a key, from a text of 32 hex digits or of 64
-abbrev pub key_of : List ℕ → Option Key
-key_of text = elim (octets_of 16 text) [
-  | Some short ↦ Some (Short short)
-  | None ↦ option_map Long (octets_of 32 text)
-]
 
 -- what is done with frames that do not verify: strict, unless the word is that for check
 abbrev pub validate_of : List ℕ → Validate

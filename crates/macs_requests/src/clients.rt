@@ -1,18 +1,28 @@
 //! Who asks: the clients of a desk.
 
 use crate::inbox::Line;
+use macs_secrets::wipe;
 
 /// A client: the number of its connection, from 1 on. No number is used again, so that an answer to
 /// a client that went away comes to nobody.
 #[derive(Clone, Copy, Debug, Default, PartialEq, Eq)]
 pub struct Client(pub u64);
 
-/// A line, and the client that sent it.
-#[derive(Drop)]
+/// A line, and the client that sent it. The line is overwritten when it is let go.
 pub struct Heard {
     pub client: Client,
     /// Without its end.
     pub line: Line,
+}
+
+impl Drop for Heard {
+    fn drop(self) {
+        let Heard {
+            client: _,
+            mut line,
+        } = self;
+        wipe(line.as_mut_slice());
+    }
 }
 
 /// The clients of a desk. No call but `sleep` waits, whatever a client does.

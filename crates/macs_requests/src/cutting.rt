@@ -3,6 +3,8 @@
 ghost use Rattle.std.specs.Prelude.{◌≡◌, IfOk, string_bytes};
 ghost use Rattle.macs_requests.specs.Cutting.{after_word, first_word, spaced};
 
+use crate::inbox::MAX_LINE;
+use macs_secrets::text_of;
 use std::alloc::{AllocError, Global};
 
 /// A text, cut at its first blank.
@@ -34,6 +36,5 @@ pub(crate) fn cut(text: &str) -> Parts<'_>
 pub(crate) fn spaced(alloc: Global, word: &str, rest: &str) -> Result<String, AllocError>
     ensures { IfOk result (λ text. string_bytes text ≡ spaced word.now rest.now) }
 {
-    let text = format!(in alloc; "{word} {rest}")?;
-    Ok(text)
+    text_of(alloc, MAX_LINE, format_args!("{word} {rest}"))
 }

@@ -8,10 +8,11 @@ ghost use Rattle.macs_aes.specs.Keys.{HasItsLength, octets_of_key};
 ghost use Rattle.macs_aes.specs.declared.keys.Key.{Key as AnyKey};
 ghost use Rattle.macs_config.specs.Apply.{IsKey};
 ghost use Rattle.macs_fields.specs.Fields.{IsAn, IsSci};
-ghost use Rattle.macs_requests.specs.Fields.{key_digits, key_of, octets_of};
+ghost use Rattle.macs_requests.specs.Fields.{key_digits};
 
 use macs_aes::Key;
 use macs_fields::{An, Sci};
+use macs_secrets::{key_of, octets};
 
 /// The number of 32 bits that a text says.
 pub(crate) fn number(text: &str) -> u32
@@ -38,37 +39,13 @@ pub(crate) fn an(text: &str) -> An
     }
 }
 
-/// Octets, from a text of twice as many hex digits.
-fn octets<const N: usize>(text: &str) -> Option<[u8; N]>
-    ensures { result ≡ octets_of N text.now }
-{
-    let mut octets = [0; N];
-    match hex::decode_to_slice(text, &mut octets) {
-        Ok(()) => Some(octets),
-        Err(_) => None,
-    }
-}
-
 /// The SCI that a text says.
 pub(crate) fn sci(text: &str) -> Sci
     ensures { (sci : List ℕ) → IsSci sci → text.now ≡ encode_lower sci → result ≡ sci }
 {
-    match octets(text) {
+    match octets(text.as_bytes()) {
         Some(octets) => Sci(octets),
         None => Sci([0; 8]),
-    }
-}
-
-/// A key, from a text of 32 hex digits or of 64.
-fn key_of(text: &str) -> Option<Key>
-    ensures { result ≡ key_of text.now }
-{
-    match octets(text) {
-        Some(short) => Some(Key::Short(short)),
-        None => match octets(text) {
-            Some(long) => Some(Key::Long(long)),
-            None => None,
-        },
     }
 }
 
@@ -77,7 +54,7 @@ pub(crate) fn key(text: &str) -> Key
     ensures { (key : AnyKey) → IsKey (octets_of_key key) → HasItsLength key
         → text.now ≡ key_digits key → result ≡ key }
 {
-    match key_of(text) {
+    match key_of(text.as_bytes()) {
         Some(key) => key,
         None => Key::Short([0; 16]),
     }

@@ -4,6 +4,7 @@ ghost use Rattle.std.specs.Prelude.{◌≡◌, ◌<◌, ◌≤◌, ◌+◌, ◌-
 ghost use Rattle.std.specs.Prelude.{position, IfSome};
 
 use arrayvec::ArrayVec;
+use macs_secrets::wipe;
 
 /// The longest line, in octets, with its line feed.
 pub const MAX_LINE: usize = 256;
@@ -13,9 +14,16 @@ pub type Line = ArrayVec<u8, MAX_LINE>;
 
 /// Octets from which no line was taken yet, 256 at most. They may come in any pieces: a line is
 /// taken once its end is there. Where there is neither room nor a whole line, the line is too long.
-#[derive(Drop)]
+/// They are overwritten when they are let go.
 pub struct Inbox {
     octets: Line,
+}
+
+impl Drop for Inbox {
+    fn drop(self) {
+        let Inbox { mut octets } = self;
+        wipe(octets.as_mut_slice());
+    }
 }
 
 /// The place of the first line feed.
@@ -94,6 +102,7 @@ impl Inbox {
             Some(end) => {
                 let line = before(text, end);
                 let rest = after(text, end);
+                wipe(self.octets.as_mut_slice());
                 self.octets = rest;
                 Some(line)
             }

@@ -10,10 +10,12 @@ ghost use Rattle.macs_requests.specs.Lines.{IsTold, command_line, fields_of, wor
 
 use crate::commands_of_lines::taken_for;
 use crate::cutting::spaced;
+use crate::inbox::MAX_LINE;
 use crate::modes::{protection_word, replay_word, sci_mode_word, validate_word};
 use macs_aes::Key;
 use macs_config::{Command, SciMode, Validate};
 use macs_fields::{An, Sci};
+use macs_secrets::{SecretText, digits_of, text_of};
 use std::alloc::{AllocError, Global};
 
 /// The word of a command.
@@ -68,8 +70,7 @@ fn sci_digits(alloc: Global, sci: Sci) -> Result<String, AllocError>
 fn key_digits(alloc: Global, key: Key) -> Result<String, AllocError>
     ensures { IfOk result (λ text. string_bytes text ≡ key_digits key) }
 {
-    let text = hex::encode(alloc, key.as_slice())?;
-    Ok(text)
+    digits_of(alloc, key.as_slice())
 }
 
 fn replay_fields(alloc: Global, on: bool, window: u32) -> Result<String, AllocError>
@@ -92,10 +93,11 @@ fn tx_install_fields(
         ≡ fields_of (told.TxInstall an key start confidential offset)) }
 {
     let number = an.get();
-    let digits = key_digits(alloc, key)?;
+    let key = SecretText(key_digits(alloc, key)?);
+    let digits = key.0.as_str();
     let how = protection_word(confidential);
-    let text = format!(in alloc; "{number} {digits} {start} {how} {offset}")?;
-    Ok(text)
+    let fields = format_args!("{number} {digits} {start} {how} {offset}");
+    text_of(alloc, MAX_LINE, fields)
 }
 
 fn rx_install_fields(
@@ -111,9 +113,10 @@ fn rx_install_fields(
 {
     let channel = sci_digits(alloc, sci)?;
     let number = an.get();
-    let digits = key_digits(alloc, key)?;
-    let text = format!(in alloc; "{channel} {number} {digits} {start} {offset}")?;
-    Ok(text)
+    let key = SecretText(key_digits(alloc, key)?);
+    let digits = key.0.as_str();
+    let fields = format_args!("{channel} {number} {digits} {start} {offset}");
+    text_of(alloc, MAX_LINE, fields)
 }
 
 fn rx_remove_fields(alloc: Global, sci: Sci, an: An) -> Result<String, AllocError>
@@ -173,8 +176,8 @@ fn fields_of(alloc: Global, command: &Command) -> Result<String, AllocError>
 pub fn line_of_command(alloc: Global, command: &Command) -> Result<String, AllocError>
     ensures { IfOk result (λ text. string_bytes text ≡ command_line command.now) }
 {
-    let fields = fields_of(alloc, command)?;
-    spaced(alloc, word_of(command), fields.as_str())
+    let fields = SecretText(fields_of(alloc, command)?);
+    spaced(alloc, word_of(command), fields.0.as_str())
 }
 
 /// The command of a line without its end, `None` where it is the line of none. A command has one
@@ -187,8 +190,8 @@ pub fn command_of_line(alloc: Global, line: &str) -> Result<Option<Command>, All
         IfSome found (λ command. line.now ≡ command_line command)) }
 {
     let command = taken_for(line);
-    let text = line_of_command(alloc, &command)?;
-    if text.as_str() == line {
+    let text = SecretText(line_of_command(alloc, &command)?);
+    if text.0.as_str() == line {
         return Ok(Some(command));
     }
     Ok(None)

@@ -7,6 +7,7 @@ ghost use Rattle.macs_requests.specs.declared.requests.Request.{Request};
 use crate::commands_of_lines::taken_for;
 use crate::lines::line_of_command;
 use macs_config::Command;
+use macs_secrets::SecretText;
 use std::alloc::{AllocError, Global};
 
 /// What a client asks for, in one line.
@@ -96,8 +97,8 @@ pub fn request_of_line(alloc: Global, line: &str) -> Result<Option<Request>, All
         IfSome found (λ request. line.now ≡ request_line request)) }
 {
     let request = request_taken(line);
-    let text = line_of_request(alloc, &request)?;
-    if text.as_str() == line {
+    let text = SecretText(line_of_request(alloc, &request)?);
+    if text.0.as_str() == line {
         return Ok(Some(request));
     }
     Ok(None)

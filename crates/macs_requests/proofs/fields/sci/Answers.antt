@@ -1,8 +1,12 @@
+use Rattle.std.proofs.Common.{◌∙◌, ap}
+use Rattle.macs_secrets.specs.Digits.{octets_of}
 use Rattle.macs_requests.proofs.Values.{sci_none, sci_said}
 use Rattle.macs_requests.proofs.fields.sci.Goals as goal
 
 pub returns-in-Some : goal.returns-in-Some
-returns-in-Some c = λ sci is said. sci_said c.in-Some.octets sci c.args.text.now c.in-Some.ensures is said
+returns-in-Some c = λ sci is said. sci_said c.in-Some.octets sci c.args.text.now
+    (c.in-Some.ensures ∙ ap (octets_of 8) c.as_bytes.ensures.value) is said
 
 pub returns-in-None : goal.returns-in-None
-returns-in-None c = λ sci is said. absurd (sci_none sci c.args.text.now c.in-None.ensures is said)
+returns-in-None c = λ sci is said. absurd (sci_none sci c.args.text.now
+    (c.in-None.ensures ∙ ap (octets_of 8) c.as_bytes.ensures.value) is said)

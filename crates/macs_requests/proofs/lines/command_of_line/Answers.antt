@@ -12,11 +12,11 @@ pub returns-then-eq-clause-only : goal.returns-then-eq-clause-only
 returns-then-eq-clause-only c =
     same_line c.as_str.result.now c.args.line.now (command_line c.taken_for-command.result) c.eq.result c.eq.ensures
     c.if-eq.true
-    (c.as_str.ensures.value ∙ c.in_ok-text.ensures)
+    (c.as_str.ensures.value ∙ c.in_ok-line_of_command.ensures)
 
 pub returns-clause-read : goal.returns-clause-read
 returns-clause-read c = λ command told is.
-    let wrote = c.as_str.ensures.value ∙ c.in_ok-text.ensures
+    let wrote = c.as_str.ensures.value ∙ c.in_ok-line_of_command.ensures
     ∙ ap (λ (x : Command). command_line x) (c.taken_for-command.ensures command told is) in
     absurd (other_line c.as_str.result.now c.args.line.now (command_line command) c.eq.result c.eq.ensures
     c.if-eq.false wrote is)

@@ -1,7 +1,0 @@
-use Rattle.std.proofs.Common.{◌∙◌, ap}
-use Rattle.std.specs.Result.{result_ok}
-use Rattle.macs_offline.proofs.Spelling.{spelled-sized}
-use Rattle.macs_offline.proofs.open_input.long_key_of.Goals as goal
-
-pub returns : goal.returns
-returns c = spelled-sized c.args.line.now 32 c.ok.result (c.ok.ensures.value ∙ ap result_ok c.from_hex.ensures)
