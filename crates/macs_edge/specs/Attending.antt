@@ -1,4 +1,4 @@
--- A relay that is attended: what a desk wants before each turn, and what is reported to it of its commands.
+-- A relay that a desk attends: what the desk orders before each turn, and what is reported to it about its commands.
 use Rattle.std.specs.Prelude.{◌≡◌, ◌⊎◌, ◌↔◌, ◌<◌, ◌++◌, ℕ, zero, suc, Bool, true, false, IsTrue, List, [], ◌∷◌, map}
 use Rattle.std.specs.Prelude.{Option, IfOk, Result, Ok, Err}
 use Rattle.std.specs.Option.{option_map}
@@ -23,44 +23,44 @@ use Rattle.macs_edge.specs.declared.attending.Order.{Order}
 use Rattle.macs_edge.specs.declared.attending.Order.TheVariants.{Go, Submit, End}
 use Rattle.macs_edge.specs.declared.relaying.RelaySummary.{RelaySummary}
 
--- what a desk notes, where that is known, and these events
+-- what a desk has noted, if known, and these events
 abbrev pub with_events : Option (List DeskEvent) → List DeskEvent → Option (List DeskEvent)
 with_events noted events = option_map (λ before. before ++ events) noted
 
 -- ---- before a turn
 
--- a turn follows, unless the desk wants the end
+-- a turn follows, unless the desk orders the end
 abbrev pub goes_on : Order → Bool
 goes_on Go = true
 goes_on (Submit command) = true
 goes_on End = false
 
--- What the desk wants is done, and this is reported to it: a command is submitted, and else nothing is done
+-- The desk's order is carried out, and this is reported to it: a command is submitted, or nothing is done
 abbrev pub Does : {D : Type 0} → (D → Disk) → Order → EndpointValue D → List DeskEvent → EndpointValue D → Type 0
 Does disk_of (Submit command) old told new = (answer : Result ℕ SubmitFault) × (told ≡ Took answer ∷ [])
     × IsSoundEndpoint old × IsCall disk_of old (Submits command) (Submitted answer) new
 Does disk_of order old told new = (told ≡ []) × (new ≡ old)
 
--- the desk is asked what it wants, and that is done
+-- the desk is asked for an order, which is carried out
 abbrev pub Obeys : {D : Type 0} → (D → Disk) → Bool → EndpointValue D → List DeskEvent → Bool → EndpointValue D → Type 0
 Obeys disk_of was_quiet old events follows new = (order : Order) × (told : List DeskEvent) × (follows ≡ goes_on order)
     × Does disk_of order old told new × (events ≡ Wanted was_quiet order ∷ told)
 
 -- ---- turns
 
--- what is reported to the desk of a step: what became of the command that it is done with
+-- what a step reports to the desk: the result of the command that it completes
 abbrev pub answers_of : Progress → List DeskEvent
 answers_of (step.Done ticket result) = Answered ticket (end.Done result) ∷ []
 answers_of progress = []
 
--- a turn, with what is done before it and what is reported of it
+-- a turn, with what is done before it and what it reports
 abbrev pub TakesAttended : {D : Type 0} → (D → Disk) → Bool → Relay D → List DeskEvent → Progress → Relay D → Type 0
 TakesAttended {D} disk_of was_quiet old events progress new = (before : List DeskEvent) × (endpoint : EndpointValue D)
     × Obeys disk_of was_quiet old.endpoint before true endpoint
     × TakesTurn disk_of (Ok progress) (record old { endpoint = endpoint }) new
     × (events ≡ before ++ answers_of progress)
 
--- So many of these, and whether the last one was quiet: before the first it was not
+-- this many of these, and whether the last one was quiet: before the first it was not
 abbrev pub TakesAllAttended : {D : Type 0} → (D → Disk) → ℕ → Relay D → List DeskEvent → Bool → Relay D → Type 0
 TakesAllAttended disk_of zero old events quiet new = (events ≡ []) × (quiet ≡ false) × (new ≡ old)
 TakesAllAttended {D} disk_of (suc turns) old events quiet new = (between : Relay D) × (earlier : List DeskEvent)
@@ -72,7 +72,7 @@ TakesAllAttended {D} disk_of (suc turns) old events quiet new = (between : Relay
 
 -- ---- the end
 
--- all turns were taken; or the desk wanted the end before the next one
+-- all turns were taken; or the desk ordered the end before the next one
 abbrev pub EndsAt : ℕ → ℕ → Bool → List DeskEvent → List DeskEvent → Type 0
 EndsAt turns taken quiet earlier events = ((taken ≡ turns) × (events ≡ earlier))
     ⊎ ((taken < turns) × (events ≡ earlier ++ Wanted quiet End ∷ []))
@@ -90,12 +90,12 @@ AttendsTurns {D} disk_of turns old events (Err at) new = (taken : ℕ) × (betwe
     × TakesTurn disk_of (Err at) (record between { endpoint = endpoint }) new
     × (events ≡ earlier ++ last)
 
--- the commands that wait are answered as failed, in their order
+-- the pending commands are answered as failed, in order
 abbrev pub failed_of : List Waiting → List DeskEvent
 failed_of waiting = map (λ (w : Waiting). Answered w.ticket end.Failed) waiting
 
--- Turns are taken up to the end, and then the commands that wait are answered as failed. A fault has the name of the
--- last step's
+-- Turns are taken up to the end, and then the pending commands are answered as failed. A fault has the name of the last
+-- step's
 abbrev pub Attends : {D : Type 0} {T : Type 0} → (D → Disk) → ℕ → Relay D → List DeskEvent → Result T RefillFault
     → Relay D → Type 0
 Attends disk_of turns old events (Ok summary) new =
@@ -105,7 +105,7 @@ Attends disk_of turns old events (Err fault) new = (during : List DeskEvent) × 
     × (fault ≡ refill_fault_named at)
     × AttendsTurns disk_of turns old during (Err at) new × (events ≡ during ++ failed_of new.endpoint.waiting)
 
--- an attended relay, what passed between it and its desk, and what it answers
+-- an attended relay, what passed between it and its desk, and its result
 abbrev pub IsAttended : {D : Type 0} → (D → Disk) → ℕ → Relay D → List DeskEvent → Result RelaySummary RefillFault
     → EndpointValue D → WireState → WireState → Type 0
 IsAttended {D} disk_of turns old events result endpoint controlled common = (to_common : LaneValue)

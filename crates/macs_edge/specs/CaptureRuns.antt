@@ -27,13 +27,13 @@ use Rattle.macs_edge.specs.declared.settling.Side.{Side}
 
 -- ---- what passes
 
--- a frame that passes keeps the stamp of its record
+-- a frame that passes keeps its record's timestamp
 abbrev pub passed_record : Stamp → Option (List ℕ) → List CaptureRecord
 passed_record stamp None = []
 passed_record stamp (Some frame) = record { stamp = stamp; frame = frame } ∷ []
 
--- The frames of these records, each of them one step of the machine, lead from old to new, and this passes: as though
--- no frame had ever waited for a packet number or been held back
+-- The frames of these records, each of them one step of the machine, lead from old to new, and this passes: as if no
+-- frame had ever waited for a packet number or been held back
 abbrev pub Passes : Side → State → List CaptureRecord → List CaptureRecord → State → Type 0
 Passes side old [] passed new = (passed ≡ []) × (new ≡ old)
 Passes side old (taken ∷ more) passed new =
@@ -72,14 +72,14 @@ pub record Run (D : Type 0) : Type 0 where
 abbrev pub run_of : {D : Type 0} → EndpointValue D → SourceState → SinkState → Run D
 run_of endpoint source sink = record { endpoint = endpoint; source = source; sink = sink }
 
--- the frames of these records were handed in by these calls, one after another
+-- the frames of these records were submitted by these calls, one after another
 abbrev pub HandsAllIn : {D : Type 0} → Side → List CaptureRecord → List (Transition D) → Type 0
 HandsAllIn side [] turns = turns ≡ []
 HandsAllIn {D} side (taken ∷ more) turns =
     (first : List (Transition D)) × (rest : List (Transition D)) × (reply : Reply)
     × (turns ≡ first ++ rest) × HandsIn (call_on side taken.frame) first reply × HandsAllIn side more rest
 
--- these records were taken, and these went out
+-- these records were taken, and these were written
 pub record HasPassed {D : Type 0} (disk_of : D → Disk) (side : Side) (big : Bool) (old : Run D)
     (records passed : List CaptureRecord) (new : Run D) : Type 0 where
   pub few : length records ≤ max_records
@@ -93,14 +93,14 @@ pub record HasPassed {D : Type 0} (disk_of : D → Disk) (side : Side) (big : Bo
   pub sent : Appends old.sink.held new.sink.held (records_text big passed)
   pub writes : new.sink.failed ≡ old.sink.failed
 
--- a record is read, after so many others, and its frame is settled
+-- a record is read, after `count` others, and its frame is settled
 pub record TakesRecord {D : Type 0} (disk_of : D → Disk) (side : Side) (big : Bool) (count : ℕ) (old : Run D)
     (taken : CaptureRecord) (passed : Option (List ℕ)) (new : Run D) : Type 0 where
   pub room : ℕ
   pub reads : ReadsRecord big count room old.source new.source taken.frame (Ok (Some taken.stamp))
   pub settled : IsSettled disk_of old.endpoint (call_on side taken.frame) passed new.endpoint
 
--- The run ends after so many records with a fault. A fault of the device: the next frame finds the endpoint stopped, or
+-- The run ends after `count` records with a fault. A fault of the device: the next frame finds the endpoint stopped, or
 -- waits for a refill that is answered with it. A fault of the captures: the next record is not read, with this fault;
 -- or its frame passes and is not written whole
 abbrev pub Stops : {D : Type 0} → (D → Disk) → Side → Bool → ℕ → Run D → RunFault → Run D → Type 0
@@ -115,8 +115,8 @@ Stops disk_of side big count old (Pcap fault) new =
     ⊎ ((taken : CaptureRecord) × (frame : List ℕ) × TakesRecord disk_of side big count old taken (Some frame) new
     × WritesText {T = Unit {0}} old.sink new.sink (record_text big taken.stamp frame) (Err fault))
 
--- What becomes of the next record, after so many others: there is none, at the end; it passes, or is left out, with
--- this verdict, if there is one; or the run ends
+-- The result for the next record, after `count` others: there is none, at the end; it passes, or is left out, with this
+-- verdict, if there is one; or the run ends
 abbrev pub TakesNext : {D : Type 0} → (D → Disk) → Side → Bool → ℕ → Run D → Result (Option Bool) RunFault
     → Option Verdict → Run D → Type 0
 TakesNext disk_of side big count old (Ok None) verdict new =
@@ -130,11 +130,11 @@ TakesNext disk_of side big count old (Ok (Some passes)) verdict new =
     × (new.sink.failed ≡ old.sink.failed) × (verdict ≡ verdict_of takes.settled.reply)
 TakesNext disk_of side big count old (Err fault) verdict new = Stops disk_of side big count old fault new
 
--- so many records were taken of which a frame passed, and so many that were left out
+-- how many of the taken records had a frame that passed, and how many were left out
 abbrev pub Counts : List CaptureRecord → List CaptureRecord → Summary → Type 0
 Counts records passed s = (s.passed ≡ length passed) × (s.passed + s.dropped ≡ length records)
 
--- a record is counted
+-- one more record is counted
 abbrev pub one_more : Bool → Summary → Summary
 one_more passes s = if passes then record s { passed = s.passed + 1 } else record s { dropped = s.dropped + 1 }
 
@@ -163,7 +163,7 @@ RunsOver {D} disk_of side old answer new =
 
 -- ---- what a run writes
 
--- The capture that the input becomes is written, or a front of it where the run ends with a fault
+-- The capture for the input is written, or a prefix of it if the run ends with a fault
 pub record WritesCapture {D : Type 0} (side : Side) (old : Run D) (answer : Result Summary RunFault)
     (new : Run D) : Type 0 where
   pub whole : OnOk answer ((logs : Logs) (text : List ℕ) → IfSome old.source.left (λ input.

@@ -1,4 +1,4 @@
--- What the commands of a desk come to, over a whole relay: calls of the endpoint, and one answer for each.
+-- The results of a desk's commands, over a whole relay: calls of the endpoint, and one answer for each.
 use Rattle.std.specs.Prelude.{◌≡◌, ◌++◌, ℕ, List, [], ◌∷◌, flat_map, map, Result, Ok}
 use Rattle.macs_config.specs.declared.command.Command.{Command}
 use Rattle.macs_disk.specs.Disk.{Disk}
@@ -16,29 +16,29 @@ use Rattle.macs_edge.specs.declared.attending.DeskEvent.TheVariants.{Answered, T
 use Rattle.macs_edge.specs.declared.attending.Order.TheVariants.{Submit}
 use Rattle.macs_edge.specs.declared.relaying.RelaySummary.{RelaySummary}
 
--- what became of the command with this ticket
+-- the result of the command with this ticket
 pub record Ended : Type 0 where
   pub ticket : ℕ
   pub end : CommandEnd
 
 -- ---- what passed between a relay and its desk
 
--- the command that a desk handed in
+-- the command that a desk submitted
 abbrev pub handed_in_by : DeskEvent → List Command
 handed_in_by (Wanted was_quiet (Submit command)) = command ∷ []
 handed_in_by event = []
 
--- what was reported to it of one
+-- what was reported to it when it submitted one
 abbrev pub told_by : DeskEvent → List (Result ℕ SubmitFault)
 told_by (Took answer) = answer ∷ []
 told_by event = []
 
--- the ticket of one that was taken
+-- the ticket of a command that was taken
 abbrev pub ticket_in : Result ℕ SubmitFault → List ℕ
 ticket_in (Ok ticket) = ticket ∷ []
 ticket_in answer = []
 
--- what became of one, as it was reported to it
+-- the result of a command, as reported to the desk
 abbrev pub ended_by : DeskEvent → List Ended
 ended_by (Answered ticket what) = record { ticket = ticket; end = what } ∷ []
 ended_by event = []
@@ -58,17 +58,17 @@ abbrev pub submitted_by : Call → List Command
 submitted_by (Submits command) = command ∷ []
 submitted_by call = []
 
--- what is answered to one
+-- the answer to a submission
 abbrev pub answered_to : Call → Reply → List (Result ℕ SubmitFault)
 answered_to (Submits command) (Submitted answer) = answer ∷ []
 answered_to call reply = []
 
--- what a step is done with
+-- the command that a step completes, and its result
 abbrev pub done_by : Call → Reply → List Ended
 done_by Advances (Advanced (Ok (step.Done ticket result))) = record { ticket = ticket; end = end.Done result } ∷ []
 done_by call reply = []
 
--- ---- commands that wait
+-- ---- pending commands
 
 -- their tickets
 abbrev pub tickets_of : List Waiting → List ℕ
@@ -78,13 +78,12 @@ tickets_of waiting = map (λ (w : Waiting). w.ticket) waiting
 abbrev pub all_failed : List Waiting → List Ended
 all_failed waiting = map (λ (w : Waiting). record { ticket = w.ticket; end = end.Failed }) waiting
 
--- ---- the whole
+-- ---- all of it
 
--- The frames go as those of a relay. The commands that the desk handed in were submitted, each as one call of the
--- endpoint, and the desk was given
--- what was answered. What it was given as the end of commands is what steps were done with, and after that those that
--- still wait have failed.
--- And each command that was taken was answered once, in the order of tickets, after those that waited before
+-- The frames flow as in any relay. The commands that the desk submitted were passed on, each as one call of the
+-- endpoint, and the desk was given the answers. The results that it was given are those of the commands that steps
+-- completed, and after that a failure for each command still pending. And each command that was taken was answered
+-- once, in the order of tickets, after those that were pending before
 pub record IsAttendedFlow {D : Type 0} (disk_of : D → Disk) (old : Relay D) (events : List DeskEvent) (new : Relay D)
     (summary : RelaySummary) : Type 0 where
   pub flow : IsFlow disk_of old new summary

@@ -8,7 +8,7 @@ use Rattle.macs_edge.specs.declared.wire.Got.{Got}
 use Rattle.macs_edge.specs.declared.wire.Got.TheVariants.{Nothing, Frame, TooLong}
 use Rattle.macs_edge.specs.declared.wire.WireFault.{WireFault}
 
--- before its first call
+-- the counts before the first call
 abbrev pub no_counts : WireCounts
 no_counts = record {
   strangers = 0;
@@ -20,35 +20,35 @@ no_counts = record {
   buffer = None;
 }
 
--- a frame is taken off a wire by this answer, also where it is too long
+-- with this answer a frame is taken off a wire, even if it is too long
 abbrev pub takes_one : Result Got WireFault → Bool
 takes_one (Ok Frame) = true
 takes_one (Ok TooLong) = true
 takes_one answer = false
 
--- one that is too long is
+-- with this answer the frame is too long
 abbrev pub is_too_long : Result Got WireFault → Bool
 is_too_long (Ok TooLong) = true
 is_too_long answer = false
 
--- one more where this is so
+-- one more if the condition is true
 abbrev pub counted_if : Bool → ℕ → ℕ
 counted_if is_so n = if is_so then saturated (n + 1) else n
 
--- strangers are counted where nothing is answered: one more where a datagram waited, and none where none did
+-- strangers are counted when nothing is returned: one more if a datagram was waiting, else none
 abbrev pub CountsWaiting : List Datagram → ℕ → ℕ → Type 0
 CountsWaiting [] old new = new ≡ old
 CountsWaiting (first ∷ rest) old new = new ≡ saturated (old + 1)
 
--- And of a receive with any answer. Where it is not known what waits there may have been a stranger's datagram,
--- wherever nothing is answered
+-- The same for a receive with any answer. If it is not known what is waiting, a stranger's datagram may have been there
+-- whenever nothing is returned
 abbrev pub CountsStrangers : Result Got WireFault → Option SocketState → ℕ → ℕ → Type 0
 CountsStrangers (Ok Nothing) None old new = (new ≡ old) ⊎ (new ≡ saturated (old + 1))
 CountsStrangers (Ok Nothing) (Some socket) old new = CountsWaiting socket.waiting old new
 CountsStrangers answer socket old new = new ≡ old
 
 -- what a receive counts, besides its failure: a frame that is taken, and whether it is too long, or a stranger's
--- datagram; what is kept stays
+-- datagram; the buffer size stays
 pub record CountsReceive (socket : Option SocketState) (answer : Result Got WireFault) (old new : WireCounts) : Type 0
   where
     pub strangers : CountsStrangers answer socket old.strangers new.strangers
@@ -57,7 +57,7 @@ pub record CountsReceive (socket : Option SocketState) (answer : Result Got Wire
     pub sent : new.sent ≡ old.sent
     pub buffer : new.buffer ≡ old.buffer
 
--- and once it is known how many octets of datagrams the system keeps for it
+-- the counts once it is known how many octets of datagrams the system buffers for the wire
 abbrev pub with_buffer : ℕ → WireCounts → WireCounts
 with_buffer octets c = record c { buffer = Some octets }
 
@@ -66,7 +66,7 @@ abbrev pub counts_after_send : Result (Unit {0}) WireFault → WireCounts → Wi
 counts_after_send (Ok done) c = record c { sent = saturated (c.sent + 1) }
 counts_after_send (Err fault) c = record c { failed_sends = saturated (c.failed_sends + 1) }
 
--- what a receive counts of a wire without strangers: a frame that is taken, or a failure
+-- what a receive counts on a wire without strangers: a frame that is taken, or a failure
 abbrev pub counts_after_receive : Result Got WireFault → WireCounts → WireCounts
 counts_after_receive (Ok Nothing) c = c
 counts_after_receive (Ok Frame) c = record c { taken = saturated (c.taken + 1) }

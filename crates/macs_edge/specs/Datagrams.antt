@@ -1,4 +1,4 @@
--- Datagrams, and what each call of a socket does of which they are known.
+-- Datagrams, and what each call of a socket does if its datagrams are known.
 use Rattle.std.specs.Prelude.{◌≡◌, ◌≢◌, ◌⊎◌, ◌+◌, ◌++◌, ⊤, ℕ, List, [], ◌∷◌, length, take, Option, Some, None, Result}
 use Rattle.std.specs.Prelude.{Ok, Err}
 use Rattle.std.specs.declared.io.ErrorKind.{ErrorKind}
@@ -6,20 +6,20 @@ use Rattle.std.specs.declared.io.ErrorKind.TheVariants.{WouldBlock}
 use Rattle.std.specs.declared.net.SocketAddr.{SocketAddr}
 use Rattle.macs_edge.specs.declared.datagrams.Arrived.{Arrived}
 
--- a datagram with the address that it comes from, or goes to
+-- a datagram with its source or destination address
 pub record Datagram : Type 0 where
   pub address : SocketAddr
   pub octets : List ℕ
 
--- what is known of a socket: the datagrams that it will give, in their order, and those that were sent; how often a
--- receive and a send failed
+-- what is known about a socket: the datagrams that it will give, in order, and those that were sent; how many receives
+-- and sends failed
 pub record SocketState : Type 0 where
   pub waiting : List Datagram
   pub sent : List Datagram
   pub failed_receives : ℕ
   pub failed_sends : ℕ
 
--- the first datagram is taken, and as much of it is in the buffer as there is room for
+-- the first datagram is taken, and as much of it as fits is in the buffer
 pub record TakesFirst (old : SocketState) (new : Option SocketState) (into : List ℕ) (arrived : Arrived) : Type 0 where
   pub first : Datagram
   pub rest : List Datagram
@@ -28,20 +28,20 @@ pub record TakesFirst (old : SocketState) (new : Option SocketState) (into : Lis
   pub address : arrived.from ≡ first.address
   pub octets : take arrived.count into ≡ take (length into) first.octets
 
--- one failed receive more
+-- one more failed receive
 abbrev pub receive_failed : SocketState → SocketState
 receive_failed socket = record socket { failed_receives = socket.failed_receives + 1 }
 
--- one failed send more
+-- one more failed send
 abbrev pub send_failed : SocketState → SocketState
 send_failed socket = record socket { failed_sends = socket.failed_sends + 1 }
 
--- one datagram more was sent
+-- one more datagram sent
 abbrev pub one_sent : SocketState → SocketAddr → List ℕ → SocketState
 one_sent socket address octets =
     record socket { sent = socket.sent ++ record { address = address; octets = octets } ∷ [] }
 
--- a socket is asked for a datagram: the first one is taken; or none waits, and the error is of that kind; or the
+-- a socket is asked for a datagram: the first one is taken; or none is waiting, and the error is of that kind; or the
 -- receive fails
 abbrev pub TakesDatagram : {E : Type 0} → Option SocketState → Option SocketState → (E → ErrorKind) → List ℕ
     → Result Arrived E → Type 0

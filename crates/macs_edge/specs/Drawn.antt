@@ -1,5 +1,5 @@
--- What is to be drawn from words on turns and steps, on records that pass, on sleeps, and on sockets of which the
--- datagrams are known.
+-- What follows from definitions of turns and steps, of records that pass, of sleeps, and of sockets whose datagrams are
+-- known.
 use Rattle.std.specs.Prelude.{◌≡◌, ◌≢◌, ◌<◌, ◌≤◌, ◌⊎◌, ◌↔◌, ◌+◌, ◌-◌, ◌^◌, ◌++◌, ℕ}
 use Rattle.std.specs.Prelude.{[], ◌∷◌, Result}
 use Rattle.std.specs.Prelude.{OnErr, OnOk}
@@ -13,8 +13,8 @@ use Rattle.macs_edge.specs.declared.relaying.RelaySummary.{RelaySummary}
 
 -- ---- turns
 
--- A relay from empty lanes comes to a flow in which it makes one step a turn: as many as it has turns where it is
--- answered Ok, and where a step is answered with a fault at most as many.
+-- A relay that starts with empty lanes is a flow with one step per turn: as many steps as turns if its result is Ok,
+-- and at most as many if a step is answered with a fault.
 abbrev pub FlowsInTurns : {D : Type 0} → (D → Disk) → ℕ → Relay D → Result RelaySummary RefillFault → Relay D → Type 0
 FlowsInTurns disk_of turns old result new = (flow : IsFlow disk_of old new (summary_of new.to_common new.to_controlled))
     × OnOk result (steps_made flow.calls ≡ turns) × OnErr result (steps_made flow.calls ≤ turns)

@@ -1,4 +1,4 @@
--- What a relay sends is what the endpoint gave, but for failed sends; and what becomes of every frame that it takes.
+-- A relay sends what the endpoint gave, except for failed sends; and what becomes of every frame that it takes.
 use Rattle.std.specs.Prelude.{◌≡◌, ◌⊎◌, ◌+◌, ◌++◌, ⊤, ℕ, Bool, true, false, if◌then◌else◌, List, [], ◌∷◌, length}
 use Rattle.std.specs.Prelude.{Option, Some, None, Ok}
 use Rattle.std.specs.Option.{option_map}
@@ -12,13 +12,13 @@ use Rattle.macs_edge.specs.declared.relaying.RelaySummary.{RelaySummary}
 use Rattle.macs_edge.specs.declared.settling.Side.{Side}
 use Rattle.macs_edge.specs.declared.settling.Side.TheVariants.{Controlled, Common}
 
--- whether a call hands in a frame on this side
+-- whether a call submits a frame on this side
 abbrev pub is_on : Side → Call → Bool
 is_on Controlled (Protects frame) = true
 is_on Common (Receives frame) = true
 is_on side call = false
 
--- the frame that an answer gives: one that is protected, or one that is delivered
+-- the frame in an answer: one that is protected, or one that is delivered
 abbrev pub given_by : Reply → List (List ℕ)
 given_by (Protected (Ok pn) out) = out ∷ []
 given_by (Received (Ok (Delivered kind)) out) = out ∷ []
@@ -33,33 +33,33 @@ abbrev pub given : {D : Type 0} → Side → List (Transition D) → List (List 
 given side [] = []
 given side (turn ∷ turns) = given_at side turn ++ given side turns
 
--- these are all of them, in order, but for so many
+-- these are all of them, in order, except for this many
 abbrev pub AllBut : ℕ → List (List ℕ) → List (List ℕ) → Type 0
 AllBut lost [] frames = (frames ≡ []) × (lost ≡ 0)
 AllBut lost (frame ∷ all) frames =
     ((rest : List (List ℕ)) × (frames ≡ frame ∷ rest) × AllBut lost all rest)
     ⊎ ((fewer : ℕ) × (lost ≡ fewer + 1) × AllBut fewer all frames)
 
--- so many frames were taken off those that wait, the first ones, where these are known
+-- this many frames were taken off the front of those waiting, if these are known
 abbrev pub TakenOff : Option (List (List ℕ)) → Option (List (List ℕ)) → ℕ → Type 0
 TakenOff (Some before) (Some after) taken = (frames : List (List ℕ)) × (before ≡ frames ++ after)
     × (length frames ≡ taken)
 TakenOff None None taken = ⊤
 TakenOff before after taken = ⊥
 
--- what was taken from a wire: so many frames, while so many receives failed
+-- what was taken from a wire: `taken` frames, while `missed` receives failed
 pub record Took (old new : WireState) (taken missed : ℕ) : Type 0 where
   pub frames : TakenOff old.waiting new.waiting taken
   pub failed : saturated new.failed_receives ≡ saturated (old.failed_receives + missed)
 
--- what was sent on a wire: all that was given, but for as many as its failed sends rose
+-- what was sent on a wire: all that was given, except for as many frames as its failed sends increased by
 pub record Sent (old new : WireState) (all frames : List (List ℕ)) (lost : ℕ) : Type 0 where
   pub gained : new.sent ≡ option_map (λ before. before ++ frames) old.sent
   pub all_but : AllBut lost all frames
   pub failed : saturated new.failed_sends ≡ saturated (old.failed_sends + lost)
 
 -- What became of the frames that were taken one way: they were sent, lost or left out, or the last one is still in the
--- lane. What is counted is that, up to the greatest number
+-- lane. The counters have these numbers, up to the maximum
 pub record Became (taken missed sent lost left_out : ℕ) (lane : LaneValue) : Type 0 where
   pub all : taken ≡ sent + lost + left_out + one_left lane.waiting
   pub passed : lane.tally.passed ≡ saturated sent
@@ -77,9 +77,9 @@ pub record Flow (from from' to to' : WireState) (all : List (List ℕ)) (lane : 
   pub sent : Sent to to' all frames lost
   pub became : Became taken missed (length frames) lost left_out lane
 
--- Both ways: the calls of the endpoint, one after another, and what goes each way. The summary has what each wire
--- gained, as far as its numbers go; its faults are the failed calls of both wires, and what it has as dropped are the
--- other frames that were taken
+-- Both ways: the calls of the endpoint, one after another, and what flows each way. The summary has what each wire
+-- gained, as far as its counters go; its faults are the failed calls of both wires, and its dropped frames are all
+-- others that were taken
 pub record IsFlow {D : Type 0} (disk_of : D → Disk) (old new : Relay D) (summary : RelaySummary) : Type 0 where
   pub calls : List (Transition D)
   pub lives : Lives disk_of old.endpoint calls new.endpoint

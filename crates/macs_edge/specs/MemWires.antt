@@ -8,15 +8,15 @@ use Rattle.macs_edge.specs.declared.mem_wire.MemWire.{MemWire}
 abbrev pub frames_of : {A : Type 0} → List (Vec ℕ A) → List (List ℕ)
 frames_of frames = map (λ frame. frame.items) frames
 
--- the frames that its receives will give, the next one first
+-- the frames that its receives will give, next first
 abbrev pub waiting_in : {A : Type 0} → MemWire A → List (List ℕ)
 waiting_in wire = frames_of wire.waiting.items
 
--- the frames that were sent, the first one first
+-- the frames that were sent, in order
 abbrev pub sent_in : {A : Type 0} → MemWire A → List (List ℕ)
 sent_in wire = frames_of wire.sent.items
 
--- what it reports: no receive of it fails
+-- its state: no receive of it fails
 abbrev pub mem_wire_state : {A : Type 0} → MemWire A → WireState
 mem_wire_state wire = record {
   waiting = Some (waiting_in wire);
@@ -25,7 +25,7 @@ mem_wire_state wire = record {
   failed_sends = wire.failed_sends;
 }
 
--- what it counted: it has no strangers, no receive of it fails, and no system keeps anything for it
+-- its counts: it has no strangers, no receive of it fails, and no system buffers anything for it
 abbrev pub mem_wire_counts : {A : Type 0} → MemWire A → WireCounts
 mem_wire_counts wire = record {
   strangers = 0;

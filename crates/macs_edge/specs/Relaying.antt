@@ -21,54 +21,54 @@ use Rattle.macs_edge.specs.declared.wire.Got.{Got}
 use Rattle.macs_edge.specs.declared.wire.Got.TheVariants.{Nothing, Frame, TooLong}
 use Rattle.macs_edge.specs.declared.wire.WireFault.{WireFault}
 
--- ---- what is counted
+-- ---- counters
 
--- one frame more passed
+-- one more frame passed
 abbrev pub one_passed : Tally → Tally
 one_passed tally = record tally { passed = saturated (tally.passed + 1) }
 
--- one frame more was dropped
+-- one more frame was dropped
 abbrev pub one_dropped : Tally → Tally
 one_dropped tally = record tally { dropped = saturated (tally.dropped + 1) }
 
--- one failed call of a wire more
+-- one more failed call of a wire
 abbrev pub one_fault : Tally → Tally
 one_fault tally = record tally { faults = saturated (tally.faults + 1) }
 
 -- ---- one way
 
--- the frame that waits on one way, and what became of those before it
+-- the waiting frame of one direction, and what became of those before it
 pub record LaneValue : Type 0 where
   pub waiting : Option (List ℕ)
   pub tally : Tally
 
--- what a way holds: a frame where it is full
+-- the contents of a lane: a frame if it is full
 abbrev pub lane_value : Lane → LaneValue
 lane_value lane = record { waiting = if lane.is_full then Some lane.frame.items else None; tally = lane.tally }
 
--- a way on which no frame was taken
+-- a lane that has taken no frame
 abbrev pub empty_lane : LaneValue
 empty_lane = record { waiting = None; tally = record { passed = 0; dropped = 0; faults = 0 } }
 
--- what a wire's answer does to an empty lane
+-- the effect of a wire's answer on an empty lane
 abbrev pub filled : Result Got WireFault → List ℕ → LaneValue → LaneValue
 filled (Ok Frame) frame lane = record lane { waiting = Some frame }
 filled (Ok Nothing) frame lane = lane
 filled (Ok TooLong) frame lane = record lane { tally = one_dropped lane.tally }
 filled (Err fault) frame lane = record lane { tally = one_fault lane.tally }
 
--- the first frame of a wire is taken where the lane is empty; a wire is not asked where it is full
+-- the first frame of a wire is taken if the lane is empty; a wire is not asked if it is full
 abbrev pub FillsWaiting : Option (List ℕ) → WireState → LaneValue → WireState → LaneValue → Type 0
 FillsWaiting (Some frame) from lane from' lane' = (from' ≡ from) × (lane' ≡ lane)
 FillsWaiting None from lane from' lane' =
     (answer : Result Got WireFault) × (frame : List ℕ) × Receives from answer frame from'
     × (lane' ≡ filled answer frame lane)
 
--- the same of the lane of a way
+-- the same for the lane of a way
 abbrev pub Fills : WireState → LaneValue → WireState → LaneValue → Type 0
 Fills from lane from' lane' = FillsWaiting lane.waiting from lane from' lane'
 
--- what a wire's answer to a frame that passes counts as
+-- how a wire's answer to a frame that passes is counted
 abbrev pub forwarded : Result (Unit {0}) WireFault → Tally → Tally
 forwarded (Ok done) tally = one_passed tally
 forwarded (Err fault) tally = one_fault tally
@@ -89,7 +89,7 @@ pub record Way (D : Type 0) : Type 0 where
 abbrev pub way_of : {D : Type 0} → EndpointValue D → WireState → WireState → LaneValue → Way D
 way_of endpoint from to lane = record { endpoint = endpoint; from = from; to = to; lane = lane }
 
--- What becomes of a frame that was handed in: it passes and is sent; it is left out; or it stays in the lane, since it
+-- What becomes of a frame that was submitted: it passes and is sent; it is left out; or it stays in the lane, since it
 -- waits for packet numbers or the endpoint is stopped
 abbrev pub Becomes : {D : Type 0} → Side → List ℕ → Reply → Way D → Way D → Type 0
 Becomes side frame reply old new =
@@ -99,18 +99,18 @@ Becomes side frame reply old new =
     × (new.to ≡ old.to))
     ⊎ ((Waits reply ⊎ IsStopped (call_on side frame) reply) × (new.lane ≡ old.lane) × (new.to ≡ old.to))
 
--- the frame of a full lane is handed in
+-- the frame of a full lane is submitted
 abbrev pub HandsWaiting : {D : Type 0} → (D → Disk) → Side → Option (List ℕ) → Way D → Way D → Type 0
 HandsWaiting disk_of side None old new = new ≡ old
 HandsWaiting disk_of side (Some frame) old new =
     (reply : Reply) × IsSoundEndpoint old.endpoint × IsCall disk_of old.endpoint (call_on side frame) reply new.endpoint
     × (new.from ≡ old.from) × Becomes side frame reply old new
 
--- the same of the lane of a way
+-- the same for the lane of a way
 abbrev pub HandsOver : {D : Type 0} → (D → Disk) → Side → Way D → Way D → Type 0
 HandsOver disk_of side old new = HandsWaiting disk_of side old.lane.waiting old new
 
--- One way in one turn: an empty lane is filled, where the wire has a frame; then the frame of a full one is handed in
+-- One way in one turn: an empty lane is filled, if the wire has a frame; then the frame of a full one is submitted
 abbrev pub Carries : {D : Type 0} → (D → Disk) → Side → Way D → Way D → Type 0
 Carries disk_of side old new = (from : WireState) × (lane : LaneValue)
     × Fills old.from old.lane from lane × HandsOver disk_of side (way_of old.endpoint from old.to lane) new
@@ -151,7 +151,7 @@ TakesTurn {D} disk_of answer old new = (endpoint : EndpointValue D)
     × CarriesBoth disk_of old (record new { endpoint = endpoint })
     × IsSoundEndpoint endpoint × IsCall disk_of endpoint Advances (Advanced answer) new.endpoint
 
--- so many turns, each with a step that is answered Ok
+-- this many turns, each with a step that is answered Ok
 abbrev pub TakesTurns : {D : Type 0} → (D → Disk) → ℕ → Relay D → Relay D → Type 0
 TakesTurns disk_of zero old new = new ≡ old
 TakesTurns {D} disk_of (suc turns) old new = (between : Relay D) × (progress : Progress)
@@ -164,7 +164,7 @@ abbrev pub one_left : Option (List ℕ) → ℕ
 one_left None = 0
 one_left (Some frame) = 1
 
--- what became of the frames of both ways: a frame that is left in a lane is dropped
+-- what became of the frames of both ways: a frame that is left in a lane counts as dropped
 abbrev pub summary_of : LaneValue → LaneValue → RelaySummary
 summary_of to_common to_controlled = record {
   sent = to_common.tally.passed;
@@ -174,14 +174,14 @@ summary_of to_common to_controlled = record {
   faults = saturated (to_common.tally.faults + to_controlled.tally.faults);
 }
 
--- All turns are taken; or the step of one of them is answered with the fault of that name, and it is the last one
+-- All turns are taken; or the step of one of them is answered with the fault with that name, and it is the last one
 abbrev pub Relays : {D : Type 0} {T : Type 0} → (D → Disk) → ℕ → Relay D → Result T RefillFault → Relay D → Type 0
 Relays disk_of turns old (Ok summary) new = TakesTurns disk_of turns old new
 Relays {D} disk_of turns old (Err fault) new =
     (done : ℕ) × (between : Relay D) × (at : StepFault) × (fault ≡ refill_fault_named at)
     × (done < turns) × TakesTurns disk_of done old between × TakesTurn disk_of (Err at) between new
 
--- a relay, and what it answers
+-- a relay, and its result
 abbrev pub IsRelayed : {D : Type 0} → (D → Disk) → ℕ → Relay D → Result RelaySummary RefillFault → EndpointValue D
     → WireState → WireState → Type 0
 IsRelayed {D} disk_of turns old result endpoint controlled common = (to_common : LaneValue)

@@ -1,4 +1,4 @@
--- Turns in which there is nothing to do, and what is done after them.
+-- Quiet turns, in which there is nothing to do, and the sleep after them.
 use Rattle.std.specs.Prelude.{◌≡◌, ◌↔◌, ◌<◌, ◌+◌, ℕ, zero, suc, Bool, true, false, IsTrue, Option, None, IfOk, Result}
 use Rattle.std.specs.Prelude.{Ok, Err}
 use Rattle.std.specs.Option.{option_map}
@@ -14,7 +14,7 @@ use Rattle.macs_edge.specs.Wires.{WireState}
 use Rattle.macs_edge.specs.declared.relaying.RelaySummary.{RelaySummary}
 use Rattle.macs_edge.specs.declared.relaying.Tally.{Tally}
 
--- a way rests: its lane is empty, and nothing was counted since
+-- a way rests: its lane is empty, and nothing has been counted since `before`
 abbrev pub WayRests : Tally → LaneValue → Type 0
 WayRests before lane = (lane.waiting ≡ None) × (lane.tally ≡ before)
 
@@ -29,17 +29,17 @@ AllRest progress out_before back_before out back = ⊥
 abbrev pub IsQuiet : {D : Type 0} → Progress → Relay D → Relay D → Type 0
 IsQuiet progress old new = AllRest progress old.to_common.tally old.to_controlled.tally new.to_common new.to_controlled
 
--- how often something slept, where it reports, and so many sleeps more
+-- how many sleeps there were, if reported, plus `count`
 abbrev pub with_sleeps : Option ℕ → ℕ → Option ℕ
 with_sleeps slept more = option_map (λ before. before + more) slept
 
--- 1 where this is so, else 0
+-- 1 if true, else 0
 abbrev pub one_if : Bool → ℕ
 one_if true = 1
 one_if false = 0
 
--- So many turns, each with a step that is answered Ok, and so many sleeps: one after each turn that is quiet, and no
--- other
+-- this many turns, each with a step that is answered Ok, and this many sleeps: one after each turn that is quiet, and
+-- no other
 abbrev pub TakesTurnsResting : {D : Type 0} → (D → Disk) → ℕ → Relay D → ℕ → Relay D → Type 0
 TakesTurnsResting disk_of zero old slept new = (new ≡ old) × (slept ≡ 0)
 TakesTurnsResting {D} disk_of (suc turns) old slept new = (between : Relay D) × (before : ℕ) × (progress : Progress)
@@ -47,7 +47,7 @@ TakesTurnsResting {D} disk_of (suc turns) old slept new = (between : Relay D) ×
     × TakesTurnsResting disk_of turns old before between × TakesTurn disk_of (Ok progress) between new
     × (IsTrue quiet ↔ IsQuiet progress between new) × (slept ≡ before + one_if quiet)
 
--- All turns are taken; or the step of one of them is answered with the fault of that name, and it is the last one,
+-- All turns are taken; or the step of one of them is answered with the fault with that name, and it is the last one,
 -- with no sleep after it
 abbrev pub RelaysResting : {D : Type 0} {T : Type 0} → (D → Disk) → ℕ → Relay D → ℕ → Result T RefillFault → Relay D
     → Type 0
@@ -56,7 +56,7 @@ RelaysResting {D} disk_of turns old slept (Err fault) new =
     (done : ℕ) × (between : Relay D) × (at : StepFault) × (fault ≡ refill_fault_named at)
     × (done < turns) × TakesTurnsResting disk_of done old slept between × TakesTurn disk_of (Err at) between new
 
--- a relay that rests, how often it slept, and what it answers
+-- a relay that rests, how often it slept, and its result
 abbrev pub IsRelayedResting : {D : Type 0} → (D → Disk) → ℕ → Relay D → ℕ → Result RelaySummary RefillFault
     → EndpointValue D → WireState → WireState → Type 0
 IsRelayedResting {D} disk_of turns old slept result endpoint controlled common = (to_common : LaneValue)

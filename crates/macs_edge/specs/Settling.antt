@@ -1,4 +1,4 @@
--- A frame that is handed in until it is settled.
+-- A frame that is submitted until it is settled.
 use Rattle.std.specs.Prelude.{◌≡◌, ℕ, Bool, true, false, List, [], ◌∷◌, Option, Some, None, Result, Ok, Err, ⊤}
 use Rattle.macs_disk.specs.Disk.{Disk}
 use Rattle.macs_txsc.specs.declared.fault.TxFault.TheVariants.{NoNumber}
@@ -17,12 +17,12 @@ use Rattle.macs_edge.specs.declared.settling.Outcome.TheVariants as outcome
 use Rattle.macs_edge.specs.declared.settling.Side.{Side}
 use Rattle.macs_edge.specs.declared.settling.Side.TheVariants.{Controlled, Common}
 
--- the call that hands a frame in
+-- the call that submits a frame
 abbrev pub call_on : Side → List ℕ → Call
 call_on Controlled frame = Protects frame
 call_on Common frame = Receives frame
 
--- What passes by an answer, nothing where the frame is left out. An answer that there is no number, that the frame is
+-- What passes with an answer: nothing if the frame is left out. An answer that there is no number, that the frame is
 -- held back, or that the endpoint is stopped settles nothing
 abbrev pub Settles : Reply → Option (List ℕ) → Type 0
 Settles (Protected (Ok pn) out) passed = passed ≡ Some out
@@ -32,7 +32,7 @@ Settles (Received (Ok (Delivered kind)) out) passed = passed ≡ Some out
 Settles (Received (Ok (Discarded reason)) out) passed = passed ≡ None
 Settles reply passed = ⊥
 
--- the verdict that an answer says, if it says one
+-- the verdict in an answer, if it has one
 abbrev pub verdict_of : Reply → Option Verdict
 verdict_of (Received (Ok verdict) out) = Some verdict
 verdict_of reply = None
@@ -43,15 +43,15 @@ Waits (Protected (Err (protect.Tx NoNumber)) out) = ⊤
 Waits (Received (Ok HeldBack) out) = ⊤
 Waits reply = ⊥
 
--- what an answer means for the frame that was handed in
+-- what an answer means for the submitted frame
 abbrev pub Means : Call → Reply → List ℕ → Outcome → Type 0
 Means call reply out outcome.Passed = Settles reply (Some out)
 Means call reply out outcome.Dropped = Settles reply None
 Means call reply out outcome.Waiting = Waits reply
 Means call reply out outcome.Stopped = IsStopped call reply
 
--- A frame is handed in by these calls and answered with this at last: once; or, where it waits, once more after a
--- refill that is answered Ok
+-- A frame is submitted by these calls and finally answered with this: once; or, if it waits, once more after a refill
+-- that is answered Ok
 abbrev pub HandsIn : {D : Type 0} → Call → List (Transition D) → Reply → Type 0
 HandsIn call (only ∷ []) reply = (only.call ≡ call) × (only.reply ≡ reply)
 HandsIn call (early ∷ between ∷ late ∷ []) reply =
@@ -60,7 +60,7 @@ HandsIn call (early ∷ between ∷ late ∷ []) reply =
     × (late.call ≡ call) × (late.reply ≡ reply)
 HandsIn call turns reply = ⊥
 
--- The frame is handed in and settled, and all that was done with it is one step of the machine, as though it had never
+-- The frame is submitted and settled, and all that was done with it is one step of the machine, as if it had never
 -- waited
 pub record IsSettled {D : Type 0} (disk_of : D → Disk) (old : EndpointValue D) (call : Call) (passed : Option (List ℕ))
     (new : EndpointValue D) : Type 0 where
@@ -71,13 +71,13 @@ pub record IsSettled {D : Type 0} (disk_of : D → Disk) (old : EndpointValue D)
   pub settles : Settles reply passed
   pub step : (logs : Logs) → (after : Logs) × Step (state_of old logs) call reply (state_of new after)
 
--- it is settled so, and this is the verdict of the answer that settles it, if it has one
+-- it is settled, and this is the verdict of the answer that settles it, if it has one
 abbrev pub IsJudged : {D : Type 0} → (D → Disk) → EndpointValue D → Call → Option (List ℕ) → Option Verdict
     → EndpointValue D → Type 0
 IsJudged disk_of old call passed verdict new =
     (settled : IsSettled disk_of old call passed new) × (verdict ≡ verdict_of settled.reply)
 
--- A frame is handed in by these calls and not settled: the one call finds the endpoint stopped; or the frame waits, and
+-- A frame is submitted by these calls and not settled: the one call finds the endpoint stopped; or the frame waits, and
 -- the refill after it is answered with this fault
 abbrev pub HaltsIn : {D : Type 0} → Call → List (Transition D) → RefillFault → Type 0
 HaltsIn call (only ∷ []) fault = (only.call ≡ call) × IsStopped call only.reply × (fault ≡ refill.Stopped)
@@ -85,7 +85,7 @@ HaltsIn call (early ∷ last ∷ []) fault =
     (early.call ≡ call) × Waits early.reply × (last.call ≡ Refills) × (last.reply ≡ Refilled (Err fault))
 HaltsIn call turns fault = ⊥
 
--- The frame is handed in, and the run ends there with this fault
+-- The frame is submitted, and the run ends there with this fault
 pub record Halts {D : Type 0} (disk_of : D → Disk) (old : EndpointValue D) (call : Call) (fault : RefillFault)
     (new : EndpointValue D) : Type 0 where
   pub turns : List (Transition D)
@@ -94,21 +94,21 @@ pub record Halts {D : Type 0} (disk_of : D → Disk) (old : EndpointValue D) (ca
 
 -- ---- a frame that waits
 
--- a frame passes by this answer
+-- a frame passes with this answer
 abbrev pub is_passed : Outcome → Bool
 is_passed outcome.Passed = true
 is_passed outcome.Dropped = false
 is_passed outcome.Waiting = false
 is_passed outcome.Stopped = false
 
--- how handing a frame in ends by an answer, unless it waits
+-- how submitting a frame ends with an answer, unless it waits
 abbrev pub ending_of : Outcome → Result Bool RefillFault
 ending_of outcome.Passed = Ok true
 ending_of outcome.Dropped = Ok false
 ending_of outcome.Waiting = Ok false
 ending_of outcome.Stopped = Err refill.Stopped
 
--- A refill is made, and after it the frame is handed in again, and whether it passes is answered, with the verdict, if
+-- A refill is made, after it the frame is submitted again, and the result is whether it passes, with the verdict, if
 -- there is one; or the refill is refused
 abbrev pub HandsInAgain : {D : Type 0} → (D → Disk) → EndpointValue D → Call → Result Bool RefillFault → List ℕ
     → Option Verdict

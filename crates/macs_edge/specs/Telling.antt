@@ -1,4 +1,4 @@
--- What is reported of the frames of a run over a capture: the verdict of each, in order.
+-- What is reported about the frames of a run over a capture: the verdict of each, in order.
 use Rattle.std.specs.Prelude.{◌≡◌, ◌⊎◌, ◌++◌, ℕ, Bool, List, [], ◌∷◌, length, Option, Some, None, Result, Ok, Err}
 use Rattle.macs_disk.specs.Disk.{Disk}
 use Rattle.macs_rxsc.specs.declared.verdict.Verdict.{Verdict}
@@ -19,11 +19,11 @@ use Rattle.macs_edge.specs.declared.capture_runs.RunFault.TheVariants.{Pcap}
 use Rattle.macs_edge.specs.declared.capture_runs.Summary.{Summary}
 use Rattle.macs_edge.specs.declared.settling.Side.{Side}
 
--- what is done with a verdict: what gets it, what that passes it on to, and what both become
+-- what is done with a verdict: its recipient, the value that the recipient passes it on to, and what becomes of both
 abbrev pub Tells : Type 0 → Type 0 → Type 1
 Tells V T = V → T → Verdict → V → T → Type 0
 
--- what gets a verdict, and what it passes it on to
+-- the recipient of verdicts, and the value that it passes them on to
 pub record Telling (V T : Type 0) : Type 0 where
   pub teller : V
   pub to : T
@@ -45,7 +45,7 @@ listed None = []
 listed (Some verdict) = verdict ∷ []
 
 -- The frames of these records, each of them one step of the machine, lead from old to new, and these are the verdicts,
--- of each that has one: as though no frame had ever been held back
+-- of each that has one: as if no frame had ever been held back
 abbrev pub Judges : Side → State → List CaptureRecord → List Verdict → State → Type 0
 Judges side old [] verdicts new = (verdicts ≡ []) × (new ≡ old)
 Judges side old (taken ∷ more) verdicts new =
@@ -53,7 +53,7 @@ Judges side old (taken ∷ more) verdicts new =
     × Step old (call_on side taken.frame) reply between × Settles reply frame
     × (verdicts ≡ listed (verdict_of reply) ++ rest) × Judges side between more rest new
 
--- these records were taken, these went out, and these are the verdicts on their frames
+-- these records were taken, these were written, and these are the verdicts on their frames
 pub record HasJudged {D : Type 0} (disk_of : D → Disk) (side : Side) (big : Bool) (old : Run D)
     (records passed : List CaptureRecord)
     (verdicts : List Verdict) (new : Run D) : Type 0 where
@@ -88,7 +88,7 @@ JudgesRun {D} disk_of side old answer verdicts new =
     × WritesText {T = Unit {0}} old.sink between.sink (header_text header) (Ok tt)
     × (between.endpoint ≡ old.endpoint) × JudgesRecords disk_of side header.big between answer verdicts new)
 
--- such a run over records, and each of the verdicts is reported
+-- such a run over records, in which each of the verdicts is reported
 abbrev pub TellsRecords : {D V T : Type 0} → (D → Disk) → Tells V T → Side → Bool → Run D → Telling V T
     → Result Summary RunFault
     → Run D → Telling V T → Type 0

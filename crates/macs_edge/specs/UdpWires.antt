@@ -5,7 +5,7 @@ use Rattle.macs_edge.specs.Wires.{WireState}
 use Rattle.macs_edge.specs.declared.counts.WireCounts.{WireCounts}
 use Rattle.macs_edge.specs.declared.udp_wire.UdpWire.{UdpWire}
 
--- its peer: where its datagrams go to, and where those come from that it takes
+-- its peer: the destination of its datagrams, and the source of those that it takes
 abbrev pub peer_of : {A S : Type 0} → UdpWire A S → SocketAddr
 peer_of wire = wire.peer
 
@@ -13,12 +13,12 @@ peer_of wire = wire.peer
 abbrev pub socket_of : {A S : Type 0} → UdpWire A S → S
 socket_of wire = wire.socket
 
--- what is known of it as a wire: its failed calls, and no frames
+-- its state as a wire: its failed calls, and no frames
 abbrev pub udp_wire_state : {A S : Type 0} → UdpWire A S → WireState
 udp_wire_state wire =
     record { waiting = None; sent = None; failed_receives = wire.failed_receives; failed_sends = wire.failed_sends }
 
--- what a wire counted
+-- the counts of a wire
 abbrev pub counts_of : {A S : Type 0} → UdpWire A S → WireCounts
 counts_of wire = record {
   strangers = wire.strangers;

@@ -1,4 +1,4 @@
--- What a wire over UDP makes of the datagrams of its socket.
+-- How a UDP wire treats the datagrams of its socket.
 use Rattle.std.specs.Prelude.{◌≡◌, ◌≢◌, ◌⊎◌, ◌<◌, ◌≤◌, ⊤, Bool, true, false, List, [], ◌∷◌, ℕ, length, Option, Some}
 use Rattle.std.specs.Prelude.{None, Result, Ok, Err}
 use Rattle.std.specs.declared.net.SocketAddr.{SocketAddr}
@@ -9,16 +9,16 @@ use Rattle.macs_edge.specs.declared.wire.Got.TheVariants.{Nothing, Frame, TooLon
 use Rattle.macs_edge.specs.declared.wire.WireFault.{WireFault}
 use Rattle.macs_edge.specs.declared.wire.WireFault.TheVariants as fault
 
--- what octets from an address are to a wire of this peer: those of a stranger are nothing, those of the peer a frame,
--- or too many
+-- what octets from an address are to a wire with this peer: a stranger's are nothing, the peer's are a frame, or too
+-- many
 abbrev pub IsGiven : SocketAddr → SocketAddr → List ℕ → Got → List ℕ → Type 0
 IsGiven peer from octets got frame =
     ((from ≢ peer) × (got ≡ Nothing) × (frame ≡ []))
     ⊎ ((from ≡ peer) × (length octets ≤ longest_frame) × (got ≡ Frame) × (frame ≡ octets))
     ⊎ ((from ≡ peer) × (longest_frame < length octets) × (got ≡ TooLong) × (frame ≡ []))
 
--- A wire is asked for a frame, over a socket whose datagrams are known: the first one is taken, and answered as what it
--- is to the wire; or none waits, and nothing is answered; or the receive fails, and that is the fault
+-- A wire is asked for a frame, over a socket whose datagrams are known: the first one is taken, and the answer is what
+-- it is to the wire; or none is waiting, and the answer is nothing; or the receive fails, and that is the fault
 abbrev pub ReceivesDatagram : SocketAddr → Option SocketState → Option SocketState → Result Got WireFault
     → List ℕ → Type 0
 ReceivesDatagram peer None new answer frame = ⊤

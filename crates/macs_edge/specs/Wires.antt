@@ -11,20 +11,19 @@ use Rattle.macs_edge.specs.declared.wire.WireFault.TheVariants as fault
 abbrev pub longest_frame : ℕ
 longest_frame = 9216
 
--- a number that stays at the greatest of 64 bits
+-- a number that saturates at the maximum of 64 bits
 abbrev pub saturated : ℕ → ℕ
 saturated n = min n (2 ^ 64 - 1)
 
--- What a wire reports of itself: the frames that it will give and those that it sent, where they are known; and how
--- often a receive and a send of it failed
+-- The state that a wire reports: the frames that it will give and those that it sent, if known; and how many of its
+-- receives and sends failed
 pub record WireState : Type 0 where
   pub waiting : Option (List (List ℕ))
   pub sent : Option (List (List ℕ))
   pub failed_receives : ℕ
   pub failed_sends : ℕ
 
--- what is received is the first of the frames that wait, where these are known; one that is too long is taken and not
--- given
+-- what is received is the first waiting frame, if these are known; one that is too long is taken and not returned
 abbrev pub Gives : Option (List (List ℕ)) → Option (List (List ℕ)) → Got → List ℕ → Type 0
 Gives (Some before) (Some after) Nothing frame = (before ≡ []) × (after ≡ [])
 Gives (Some before) (Some after) Frame frame = before ≡ frame ∷ after
@@ -33,7 +32,7 @@ Gives (Some before) (Some after) TooLong frame = (long : List ℕ) × (before �
 Gives None None got frame = ⊤
 Gives before after got frame = ⊥
 
--- a frame that is received is not too long, and without one the buffer is empty
+-- a frame that is received is not too long, and if there is none the buffer is empty
 abbrev pub FillsBuffer : Result Got WireFault → List ℕ → Type 0
 FillsBuffer (Ok Frame) frame = length frame ≤ longest_frame
 FillsBuffer answer frame = frame ≡ []

@@ -1,4 +1,4 @@
-//! A relay that is attended: commands between its turns, and an end on request.
+//! A relay that a desk attends: commands between its turns, and an end on request.
 
 ghost use Rattle.std.specs.Prelude.{◌≡◌, List};
 ghost use Rattle.macs_endpoint.specs.Lives.{LivesOn};
@@ -14,40 +14,40 @@ use macs_disk::SectorDisk;
 use macs_endpoint::{CommandFault, Endpoint, RefillFault, Step, StepFault, SubmitFault, Ticket};
 use macs_frame::FrameBuf;
 
-/// What a desk wants before a turn.
+/// What a desk orders before a turn.
 #[derive(Clone, Copy)]
 pub enum Order {
-    /// That the relay goes on.
+    /// The relay continues.
     Go,
-    /// That a command is submitted.
+    /// A command is submitted.
     Submit(Command),
-    /// That the relay ends.
+    /// The relay ends.
     End,
 }
 
-/// What became of a command that was taken.
+/// The result of a command that was taken.
 #[derive(Clone, Copy, Debug, PartialEq, Eq)]
 pub enum CommandEnd {
-    /// It is kept on the disk, or why it is not.
+    /// It is kept on the disk, or the reason why it is not.
     Done(Result<(), CommandFault>),
-    /// The relay ended first: the command still waits in the endpoint. Where that is let go, the
-    /// next opening may find the first such command, and finds none of the others.
+    /// The relay ended first: the command is still pending in the endpoint. If the endpoint is
+    /// dropped, the next opening may find the first pending command, and finds none of the others.
     Failed,
 }
 
 /// What passes between a relay and its desk.
 #[derive(Clone, Copy)]
 pub enum DeskEvent {
-    /// Whether the turn before was quiet, and what the desk wanted then. Before the first turn
-    /// this is `false`.
+    /// Whether the turn before was quiet, and the desk's order. Before the first turn this is
+    /// `false`.
     Wanted(bool, Order),
-    /// The ticket of the command that was handed in, or why it was not taken.
+    /// The ticket of the submitted command, or why it was not taken.
     Took(Result<Ticket, SubmitFault>),
-    /// What became of the command with this ticket.
+    /// The result of the command with this ticket.
     Answered(Ticket, CommandEnd),
 }
 
-/// Who attends a relay: it hands in commands between turns, and is given the answer to each.
+/// Attends a relay: submits commands between turns, and is given the result of each.
 pub trait Desk<D: SectorDisk, P: Wire, C: Wire> {
     ghost use Rattle.std.specs.Prelude.{◌≡◌, [], ◌∷◌, List, Option, None};
     ghost use Rattle.macs_edge.specs.Attending.{with_events};
@@ -55,24 +55,24 @@ pub trait Desk<D: SectorDisk, P: Wire, C: Wire> {
     ghost use Rattle.macs_edge.specs.declared.attending.DeskEvent.TheVariants.{Answered, Took};
     ghost use Rattle.macs_edge.specs.declared.attending.DeskEvent.TheVariants.{Wanted};
 
-    /// What passed between it and relays, the earliest first, where that is known.
+    /// What passed between it and relays, earliest first, if known.
     ghost events: { Self → Option (List DeskEvent) } = { λ _. None };
 
-    /// What it wants before a turn. It may read the endpoint and the wires. After a quiet turn it
-    /// may sleep for a bounded time; otherwise it does not wait.
+    /// The order before a turn. It may read the endpoint and the wires. After a quiet turn it may
+    /// sleep for a bounded time; otherwise it does not wait.
     fn next(&mut self, endpoint: &Endpoint<D>, controlled: &P, common: &C, was_quiet: bool) -> Order
         ensures { events self.new ≡ with_events (events self.old) (Wanted was_quiet result ∷ []) };
 
-    /// Is given the ticket of the command that it handed in, or why that was not taken.
+    /// Receives the ticket of the command that it submitted, or why that was not taken.
     fn took(&mut self, answer: Result<Ticket, SubmitFault>)
         ensures { events self.new ≡ with_events (events self.old) (Took answer ∷ []) };
 
-    /// Is given what became of a command that was taken.
+    /// Receives the result of a command that was taken.
     fn answered(&mut self, ticket: Ticket, end: CommandEnd)
         ensures { events self.new ≡ with_events (events self.old) (Answered ticket end ∷ []) };
 }
 
-/// Does what a desk wants before a turn, and answers it. Whether a turn follows.
+/// Carries out a desk's order before a turn, and reports to it. Returns whether a turn follows.
 fn obey<D: SectorDisk, P: Wire, C: Wire, K: Desk<D, P, C>>(
     endpoint: &mut Endpoint<D>,
     controlled: &P,
@@ -95,7 +95,7 @@ fn obey<D: SectorDisk, P: Wire, C: Wire, K: Desk<D, P, C>>(
     }
 }
 
-/// Answers the command that a step is done with.
+/// Reports the result of the command that a step completes.
 fn tell<D: SectorDisk, P: Wire, C: Wire, K: Desk<D, P, C>>(desk: &mut K, step: Step)
     ensures { K.events desk.new ≡ with_events (K.events desk.old) (answers_of step) }
 {
@@ -105,7 +105,7 @@ fn tell<D: SectorDisk, P: Wire, C: Wire, K: Desk<D, P, C>>(desk: &mut K, step: S
     }
 }
 
-/// Answers the commands that wait as failed, in their order.
+/// Answers the pending commands as failed, in order.
 fn close<D: SectorDisk, P: Wire, C: Wire, K: Desk<D, P, C>>(endpoint: &Endpoint<D>, desk: &mut K)
     ensures { K.events desk.new ≡ with_events (K.events desk.old) (failed_of endpoint.now.waiting) }
 {
@@ -153,13 +153,13 @@ fn attend_turns<D: SectorDisk, P: Wire, C: Wire, K: Desk<D, P, C>>(
     Ok(())
 }
 
-/// Relays frames between two wires as `relay` does, in so many turns at most. Before each turn the
-/// desk is asked what it wants: that the relay goes on, that a command is submitted, or that the
-/// relay ends. A requested end comes at once, with no further turn. After a turn whose step
-/// is done with a command the desk is given the answer to that.
+/// Relays frames between two wires as `relay` does, in at most `turns` turns. Before each turn the
+/// desk is asked for an order: the relay continues, a command is submitted, or the relay ends. A
+/// requested end comes at once, with no further turn. After a turn whose step completes a command
+/// the desk is given its result.
 ///
-/// At the end, also after a refused step, each command that still waits is answered as failed. So
-/// each command that was taken is answered once, in the order of tickets.
+/// At the end, even after a refused step, each command that is still pending is answered as failed.
+/// So each command that was taken is answered once, in the order of tickets.
 pub fn attend<D: SectorDisk, P: Wire, C: Wire, K: Desk<D, P, C>>(
     endpoint: &mut Endpoint<D>,
     controlled: &mut P,

@@ -14,20 +14,19 @@ use macs_pcap::{PcapFault, Sink, Source, read_header, read_record, write_header,
 use macs_rxsc::Verdict;
 use std::alloc::Allocator;
 
-/// How many records of a capture were taken. Together they are at most 2^32 - 1.
+/// How many records of a capture were taken. The sum is at most 2^32 - 1.
 #[derive(Clone, Copy, Debug, PartialEq, Eq)]
 pub struct Summary {
-    /// Those of which a frame passed and was written.
+    /// Records whose frame passed and was written.
     pub passed: u64,
-    /// Those that were left out.
+    /// Records that were left out.
     pub dropped: u64,
 }
 
 /// Why a run ends before the end of its capture.
 #[derive(Clone, Copy, Debug, PartialEq, Eq)]
 pub enum RunFault {
-    /// A fault of the capture that is read or of the one that is written, or want of memory for a
-    /// frame.
+    /// A fault of the input or output capture, or out of memory for a frame.
     Pcap(PcapFault),
     /// No packet numbers can be reserved for the next frame, or the endpoint is stopped.
     Device(RefillFault),
@@ -55,8 +54,8 @@ impl From<RefillFault> for RunFault {
     }
 }
 
-/// Takes the next record, after so many others, and says whether a frame passed; at the end there
-/// is none. The frame of the record is in `frame` then, the one that passes in `out`, and the
+/// Takes the next record, after `count` others, and returns whether its frame passed, or `None` at
+/// the end. The frame of the record is then in `frame`, the one that passes in `out`, and the
 /// verdict in `verdict`, if there is one.
 fn take_next<D: SectorDisk, R: Source, W: Sink, A: Allocator>(
     endpoint: &mut Endpoint<D>,
@@ -83,7 +82,7 @@ fn take_next<D: SectorDisk, R: Source, W: Sink, A: Allocator>(
     Ok(Some(passes))
 }
 
-/// One record more.
+/// One more record.
 fn counted(summary: Summary, passes: bool) -> Summary
     requires { summary.passed + summary.dropped < 2 ^ 64 - 1 }
     ensures { result ≡ one_more passes summary }
@@ -165,7 +164,7 @@ fn run_telling<D: SectorDisk, R: Source, W: Sink, A: Allocator, T, V: Verdicts<T
     )
 }
 
-/// Takes a whole capture so: it is a run over it.
+/// Takes a whole capture without reporting verdicts: a run over it.
 fn run<D: SectorDisk, R: Source, W: Sink, A: Allocator, T, V: Verdicts<T>>(
     alloc: A,
     endpoint: &mut Endpoint<D>,
@@ -187,16 +186,16 @@ fn run<D: SectorDisk, R: Source, W: Sink, A: Allocator, T, V: Verdicts<T>>(
 }
 
 /// Protects the frame of each record of a capture, one after another, and writes the capture of the
-/// frames that go out, each with its record's stamp. Its header is written once the header of the
-/// input was read. Where there is no packet number, numbers are reserved by `refill` and the frame
-/// is handed in again; a frame with a fault of its own (one below 14 octets, say) is left out and
-/// counted. The device is called for refills alone.
+/// protected frames, each with its record's timestamp. Its header is written once the header of the
+/// input was read. If there is no packet number, numbers are reserved by `refill` and the frame is
+/// submitted again; a frame with a fault of its own (one below 14 octets, for example) is left out
+/// and counted. The device is called only for refills.
 ///
-/// Ends before the end of the input as `Pcap` with the first fault of the input or with `Write`,
-/// where a write failed; or as `Device` where a refill is answered so, with `Stopped` where the
-/// endpoint is. What was written is then a front of the capture that would have been. Whether
-/// anything is flushed is not said: a caller whose sink keeps octets back flushes it, after a fault
-/// too. A buffer for one frame grows with the longest so far, 262,144 octets at most.
+/// Ends before the end of the input with `Pcap` and the first fault of the input, or with `Write`
+/// if a write failed; or with `Device` and the fault of a refill, or with `Stopped` if the endpoint
+/// is stopped. What was written is then a prefix of the whole capture. Whether anything is flushed
+/// is not specified: a caller whose sink buffers octets flushes it, after a fault too. A buffer for
+/// one frame grows with the longest so far, up to 262,144 octets.
 pub fn run_protect<D: SectorDisk, R: Source, W: Sink, A: Allocator>(
     alloc: A,
     endpoint: &mut Endpoint<D>,
@@ -223,12 +222,12 @@ pub fn run_protect<D: SectorDisk, R: Source, W: Sink, A: Allocator>(
 }
 
 /// Receives the frame of each record of a capture, one after another, and writes the capture of the
-/// frames that are delivered, each with its record's stamp. Its header is written once the header
-/// of the input was read. Where a frame is held back, numbers are reserved by `refill` and the
-/// frame is handed in again; a frame that is discarded is left out and counted. The device is
-/// called for refills alone.
+/// delivered frames, each with its record's timestamp. Its header is written once the header of the
+/// input was read. If a frame is held back, numbers are reserved by `refill` and the frame is
+/// submitted again; a frame that is discarded is left out and counted. The device is called only
+/// for refills.
 ///
-/// Ends before the end of the input as `run_protect` does, and flushes and takes memory as it does.
+/// Ends before the end of the input as `run_protect` does, and flushes and allocates as it does.
 pub fn run_validate<D: SectorDisk, R: Source, W: Sink, A: Allocator>(
     alloc: A,
     endpoint: &mut Endpoint<D>,
@@ -255,7 +254,7 @@ pub fn run_validate<D: SectorDisk, R: Source, W: Sink, A: Allocator>(
 }
 
 /// Does what `run_validate` does, and reports the verdict on each frame, in order, once what passes
-/// of it is written. A frame at which the run ends has none. No verdict is kept.
+/// of it is written. A frame at which the run ends has no verdict. No verdict is stored.
 pub fn run_validate_each<D: SectorDisk, R: Source, W: Sink, A: Allocator, T, V: Verdicts<T>>(
     alloc: A,
     endpoint: &mut Endpoint<D>,

@@ -5,10 +5,10 @@ ghost use Rattle.macs_edge.specs.Counts.{is_too_long, takes_one};
 
 use crate::wire::{Got, WireFault};
 
-/// What a wire over UDP has counted, each number up to 2^64 - 1, and how much room it has.
+/// What a UDP wire has counted, each counter up to 2^64 - 1, and the size of its buffer.
 #[derive(Clone, Copy, Debug, PartialEq, Eq)]
 pub struct WireCounts {
-    /// Datagrams from another address than the peer's. They are dropped.
+    /// Datagrams from an address other than the peer's. They are dropped.
     pub strangers: u64,
     /// Frames that were taken off the wire, including those of more than 9,216 octets.
     pub taken: u64,
@@ -18,8 +18,8 @@ pub struct WireCounts {
     pub sent: u64,
     pub failed_receives: u64,
     pub failed_sends: u64,
-    /// How many octets of waiting datagrams the system keeps for it (`SO_RCVBUF`, socket(7)), if the
-    /// system was asked.
+    /// How many octets of waiting datagrams the system buffers for it (`SO_RCVBUF`, socket(7)), if
+    /// the system was asked.
     pub buffer: Option<u64>,
 }
 
@@ -46,7 +46,7 @@ pub(crate) fn takes_one(answer: &Result<Got, WireFault>) -> bool
     }
 }
 
-/// Whether this answer means that a frame was taken off the wire that was too long.
+/// Whether this answer means that a frame was taken off the wire and was too long.
 pub(crate) fn is_too_long(answer: &Result<Got, WireFault>) -> bool
     ensures { result ≡ is_too_long answer.now }
 {

@@ -1,4 +1,4 @@
-//! A wire that fails some calls.
+//! A wire that makes some calls fail.
 
 ghost use Rattle.std.specs.Prelude.{◌≡◌, ◌↔◌, ◌+◌, [], if◌then◌else◌, IsTrue, Err};
 ghost use Rattle.macs_edge.specs.FaultWires.{CallsValue, FailsNext, FaultWireValue};
@@ -10,12 +10,12 @@ use crate::wire::{Got, Wire, WireFault};
 use macs_frame::FrameBuf;
 use std::marker::Model;
 
-/// The calls of one kind: which of them fails, and how many were asked for.
+/// The calls of one kind: which of them fails, and how many were made.
 #[derive(Drop)]
 struct Calls {
-    /// Counted from 1; at 0 none fails.
+    /// Counting from 1; with 0 none fails.
     fails_at: u64,
-    /// It stays at 2^64 - 1.
+    /// It saturates at 2^64 - 1.
     asked: u64,
 }
 
@@ -32,8 +32,8 @@ impl Calls {
         Calls { fails_at, asked: 0 }
     }
 
-    /// Counts a call, and says whether it is the one that fails. A count that is at its end has no
-    /// next number, so the call of the greatest number fails once.
+    /// Counts a call, and returns whether it is the one that fails. A saturated counter does not
+    /// advance, so the call with the greatest number fails only once.
     fn next_fails(&mut self) -> bool
         ensures asked { self.new ≡ asked_once_more self.old }
         ensures fails { IsTrue result ↔ FailsNext self.old }
@@ -44,7 +44,7 @@ impl Calls {
         fails
     }
 
-    /// How many of the calls that were asked for failed: one, or none.
+    /// How many of the calls made failed: one, or none.
     fn failed(&self) -> u64
         ensures { result ≡ failed_among self.now }
     {
@@ -56,9 +56,9 @@ impl Calls {
     }
 }
 
-/// A wire in front of another. It fails the receive and the send of the numbers that `new` is
-/// given, and hands each other call to the wire behind it. A call that it fails does not reach that
-/// wire, and is counted with that wire's failed calls.
+/// A wire around another. It makes the receive and the send with the numbers given to `new` fail,
+/// and passes each other call to the inner wire. A call that it makes fail does not reach the inner
+/// wire, and is counted with the inner wire's failed calls.
 #[derive(Drop)]
 pub struct FaultWire<W> {
     wire: W,
@@ -74,8 +74,7 @@ impl<W> Model for FaultWire<W> {
 }
 
 impl<W: Wire> FaultWire<W> {
-    /// A wire whose receive and whose send of these numbers fail. Each is counted from 1, and at 0
-    /// none fails.
+    /// A wire whose receive and send with these numbers fail, counting from 1; with 0 none fails.
     pub fn new(wire: W, receive_at: u64, send_at: u64) -> Self
         ensures { result ≡ record {
           inner = wire;
@@ -90,14 +89,14 @@ impl<W: Wire> FaultWire<W> {
         }
     }
 
-    /// The wire behind it, as it is.
+    /// The inner wire.
     pub fn inner(&self) -> &W
         ensures { result.now ≡ self.now.inner }
     {
         &self.wire
     }
 
-    /// The wire behind it, as it is.
+    /// The inner wire.
     pub fn into_inner(self) -> W
         ensures { result ≡ self.inner }
     {

@@ -16,8 +16,8 @@ ghost use Rattle.macs_edge.specs.declared.settling.Side.{Side};
 
 use macs_disk::SectorDisk;
 
-/// Records pass in one way only: what passes, and the state after, is settled by the records and
-/// the state before.
+/// Records pass in one way only: what passes, and the state after, are determined by the records
+/// and the state before.
 pub fn passes_once()
     ensures { (side : Side) (old : State) (records p q : List CaptureRecord) (m n : State)
         → Passes side old records p m → Passes side old records q n → (p ≡ q) × (m ≡ n) }
@@ -29,9 +29,9 @@ pub fn becomes_once()
         → BecomesCapture side old input p → BecomesCapture side old input q → p ≡ q }
 {}
 
-/// What a relay sends on each wire is all that the endpoint gave for it, in order, but for as many
-/// frames as the wire's failed sends rose. Every frame that was taken was sent, lost with a failed
-/// send, or dropped; and the summary counts them so.
+/// What a relay sends on each wire is all that the endpoint gave for it, in order, except for as
+/// many frames as the wire's failed sends increased by. Every frame that was taken was sent, lost
+/// with a failed send, or dropped; and the summary counts them accordingly.
 pub fn relayed<D: SectorDisk>()
     ensures { (turns : ℕ) (old new : Relay D) (result : Result RelaySummary RefillFault)
         → old.to_common ≡ empty_lane → old.to_controlled ≡ empty_lane
@@ -39,11 +39,11 @@ pub fn relayed<D: SectorDisk>()
         → IsFlow D.disk old new (summary_of new.to_common new.to_controlled) }
 {}
 
-/// Frames go through a relay that is attended as through one that is not. What its desk hands in is
-/// submitted, call by call, and the desk is given what was answered. What it is given of its
-/// commands later is what the steps were done with; after that those that still wait have failed.
-/// So a command is answered as kept only where a step answered that it is. Each command that was
-/// taken is answered once, in the order of tickets.
+/// Frames pass through an attended relay as through any other. The commands that its desk submits
+/// are passed to the endpoint, call by call, and the desk is given the answers. The results that it
+/// is given later are those of the commands that steps completed; after that each pending command
+/// fails. So a command is answered as kept only if a step answered that it is. Each command that
+/// was taken is answered once, in the order of tickets.
 pub fn attended<D: SectorDisk>()
     ensures { (turns : ℕ) (old new : Relay D) (events : List DeskEvent)
         (result : Result RelaySummary RefillFault)
@@ -52,7 +52,7 @@ pub fn attended<D: SectorDisk>()
         → IsAttendedFlow D.disk old events new (summary_of new.to_common new.to_controlled) }
 {}
 
-/// A relay makes one step a turn: as many as it has turns, or fewer where a step is answered with a
+/// A relay makes one step per turn: as many as it has turns, or fewer if a step is answered with a
 /// fault.
 pub fn steps_are_turns<D: SectorDisk>()
     ensures { (turns : ℕ) (old new : Relay D) (result : Result RelaySummary RefillFault)

@@ -1,4 +1,4 @@
-//! A wire in memory, for tests and for what is made of wires.
+//! A wire in memory, for tests and for wires built on it.
 
 ghost use Rattle.std.specs.Prelude.{◌≡◌, ◌++◌, [], ◌∷◌, IfErr, IsOk, OnErr, OnOk};
 ghost use Rattle.macs_edge.specs.Counts.{counts_after_receive, counts_after_send};
@@ -12,8 +12,8 @@ use macs_frame::{FrameBuf, MAX_FRAME};
 use std::alloc::Allocator;
 use std::collections::VecDeque;
 
-/// A wire in memory: it gives the frames that were pushed, in their order, and keeps those that are
-/// sent. It fails only where memory is refused, and no receive of it fails.
+/// A wire in memory: it gives the frames that were pushed, in order, and keeps those that are sent.
+/// It fails only if memory runs out, and no receive of it fails.
 #[derive(Drop)]
 pub struct MemWire<A: Allocator + Copy> {
     alloc: A,
@@ -85,7 +85,7 @@ impl<A: Allocator + Copy> MemWire<A> {
     ghost use Rattle.macs_edge.specs.MemWires.{frames_of, mem_wire_counts, mem_wire_state, sent_in};
     ghost use Rattle.macs_edge.specs.MemWires.{waiting_in};
 
-    /// A wire on which no frame waits, and on which none was sent.
+    /// A wire with no waiting and no sent frames.
     pub fn new(alloc: A) -> MemWire<A>
         ensures state { mem_wire_state result
             ≡ record { waiting = Some []; sent = Some []; failed_receives = 0; failed_sends = 0 } }
@@ -102,8 +102,8 @@ impl<A: Allocator + Copy> MemWire<A> {
         }
     }
 
-    /// A frame that the next receives give, after those that wait. It fails as `Memory` alone, and
-    /// changes nothing then.
+    /// Adds a frame after those that are waiting. Fails only with `Memory`, and changes nothing
+    /// then.
     pub fn push(&mut self, frame: &[u8]) -> Result<(), WireFault>
         ensures pushed { OnOk result (mem_wire_state self.new
             ≡ record (mem_wire_state self.old) {
@@ -123,14 +123,14 @@ impl<A: Allocator + Copy> MemWire<A> {
         Ok(())
     }
 
-    /// The frames that were sent, the first one first.
+    /// The frames that were sent, in order.
     pub fn sent(&self) -> &[Vec<u8, A>]
         ensures { frames_of result.now ≡ sent_in self.now }
     {
         &self.sent
     }
 
-    /// Keeps a copy of a frame after those that were sent, where there is memory for it.
+    /// Keeps a copy of a sent frame, if there is memory for it.
     fn keep(&mut self, frame: &[u8]) -> bool
         ensures kept { mem_wire_state self.new ≡ record (mem_wire_state self.old) {
           sent =

@@ -23,7 +23,7 @@ pub struct RelaySummary {
     /// Frames that were taken and did not pass: those that the endpoint refused or discarded, those
     /// of more than 9,216 octets, and those that still waited for packet numbers at the end.
     pub dropped: u64,
-    /// Failed calls of the wires. A frame that is not sent is lost; its packet number stays used.
+    /// Failed calls of the wires. A frame whose send fails is lost; its packet number stays used.
     pub faults: u64,
 }
 
@@ -35,12 +35,11 @@ pub(crate) struct Tally {
     pub faults: u64,
 }
 
-/// One way through an endpoint: the frame that is handed in next, and what became of those
-/// before it.
+/// One way through an endpoint: the frame to submit next, and what became of those before it.
 #[derive(Drop)]
 pub(crate) struct Lane {
     pub frame: FrameBuf,
-    /// Whether `frame` is to be handed in.
+    /// Whether `frame` is to be submitted.
     pub is_full: bool,
     pub tally: Tally,
 }
@@ -50,7 +49,7 @@ impl Lane {
     ghost use Rattle.macs_edge.specs.Relaying.{empty_lane, lane_value};
     ghost use Rattle.macs_edge.specs.Resting.{WayRests};
 
-    /// A way on which no frame was taken.
+    /// A lane that has taken no frame.
     pub(crate) fn new() -> Lane
         ensures { lane_value result ≡ empty_lane }
     {
@@ -65,7 +64,7 @@ impl Lane {
         }
     }
 
-    /// Whether the lane is empty, and nothing was counted since.
+    /// Whether the lane is empty, and nothing has been counted since.
     fn rests(&self, before: Tally) -> bool
         ensures { IsTrue result ↔ WayRests before (lane_value self.now) }
     {
@@ -78,15 +77,15 @@ pub trait Idle {
     ghost use Rattle.std.specs.Prelude.{◌≡◌, ℕ, Option, None};
     ghost use Rattle.macs_edge.specs.Resting.{with_sleeps};
 
-    /// How often it slept, where that is known.
+    /// How often it slept, if known.
     ghost sleeps: { Self → Option ℕ } = { λ _. None };
 
-    /// Sleeps until there may be something to do, and for a bounded time.
+    /// Sleeps until there may be something to do, but only for a bounded time.
     fn idle(&mut self)
         ensures { sleeps self.new ≡ with_sleeps (sleeps self.old) 1 };
 }
 
-/// What never sleeps.
+/// An `Idle` that never sleeps.
 #[derive(Drop)]
 struct Awake;
 
@@ -121,8 +120,8 @@ fn forward<T: Wire>(to: &mut T, frame: &[u8], tally: &mut Tally)
     }
 }
 
-/// Hands in the frame of a full lane. It stays there where it waits for packet numbers, and where
-/// the endpoint is stopped.
+/// Submits the frame of a full lane. It stays there if it waits for packet numbers, or if the
+/// endpoint is stopped.
 fn hand_over<D: SectorDisk, T: Wire>(
     endpoint: &mut Endpoint<D>,
     side: Side,
@@ -175,7 +174,7 @@ fn left(lane: &Lane) -> u64
     u64::from(lane.is_full)
 }
 
-/// What became of the frames of both ways. A frame that is left in a lane is dropped.
+/// What became of the frames of both ways. A frame that is left in a lane counts as dropped.
 pub(crate) fn summed(to_common: &Lane, to_controlled: &Lane) -> RelaySummary
     ensures { result ≡ summary_of (lane_value to_common.now) (lane_value to_controlled.now) }
 {
@@ -195,7 +194,7 @@ pub(crate) fn summed(to_common: &Lane, to_controlled: &Lane) -> RelaySummary
     }
 }
 
-/// One turn: a frame each way, and one step of the work on the disk.
+/// One turn: a frame each way, and one step of the disk work.
 pub(crate) fn turn<D: SectorDisk, P: Wire, C: Wire>(
     endpoint: &mut Endpoint<D>,
     controlled: &mut P,
@@ -248,7 +247,7 @@ pub(crate) fn was_quiet(
     }
 }
 
-/// Sleeps where a turn was quiet.
+/// Sleeps if a turn was quiet.
 fn rest<I: Idle>(idle: &mut I, is_quiet: bool)
     ensures { I.sleeps idle.new ≡ with_sleeps (I.sleeps idle.old) (one_if is_quiet) }
 {
@@ -257,17 +256,17 @@ fn rest<I: Idle>(idle: &mut I, is_quiet: bool)
     }
 }
 
-/// Relays frames between two wires, in so many turns. In each turn a plain frame is taken from the
+/// Relays frames between two wires, for `turns` turns. In each turn a plain frame is taken from the
 /// controlled wire, protected, and sent on the common wire; then a frame is taken from the common
-/// wire, and sent on the controlled wire if it is delivered; then the work on the disk goes on by
-/// one `step`, where there is any: at most one device call comes between two frames. A frame that
-/// waits for packet numbers stays in its lane for the next turn, and no other is taken on its side.
-/// No frame is sent twice, not even after a failed send.
+/// wire, and sent on the controlled wire if it is delivered; then the disk work advances by one
+/// `step`, if there is any: at most one device call comes between two frames. A frame that waits
+/// for packet numbers stays in its lane for the next turn, and no other is taken on its side. No
+/// frame is sent twice, not even after a failed send.
 ///
 /// Ends with the first turn whose step is refused, with the fault of the same name: the frames of
-/// that turn were handed in by then, and those that passed were sent. What a step reports of
-/// submitted commands is not kept. No call waits: where no frame comes a turn is soon over. No
-/// memory of an allocator is taken: three frames are in arrays.
+/// that turn were submitted by then, and those that passed were sent. What a step reports about
+/// submitted commands is not kept. No call blocks: if no frame arrives a turn is soon over. Nothing
+/// is allocated: three frames are in arrays.
 pub fn relay<D: SectorDisk, P: Wire, C: Wire>(
     endpoint: &mut Endpoint<D>,
     controlled: &mut P,

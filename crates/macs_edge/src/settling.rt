@@ -1,4 +1,4 @@
-//! A frame is handed in until it is settled.
+//! A frame is submitted until it is settled.
 
 ghost use Rattle.std.specs.Prelude.{◌≡◌, ◌<◌, ◌^◌, Bool, true, false, if◌then◌else◌, Some, None};
 ghost use Rattle.std.specs.Prelude.{IfOk, IfErr};
@@ -14,7 +14,7 @@ use macs_frame::FrameBuf;
 use macs_rxsc::Verdict;
 use macs_txsc::TxFault;
 
-/// The side of an endpoint on which frames are handed in.
+/// The side of an endpoint on which frames are submitted.
 #[derive(Clone, Copy)]
 pub enum Side {
     /// Plain frames, which are protected.
@@ -23,20 +23,20 @@ pub enum Side {
     Common,
 }
 
-/// What an answer means for the frame that was handed in.
+/// What an answer means for the submitted frame.
 #[derive(Clone, Copy)]
 pub(crate) enum Outcome {
     /// A frame passes: it is in the buffer.
     Passed,
     /// It is left out.
     Dropped,
-    /// It is to be handed in again after a refill.
+    /// It must be submitted again after a refill.
     Waiting,
     /// The endpoint is stopped.
     Stopped,
 }
 
-/// Hands a frame in once, and notes the verdict, if there is one.
+/// Submits a frame once, and notes the verdict, if there is one.
 fn hand_in_noting<D: SectorDisk>(
     endpoint: &mut Endpoint<D>,
     side: Side,
@@ -75,7 +75,7 @@ fn hand_in_noting<D: SectorDisk>(
     }
 }
 
-/// Hands a frame in once.
+/// Submits a frame once.
 pub(crate) fn hand_in<D: SectorDisk>(
     endpoint: &mut Endpoint<D>,
     side: Side,
@@ -90,15 +90,15 @@ pub(crate) fn hand_in<D: SectorDisk>(
     hand_in_noting(endpoint, side, frame, out, &mut verdict)
 }
 
-/// Whether the frame passes by this answer.
+/// Whether the frame passes with this answer.
 fn passes(outcome: Outcome) -> bool
     ensures { result ≡ is_passed outcome }
 {
     matches!(outcome, Outcome::Passed)
 }
 
-/// How handing a frame in ends by an answer, unless it waits: whether the frame passes, or that the
-/// endpoint is stopped.
+/// How submitting a frame ends with an answer, unless it waits: whether the frame passes, or that
+/// the endpoint is stopped.
 fn ending_of(outcome: Outcome) -> Result<bool, RefillFault>
     ensures { result ≡ ending_of outcome }
 {
@@ -109,8 +109,8 @@ fn ending_of(outcome: Outcome) -> Result<bool, RefillFault>
     }
 }
 
-/// Reserves the packet numbers that a frame waits for, hands it in again, and says whether it
-/// passes; the verdict is noted, if there is one. It does not wait again.
+/// Reserves the packet numbers that a frame waits for, submits it again, and returns whether it
+/// passes; the verdict is noted, if there is one. The frame does not wait again.
 fn hand_in_again<D: SectorDisk>(
     endpoint: &mut Endpoint<D>,
     side: Side,
@@ -133,8 +133,8 @@ fn hand_in_again<D: SectorDisk>(
     }
 }
 
-/// Hands a frame in, and once more after a refill where it waits; and says whether a frame passes.
-/// The verdict that settles it is noted, if there is one.
+/// Submits a frame, and once more after a refill if it waits; returns whether a frame passes. The
+/// verdict that settles it is noted, if there is one.
 pub(crate) fn settle<D: SectorDisk>(
     endpoint: &mut Endpoint<D>,
     side: Side,

@@ -1,4 +1,4 @@
-//! A socket that is asked less often where nothing comes.
+//! A socket that is asked less often while nothing arrives.
 
 ghost use Rattle.std.specs.IoError.{error_kind};
 ghost use Rattle.macs_edge.specs.SparedSockets.{MayLeaveOut};
@@ -8,26 +8,26 @@ use std::io;
 use std::io::ErrorKind;
 use std::net::SocketAddr;
 
-/// A socket in front of another, for a wire of a relay that sleeps until a datagram is there. After
-/// a receive that found nothing, a receive that follows a send is left out, so many in a row at
-/// most: it is answered as one that finds nothing, and the socket behind is not asked. So a wire
-/// that gives nothing, while the other one gives frames, is asked only in some of the turns.
+/// A socket around another, for a wire of a relay that sleeps until a datagram arrives. After a
+/// receive that found nothing, a receive that follows a send is skipped, up to a maximum in a row:
+/// it is answered as if it found nothing, without asking the inner socket. So a wire that yields
+/// nothing, while the other one yields frames, is asked only in some of the turns.
 ///
-/// A receive that follows no send is not left out. After a turn that brought nothing there was no
-/// send, so the wire is asked in the turn after it; and a sleep in between ends at once where a
-/// datagram is there.
+/// A receive that follows no send is not skipped. After a turn that brought nothing there was no
+/// send, so the wire is asked in the next turn; and a sleep in between ends at once when a datagram
+/// arrives.
 #[derive(Drop)]
 pub struct SparedSocket<S> {
     socket: S,
-    /// How many receives in a row are left out at most.
+    /// How many receives in a row are skipped at most.
     most: u8,
-    /// How many more may be left out.
+    /// How many more may be skipped.
     left: u8,
     /// Whether something was sent since the last receive.
     has_sent: bool,
 }
 
-/// How many receives may be left out after one that was answered so.
+/// How many receives may be skipped after one with this answer.
 fn left_after(answer: &io::Result<Arrived>, most: u8) -> u8
     ensures { MayLeaveOut error_kind answer.now most result }
 {
@@ -47,8 +47,7 @@ impl<S> SparedSocket<S> {
     ghost use Rattle.std.specs.Prelude.{◌≡◌, ◌↔◌, IsTrue};
     ghost use Rattle.macs_edge.specs.SparedSockets.{IsSpared, over_socket};
 
-    /// A socket in front of this one, of which so many receives in a row are left out at most: at
-    /// 0, none.
+    /// A socket around this one, which skips at most this many receives in a row; with 0, none.
     pub(crate) fn new(socket: S, most: u8) -> SparedSocket<S>
         ensures { result ≡ over_socket socket most }
     {
@@ -60,7 +59,7 @@ impl<S> SparedSocket<S> {
         }
     }
 
-    /// Whether the next receive is left out.
+    /// Whether the next receive is skipped.
     fn is_spared(&self) -> bool
         ensures { IsTrue result ↔ IsSpared self.now }
     {

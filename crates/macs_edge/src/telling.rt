@@ -4,19 +4,19 @@ ghost use Rattle.macs_edge.specs.Telling.{TellsAll, listed, telling_of};
 
 use macs_rxsc::Verdict;
 
-/// What gets the verdict on each frame of a run, with what it passes it on to.
+/// The recipient of the verdict on each frame of a run, with a value that it passes it on to.
 pub trait Verdicts<T> {
     ghost use Rattle.macs_edge.specs.Telling.{Tells};
 
-    /// What it does with a verdict: what becomes of itself and of what it passes it on to.
+    /// The effect of a verdict on itself and on the value that it passes it on to.
     ghost tells: { Tells Self T };
 
-    /// Gets the verdict on the next frame.
+    /// Receives the verdict on the next frame.
     fn tell(&mut self, to: &mut T, verdict: Verdict)
         ensures { tells self.old to.old verdict self.new to.new };
 }
 
-/// Nobody: what is reported to it does not matter.
+/// A recipient that ignores verdicts.
 #[derive(Drop)]
 pub(crate) struct Nobody;
 

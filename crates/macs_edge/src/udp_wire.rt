@@ -1,4 +1,4 @@
-//! A wire over datagrams of UDP.
+//! A wire over UDP datagrams.
 
 ghost use Rattle.std.specs.Prelude.{◌≡◌, ◌≢◌, ◌+◌, length, Ok, IfErr, IfOk};
 ghost use Rattle.macs_edge.specs.Counts.{CountsStrangers};
@@ -15,22 +15,23 @@ use std::io::ErrorKind;
 use std::net::{Net, SocketAddr, UdpSocket};
 use std::os::fd::{AsRawFd, RawFd};
 
-/// The longest frame, in octets, and one more: so a longer datagram is seen, however long it is.
+/// The longest frame, in octets, plus one: so a longer datagram is detected, regardless of its
+/// length.
 const ROOM: usize = MAX_FRAME + 1;
 
-/// Why there is no wire.
+/// Why a wire cannot be made.
 #[derive(Clone, Copy, Debug, PartialEq, Eq)]
 pub enum BindFault {
     /// There is no memory for a frame.
     Memory,
-    /// The own address cannot be bound, or the socket cannot be kept from waiting.
+    /// The own address cannot be bound, or the socket cannot be made non-blocking.
     Bind,
 }
 
 /// A wire over UDP (RFC 768), on IPv4 or IPv6: one datagram is one Ethernet frame without FCS. The
-/// socket does not wait and is bound to the own address alone: a datagram from another address than
-/// the peer's is dropped and answered as `Nothing`. A receive or a send that is interrupted has
-/// failed, and is not made again. What a network delivers, and when, is not known: the wire counts
+/// socket is non-blocking and bound only to the own address: a datagram from an address other than
+/// the peer's is dropped and answered with `Nothing`. A receive or send that is interrupted has
+/// failed, and is not retried. What a network delivers, and when, is not known: the wire counts
 /// what it did, and its frames are unknown.
 #[derive(Drop)]
 pub struct UdpWire<A: Allocator, S = UdpSocket> {
@@ -47,14 +48,15 @@ pub struct UdpWire<A: Allocator, S = UdpSocket> {
     ghost sized: { length room.items ≡ 9217 },
 }
 
-/// Room for so many octets.
+/// A buffer of `octets` octets.
 fn room<A: Allocator>(alloc: A, octets: usize) -> Result<Vec<u8, A>, AllocError>
     ensures { IfOk result (λ room. length room.items ≡ octets) }
 {
     vec![in alloc; 0; octets]
 }
 
-/// What a datagram from an address is to a wire of this peer: a stranger's is nothing, and counted.
+/// What a datagram from an address is to a wire with this peer: a stranger's is nothing, and
+/// counted.
 fn given(
     datagram: &[u8],
     from: SocketAddr,
@@ -78,7 +80,7 @@ fn given(
     }
 }
 
-/// The next datagram of a socket, as a wire of this peer answers it: nothing where none waits.
+/// The next datagram of a socket, as a wire with this peer answers it: nothing if none is waiting.
 fn taken<S: Datagrams>(
     socket: &mut S,
     peer: SocketAddr,
@@ -105,7 +107,7 @@ fn taken<S: Datagrams>(
     }
 }
 
-/// Sends a frame to this peer, and answers whether it was sent whole as one datagram.
+/// Sends a frame to this peer, and returns whether it was sent whole as one datagram.
 fn gave<S: Datagrams>(socket: &mut S, peer: SocketAddr, frame: &[u8]) -> bool
     ensures { SendsDatagram peer (S.socket socket.old) (S.socket socket.new) frame.now result }
 {
@@ -120,8 +122,8 @@ impl<A: Allocator> UdpWire<A, UdpSocket> {
     ghost use Rattle.macs_edge.specs.Counts.{no_counts};
     ghost use Rattle.macs_edge.specs.UdpWires.{counts_of, peer_of};
 
-    /// A wire from the own address to the peer's. Refused first as `Memory`, where there is none
-    /// for 9,217 octets; then as `Bind`. Memory is taken here and at no other call.
+    /// A wire from the own address to the peer's. Fails first with `Memory` if 9,217 octets cannot
+    /// be allocated; then with `Bind`. Only this call allocates.
     pub fn bind<R: Net>(
         net: &R,
         alloc: A,
@@ -153,8 +155,8 @@ impl<A: Allocator, S: Datagrams> UdpWire<A, S> {
     ghost use Rattle.macs_edge.specs.UdpWires.{counts_of, peer_of, socket_of, udp_wire_state};
     ghost use Rattle.macs_edge.specs.declared.udp_wire.BindFault.TheVariants.{Memory};
 
-    /// A wire to the peer over a socket that is bound and does not wait. Refused as `Memory` alone,
-    /// where there is none for 9,217 octets.
+    /// A wire to the peer over a bound, non-blocking socket. Fails only with `Memory`, if 9,217
+    /// octets cannot be allocated.
     pub fn over(alloc: A, socket: S, peer: SocketAddr) -> Result<UdpWire<A, S>, BindFault>
         ensures state { IfOk result (λ wire. ⟦<UdpWire<A, S> as Wire>⟧.state wire
             ≡ record { waiting = None; sent = None; failed_receives = 0; failed_sends = 0 }) }
@@ -192,8 +194,8 @@ impl<A: Allocator, S: Datagrams> UdpWire<A, S> {
         }
     }
 
-    /// Notes how many octets of datagrams that wait the system keeps for its socket. They are among
-    /// what it counted from then on.
+    /// Notes how many octets of waiting datagrams the system buffers for its socket. They are part
+    /// of its counts from then on.
     pub fn note_buffer(&mut self, octets: u32)
         ensures state { udp_wire_state self.new ≡ udp_wire_state self.old }
         ensures peer { peer_of self.new ≡ peer_of self.old }
@@ -203,8 +205,8 @@ impl<A: Allocator, S: Datagrams> UdpWire<A, S> {
         self.buffer = Some(u64::from(octets));
     }
 
-    /// The same wire over a socket that is asked less often where nothing comes: so many receives
-    /// in a row are left out at most (`SparedSocket`).
+    /// The same wire over a socket that is asked less often while nothing arrives: at most this
+    /// many receives in a row are skipped (`SparedSocket`).
     pub fn sparing(self, most: u8) -> UdpWire<A, SparedSocket<S>>
         ensures state { udp_wire_state result ≡ udp_wire_state self }
         ensures peer { peer_of result ≡ peer_of self }
@@ -238,7 +240,7 @@ impl<A: Allocator, S: Datagrams> UdpWire<A, S> {
         }
     }
 
-    /// What it counted.
+    /// Its counts.
     pub fn counts(&self) -> WireCounts
         ensures { result ≡ counts_of self.now }
     {
@@ -269,7 +271,7 @@ impl<A: Allocator, S: AsRawFd> AsRawFd for UdpWire<A, S> {
 
     ghost raw_fd = { λ wire. S.raw_fd (socket_of wire) };
 
-    /// The descriptor of its socket, which stays its own: to wait for datagrams.
+    /// The descriptor of its socket, to wait for datagrams. The wire still owns it.
     fn as_raw_fd(&self) -> RawFd {
         self.socket.as_raw_fd()
     }

@@ -32,7 +32,7 @@ use Rattle.macs_offline.specs.declared.status.Status.TheVariants as ends
 abbrev pub longest_file : ℕ
 longest_file = 1048576
 
--- a file of TOML that is not too long says these commands, and names the end that they are for, or none
+-- the octets are a TOML file, not too long, with these commands, and name the end that they are for, or none
 pub record SaysCommands (octets : List ℕ) (end : Option (List ℕ)) (commands : List Command) : Type 0 where
   pub short : length octets ≤ longest_file
   pub utf8 : IsUtf8 octets
@@ -41,7 +41,7 @@ pub record SaysCommands (octets : List ℕ) (end : Option (List ℕ)) (commands 
   pub named : end_in members ≡ Ok end
   pub said : end_commands members ≡ Ok commands
 
--- some file says these commands, where it is known what it has
+-- some file whose contents are known has these commands
 pub record SaidByFile {F : Type 0} (remaining : F → Option (List ℕ)) (end : Option (List ℕ))
     (commands : List Command) : Type 0 where
   pub file : F
@@ -49,7 +49,7 @@ pub record SaidByFile {F : Type 0} (remaining : F → Option (List ℕ)) (end : 
 
 -- ---- the end
 
--- a file is for the end with this SCI: it names that, or none
+-- a file is for the end with this SCI: it names that end, or none
 abbrev pub is_for : Option (List ℕ) → List ℕ → Bool
 is_for None sci = true
 is_for (Some end) sci = bytes_eq end sci
@@ -60,28 +60,28 @@ own_sci endpoint = (state_of endpoint no_logs).identity.sci
 
 -- ---- lines
 
--- the line of a command by its number, which was kept or refused
+-- the line of a command: its number and whether it was accepted or refused
 abbrev pub outcome_line : ℕ → Option Refusal → List ℕ
 outcome_line at None = line (decimal at ++ codes " ok")
 outcome_line at (Some refusal) = line (decimal at ++ (codes " refused " ++ refusal_name refusal))
 
--- the lines of commands, the first of which has this number
+-- the lines of these commands, numbered from `at`
 abbrev pub outcome_lines : ℕ → List (Option Refusal) → List ℕ
 outcome_lines at [] = []
 outcome_lines at (outcome ∷ outcomes) = outcome_line at outcome ++ outcome_lines (at + 1) outcomes
 
--- how a run ends that applied its commands: done, or refused where one of them was
+-- the status of a run that applied its commands: Done, or Refused if any was refused
 abbrev pub outcomes_status : List (Option Refusal) → Status
 outcomes_status outcomes = if list_any is_some outcomes then ends.Refused else ends.Done
 
 -- ---- commands
 
--- what the endpoint answers to a command that is kept or refused
+-- the endpoint's answer to a command that is accepted or refused
 abbrev pub answer_of : Option Refusal → Result (Unit {0}) CommandFault
 answer_of None = Ok tt
 answer_of (Some refusal) = Err (ran.Refused refusal)
 
--- these commands are given to the endpoint, one after another, and each is kept or refused
+-- these commands are given to the endpoint, one after another, and each is accepted or refused
 abbrev pub Applies : {D : Type 0} → (D → Disk) → EndpointValue D → List Command → List (Option Refusal)
     → EndpointValue D → Type 0
 Applies disk_of old [] outcomes new = (outcomes ≡ []) × (new ≡ old)
@@ -90,11 +90,11 @@ Applies {D} disk_of old (command ∷ more) outcomes new =
     × (outcomes ≡ outcome ∷ rest) × IsCall disk_of old (Commands command) (Ran (answer_of outcome)) between
     × Applies disk_of between more rest new
 
--- a command is not refused for another one that waits
+-- a command is not refused because another is pending
 abbrev pub IsNotBusyCommand : CommandFault → Type 0
 IsNotBusyCommand fault = fault ≢ ran.Busy
 
--- the fault that a command meets in place of being kept or refused: never that another one waits
+-- the fault with which a command is neither accepted nor refused; it is never that another one is pending
 abbrev pub commit_fault : DiskFault → CommandFault → Type 0
 commit_fault fault ran.Stopped = fault ≡ disk.Journal journal.Stopped
 commit_fault fault ran.Busy = ⊥
@@ -102,8 +102,7 @@ commit_fault fault ran.GenerationsSpent = fault ≡ disk.Journal journal.Generat
 commit_fault fault ran.Disk = fault ≡ disk.Journal journal.Disk
 commit_fault fault (ran.Refused refusal) = ⊥
 
--- A command ends the run, after so many that were kept or refused: a fault of the disk in its place, with no line; or
--- its line cannot be written
+-- A command ends the run: either the disk fails and no line is printed, or the line cannot be written
 abbrev pub EndsRun : {D : Type 0} → (D → Disk) → EndpointValue D → Command → Failure → EndpointValue D → Type 0
 EndsRun disk_of old command failure new =
     ((fault : DiskFault) × (answer : CommandFault) × commit_fault fault answer × (failure ≡ failures.Disk fault)
@@ -111,7 +110,7 @@ EndsRun disk_of old command failure new =
     ⊎ ((failure ≡ failures.Output)
     × (outcome : Option Refusal) × IsCall disk_of old (Commands command) (Ran (answer_of outcome)) new)
 
--- all of these commands are given to the endpoint, and a line is printed for each once it is answered
+-- all of these commands are given to the endpoint, and the line of each is printed once it is answered
 pub record AppliesAll {D : Type 0} (disk_of : D → Disk) (old : EndpointValue D) (commands : List Command)
     (before after : Option (List ℕ)) (status : Status) (new : EndpointValue D) : Type 0 where
   pub outcomes : List (Option Refusal)
@@ -119,8 +118,8 @@ pub record AppliesAll {D : Type 0} (disk_of : D → Disk) (old : EndpointValue D
   pub printed : Appends before after (outcome_lines 1 outcomes)
   pub status_is : status ≡ outcomes_status outcomes
 
--- Some of these commands are given to the endpoint, and the next one ends the run. Unless it was its line that could
--- not be written, a line is printed for each before it and no other
+-- Some of these commands are given to the endpoint, and the next one ends the run. Unless its line could not be
+-- written, exactly the lines of the commands before it are printed
 pub record AppliesSome {D : Type 0} (disk_of : D → Disk) (old : EndpointValue D) (commands : List Command)
     (before after : Option (List ℕ)) (failure : Failure) (new : EndpointValue D) : Type 0 where
   pub done : List Command

@@ -1,11 +1,11 @@
--- Why a capture is not inspected whole, and what is said of it.
+-- Why a capture is not inspected whole, and the text for it.
 use Rattle.std.specs.Prelude.{ℕ, Bool, true, false, List, codes}
 use Rattle.macs_pcap.specs.declared.fault.PcapFault.{PcapFault}
 use Rattle.macs_pcap.specs.declared.fault.PcapFault.TheVariants as pcap
 use Rattle.macs_offline.specs.declared.stop.CaptureReason.{CaptureReason}
 use Rattle.macs_offline.specs.declared.stop.CaptureReason.TheVariants as reason
 
--- the reason that a fault of the header is, in a file that is a pcapng file or none
+-- the reason for a fault of the header; the flag is whether the file is pcapng
 abbrev pub header_reason : Bool → PcapFault → CaptureReason
 header_reason true pcap.BadMagic = reason.Pcapng
 header_reason false pcap.BadMagic = reason.NoCapture
@@ -14,7 +14,7 @@ header_reason is_pcapng pcap.NotEthernet = reason.NotEthernet
 header_reason is_pcapng pcap.CutFile = reason.CutHeader
 header_reason is_pcapng fault = reason.Unreadable
 
--- the reason that a fault of a record is
+-- the reason for a fault of a record
 abbrev pub record_reason : PcapFault → CaptureReason
 record_reason pcap.CutFile = reason.CutRecord
 record_reason pcap.CutRecord = reason.CutFrame
@@ -22,7 +22,7 @@ record_reason pcap.RecordTooLong = reason.LongRecord
 record_reason pcap.TooManyRecords = reason.ManyRecords
 record_reason fault = reason.Unreadable
 
--- what is said of it
+-- its text
 abbrev pub capture_text : CaptureReason → List ℕ
 capture_text reason.Pcapng = codes "a pcapng file (editcap -F pcap IN OUT)"
 capture_text reason.NoCapture = codes "not a capture"

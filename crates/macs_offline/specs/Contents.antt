@@ -1,5 +1,5 @@
--- What is in a file before it is written over, by the sectors of 512 octets that it has. Those of a disk lie in it
--- packed, or spaced one to a block of eight.
+-- What a file holds before it is overwritten, by its sectors of 512 octets. The sectors of a disk lie in it packed, or
+-- spaced, one in each block of eight.
 use Rattle.std.specs.Prelude.{◌≡◌, ◌<◌, ◌⊎◌, ◌*◌, ◌==◌, ◌||◌, if◌then◌else◌, ℕ, List, get_or}
 use Rattle.macs_disk.specs.Files.{FileState, values_from}
 use Rattle.macs_disk.specs.Layouts.{mark}
@@ -14,11 +14,11 @@ use Rattle.macs_record.specs.Settings.{default_settings}
 use Rattle.macs_offline.specs.declared.contents.Contents.{Contents}
 use Rattle.macs_offline.specs.declared.contents.Contents.TheVariants as contents
 
--- the sector of this number, counted from the start of the file
+-- the sector with this number, counting from the start of the file
 abbrev pub sector_in : FileState → ℕ → List ℕ
 sector_in file number = values_from file.seen (512 * number) 512
 
--- a file of so many sectors has one of this number, and it begins so
+-- a file of `sectors` sectors has one with this number, and it begins with `front`
 abbrev pub HasFront : FileState → ℕ → ℕ → List ℕ → Type 0
 HasFront file sectors number front = (number < sectors) × Begins front (sector_in file number)
 
@@ -27,7 +27,7 @@ abbrev pub number_of : Layout → ℕ → ℕ
 number_of Packed at = at
 number_of Spaced at = 8 * at
 
--- in one of both layouts this sector of a disk begins so
+-- in one of the two layouts this sector of a disk begins with `front`
 abbrev pub HasFrontInEither : FileState → ℕ → ℕ → List ℕ → Type 0
 HasFrontInEither file sectors at front = (layout : Layout) × HasFront file sectors (number_of layout at) front
 
@@ -39,8 +39,8 @@ HasOpenGate file sectors = (area : ℕ) × IsArea area × HasFrontInEither file 
 abbrev pub HasHeadMark : FileState → ℕ → Type 0
 HasHeadMark file sectors = (area : ℕ) × IsArea area × HasFrontInEither file sectors (head_body area) head_mark
 
--- what a `format` writes elsewhere than in the head, where its disk is packed or spaced: the gate of the head, the
--- first record, and the mark of a spaced file
+-- what `format` writes outside the head, packed or spaced: the gate of the head, the first record, and the mark of a
+-- spaced file
 abbrev pub leftover : ℕ → List ℕ
 leftover number =
     if number == 1 || number == 8 then open_gate
@@ -51,15 +51,15 @@ leftover number =
 abbrev pub IsPartOf : List ℕ → List ℕ → Type 0
 IsPartOf sector whole = (i : ℕ) → i < 512 → (get_or sector i 0 ≡ 0) ⊎ (get_or sector i 0 ≡ get_or whole i 0)
 
--- The sector holds what a `format` that was cut short may have left there, or zeros
+-- The sector holds zeros, or what an interrupted `format` may have left there
 abbrev pub IsUnused : ℕ → List ℕ → Type 0
 IsUnused number sector = ((number ≡ 0) × (head : Head) × IsHeadOf head sector) ⊎ IsPartOf sector (leftover number)
 
--- so do all sectors
+-- all sectors are unused
 abbrev pub IsBlankFile : FileState → ℕ → Type 0
 IsBlankFile file sectors = (number : ℕ) → number < sectors → IsUnused number (sector_in file number)
 
--- what is in a file of so many sectors: the first of these
+-- what a file of `sectors` sectors holds: the first of these that applies
 abbrev pub ContentsAre : FileState → ℕ → Contents → Type 0
 ContentsAre file sectors contents.Endpoint = HasOpenGate file sectors
 ContentsAre file sectors contents.Blank = (¬ HasOpenGate file sectors) × IsBlankFile file sectors

@@ -11,14 +11,14 @@ use Rattle.macs_offline.specs.Contents.{number_of, sector_in}
 use Rattle.macs_offline.specs.Failing.{failure_of_file, failure_of_journal}
 use Rattle.macs_offline.specs.declared.failure.Failure.{Failure}
 
--- each sector of a journal's two areas is as the file shows it, packed or spaced
+-- each sector of a journal's two areas is the same as in the file, packed or spaced
 pub record IsCopy (file : FileState) (copy : Disk) : Type 0 where
   pub sectors : copy.sectors ≡ least_sectors
   pub honest : IsHonest copy
   pub seen : (at : ℕ) → at < least_sectors → (now copy).seen at ≡ sector_in file (number_of (layout_in file) at)
 
--- there is no copy: the file cannot be claimed beside other readers, measured or read, it is not whole sectors, or
--- there is no memory; or it is whole sectors, and has too few
+-- there is no copy: the file cannot be claimed along with other readers, measured or read, its length is not whole
+-- sectors, or memory runs out; or it has too few sectors
 abbrev pub CopyFails : FileState → Failure → Type 0
 CopyFails file failure =
     ((fault : FileFault) × (failure ≡ failure_of_file fault)

@@ -1,5 +1,5 @@
--- What `examine` says of the disk in a file: what the recovery of its journal finds on a copy of it in memory, or its
--- first fault.
+-- What `examine` reports about the disk in a file: what recovery of its journal finds on a copy in memory, or the first
+-- fault of the journal.
 use Rattle.std.specs.Prelude.{◌≡◌, ◌≤◌, ◌⊎◌, ◌/◌, ◌%◌, ◌++◌, ℕ, Bool, List, [], length, map, codes, Option}
 use Rattle.std.specs.Prelude.{Some, None}
 use Rattle.std.specs.Fmt.{decimal}
@@ -41,28 +41,28 @@ use Rattle.macs_offline.specs.declared.status.Status.TheVariants as ends
 
 -- ---- lines
 
--- of a number: what it is, and which
+-- a name and a number
 abbrev pub number_line : List ℕ → ℕ → List ℕ
 number_line name number = line (name ++ (codes " " ++ decimal number))
 
--- of a number that has a greatest one
+-- a name, a number and its maximum
 abbrev pub part_line : List ℕ → ℕ → ℕ → List ℕ
 part_line name number most = line (name ++ (codes " " ++ (decimal number ++ (codes " of " ++ decimal most))))
 
--- of the ceiling of a transmit association, where it has one
+-- the ceiling of a transmit association, if it has one
 abbrev pub tx_ceiling_line : ℕ → Option ℕ → List ℕ
 tx_ceiling_line an None = []
 tx_ceiling_line an (Some ceiling) = line (codes "ceiling tx " ++ (decimal an ++ (codes " " ++ decimal ceiling)))
 
--- and of a receive association
+-- the ceiling of a receive association, if it has one
 abbrev pub rx_ceiling_line : List ℕ → ℕ → Option ℕ → List ℕ
 rx_ceiling_line sci an None = []
 rx_ceiling_line sci an (Some ceiling) =
     line (codes "ceiling rx " ++ (encode_lower sci ++ (codes " " ++ (decimal an ++ (codes " " ++ decimal ceiling)))))
 
--- ---- what is said
+-- ---- the report
 
--- how many octets of the device a sector has for itself
+-- how many octets of the device each sector takes up
 abbrev pub block_of : Layout → ℕ
 block_of Packed = 512
 block_of Spaced = 4096
@@ -78,61 +78,61 @@ figures_text layout figures =
     ++ (number_line (codes "area") figures.area ++ (number_line (codes "generation") figures.generation
     ++ part_line (codes "slots used") figures.used slots)))
 
--- the ceiling of the transmit association with this number
+-- the line of the transmit association with this number
 abbrev pub tx_ceiling_text : Standing → ℕ → List ℕ
 tx_ceiling_text s an = tx_ceiling_line an (s.ceilings.tx an)
 
--- of the receive association with this number
+-- the line of the receive association with this number
 abbrev pub rx_ceiling_text : Standing → List ℕ → ℕ → List ℕ
 rx_ceiling_text s sci an = rx_ceiling_line sci an (s.ceilings.rx sci an)
 
--- and of all those of a channel
+-- the lines of all associations of a channel
 abbrev pub channel_ceilings_text : Standing → List ℕ → List ℕ
 channel_ceilings_text s sci = concat (map (rx_ceiling_text s sci) association_numbers)
 
--- how many keys are spent on either side, and that the journal is whole
+-- how many keys are spent in each direction, and that the journal is whole
 abbrev pub end_text : Config → List ℕ
 end_text config =
     part_line (codes "spent tx") (length config.spent_tx) 512
     ++ (part_line (codes "spent rx") (length config.spent_rx) 512 ++ line (codes "whole"))
 
--- all of it, of a journal with these figures and records that stands for this
+-- the whole report on a journal with these figures and records and this meaning
 abbrev pub examined_text : Layout → Figures → List Record → Standing → List ℕ
 examined_text layout figures records s =
     figures_text layout figures ++ (records_text records ++ (concat (map (tx_ceiling_text s) association_numbers)
     ++ (concat (map (channel_ceilings_text s) s.config.channels) ++ end_text s.config)))
 
--- of a bad journal: the sector of its first fault
+-- for a bad journal: the sector of its first fault
 abbrev pub fault_line : ℕ → List ℕ
 fault_line at = number_line (codes "fault in sector") at
 
 -- ---- on a disk in memory
 
--- a journal with this content is found in the image, and it stands for this to the program
+-- a journal with this content is found in the image, and this is its meaning to the program
 pub record IsJournalOf (image : Image) (content : Content) (standing : Standing) : Type 0 where
   pub found : HasJournal image content
   pub stands : meaning_of this_edition content ≡ Some standing
 
--- the first fault of the journal in the image is said, and the run ends as refused
+-- the first fault of the journal in the image is reported, and the run ends as refused
 abbrev pub SaysFault : Image → List ℕ → Status → Type 0
 SaysFault image text status = (at : ℕ) × IsFirstFault image at × (text ≡ fault_line at) × (status ≡ ends.Refused)
 
--- this is said of a disk with this image, which lies in a file in this layout, and the run ends so: what is found, or
--- its first fault
+-- the report on a disk with this image, in a file with this layout, and the status of the run: what is found, or the
+-- first fault
 abbrev pub Says : Image → Layout → List ℕ → Status → Type 0
 Says image layout text status =
     ((content : Content) × (standing : Standing) × IsJournalOf image content standing
     × (text ≡ examined_text layout (figures_of content) content.records standing) × (status ≡ ends.Done))
     ⊎ SaysFault image text status
 
--- there is no memory, or no endpoint of this program is opened on a disk, for this fault
+-- memory runs out, or opening an endpoint of this program on the disk fails with this fault
 abbrev pub IsNotOpened : Disk → Failure → Type 0
 IsNotOpened copy failure =
     (failure ≡ failures.Memory)
     ⊎ ((fault : JournalFault) × (failure ≡ failure_of_journal fault)
     × IsUnfitTo this_edition copy.sectors (now copy).seen fault)
 
--- nothing is said of a disk: so it is, and the fault is none of a sector
+-- there is no report on a disk: no endpoint is opened on it, and the fault is not in a sector
 abbrev pub IsNotExamined : Disk → Failure → Type 0
 IsNotExamined copy failure =
     (failure ≡ failures.Memory)
@@ -141,14 +141,14 @@ IsNotExamined copy failure =
 
 -- ---- on a disk in a file
 
--- a copy of the disk in a file of whole sectors, no fewer than a journal has, and the layout in which it lies there,
--- where this is what the file is
+-- a copy of the disk in a file of whole sectors, at least as many as a journal has, and its layout there, if this is
+-- the state of the file
 abbrev pub IsLaidCopy : FileState → MemDisk Global → Layout → Type 0
 IsLaidCopy file copy layout =
     Behaves file → (file.size % 512 ≡ 0) × (least_sectors ≤ file.size / 512)
     × IsCopy file (disk_of copy) × (layout ≡ layout_in file)
 
--- this is said of the disk in a file, and the run ends so
+-- the report on the disk in a file, and the status of the run
 pub record ExaminesIn {F : Type 0} (state_of : F → FileState) (text : List ℕ) (status : Status) : Type 0 where
   pub file : F
   pub copy : MemDisk Global
@@ -156,7 +156,7 @@ pub record ExaminesIn {F : Type 0} (state_of : F → FileState) (text : List ℕ
   pub is_copy : IsLaidCopy (state_of file) copy layout
   pub says : Says (now (disk_of copy)).seen layout text status
 
--- nothing is: the file of this name is not opened; or there is no copy; or nothing is said of that
+-- there is no report: the file with this name is not opened, or cannot be copied, or the copy has no report
 abbrev pub ExaminationFails : {F : Type 0} → (F → FileState) → List ℕ → Failure → Type 0
 ExaminationFails {F} state_of name failure =
     IsNotRead name failure
@@ -166,7 +166,7 @@ ExaminationFails {F} state_of name failure =
 
 -- ---- whole
 
--- what is printed of what is said: a report in the form that is wanted, and a refusal as it is
+-- what is printed: a report in the requested form; a refusal as plain text
 abbrev pub said_text : Bool → Status → List ℕ → List ℕ
 said_text is_json ends.Done text = in_form is_json text
 said_text is_json ends.Usage text = text
@@ -174,12 +174,12 @@ said_text is_json ends.Refused text = text
 said_text is_json ends.Disk text = text
 said_text is_json ends.Fault text = text
 
--- that is printed
+-- it is printed
 abbrev pub PrintsExamined : {F : Type 0} → (F → FileState) → Bool → Option (List ℕ) → Option (List ℕ) → Status
     → Type 0
 PrintsExamined state_of is_json before after status = (text : List ℕ) × ExaminesIn state_of text status
     × Appends before after (said_text is_json status text)
 
--- it is not: it cannot be printed, or nothing is said
+-- it is not printed: writing it fails, or there is no report
 abbrev pub ExamineFails : {F : Type 0} → (F → FileState) → List ℕ → Failure → Type 0
 ExamineFails state_of name failure = (failure ≡ failures.Output) ⊎ ExaminationFails state_of name failure

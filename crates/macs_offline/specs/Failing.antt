@@ -1,4 +1,4 @@
--- What ends a run before its answer: what the program says of it, and its status.
+-- What ends a run before its answer: the program's message, and its status.
 use Rattle.std.specs.Prelude.{◌≢◌, ℕ, List, codes, string_bytes}
 use Rattle.macs_disk.specs.declared.file_fault.FileFault.{FileFault}
 use Rattle.macs_disk.specs.declared.file_fault.FileFault.TheVariants as file
@@ -36,9 +36,9 @@ use Rattle.macs_offline.specs.declared.status.Status.TheVariants as ends
 use Rattle.macs_offline.specs.declared.values.ValueFault.{ValueFault}
 use Rattle.macs_offline.specs.declared.values.ValueFault.TheVariants as value
 
--- ---- which failure a fault is
+-- ---- the failure for each fault
 
--- words that are no right usage, or want of memory
+-- words with wrong usage, or out of memory
 abbrev pub failure_of_words : UsageFault → Failure
 failure_of_words (usage.Usage cause) = failure.Usage cause
 failure_of_words usage.Memory = failure.Memory
@@ -47,59 +47,59 @@ failure_of_words usage.Memory = failure.Memory
 abbrev pub failure_of_journal : JournalFault → Failure
 failure_of_journal fault = failure.Disk (disk.Journal fault)
 
--- a disk file that does not open, whose length does not serve, that the device fails, or want of memory
+-- a disk file that cannot be opened, has the wrong length or fails, or out of memory
 abbrev pub failure_of_file : FileFault → Failure
 failure_of_file file.Open = failure.Disk disk.File
 failure_of_file file.Length = failure.Disk disk.Length
 failure_of_file file.Device = failure_of_journal journal.Disk
 failure_of_file file.Memory = failure.Memory
 
--- a command file that is wrong, or want of memory
+-- a command file that is wrong, or out of memory
 abbrev pub failure_of_commands : CommandFileFault → Failure
 failure_of_commands (told.Commands config.Memory) = failure.Memory
 failure_of_commands fault = failure.Commands
 
--- a refill is not refused for a command that waits
+-- a refill is not refused because a command is pending
 abbrev pub IsNotBusy : RefillFault → Type 0
 IsNotBusy fault = fault ≢ refill.Busy
 
--- packet numbers that are not reserved: Stopped, GenerationsSpent or Disk and no other
+-- packet numbers are not reserved: Stopped, GenerationsSpent or Disk, and no other fault
 abbrev pub failure_of_refill : RefillFault → Failure
 failure_of_refill refill.Stopped = failure_of_journal journal.Stopped
 failure_of_refill refill.GenerationsSpent = failure_of_journal journal.GenerationsSpent
 failure_of_refill fault = failure_of_journal journal.Disk
 
--- a capture that is wrong, or want of memory
+-- a capture that is wrong, or out of memory
 abbrev pub failure_of_capture : PcapFault → Failure
 failure_of_capture pcap.Memory = failure.Memory
 failure_of_capture fault = failure.Capture
 
--- a run over a capture does not end with a refill that is refused so
+-- a run over a capture does not end with a refill refused because a command is pending
 abbrev pub IsNotBusyRun : RunFault → Type 0
 IsNotBusyRun fault = fault ≢ Device refill.Busy
 
--- a capture that is wrong, want of memory, or a fault of the disk
+-- a capture that is wrong, out of memory, or a fault of the disk
 abbrev pub failure_of_run : RunFault → Failure
 failure_of_run (Pcap pcap.Memory) = failure.Memory
 failure_of_run (Pcap fault) = failure.Capture
 failure_of_run (Device fault) = failure_of_refill fault
 
--- an address that cannot be bound, or want of memory
+-- an address that cannot be bound, or out of memory
 abbrev pub failure_of_bind : BindFault → Failure
 failure_of_bind bind.Memory = failure.Memory
 failure_of_bind bind.Bind = failure.Wire
 
--- a control socket that cannot be bound, or want of memory
+-- a control socket that cannot be bound, or out of memory
 abbrev pub failure_of_control : ControlFault → Failure
 failure_of_control control.Memory = failure.Memory
 failure_of_control control.Bind = failure.Control
 
--- a relay that does not answer, or want of memory
+-- a relay that does not answer, or out of memory
 abbrev pub failure_of_asking : AskFault → Failure
 failure_of_asking asking.Memory = failure.Memory
 failure_of_asking asking.Gone = failure.Control
 
--- ---- what the program says of it, in one line
+-- ---- the program's message, one line
 
 -- a value of a new endpoint
 abbrev pub value_fault_text : ValueFault → List ℕ
@@ -115,7 +115,7 @@ address_fault_text address.Peer1 = codes "PEER1 is not an address and a port"
 address_fault_text address.Own2 = codes "OWN2 is not an address and a port"
 address_fault_text address.Peer2 = codes "PEER2 is not an address and a port"
 
--- what is on the disk, or a device call that failed
+-- what is on the disk, or a failed device call
 abbrev pub disk_fault_text : DiskFault → List ℕ
 disk_fault_text disk.File = codes "disk file"
 disk_fault_text disk.Length = codes "disk length"
@@ -162,7 +162,7 @@ failure_text failure.Output = codes "output"
 
 -- ---- how the run ends
 
--- wrong usage, a disk that does not serve, a link that is refused, or a fault of input, output or memory
+-- wrong usage, an unusable disk, a refused link, or a fault of input, output or memory
 abbrev pub failure_status : Failure → Status
 failure_status (failure.Usage cause) = ends.Usage
 failure_status (failure.Value fault) = ends.Usage

@@ -1,4 +1,4 @@
--- Which sector of a bad journal is the first that is at fault.
+-- Which sector of a bad journal is the first with a fault.
 use Rattle.std.specs.Prelude.{◌≡◌, ◌<◌, ◌⊎◌, ◌+◌, ℕ}
 use Rattle.macs_disk.specs.States.{Image}
 use Rattle.macs_record.specs.Decoding.{HasRecord}
@@ -18,7 +18,7 @@ HeadSays image area Closed = ¬ IsGateOpen image area 0
 HeadSays image area Headless = IsHeadless image area
 HeadSays image area (Opened head) = HasHead image area head
 
--- the head of area 0 is none, or else that of area 1, or that is at odds with the other
+-- area 0 has no head, or else area 1 has none, or its head conflicts with that of area 0
 abbrev pub IsHeadFault : Image → ℕ → Type 0
 IsHeadFault image at =
     ((at ≡ head_body 0) × IsHeadless image 0)
@@ -32,7 +32,7 @@ ChoiceSays image (Current area head) = IsCurrent image area head
 
 -- ---- slots
 
--- a slot of an area, whose snapshot has so many records, counts: it is of the snapshot, or its gate is open
+-- a slot of an area counts: it is part of the snapshot of `count` records, or its gate is open
 abbrev pub Counts : Image → ℕ → ℕ → ℕ → Type 0
 Counts image area count slot = (slot < count) ⊎ IsGateOpen image area (slot + 1)
 
@@ -40,30 +40,30 @@ Counts image area count slot = (slot < count) ⊎ IsGateOpen image area (slot + 
 abbrev pub IsSound : Image → ℕ → ℕ → ℕ → Type 0
 IsSound image area count slot = Counts image area count slot × HasRecord (image (slot_body area slot))
 
--- so do all slots before one
+-- all slots before this one count and hold records
 abbrev pub AreSound : Image → ℕ → ℕ → ℕ → Type 0
 AreSound image area count n = (j : ℕ) → j < n → IsSound image area count j
 
--- a gate is open behind a slot
+-- a gate after this slot is open
 abbrev pub HasOpenBehind : Image → ℕ → ℕ → Type 0
 HasOpenBehind image area slot = (behind : ℕ) × (slot < behind) × (behind < slots) × IsGateOpen image area (behind + 1)
 
--- the sector of a slot that is at fault: its body, where the slot counts and has no record; its gate, where it does not
--- count, and one behind it is open
+-- the faulty sector of a slot: its body, if the slot counts and holds no record; its gate, if it does not count and a
+-- later gate is open
 abbrev pub IsSlotFault : Image → ℕ → ℕ → ℕ → ℕ → Type 0
 IsSlotFault image area count slot at =
     ((at ≡ slot_body area slot) × Counts image area count slot × ¬ HasRecord (image (slot_body area slot)))
     ⊎ ((at ≡ gate area (slot + 1)) × (¬ Counts image area count slot) × HasOpenBehind image area slot)
 
--- that of the first slot of an area that is at fault
+-- the sector of the first faulty slot of an area
 pub record IsAreaFault (image : Image) (area count at : ℕ) : Type 0 where
   pub slot : ℕ
   pub within : slot < slots
   pub before : AreSound image area count slot
   pub fault : IsSlotFault image area count slot at
 
--- an area has none: all slots count and have records, or those before one that does not count, and behind which no gate
--- is open
+-- an area has no fault: its slots all count and hold records, or those before one that does not count, after which no
+-- gate is open
 pub record IsFaultless (image : Image) (area count : ℕ) : Type 0 where
   pub free : ℕ
   pub before : AreSound image area count free
@@ -71,7 +71,7 @@ pub record IsFaultless (image : Image) (area count : ℕ) : Type 0 where
 
 -- ---- whole
 
--- the sector of the first fault of a journal: a head, or of the current area the body or the gate of a slot
+-- the sector of the first fault of a journal: a head, or the body or the gate of a slot in the current area
 abbrev pub IsFirstFault : Image → ℕ → Type 0
 IsFirstFault image at =
     IsHeadFault image at

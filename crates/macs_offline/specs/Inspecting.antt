@@ -36,13 +36,13 @@ use Rattle.macs_offline.specs.declared.status.Status.TheVariants as ends
 abbrev pub bit_text : Bool → List ℕ
 bit_text bit = if bit then codes "1" else codes "0"
 
--- how a SecTAG names its channel: by its SCI, as that of an end station, or not at all
+-- how a SecTAG names its channel: by an explicit SCI, as an end station, or not at all
 abbrev pub name_text : ScName → List ℕ
 name_text (Explicit sci) = codes " sci=" ++ encode_lower sci
 name_text EndStation = codes " es"
 name_text Implicit = []
 
--- the numbers that a SecTAG says, and its SL
+-- the numbers in a SecTAG, and its SL
 abbrev pub numbers_text : SecTag → ℕ → List ℕ
 numbers_text tag short =
     codes "an=" ++ (decimal tag.an ++ (codes " pn=" ++ (decimal tag.pn ++ (codes " sl=" ++ decimal short))))
@@ -51,30 +51,30 @@ numbers_text tag short =
 abbrev pub bits_text : SecTag → List ℕ
 bits_text tag = codes "e=" ++ (bit_text tag.encrypted ++ (codes " c=" ++ (bit_text tag.changed ++ name_text tag.name)))
 
--- all that a SecTAG says, its SL, and how many octets its frame has
+-- everything in a SecTAG, its SL, and the length of its frame in octets
 abbrev pub tag_text : SecTag → ℕ → ℕ → List ℕ
 tag_text tag short octets =
     numbers_text tag short ++ (codes " " ++ (bits_text tag ++ (codes " octets=" ++ decimal octets)))
 
--- what is said of a frame: its first fault in the words of `open`, or what its SecTAG says
+-- the text for a frame: its first fault, worded as by `open`, or the contents of its SecTAG
 abbrev pub IsSaidOf : List ℕ → List ℕ → Type 0
 IsSaidOf frame text =
     ((fault : TagFault) × IsFirst (TagFaultHolds frame) tag_faults fault × (text ≡ refusal_text (opening.Tag fault)))
     ⊎ ((parts : Parts) × Tag frame parts × (¬ IsForKay frame)
     × (text ≡ tag_text (tag_of frame) (short_length frame) (length frame)))
 
--- the line of a frame by its number
+-- the line of a frame, with its number
 abbrev pub IsLineOf : ℕ → List ℕ → List ℕ → Type 0
 IsLineOf at frame text = (said : List ℕ) × IsSaidOf frame said × (text ≡ line (decimal at ++ (codes " " ++ said)))
 
--- the lines of the frames of these records, the first of which has this number
+-- the lines of the frames of these records, numbered from `at`
 abbrev pub AreLinesOf : ℕ → List CaptureRecord → List ℕ → Type 0
 AreLinesOf at [] text = text ≡ []
 AreLinesOf at (taken ∷ more) text =
     (first : List ℕ) × (rest : List ℕ) × IsLineOf at taken.frame first × (text ≡ first ++ rest)
     × AreLinesOf (at + 1) more rest
 
--- they are printed, the first of them as number 1
+-- they are printed, numbered from 1
 abbrev pub PrintsLines : List CaptureRecord → Option (List ℕ) → Option (List ℕ) → Type 0
 PrintsLines records before after = (text : List ℕ) × AreLinesOf 1 records text × Appends before after text
 
@@ -87,16 +87,15 @@ pub record HasInspected (big : Bool) (old : SourceState) (before : Option (List 
   pub taken : HoldsOfLeft old.left new.left (λ left rest. BeginsWithRecords big left records rest)
   pub printed : PrintsLines records before after
 
--- The run ends after so many records: the next one is not read, with a fault; or there is no memory for its line; or
--- that cannot be printed
+-- The run ends after `count` records: the next one has a fault; or memory runs out for its line; or the line cannot be
+-- printed
 abbrev pub StopsNext : Bool → ℕ → SourceState → Option (List ℕ) → Stop → SourceState → Option (List ℕ) → Type 0
 StopsNext big count old before stop new after =
     ((fault : PcapFault) × (room : ℕ) × (frame : List ℕ) × ReadsRecord big count room old new frame (Err fault)
     × (stop ≡ stops.Record fault) × (after ≡ before))
     ⊎ ((stop ≡ stops.Memory) × (after ≡ before)) ⊎ (stop ≡ stops.Output)
 
--- what becomes of the next record, after so many others: its line is printed; there is none, at the end; or the run
--- ends
+-- the next record, after `count` others: its line is printed; or the capture has ended; or the run ends
 abbrev pub InspectsNext : Bool → ℕ → SourceState → Option (List ℕ) → Result Bool Stop → SourceState
     → Option (List ℕ) → Type 0
 InspectsNext big count old before (Ok true) new after =
@@ -116,7 +115,7 @@ pub record InspectsRecords (big : Bool) (old : SourceState) (before : Option (Li
   pub frame : List ℕ
   pub ended : ReadsRecord big (length records) room until new frame (Ok None)
 
--- those before a stop
+-- the records before a stop
 pub record StopsRecords (big : Bool) (old : SourceState) (before : Option (List ℕ)) (stop : Stop)
     (new : SourceState)
     (after : Option (List ℕ)) : Type 0 where
@@ -126,7 +125,7 @@ pub record StopsRecords (big : Bool) (old : SourceState) (before : Option (List 
   pub inspected : HasInspected big old before records until between
   pub stops : StopsNext big (length records) until between stop new after
 
--- the one or the other
+-- either of the two
 pub record RunsRecords (big : Bool) (old : SourceState) (before : Option (List ℕ)) (result : Result Status Stop)
     (new : SourceState)
     (after : Option (List ℕ)) : Type 0 where
@@ -150,20 +149,20 @@ StopsCapture old before stop new after =
     ⊎ ((header : Header) × (behind : SourceState) × ReadsHeader old behind (Ok header)
     × StopsRecords header.big behind before stop new after)
 
--- what is done with a capture
+-- the result of inspecting a capture
 pub record RunsCapture (old : SourceState) (before : Option (List ℕ)) (result : Result Status Stop)
     (new : SourceState)
     (after : Option (List ℕ)) : Type 0 where
   pub done : IfOk result (λ status. InspectsCapture old before new after × (status ≡ ends.Done))
   pub stopped : IfErr result (λ stop. StopsCapture old before stop new after)
 
--- ---- a capture in a file, of which is not known here what it has
+-- ---- a capture in a file, whose contents are not known here
 
 -- some capture is inspected whole
 abbrev pub Inspects : Option (List ℕ) → Option (List ℕ) → Type 0
 Inspects before after = (old : SourceState) × (new : SourceState) × InspectsCapture old before new after
 
--- a failure says of a capture of this name why it is not inspected whole
+-- a failure gives the reason why the capture with this name is not inspected whole
 abbrev pub FailsSo : List ℕ → Stop → Failure → Type 0
 FailsSo name (stops.Header fault) failure =
     (is_pcapng : Bool) × Complains (Tells (codes "capture") name (capture_text (header_reason is_pcapng fault))) failure
@@ -172,7 +171,7 @@ FailsSo name (stops.Record fault) failure = (fault ≡ pcap.Memory → failure �
 FailsSo name stops.Memory failure = failure ≡ failures.Memory
 FailsSo name stops.Output failure = failure ≡ failures.Output
 
--- some capture is not opened, or not inspected whole: the one of this name
+-- some capture, the one with this name, is not opened or not inspected whole
 abbrev pub InspectFails : List ℕ → Option (List ℕ) → Option (List ℕ) → Failure → Type 0
 InspectFails name before after failure =
     (Complains (TellsOfFile (codes "capture") name) failure × (after ≡ before))

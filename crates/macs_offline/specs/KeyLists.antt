@@ -1,4 +1,4 @@
--- The list of the keys that the endpoints of a disk's name were given.
+-- The list of the keys that endpoints on a disk file of this name have been given.
 use Rattle.std.specs.Prelude.{◌≡◌, ◌⊎◌, ◌≤◌, ◌-◌, ◌++◌, ℕ, List, [], codes, length, map, slice_index_or, take}
 use Rattle.std.specs.Prelude.{Option, Some, None}
 use Rattle.std.specs.List.{All, flat_map}
@@ -22,7 +22,7 @@ key_in (TxInstall an key start confidential offset) = Some (octets_of_key key)
 key_in (RxInstall sci an key start offset) = Some (octets_of_key key)
 key_in command = None
 
--- what stands for it, in hex digits
+-- its fingerprint, in hex digits
 abbrev pub digits_of : Command → Option (List ℕ)
 digits_of command = option_map (λ key. encode_lower (key_digest key)) (key_in command)
 
@@ -30,7 +30,7 @@ digits_of command = option_map (λ key. encode_lower (key_digest key)) (key_in c
 abbrev pub formatted : List ℕ
 formatted = codes "formatted\n"
 
--- the line of a key, by its digits; of a command that installs none nothing
+-- the line of a key, by its digits; nothing for a command that installs no key
 abbrev pub key_line : Option (List ℕ) → List ℕ
 key_line None = []
 key_line (Some digits) = line digits
@@ -39,31 +39,31 @@ key_line (Some digits) = line digits
 abbrev pub lines_text : List (Option (List ℕ)) → List ℕ
 lines_text keys = flat_map key_line keys
 
--- these digits are somewhere before such a line
+-- these digits occur before a `formatted` line
 abbrev pub HasSpent : List ℕ → List ℕ → Type 0
 HasSpent list digits = (before between after : List ℕ)
     × (list ≡ before ++ (digits ++ (between ++ (formatted ++ after))))
 
--- a list has this key, by its digits, as one of an endpoint that is gone
+-- a list has this key, by its digits, as a key of an endpoint that is gone
 abbrev pub IsSpentIn : List ℕ → Option (List ℕ) → Type 0
 IsSpentIn list key = (digits : List ℕ) × (key ≡ Some digits) × HasSpent list digits
 
--- this is the number, counted from 1, of the first of these keys that a list has so
+-- the index, counting from 1, of the first of these keys that the list has as a key of an endpoint that is gone
 abbrev pub IsFirstSpent : List ℕ → List (Option (List ℕ)) → ℕ → Type 0
 IsFirstSpent list keys at = (1 ≤ at) × (at ≤ length keys) × IsSpentIn list (slice_index_or keys (at - 1) None)
     × All (λ key. ¬ IsSpentIn list key) (take (at - 1) keys)
 
--- what is said of the command with this number, counted from 1
+-- the text for the command with this number, counting from 1
 abbrev pub spent_text : ℕ → List ℕ
 spent_text at = codes "command " ++ (decimal at ++ codes " key: an earlier disk file of this name had it")
 
--- a failure says so of the first of these commands whose key some list has, or that the list is not read
+-- a failure reports the first of these commands whose key is spent in some list, or that the list cannot be read
 abbrev pub SaysSpent : List Command → Failure → Type 0
 SaysSpent commands failure =
     Complains (λ said. ((list : List ℕ) × (at : ℕ) × IsFirstSpent list (map digits_of commands) at
     × (said ≡ spent_text at)) ⊎ (said ≡ codes "key list: cannot be read")) failure
 
--- where the keys of its commands are not noted, a command file says nothing that can be applied
+-- if the keys of its commands are not noted, a command file has no commands to apply
 abbrev pub failure_of_keys : KeyFault → Failure
 failure_of_keys key.Spent = failures.Commands
 failure_of_keys key.File = failures.Commands

@@ -6,16 +6,16 @@ use Rattle.macs_texts.specs.Lines.{line}
 use Rattle.macs_offline.specs.declared.failure.Failure.{Failure}
 use Rattle.macs_offline.specs.declared.failure.Failure.TheVariants as failures
 
--- how many octets a key has: for GCM-AES-256, or for GCM-AES-128
+-- the length of a key in octets: for GCM-AES-256, or for GCM-AES-128
 abbrev pub key_octets : Bool → ℕ
 key_octets is_long = if is_long then 32 else 16
 
--- the key of these octets is printed: a line of two hex digits of lower case for each octet
+-- the key with these octets is printed: two lower-case hex digits for each octet, and a line feed
 pub record PrintsKey (is_long : Bool) (octets : List ℕ) (before after : Option (List ℕ)) : Type 0 where
   pub count : length octets ≡ key_octets is_long
   pub printed : Appends before after (line (encode_lower octets))
 
--- that of some octets is
+-- a key of some octets is printed
 abbrev pub GivesKey : Bool → Option (List ℕ) → Option (List ℕ) → Type 0
 GivesKey is_long before after = (octets : List ℕ) × PrintsKey is_long octets before after
 

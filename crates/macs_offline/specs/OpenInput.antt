@@ -1,4 +1,4 @@
--- What is asked of `open` by four lines: a key, an SCI, a confidentiality offset and a protected frame.
+-- The input of `open`, four lines: a key, an SCI, a confidentiality offset and a protected frame.
 use Rattle.std.specs.Prelude.{◌≡◌, ◌⊎◌, ℕ, ◌≤◌, List, [], ◌∷◌, length, codes, Ok}
 use Rattle.hex.specs.Hex.{decode_of}
 use Rattle.macs_aes.specs.Keys.{octets_of_key}
@@ -9,11 +9,11 @@ use Rattle.macs_offline.specs.declared.open_input.OpenInput.{OpenInput}
 use Rattle.macs_offline.specs.declared.open_input.InputFault.{InputFault}
 use Rattle.macs_offline.specs.declared.open_input.InputFault.TheVariants as fault
 
--- the octets are spelled in hex, by digits of either case
+-- the octets in hex, digits of either case
 abbrev pub SpellsOctets : List ℕ → List ℕ → Type 0
 SpellsOctets line octets = decode_of line ≡ Ok octets
 
--- so many octets are spelled
+-- `count` octets are spelled
 abbrev pub SpellsSized : List ℕ → ℕ → List ℕ → Type 0
 SpellsSized line count octets = (length octets ≡ count) × SpellsOctets line octets
 
@@ -25,7 +25,7 @@ SpellsKey line key = ((length key ≡ 16) ⊎ (length key ≡ 32)) × SpellsOcte
 abbrev pub SpellsSci : List ℕ → List ℕ → Type 0
 SpellsSci line sci = (length sci ≡ 8) × SpellsOctets line sci
 
--- how a confidentiality offset is spelled: its octets in decimal
+-- how a confidentiality offset is spelled: octets in decimal
 abbrev pub offset_text : Offset → List ℕ
 offset_text Zero = codes "0"
 offset_text Thirty = codes "30"
@@ -49,7 +49,7 @@ pub record Spells (input : List ℕ) (request : OpenInput) : Type 0 where
 
 -- ---- faults
 
--- what each fault says of an input
+-- when each fault of an input applies
 abbrev pub InputFaultHolds : List ℕ → InputFault → Type 0
 InputFaultHolds input fault.Input = ¬ IsFourLines input
 InputFaultHolds input fault.Key = (key : List ℕ) → ¬ SpellsKey (line_at input 0) key
@@ -57,6 +57,6 @@ InputFaultHolds input fault.Sci = (sci : List ℕ) → ¬ SpellsSci (line_at inp
 InputFaultHolds input fault.Offset = (offset : Offset) → ¬ SpellsOffset (line_at input 2) offset
 InputFaultHolds input fault.Frame = (frame : List ℕ) → ¬ SpellsOctets (line_at input 3) frame
 
--- in the order in which they are looked for
+-- in the order in which they are checked
 abbrev pub input_faults : List InputFault
 input_faults = fault.Input ∷ fault.Key ∷ fault.Sci ∷ fault.Offset ∷ fault.Frame ∷ []

@@ -11,13 +11,13 @@ use Rattle.macs_journal.specs.declared.recovery.RecoverRefused.{RecoverRefused}
 use Rattle.macs_offline.specs.Failing.{failure_of_file, failure_of_journal}
 use Rattle.macs_offline.specs.declared.failure.Failure.{Failure}
 
--- a disk was opened in a copy of a file, as long as it is, where this is what a file is, and no call of it was made yet
+-- a disk was opened in a copy of a file with this state, the same length, and no call of it has been made yet
 pub record IsDiskIn {F : Type 0} (file : F → FileState) (disk : FileDisk F) : Type 0 where
   pub known : IsMadeWell file (file_given disk) (file_made disk)
       → IsOpened (file (file_given disk)) 0 (layout_of disk) (disk_in_file file disk)
   pub fresh : IsFresh (disk_in_file file disk)
 
--- this is what an opening of such a disk answered
+-- the result of opening an endpoint on such a disk
 pub record IsOpeningIn {F : Type 0} (file : F → FileState)
     (opened : Result (EndpointValue (FileDisk F)) (RecoverRefused (FileDisk F))) : Type 0 where
   pub disk : FileDisk F
@@ -30,7 +30,7 @@ pub record IsEndpointIn {F : Type 0} (file : F → FileState) (endpoint : Endpoi
   pub is_disk : IsDiskIn file disk
   pub opens : Opens (disk_in_file file) disk endpoint
 
--- such a disk was refused for what is on it, or for a device call that failed, and this is the failure
+-- such a disk was refused because of what is on it or because a device call failed, and this is the failure
 pub record IsRefusedIn {F : Type 0} (file : F → FileState) (failure : Failure) : Type 0 where
   pub disk : FileDisk F
   pub left : FileDisk F

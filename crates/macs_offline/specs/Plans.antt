@@ -1,4 +1,4 @@
--- What `plan` prints of a link's file, and what it says of one of which nothing is planned.
+-- What `plan` prints for a link file, and its message if there is no plan.
 use Rattle.std.specs.Prelude.{◌≡◌, ◌⊎◌, ◌<◌, ◌≤◌, ◌++◌, ℕ, List, length, codes, Option, Some, None, Err}
 use Rattle.std.specs.Prelude.{IfSome}
 use Rattle.std.specs.Fmt.{decimal}
@@ -30,7 +30,7 @@ use Rattle.macs_offline.specs.declared.failure.Failure.TheVariants as failures
 use Rattle.macs_offline.specs.declared.failure.LinkRefusal.{LinkRefusal}
 use Rattle.macs_offline.specs.declared.failure.LinkRefusal.TheVariants as wrong
 
--- ---- what is asked for
+-- ---- the request
 
 -- the end that a word names
 abbrev pub end_of : PlanEnd → End
@@ -44,16 +44,16 @@ stage_of plan_stage.Receive = stage.Receive
 stage_of plan_stage.Send = stage.Send
 stage_of plan_stage.Remove = stage.Remove
 
--- ---- what is said
+-- ---- messages
 
--- a key of a table, as it is written
+-- a key of a table, as it is spelled
 abbrev pub name_word : ValueName → List ℕ
 name_word name.Sci = codes "sci"
 name_word name.An = codes "an"
 name_word name.Left = codes "left"
 name_word name.Right = codes "right"
 
--- what its value is not
+-- what its value should be and is not
 abbrev pub name_reason : ValueName → List ℕ
 name_reason name.Sci = codes "not 16 hex digits"
 name_reason name.An = codes "not 0 to 3"
@@ -67,13 +67,13 @@ value_text place.Right name = codes "right " ++ (name_word name ++ (codes ": " +
 value_text (place.Key at) name =
     codes "key " ++ (decimal at ++ (codes " " ++ (name_word name ++ (codes ": " ++ name_reason name))))
 
--- a key too many, by its place
+-- an unknown key, by its place
 abbrev pub extra_text : Place → List ℕ
 extra_text place.Left = codes "left: a key that it does not have"
 extra_text place.Right = codes "right: a key that it does not have"
 extra_text (place.Key at) = codes "key " ++ (decimal at ++ codes ": a key that it does not have")
 
--- the first fault of a link's file
+-- the first fault of a link file
 abbrev pub plan_fault_text : PlanFault → List ℕ
 plan_fault_text plan.Shape = codes "link file: not [left], [right] and tables [[key]] alone"
 plan_fault_text (plan.Value place name) = value_text place name
@@ -84,7 +84,7 @@ plan_fault_text plan.AnInUse = codes "an in use"
 plan_fault_text plan.OneKey = codes "one key"
 plan_fault_text plan.Memory = codes "memory"
 
--- the refusal of a link that a fault is, if it is one
+-- the refusal of the link for this fault, if it is one
 abbrev pub link_refusal : PlanFault → Option LinkRefusal
 link_refusal plan.SameSci = Some wrong.SameSci
 link_refusal plan.SameKey = Some wrong.SameKey
@@ -93,7 +93,7 @@ link_refusal fault = None
 
 -- ---- of the octets of a file
 
--- octets say a link, and this text is the command file of what is planned of it
+-- octets are a link file, and this text is the command file planned from it
 pub record PlansFile (end : End) (stage : Stage) (octets text : List ℕ) : Type 0 where
   pub short : length octets ≤ longest_file
   pub utf8 : IsUtf8 octets
@@ -101,70 +101,69 @@ pub record PlansFile (end : End) (stage : Stage) (octets text : List ℕ) : Type
   pub parsed : parse_document octets ≡ Some members
   pub planned : PlansText members end stage text
 
--- nothing is planned of what a text says, for this fault
+-- no plan can be made from a text, because of this fault
 abbrev pub HasPlanFault : End → Stage → List ℕ → PlanFault → Type 0
 HasPlanFault end stage text fault =
     (members : Members) × (parse_document text ≡ Some members) × (file_planned members end stage ≡ Err fault)
 
--- this is said of a text: that it is no TOML, or why nothing is planned of it, where no link is refused
+-- the message about a text: it is not TOML, or has a fault that is no refusal of the link
 abbrev pub IsSaidOfLinkText : End → Stage → List ℕ → List ℕ → Type 0
 IsSaidOfLinkText end stage text said = ((parse_document text ≡ None) × SaysNotToml (codes "link file") text said)
     ⊎ ((fault : PlanFault) × HasPlanFault end stage text fault × (link_refusal fault ≡ None)
     × (said ≡ plan_fault_text fault))
 
--- a text says a link that is refused so
+-- a text is a link that is refused with this refusal
 abbrev pub RefusesLinkText : End → Stage → List ℕ → LinkRefusal → Type 0
 RefusesLinkText end stage text refusal =
     (fault : PlanFault) × HasPlanFault end stage text fault × (link_refusal fault ≡ Some refusal)
 
--- this is said of octets: that they are too many, or no text, or what is said of the text
+-- the message about octets: there are too many, they are not UTF-8, or the message about their text
 abbrev pub IsSaidOfLink : End → Stage → List ℕ → List ℕ → Type 0
 IsSaidOfLink end stage octets said =
     ((longest_file < length octets) × (said ≡ codes "link file: more than 1048576 octets"))
     ⊎ ((length octets ≤ longest_file) × (¬ IsUtf8 octets) × (said ≡ codes "link file: not UTF-8"))
     ⊎ ((length octets ≤ longest_file) × IsUtf8 octets × IsSaidOfLinkText end stage octets said)
 
--- octets say a link that is refused so
+-- octets are a link that is refused with this refusal
 abbrev pub RefusesLink : End → Stage → List ℕ → LinkRefusal → Type 0
 RefusesLink end stage octets refusal =
     (length octets ≤ longest_file) × IsUtf8 octets × RefusesLinkText end stage octets refusal
 
--- a failure is the refusal of a link for which this holds
+-- a failure is a refusal of a link that satisfies this predicate
 abbrev pub RefusesSo : (LinkRefusal → Type 0) → Failure → Type 0
 RefusesSo Refuses failure = (refusal : LinkRefusal) × (failure ≡ failures.Link refusal) × Refuses refusal
 
--- a failure says why nothing is planned of a text: something is said of it or its link is refused, unless there is no
--- memory
+-- a failure reports why a text has no plan: a message about it, or the refusal of its link, or out of memory
 abbrev pub SaysWhyOfText : End → Stage → List ℕ → Failure → Type 0
 SaysWhyOfText end stage text failure = Complains (IsSaidOfLinkText end stage text) failure
     ⊎ RefusesSo (RefusesLinkText end stage text) failure
 
--- and of octets
+-- and the same for octets
 abbrev pub SaysWhy : End → Stage → List ℕ → Failure → Type 0
 SaysWhy end stage octets failure =
     Complains (IsSaidOfLink end stage octets) failure ⊎ RefusesSo (RefusesLink end stage octets) failure
 
--- ---- of a file, where `left_in` says what is left to read of one, where that is known
+-- ---- of a file, whose unread octets `left_in` gives, where known
 
--- this text is the command file of what is planned of a file
+-- this text is the command file planned from a file
 abbrev pub IsPlanOfFile : {F : Type 0} → (F → Option (List ℕ)) → End → Stage → List ℕ → Type 0
 IsPlanOfFile {F} left_in end stage text =
     (file : F) × IfSome (left_in file) (λ octets. PlansFile end stage octets text)
 
--- the command file of what is planned of a file is printed
+-- the command file planned from a file is printed
 abbrev pub PrintsPlan : {F : Type 0} → (F → Option (List ℕ)) → End → Stage → Option (List ℕ) → Option (List ℕ)
     → Type 0
 PrintsPlan left_in end stage before after =
     (octets : List ℕ) × (text : List ℕ) × PlansFile end stage octets text × IsPlanOfFile left_in end stage text
     × Appends before after text
 
--- a failure says why nothing is planned of a file
+-- a failure reports why a file has no plan
 abbrev pub SaysWhyOfFile : {F : Type 0} → (F → Option (List ℕ)) → End → Stage → Failure → Type 0
 SaysWhyOfFile {F} left_in end stage failure =
     (file : F) × IfSome (left_in file) (λ octets. SaysWhy end stage octets failure)
 
--- the file of this name is not read; or what is to be printed cannot be; or something is said of its octets or its link
--- is refused, or there is no memory
+-- the file with this name is not read; or the output cannot be written; or its octets have a message or its link is
+-- refused, or memory runs out
 abbrev pub PlanFails : {F : Type 0} → (F → Option (List ℕ)) → List ℕ → End → Stage → Failure → Type 0
 PlanFails left_in name end stage failure = IsLinkUnread name failure ⊎ (failure ≡ failures.Output)
     ⊎ ((octets : List ℕ) × SaysWhy end stage octets failure

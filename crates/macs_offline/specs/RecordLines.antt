@@ -1,4 +1,4 @@
--- The records of a journal by what they are, and how many there are of each.
+-- The records of a journal by kind, and how many there are of each.
 use Rattle.std.specs.Prelude.{◌++◌, ◌==◌, if◌then◌else◌, ℕ, List, [], ◌∷◌, length, map, filter, codes}
 use Rattle.std.specs.Fmt.{decimal}
 use Rattle.std.specs.List.{concat}
@@ -10,8 +10,8 @@ use Rattle.macs_record.specs.declared.record.Record.TheVariants.{RxAdd, RxDrop, 
 use Rattle.macs_record.specs.declared.record.Record.TheVariants.{RxCeiling}
 use Rattle.macs_texts.specs.Lines.{line}
 
--- the word of a record: what it is of a snapshot, its command as in a command file, or that it is a ceiling; a key of
--- either length has the same one
+-- the word for a record: the part of a snapshot, the command as spelled in a command file, or a ceiling; the same for
+-- either key length
 abbrev pub record_word : Record → List ℕ
 record_word (Settings validate replay mode encoding) = codes "settings"
 record_word (TxSa an sa ceiling) = codes "tx-sa"
@@ -31,7 +31,7 @@ record_word (RxRemove sci an) = codes "rx-remove"
 record_word (TxCeiling an ceiling) = codes "tx-ceiling"
 record_word (RxCeiling sci an ceiling) = codes "rx-ceiling"
 
--- each word once, in the order of the numbers of the kinds
+-- each word once, in the order of the record kinds
 abbrev pub record_words : List (List ℕ)
 record_words =
     codes "settings" ∷ codes "tx-sa" ∷ codes "channel" ∷ codes "rx-sa" ∷ codes "spent" ∷ codes "set-validate"
@@ -39,18 +39,18 @@ record_words =
     ∷ codes "rx-add" ∷ codes "rx-drop" ∷ codes "rx-install" ∷ codes "rx-remove" ∷ codes "tx-ceiling"
     ∷ codes "rx-ceiling" ∷ []
 
--- the records that have this word
+-- the records with this word
 abbrev pub records_with : List ℕ → List Record → List Record
 records_with word records = filter (λ r. bytes_eq (record_word r) word) records
 
--- the line of a word that so many records have, where there are any
+-- the line of a word and its count, if the count is not zero
 abbrev pub count_line : List ℕ → ℕ → List ℕ
 count_line word n = if n == 0 then [] else line (codes "records " ++ (word ++ (codes " " ++ decimal n)))
 
--- and of one that these records may have
+-- the line of this word for these records
 abbrev pub record_line : List Record → List ℕ → List ℕ
 record_line records word = count_line word (length (records_with word records))
 
--- how many records there are of each word, a line for each that is there
+-- a line for each word that some record has, with the count
 abbrev pub records_text : List Record → List ℕ
 records_text records = concat (map (record_line records) record_words)

@@ -1,4 +1,4 @@
--- A key of a file, as it is shown.
+-- A key of a file, as it is displayed.
 use Rattle.std.specs.Prelude.{◌++◌, if◌then◌else◌, ℕ, nat_lt, List, [], length, map, take, codes}
 use Rattle.std.specs.Str.{chars, encode_utf8_all}
 use Rattle.macs_words.specs.Controls.{printable_char}
@@ -7,6 +7,6 @@ use Rattle.macs_words.specs.Controls.{printable_char}
 abbrev pub more_mark : List ℕ → List ℕ
 more_mark key = if nat_lt 64 (length (chars key)) then codes ".." else []
 
--- its first 64 characters, each of which is shown or has `?` in its place; and `..` where it has more
+-- its first 64 characters, with `?` for each control character, then `..` if it has more
 abbrev pub shown_key : List ℕ → List ℕ
 shown_key key = encode_utf8_all (map printable_char (take 64 (chars key))) ++ more_mark key

@@ -1,9 +1,9 @@
--- How the program ends.
+-- How the program exits.
 use Rattle.std.specs.Prelude.{ℕ}
 use Rattle.macs_offline.specs.declared.status.Status.{Status}
 use Rattle.macs_offline.specs.declared.status.Status.TheVariants as ends
 
--- what the process ends with
+-- the exit status of the process
 abbrev pub code_of : Status → ℕ
 code_of ends.Done = 0
 code_of ends.Usage = 2

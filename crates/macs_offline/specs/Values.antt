@@ -15,19 +15,19 @@ pub record SpellsIdentity (sci : List ℕ) (tx_block rx_block : ℕ) (identity :
   pub tx_fits : IsBlock tx_block
   pub rx_fits : IsBlock rx_block
 
--- the block of the device that is named is that of the layout: 512 where none is named
+-- the layout for the named block size of the device: 512 if none is named
 abbrev pub SpellsLayout : Option (List ℕ) → Layout → Type 0
 SpellsLayout None layout = layout ≡ Packed
 SpellsLayout (Some text) Packed = text ≡ codes "512"
 SpellsLayout (Some text) Spaced = text ≡ codes "4096"
 
--- what each fault says of the values
+-- when each fault of the values applies
 abbrev pub ValueFaultHolds : List ℕ → ℕ → ℕ → Option (List ℕ) → ValueFault → Type 0
 ValueFaultHolds sci tx_block rx_block block fault.Sci = (octets : List ℕ) → ¬ SpellsSci sci octets
 ValueFaultHolds sci tx_block rx_block block fault.TxBlock = ¬ IsBlock tx_block
 ValueFaultHolds sci tx_block rx_block block fault.RxBlock = ¬ IsBlock rx_block
 ValueFaultHolds sci tx_block rx_block block fault.DeviceBlock = (layout : Layout) → ¬ SpellsLayout block layout
 
--- in the order in which they are looked for
+-- in the order in which they are checked
 abbrev pub value_faults : List ValueFault
 value_faults = fault.Sci ∷ fault.TxBlock ∷ fault.RxBlock ∷ fault.DeviceBlock ∷ []

@@ -10,7 +10,7 @@ ghost use Rattle.macs_offline.specs.Addresses.{address_faults};
 use macs_words::WireEnds;
 use std::net::SocketAddr;
 
-/// Which word is no address, in the order in which they are looked at.
+/// Which word is not an address, in the order in which they are checked.
 #[derive(Clone, Copy)]
 pub enum AddressFault {
     Own1,
@@ -23,7 +23,7 @@ impl AddressFault {
     ghost use Rattle.std.specs.Prelude.{◌≡◌};
     ghost use Rattle.macs_offline.specs.Failing.{address_fault_text};
 
-    /// What the program says of it.
+    /// The program's message.
     pub fn text(self) -> &'static str
         ensures { result.now ≡ address_fault_text self }
     {
@@ -39,9 +39,9 @@ impl AddressFault {
 /// The addresses of a wire.
 #[derive(Clone, Copy)]
 pub struct WireAddresses {
-    /// Where it is bound.
+    /// The address it is bound to.
     pub own: SocketAddr,
-    /// Where its datagrams go to and come from.
+    /// The peer address of its datagrams.
     pub peer: SocketAddr,
 }
 
@@ -52,7 +52,7 @@ pub struct Addresses {
     pub common: WireAddresses,
 }
 
-/// The address that a text spells.
+/// Parses an address and port.
 fn address_of(text: &str) -> Option<SocketAddr>
     ensures read { IfSome result (IsSocketText text.now) }
     ensures none { result ≡ None → SpellsNone text.now }
@@ -60,8 +60,8 @@ fn address_of(text: &str) -> Option<SocketAddr>
     text.parse().ok()
 }
 
-/// The addresses that the ends of a wire spell. Refused with the fault that is given for the first
-/// text that is no address and port.
+/// The addresses of the two ends of a wire, or the fault given for the first text that is not an
+/// address and port.
 fn wire_of(
     ends: WireEnds,
     own_fault: AddressFault,
@@ -81,8 +81,8 @@ fn wire_of(
     Ok(WireAddresses { own, peer })
 }
 
-/// The addresses that the words spell. Refused with the first of `Own1`, `Peer1`, `Own2` and
-/// `Peer2` whose text is no address and port.
+/// The addresses of both wires. Fails with the first of `Own1`, `Peer1`, `Own2` and `Peer2` whose
+/// text is not an address and port.
 pub fn addresses_of(controlled: WireEnds, common: WireEnds) -> Result<Addresses, AddressFault>
     ensures controlled { IfOk result
         (λ addresses. SpellsEnds controlled.entry addresses.controlled) }

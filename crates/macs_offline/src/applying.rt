@@ -35,7 +35,7 @@ use toml::Table;
 /// The longest command file, in octets.
 pub const MAX_FILE: usize = 1_048_576;
 
-/// How many octets of a file are read: one more, so that a longer file is seen to be.
+/// How many octets of a file are read: one more than the limit, so that a longer file is detected.
 pub const MAX_READ: usize = MAX_FILE + 1;
 
 /// The table of a TOML text.
@@ -51,7 +51,7 @@ fn table_of(alloc: Global, text: &str) -> Result<Table, Failure>
     }
 }
 
-/// What a table says: its commands, and the end that they are for, where it names one.
+/// The contents of a table: its commands, and the end that they are for, if it names one.
 fn commands_told(alloc: Global, table: &Table) -> Result<CommandFile<Global>, Failure>
     ensures named { IfOk result (λ told. end_in (table_view table.now) ≡ Ok told.end) }
     ensures said { IfOk result
@@ -65,8 +65,8 @@ fn commands_told(alloc: Global, table: &Table) -> Result<CommandFile<Global>, Fa
     Ok(told)
 }
 
-/// What a command file says. It fails as `Memory`, or as `Commands` where it says no commands: it
-/// is too long, no text, no TOML, or has a fault of its own.
+/// Parses a command file. Fails with `Memory`, or with `Commands` if the octets are no command
+/// file: too many, not UTF-8, not TOML, or with a fault in the commands.
 pub fn commands_in(alloc: Global, octets: &[u8]) -> Result<CommandFile<Global>, Failure>
     ensures said { IfOk result (λ told. SaysCommands octets.now told.end told.commands.items) }
     ensures fault { IfErr result (λ failure. (failure ≡ Failure.Memory)
@@ -83,7 +83,7 @@ pub fn commands_in(alloc: Global, octets: &[u8]) -> Result<CommandFile<Global>, 
     commands_told(alloc, &table.0)
 }
 
-/// Whether a command file is for the end with this SCI: it names that, or none.
+/// Whether a command file is for the end with this SCI: it names that end, or none.
 fn is_for(end: Option<Sci>, sci: Sci) -> bool
     ensures { result ≡ is_for end sci }
 {
@@ -100,7 +100,7 @@ pub fn is_own<D: SectorDisk>(endpoint: &Endpoint<D>, end: Option<Sci>) -> bool
     is_for(end, endpoint.identity().sci())
 }
 
-/// The line of a command by its number, which was kept or refused.
+/// The line of a command: its number, and whether it was accepted or refused.
 pub fn outcome_line(at: usize, outcome: Option<Refusal>) -> Line
     ensures { result.items ≡ outcome_line at outcome }
 {
@@ -120,7 +120,7 @@ pub fn outcome_line(at: usize, outcome: Option<Refusal>) -> Line
     line
 }
 
-/// What a command comes to that is not kept: it is refused, or the run ends. The fault is not
+/// The result of a command that is not accepted: it is refused, or the run ends. The fault is not
 /// `Busy`.
 fn outcome_of(fault: CommandFault) -> Result<Option<Refusal>, DiskFault>
     requires { IsNotBusyCommand fault }
@@ -136,7 +136,7 @@ fn outcome_of(fault: CommandFault) -> Result<Option<Refusal>, DiskFault>
     }
 }
 
-/// Gives a command to the endpoint, which keeps or refuses it. No other one waits.
+/// Gives a command to the endpoint, which accepts or refuses it. No other command is pending.
 pub fn give<D: SectorDisk>(
     endpoint: &mut Endpoint<D>,
     command: Command,
@@ -153,7 +153,7 @@ pub fn give<D: SectorDisk>(
     }
 }
 
-/// Gives a command to the endpoint, prints its line, and answers whether it was refused.
+/// Gives a command to the endpoint, prints its line, and returns whether it was refused.
 fn apply_command<D: SectorDisk, W: Stream>(
     endpoint: &mut Endpoint<D>,
     at: usize,
@@ -176,7 +176,7 @@ fn apply_command<D: SectorDisk, W: Stream>(
     Ok(outcome.is_some())
 }
 
-/// How a run ends after one more command.
+/// The status of the run after one more command.
 pub fn status_after(status: Status, is_refused: bool) -> Status
     ensures { result ≡ (if is_refused then Status.Refused else status) }
 {
@@ -184,10 +184,10 @@ pub fn status_after(status: Status, is_refused: bool) -> Status
 }
 
 /// Gives these commands to the endpoint, one after another, and prints a line for each once it is
-/// answered: the line of a command that is kept is its acknowledgement. A refused one changes
-/// nothing, and the next one follows. It fails as `Disk` at the first command that is neither kept
-/// nor refused, with no line for it; and as `Output` at the first line that cannot be written and
-/// flushed, whose command was answered.
+/// answered: the line of an accepted command is its acknowledgement. A refused command changes
+/// nothing, and the next one follows. Fails with `Disk` at the first command that is neither
+/// accepted nor refused, without printing its line; and with `Output` at the first line that cannot
+/// be written and flushed, although its command was answered.
 pub fn apply_commands<D: SectorDisk, W: Stream>(
     endpoint: &mut Endpoint<D>,
     commands: &[Command],

@@ -1,4 +1,4 @@
-//! What captures ask of a file, besides what a disk does.
+//! What captures need from a file, besides what a disk does.
 
 ghost use Rattle.std.specs.Prelude.{◌≡◌, OnErr, OnOk};
 ghost use Rattle.std.specs.IoError.{error_kind};
@@ -9,17 +9,17 @@ use macs_disk::DiskFile;
 use std::fs::File;
 use std::io;
 
-/// A file that is read as a capture, or written as one.
+/// A file read or written as a capture.
 pub trait CaptureFile: DiskFile {
-    /// Claims the file until it is closed, along with other readers. An error where another open of
-    /// the file has claimed it for itself alone.
+    /// Claims the file until it is closed, along with other readers. Fails if another open of the
+    /// file has claimed it exclusively.
     fn share(&mut self) -> io::Result<()>
         ensures steady { (Self.file self.new).behaves ≡ (Self.file self.old).behaves }
         ensures effect { Behaves (Self.file self.old) → Self.file self.new ≡ Self.file self.old }
         ensures failure { NotesFailure (Self.failures self.old) (Self.failures self.new) Claims
             error_kind result };
 
-    /// Cuts the file to nothing. What becomes of a file that is not claimed is not said, since
+    /// Truncates the file to zero length. Nothing is promised for a file that is not claimed, since
     /// others may write to it.
     fn cut(&mut self) -> io::Result<()>
         ensures steady { (Self.file self.new).behaves ≡ (Self.file self.old).behaves }

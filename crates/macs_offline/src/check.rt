@@ -1,5 +1,5 @@
-//! `check`: whether the commands of a file can be read, and else the first fault; and what they
-//! would be answered.
+//! `check`: whether the commands of a file can be read, and if not, its first fault; and how an
+//! endpoint would answer them.
 
 ghost use Rattle.std.specs.Prelude.{◌≡◌, ◌≢◌, ◌⊎◌, ◌++◌, ◌<◌, ◌^◌, ◌==◌, if◌then◌else◌, codes, ℕ};
 ghost use Rattle.std.specs.Prelude.{List, Option, true, IfErr, IfOk, IfSome, option_map};
@@ -49,7 +49,7 @@ use std::io::Read;
 use std::rt::Files;
 use toml::Table;
 
-/// A key of a command, as it is written.
+/// A key of a command, as it is spelled.
 fn key_word(name: KeyName) -> &'static str
     ensures { result.now ≡ key_word name }
 {
@@ -66,7 +66,7 @@ fn key_word(name: KeyName) -> &'static str
     }
 }
 
-/// What a key of a command is not.
+/// What the value of a key should be and is not.
 fn key_reason(name: KeyName) -> &'static str
     ensures { result.now ≡ key_reason name }
 {
@@ -96,7 +96,7 @@ fn command_at(file: &Table, at: usize) -> Option<&Table>
     }
 }
 
-/// Whether command `at` of a file has no such key.
+/// Whether command `at` of a file lacks this key.
 fn lacks(file: &Table, at: usize, name: KeyName) -> bool
     ensures { result ≡ lacks (table_view file.now) at name }
 {
@@ -117,7 +117,7 @@ fn key_fault(file: &Table, at: usize, name: KeyName) -> &'static str
     }
 }
 
-/// The first key of command `at` of a file that the command does not have, empty if there is none.
+/// The first unknown key of command `at` of a file, empty if there is none.
 fn extra_key_at(file: &Table, at: usize) -> &str
     ensures { result.now ≡ extra_key_at (table_view file.now) at }
 {
@@ -130,7 +130,7 @@ fn extra_key_at(file: &Table, at: usize) -> &str
     }
 }
 
-/// What is said of a key of command `at` of a file that the command does not have.
+/// The message about an unknown key of command `at` of a file.
 fn extra_text(alloc: Global, file: &Table, at: usize) -> Result<String, AllocError>
     ensures { IfOk result
         (λ text. string_bytes text ≡ fault_text (table_view file.now) (config.Extra at)) }
@@ -139,7 +139,7 @@ fn extra_text(alloc: Global, file: &Table, at: usize) -> Result<String, AllocErr
     format!(in alloc; "command {at} {key}: not a key of this command")
 }
 
-/// What is said of the first fault of the commands of a file: its place, key and reason.
+/// The message about the first fault of the commands of a file: its place, key and reason.
 fn fault_text(alloc: Global, file: &Table, fault: ConfigFault) -> Result<String, AllocError>
     ensures { IfOk result (λ text. string_bytes text ≡ fault_text (table_view file.now) fault) }
 {
@@ -158,7 +158,8 @@ fn fault_text(alloc: Global, file: &Table, fault: ConfigFault) -> Result<String,
     }
 }
 
-/// The failure that says this of a command file or of a link's, unless there is no memory for it.
+/// The failure with this message about a command file or a link file, or `Memory` if there is no
+/// memory for it.
 pub fn failure_saying(text: Result<String, AllocError>) -> Failure
     ensures { (said : List ℕ) → IfOk text (λ t. string_bytes t ≡ said)
         → Complains (λ t. t ≡ said) result }
@@ -169,7 +170,7 @@ pub fn failure_saying(text: Result<String, AllocError>) -> Failure
     }
 }
 
-/// The failure that says the first fault of the commands of a file, unless that is `Memory`.
+/// The failure for the first fault of the commands of a file: its message, or `Memory`.
 fn failure_of_cause(alloc: Global, file: &Table, cause: ConfigFault) -> Failure
     ensures { Complains (λ t. (cause ≢ config.Memory)
         × (t ≡ fault_text (table_view file.now) cause)) result }
@@ -180,7 +181,7 @@ fn failure_of_cause(alloc: Global, file: &Table, cause: ConfigFault) -> Failure
     }
 }
 
-/// The failure that says the first fault of a command file, unless that is want of memory.
+/// The failure for the first fault of a command file: its message, or `Memory`.
 fn failure_of_fault(alloc: Global, file: &Table, fault: CommandFileFault) -> Failure
     ensures { Complains (λ t. (fault ≢ told.Commands config.Memory)
         × (t ≡ file_fault_text (table_view file.now) fault)) result }
@@ -194,7 +195,7 @@ fn failure_of_fault(alloc: Global, file: &Table, fault: CommandFileFault) -> Fai
     }
 }
 
-/// What a table of TOML says.
+/// The contents of a TOML table.
 fn commands_in_table(alloc: Global, table: &Table) -> Result<CommandFile<Global>, Failure>
     ensures named { IfOk result (λ told. end_in (table_view table.now) ≡ Ok told.end) }
     ensures said { IfOk result
@@ -208,7 +209,7 @@ fn commands_in_table(alloc: Global, table: &Table) -> Result<CommandFile<Global>
     }
 }
 
-/// What a text says.
+/// The contents of a text.
 fn commands_in_text(alloc: Global, text: &str) -> Result<CommandFile<Global>, Failure>
     ensures said { IfOk result (λ told. (members : Members)
         × (parse_document text.now ≡ Some members) × (end_in members ≡ Ok told.end)
@@ -221,7 +222,7 @@ fn commands_in_text(alloc: Global, text: &str) -> Result<CommandFile<Global>, Fa
     }
 }
 
-/// What the octets of a command file say.
+/// The contents of a command file.
 fn commands_said(alloc: Global, octets: &[u8]) -> Result<CommandFile<Global>, Failure>
     ensures said { IfOk result (λ told. SaysCommands octets.now told.end told.commands.items) }
     ensures fault { IfErr result (Complains (IsSaidOfFile octets.now)) }
@@ -237,8 +238,9 @@ fn commands_said(alloc: Global, octets: &[u8]) -> Result<CommandFile<Global>, Fa
     commands_in_text(alloc, text)
 }
 
-/// What an open command file of this name says, of which no more is read than can be of use. It
-/// fails as `Said` with the reason where a read fails, else with the first fault, or as `Memory`.
+/// The contents of an open command file with this name, of which no more is read than the limit
+/// needs. Fails with `Said`, with the reason if a read fails, else with the first fault; or with
+/// `Memory`.
 fn commands_read<R: Read>(
     alloc: Global,
     name: &str,
@@ -260,7 +262,7 @@ fn commands_read<R: Read>(
     }
 }
 
-/// The line that says how many commands there are.
+/// The line with the number of commands.
 fn count_line(count: usize) -> Line
     ensures { result.items ≡ count_line count }
 {
@@ -275,15 +277,15 @@ fn count_line(count: usize) -> Line
     line
 }
 
-/// What a command file says, whose mode is left in `mode`. It fails as `Said`, with the reason
-/// where it cannot be opened or read, else with the first fault; or as `Memory`.
+/// The contents of a command file, whose mode is stored in `mode`. Fails with `Said`, with the
+/// reason if the file cannot be opened or read, else with its first fault; or with `Memory`.
 fn checked_commands<T: Files>(
     rt: &T,
     alloc: Global,
     path: &str,
     mode: &mut Option<u32>,
 ) -> Result<CommandFile<Global>, Failure>
-    // A file was opened, and it says this.
+    // A file was opened, and these are its contents.
     ensures said { IfOk result
         (λ told. SaidByFile T.File.remaining told.end told.commands.items) }
     ensures spelled { IfOk result
@@ -301,7 +303,7 @@ fn checked_commands<T: Files>(
     }
 }
 
-/// What a command file says. It fails as `checked_commands` does.
+/// The contents of a command file. Fails as `checked_commands` does.
 pub fn commands_told<T: Files>(
     rt: &T,
     alloc: Global,
@@ -316,7 +318,7 @@ pub fn commands_told<T: Files>(
     checked_commands(rt, alloc, path, &mut mode)
 }
 
-/// Prints how many commands there are, and what is said of the mode of their file.
+/// Prints the number of commands, and a warning about the mode of their file.
 fn print_count<W: Stream>(count: usize, mode: Option<u32>, out: &mut W) -> Result<Status, Failure>
     ensures printed { IfOk result (λ status. Appends (W.contents out.old) (W.contents out.new)
         (count_line count ++ mode_warning mode) × (status ≡ Status.Done)) }
@@ -328,15 +330,16 @@ fn print_count<W: Stream>(count: usize, mode: Option<u32>, out: &mut W) -> Resul
     Ok(Status::Done)
 }
 
-/// What is said of the command with this number, from 1 on, whose key an endpoint that is gone had.
+/// The message about the command with this number, counting from 1, whose key belonged to an
+/// endpoint that is gone.
 fn spent_text(alloc: Global, at: usize) -> Result<String, AllocError>
     ensures { IfOk result (λ text. string_bytes text ≡ spent_text at) }
 {
     format!(in alloc; "command {at} key: an earlier disk file of this name had it")
 }
 
-/// Looks for the keys of these commands in the list beside a disk file. It fails as `Said`, where
-/// an endpoint that is gone had one of them, or the list cannot be read; or as `Memory`.
+/// Looks up the keys of these commands in the list beside a disk file. Fails with `Said` if one of
+/// them belonged to an endpoint that is gone, or if the list cannot be read; or with `Memory`.
 fn refuse_spent<T: Files>(
     rt: &T,
     alloc: Global,
@@ -357,9 +360,9 @@ fn refuse_spent<T: Files>(
     }
 }
 
-/// Prints what these commands of a file would be answered by the endpoint on the disk in another,
-/// which is the end that they are for, and what is said of the mode of their file. It fails as
-/// `try_in` does, then as `refuse_spent`, and as `Memory`, with nothing printed before.
+/// Prints how the endpoint on the disk in another file would answer these commands of a file, if it
+/// is the end that they are for, and a warning about the mode of their file. Fails as `try_in`
+/// does, then as `refuse_spent`, and with `Memory`, before anything is printed.
 fn print_trial<T: Files, W: Stream>(
     rt: &T,
     alloc: Global,
@@ -391,12 +394,12 @@ where
     Ok(outcomes_status(outcomes.as_slice()))
 }
 
-/// `check`: prints how many commands a file says, or what each of them would be answered by the
-/// endpoint on the disk in a file, and the mode of the command file where others can read it.
-/// Neither file is changed. It fails as `Said`, with the reason where the command file cannot be
-/// opened or read, else with its first fault; then, with a disk, as `try_in` does, and as `Said`,
-/// where an endpoint that is gone had a key of its commands; and as `Memory`, and as `Output` where
-/// a line cannot be printed.
+/// `check`: prints how many commands a file has, or how the endpoint on the disk in a file would
+/// answer each of them, and the mode of the command file if others can read it. Neither file is
+/// changed. Fails with `Said`, with the reason if the command file cannot be opened or read, else
+/// with its first fault; then, with a disk, as `try_in` does, and with `Said` if a key of its
+/// commands belonged to an endpoint that is gone; with `Memory`; and with `Output` if a line cannot
+/// be printed.
 pub fn check<T: Files, W: Stream>(
     rt: &T,
     alloc: Global,

@@ -1,4 +1,4 @@
-//! What is in a file before it is written over.
+//! What a file holds before it is overwritten.
 
 ghost use Rattle.std.specs.Prelude.{◌≡◌, ◌↔◌, ◌<◌, ◌≤◌, ◌+◌, ◌*◌, ◌/◌, ◌^◌, IfErr, IfOk, IsTrue};
 ghost use Rattle.std.specs.Prelude.{OnOk, ℕ};
@@ -24,21 +24,21 @@ const HEADS: [u64; 2] = [0, 514];
 
 const HEAD_GATES: [u64; 2] = [1, 515];
 
-/// What a head begins with, and what an open gate begins with.
+/// The first octets of a head, and those of an open gate.
 const HEAD_MARK: &[u8; 8] = b"MSECHEAD";
 
 const OPEN_MARK: &[u8; 8] = b"MSECOPEN";
 
-/// The sector that has the mark of a spaced file: 1,028 blocks are in front of it.
+/// The sector with the mark of a spaced file, after 1,028 blocks.
 pub const SPACED_MARK_SECTOR: u64 = 8_224;
 
-/// How many sectors of a file are read before it is asked again where its next hole ends.
+/// How many sectors of a file are read before the end of its next hole is looked up again.
 const HOLE_SECTORS: u64 = 128;
 
-/// What is in a file that is to become the disk of an endpoint.
+/// What a file holds that is to become the disk of an endpoint.
 #[derive(Clone, Copy, Debug, PartialEq, Eq)]
 pub enum Contents {
-    /// Zeros, but for what a `format` that was cut short may have left.
+    /// Zeros, except for what an interrupted `format` may have left.
     Blank,
     /// An endpoint: the gate of a head is open.
     Endpoint,
@@ -46,7 +46,7 @@ pub enum Contents {
     Other,
 }
 
-/// Reads the sector of this number, counted from the start of the file.
+/// Reads the sector with this number, counting from the start of the file.
 pub fn read_sector<F: DiskFile>(
     file: &mut F,
     number: u64,
@@ -63,14 +63,14 @@ pub fn read_sector<F: DiskFile>(
     read_exact_at(file, SECTOR as u64 * number, sector)
 }
 
-/// Whether a sector begins so.
+/// Whether a sector begins with these octets.
 fn has_front(sector: &[u8; SECTOR], front: &[u8; 8]) -> bool
     ensures { IsTrue result ↔ Begins front.now sector.now }
 {
     sector.starts_with(front)
 }
 
-/// Whether a file of so many sectors has one of this number that begins so.
+/// Whether a file of `sectors` sectors has one with this number, and it begins with `front`.
 pub fn begins<F: DiskFile>(
     file: &mut F,
     sectors: u64,
@@ -91,7 +91,8 @@ pub fn begins<F: DiskFile>(
     Ok(has_front(&sector, front))
 }
 
-/// Whether this sector of a disk begins so, where the disk lies in the file packed or spaced.
+/// Whether this sector of a disk begins with these octets, if the disk lies in the file packed or
+/// spaced.
 fn begins_in_either<F: DiskFile>(
     file: &mut F,
     sectors: u64,
@@ -124,7 +125,7 @@ fn has_open_gate<F: DiskFile>(file: &mut F, sectors: u64) -> io::Result<bool>
     Ok(is_first || is_second)
 }
 
-/// Whether there is the mark of a head.
+/// Whether the file has the mark of a head.
 fn has_head_mark<F: DiskFile>(file: &mut F, sectors: u64) -> io::Result<bool>
     requires { 512 * sectors < 2 ^ 64 }
     ensures steady { (F.file file.new).behaves ≡ (F.file file.old).behaves }
@@ -138,9 +139,9 @@ fn has_head_mark<F: DiskFile>(file: &mut F, sectors: u64) -> io::Result<bool>
     Ok(is_first || is_second)
 }
 
-/// What a `format` that was cut short may have left in the sector of this number, after the first:
-/// the gate of the head and the first record, packed or spaced, and the mark of a spaced file.
-/// Elsewhere it leaves zeros.
+/// What an interrupted `format` may have left in the sector with this number, other than the first:
+/// the gate of the head and the first record, packed or spaced, and the mark of a spaced file. It
+/// leaves zeros in all other sectors.
 fn leftover(number: u64) -> [u8; SECTOR]
     ensures { result ≡ leftover number }
 {
@@ -156,7 +157,7 @@ fn leftover(number: u64) -> [u8; SECTOR]
     CLOSED_GATE
 }
 
-/// Whether each octet of a sector is zero, or the one that is in its place in the other.
+/// Whether each octet of a sector is zero or equals the octet at the same place in the other.
 fn is_part_of(sector: &[u8; SECTOR], whole: &[u8; SECTOR]) -> bool
     ensures { IsTrue result ↔ IsPartOf sector.now whole.now }
 {
@@ -168,15 +169,15 @@ fn is_part_of(sector: &[u8; SECTOR], whole: &[u8; SECTOR]) -> bool
     true
 }
 
-/// Whether a sector is that of a head.
+/// Whether a sector is a head.
 fn is_head(sector: &[u8; SECTOR]) -> bool
     ensures { IsTrue result ↔ ((head : Head) × IsHeadOf head sector.now) }
 {
     decode_head(sector).is_some()
 }
 
-/// Whether the sector of this number holds zeros, or what a `format` that was cut short may have
-/// left there: in the first one a head.
+/// Whether the sector with this number holds zeros, or what an interrupted `format` may have left
+/// there: in the first one a head.
 fn is_unused(number: u64, sector: &[u8; SECTOR]) -> bool
     ensures { IsTrue result ↔ IsUnused number sector.now }
 {
@@ -186,8 +187,8 @@ fn is_unused(number: u64, sector: &[u8; SECTOR]) -> bool
     is_part_of(sector, &leftover(number))
 }
 
-/// The first sector from this one on that may have others than zeros. Holes of the file are looked
-/// for in front of each block of `HOLE_SECTORS`.
+/// The first sector from this one on that may hold anything but zeros. Holes of the file are looked
+/// up before each block of `HOLE_SECTORS`.
 fn next_data<F: DiskFile>(file: &mut F, number: u64) -> u64
     requires { 512 * number < 2 ^ 64 }
     ensures after { number ≤ result }
@@ -226,7 +227,7 @@ fn is_blank<F: DiskFile>(file: &mut F, sectors: u64) -> io::Result<bool>
     Ok(true)
 }
 
-/// What is in a file of so many sectors. No octet of it is changed.
+/// What a file of `sectors` sectors holds. The file is not changed.
 pub fn contents_of<F: DiskFile>(file: &mut F, sectors: u64) -> io::Result<Contents>
     requires { 512 * sectors < 2 ^ 64 }
     ensures steady { (F.file file.new).behaves ≡ (F.file file.old).behaves }
@@ -243,8 +244,8 @@ pub fn contents_of<F: DiskFile>(file: &mut F, sectors: u64) -> io::Result<Conten
     Ok(Contents::Other)
 }
 
-/// Whether a file holds an endpoint, in use or not: the mark of a head or an open gate of one
-/// is in either area, packed or spaced. No octet of it is changed.
+/// Whether a file holds an endpoint, in use or not: either area has the mark of a head or an open
+/// head gate, packed or spaced. The file is not changed.
 pub fn holds_endpoint<F: DiskFile>(file: &mut F) -> io::Result<bool>
     ensures steady { (F.file file.new).behaves ≡ (F.file file.old).behaves }
     ensures same { Behaves (F.file file.old) → F.file file.new ≡ F.file file.old }

@@ -27,11 +27,11 @@ use std::io;
 /// How many sectors the two areas of a journal have.
 const SECTORS: u64 = 1_028;
 
-/// What the mark of a spaced file begins with.
+/// The first octets of the mark of a spaced file.
 const MARK: &[u8; 8] = b"MSEC4096";
 
-/// Claims a file together with other readers, and answers how many sectors of 512 octets it has;
-/// `Length` if there is a rest.
+/// Claims a file along with other readers, and returns how many sectors of 512 octets it has;
+/// `Length` if there is a remainder.
 pub fn measure<F: CaptureFile>(file: &mut F) -> Result<u64, FileFault>
     ensures steady { (F.file file.new).behaves ≡ (F.file file.old).behaves }
     ensures same { Behaves (F.file file.old) → F.file file.new ≡ F.file file.old }
@@ -52,7 +52,7 @@ pub fn measure<F: CaptureFile>(file: &mut F) -> Result<u64, FileFault>
     Ok(octets / SECTOR as u64)
 }
 
-/// The layout of the disk in a file of so many sectors: spaced where it has that mark.
+/// The layout of the disk in a file of `sectors` sectors: spaced if it has the mark.
 pub fn find_layout<F: DiskFile>(file: &mut F, sectors: u64) -> io::Result<Layout>
     requires { 512 * sectors < 2 ^ 64 }
     ensures steady { (F.file file.new).behaves ≡ (F.file file.old).behaves }
@@ -68,7 +68,7 @@ pub fn find_layout<F: DiskFile>(file: &mut F, sectors: u64) -> io::Result<Layout
     }
 }
 
-/// The number of a sector of a disk, counted from the start of its file.
+/// The number of a sector of a disk, counting from the start of its file.
 fn number_of(layout: Layout, at: u64) -> u64
     requires { at < least_sectors }
     ensures { result ≡ number_of layout at }
@@ -140,7 +140,7 @@ fn blank_copy(alloc: Global) -> Result<MemDisk, FileFault>
     }
 }
 
-/// Copies the disk in a file of so many sectors.
+/// Copies the disk in a file of `sectors` sectors.
 fn copy_disk<F: DiskFile>(alloc: Global, file: &mut F, sectors: u64) -> Result<MemDisk, FileFault>
     requires { 512 * sectors < 2 ^ 64 }
     ensures same { Behaves (F.file file.old) → F.file file.new ≡ F.file file.old }
@@ -157,11 +157,11 @@ fn copy_disk<F: DiskFile>(alloc: Global, file: &mut F, sectors: u64) -> Result<M
     Ok(copy)
 }
 
-/// A copy in memory of the disk in a file that is open to read, of 1,028 sectors. The file is
-/// claimed together with other readers, and no octet of it is changed. It fails as `Disk` with the
-/// first fault: `File` where the file is claimed by a writer or cannot be measured, `Length` where
-/// it is not whole sectors, `Journal` with `TooSmall` where they are fewer, and with `Disk` where a
-/// sector cannot be read; and as `Memory`.
+/// A copy in memory of the disk in a file that is open for reading, of 1,028 sectors. The file is
+/// claimed along with other readers and not changed. Fails with `Disk` and the first fault: `File`
+/// if a writer has claimed the file or it cannot be measured, `Length` if it is not whole sectors,
+/// `Journal` with `TooSmall` if there are too few, and with `Disk` if a sector cannot be read; or
+/// with `Memory`.
 pub fn copy_of<F: CaptureFile>(alloc: Global, file: &mut F) -> Result<MemDisk, Failure>
     ensures same { Behaves (F.file file.old) → F.file file.new ≡ F.file file.old }
     ensures copied { Behaves (F.file file.old)

@@ -1,4 +1,4 @@
-//! `examine`: what the journal of the disk in a file has, which is only read.
+//! `examine`: a report on the journal of the disk in a file, which is only read.
 
 ghost use Rattle.std.specs.Prelude.{◌≡◌, ◌≢◌, ◌⊎◌, ◌≤◌, ◌%◌, true, Ok, IfErr, IfOk, IsErrOf};
 ghost use Rattle.std.specs.Prelude.{List, string_bytes};
@@ -46,8 +46,8 @@ use macs_store::{OpenRefused, Store};
 use std::alloc::{AllocError, Global};
 use std::rt::Files;
 
-/// The figures of a journal, the lines of its records, unless memory is refused, and the disk that
-/// it was found on.
+/// The figures of a journal, the lines of its records unless memory ran out, and the disk that it
+/// was found on.
 #[derive(Drop)]
 struct Examined {
     figures: Figures,
@@ -55,14 +55,14 @@ struct Examined {
     disk: MemDisk,
 }
 
-/// What is said of a disk, and the status of the run that says it.
+/// The report on a disk, and the status of the run.
 #[derive(Drop)]
 struct Said {
     text: String,
     status: Status,
 }
 
-/// Finds the journal of a disk in memory, in a room that the caller lends for its records.
+/// Finds the journal of a disk in memory, with a buffer from the caller for its records.
 fn find_with(
     alloc: Global,
     copy: MemDisk,
@@ -115,8 +115,8 @@ fn find(alloc: Global, copy: MemDisk) -> Result<Examined, RecoverRefused<MemDisk
     find_with(alloc, copy, &mut new_room())
 }
 
-/// What is said of a journal with these figures and the lines of its records, whose disk was opened
-/// to a store or refused.
+/// The report on a journal with these figures and record lines, whose disk was opened as a store or
+/// refused.
 #[inline(never)]
 fn report_journal(
     alloc: Global,
@@ -146,7 +146,7 @@ fn report_journal(
     }
 }
 
-/// What is said of a disk whose journal is bad: its first fault.
+/// The report on a disk whose journal is bad: its first fault.
 fn report_fault(alloc: Global, disk: &MemDisk) -> Result<Said, Failure>
     requires room { least_sectors ≤ (disk_of disk.now).sectors }
     requires bad { IsBadJournal (now (disk_of disk.now)).durable }
@@ -166,7 +166,7 @@ fn report_fault(alloc: Global, disk: &MemDisk) -> Result<Said, Failure>
     }
 }
 
-/// What is said of a disk on which no journal was found: the first fault of a bad one.
+/// The report on a disk on which no journal was found: the first fault of a bad one.
 #[inline(never)]
 fn report_refused(alloc: Global, refused: &RecoverRefused<MemDisk>) -> Result<Said, Failure>
     requires room { refused.now.fault ≡ JournalFault.BadJournal
@@ -185,9 +185,9 @@ fn report_refused(alloc: Global, refused: &RecoverRefused<MemDisk>) -> Result<Sa
     }
 }
 
-/// What is said of the disk in memory that is a copy of one in this layout: what is found, or the
-/// first fault of a bad journal. It fails as `Memory`, and as `Disk` with another fault for which
-/// no endpoint is opened on it.
+/// The report on an in-memory copy of a disk with this layout: what is found, or the first fault of
+/// a bad journal. Fails with `Memory`, and with `Disk` for any other fault that keeps an endpoint
+/// from being opened on it.
 fn examine_copy(alloc: Global, layout: Layout, copy: MemDisk) -> Result<Said, Failure>
     ensures reported { IfOk result
         (λ said. Says (now (disk_of copy)).seen layout (string_bytes said.text) said.status) }
@@ -205,7 +205,7 @@ fn examine_copy(alloc: Global, layout: Layout, copy: MemDisk) -> Result<Said, Fa
     }
 }
 
-/// How the disk in a file of whole sectors lies there.
+/// The layout of the disk in a file of whole sectors.
 fn layout_of<F: CaptureFile>(file: &mut F) -> Result<Layout, FileFault>
     ensures found { Behaves (F.file file.old)
         → IfOk result (λ layout. layout ≡ layout_in (F.file file.old)) }
@@ -219,9 +219,9 @@ fn layout_of<F: CaptureFile>(file: &mut F) -> Result<Layout, FileFault>
     Ok(layout)
 }
 
-/// What is said of the disk in a file, which is opened to be read alone. It fails as `DiskFile`
-/// with the reason where there is no regular file that can be opened, or a writer has claimed it;
-/// then as `copy_of` and `examine_copy` do.
+/// The report on the disk in a file, which is opened only for reading. Fails with `DiskFile` and
+/// the reason if there is no regular file that can be opened, or a writer has claimed it; then as
+/// `copy_of` and `examine_copy` do.
 fn examine_in<T: Files>(rt: &T, alloc: Global, path: &str) -> Result<Said, Failure>
 where
     T::File: CaptureFile,
@@ -239,8 +239,8 @@ where
     }
 }
 
-/// Prints what is said of a disk, as JSON where that is wanted. A refusal is no report, and is
-/// printed as it is.
+/// Prints the report on a disk, as JSON if requested. A refusal is not a report, and is printed as
+/// plain text.
 fn print_said<W: Stream>(
     alloc: Global,
     said: &Said,
@@ -264,8 +264,8 @@ fn print_said<W: Stream>(
     }
 }
 
-/// `examine`: prints what the journal of the disk in a file has, as JSON where that is wanted, or
-/// its first fault, which is a refusal. The file is not changed.
+/// `examine`: prints a report on the journal of the disk in a file, as JSON if requested, or its
+/// first fault, which is a refusal. The file is not changed.
 pub fn examine<T: Files, W: Stream>(
     rt: &T,
     alloc: Global,

@@ -1,4 +1,4 @@
-//! What `examine` says of a journal, as text.
+//! The report of `examine` on a journal, as text.
 
 ghost use Rattle.std.specs.Prelude.{◌≡◌, List, codes, map, IfOk, string_bytes};
 ghost use Rattle.std.specs.List.{concat};
@@ -26,11 +26,11 @@ use std::alloc::{AllocError, Global};
 /// How many slots an area has.
 const SLOTS: u64 = 256;
 
-/// How many keys may be spent on either side.
+/// How many keys may be spent in each direction.
 const SPENT: u64 = 512;
 
-/// What the recovery of a journal finds: the format of its current area, which of the two that is,
-/// its generation, and how many of its slots are used.
+/// What recovery of a journal finds: the format of its current area, which of the two areas that
+/// is, its generation, and how many of its slots are used.
 #[derive(Clone, Copy)]
 pub struct Figures {
     pub format: Format,
@@ -49,7 +49,7 @@ fn format_number(format: Format) -> u64
     }
 }
 
-/// How many octets of the device a sector has for itself.
+/// How many octets of the device each sector takes up.
 fn block_of(layout: Layout) -> u64
     ensures { result ≡ block_of layout }
 {
@@ -66,21 +66,21 @@ fn number_line(alloc: Global, name: &str, number: u64) -> Result<String, AllocEr
     ended(format!(in alloc; "{name} {number}")?)
 }
 
-/// A line of a name, a number and its greatest value.
+/// A line of a name, a number and its maximum.
 fn part_line(alloc: Global, name: &str, number: u64, most: u64) -> Result<String, AllocError>
     ensures { IfOk result (λ text. string_bytes text ≡ part_line name.now number most) }
 {
     ended(format!(in alloc; "{name} {number} of {most}")?)
 }
 
-/// The line of the first fault of a bad journal, which is in this sector.
+/// The line for a bad journal, whose first fault is in this sector.
 pub fn fault_line(alloc: Global, at: u64) -> Result<String, AllocError>
     ensures { IfOk result (λ text. string_bytes text ≡ fault_line at) }
 {
     number_line(alloc, "fault in sector", at)
 }
 
-/// The line of the ceiling of a transmit association, where it has one.
+/// The line of a transmit association's ceiling, if it has one.
 fn tx_line(alloc: Global, an: An, ceiling: Option<Ceiling>) -> Result<String, AllocError>
     ensures { IfOk result (λ text. string_bytes text ≡ tx_ceiling_line an ceiling) }
 {
@@ -94,7 +94,7 @@ fn tx_line(alloc: Global, an: An, ceiling: Option<Ceiling>) -> Result<String, Al
     }
 }
 
-/// The line of the ceiling of a receive association, where it has one.
+/// The line of a receive association's ceiling, if it has one.
 fn rx_line(alloc: Global, sci: Sci, an: An, ceiling: Option<Ceiling>) -> Result<String, AllocError>
     ensures { IfOk result (λ text. string_bytes text ≡ rx_ceiling_line sci an ceiling) }
 {
@@ -109,7 +109,7 @@ fn rx_line(alloc: Global, sci: Sci, an: An, ceiling: Option<Ceiling>) -> Result<
     }
 }
 
-/// The ceilings of the transmit associations by their numbers.
+/// The ceilings of the transmit associations, by number.
 fn tx_text<D: SectorDisk>(alloc: Global, store: &Store<D>) -> Result<String, AllocError>
     ensures { IfOk result (λ text. string_bytes text
         ≡ concat (map (tx_ceiling_text (standing_in store.now)) association_numbers)) }
@@ -121,7 +121,7 @@ fn tx_text<D: SectorDisk>(alloc: Global, store: &Store<D>) -> Result<String, All
     Ok(text)
 }
 
-/// The ceilings of a channel's associations by their numbers.
+/// The ceilings of a channel's associations, by number.
 fn channel_text<D: SectorDisk>(
     alloc: Global,
     store: &Store<D>,
@@ -167,14 +167,14 @@ fn figures_text(alloc: Global, layout: Layout, figures: Figures) -> Result<Strin
     )
 }
 
-/// That the journal is whole.
+/// States that the journal is whole.
 fn whole_line(alloc: Global) -> Result<String, AllocError>
     ensures { IfOk result (λ text. string_bytes text ≡ line (codes "whole")) }
 {
     ended(String::from_str(alloc, "whole")?)
 }
 
-/// How many keys are spent on either side, and that the journal is whole.
+/// How many keys are spent in each direction, and that the journal is whole.
 fn end_text(alloc: Global, config: &Config) -> Result<String, AllocError>
     ensures { IfOk result (λ text. string_bytes text ≡ end_text (config_of config.now)) }
 {
@@ -188,8 +188,8 @@ fn end_text(alloc: Global, config: &Config) -> Result<String, AllocError>
     )
 }
 
-/// What `examine` says of a journal with these figures and the lines of its records, which stand
-/// for what is in a store. It fails only where memory is refused.
+/// The report of `examine` on a journal with these figures and record lines, whose meaning is in a
+/// store. Fails only if memory runs out.
 pub fn examined_text<D: SectorDisk>(
     alloc: Global,
     layout: Layout,

@@ -21,21 +21,21 @@ use std::alloc::AllocError;
 /// What is wrong with a disk file.
 #[derive(Clone, Copy)]
 pub enum DiskFault {
-    /// It cannot be opened or made, another program has claimed it, or it has no room; or its name
-    /// cannot be made durable; or a new endpoint would be written over something else.
+    /// It cannot be opened or created, another program has claimed it, or there is no space for it;
+    /// or its name cannot be made durable; or a new endpoint would overwrite something else.
     File,
-    /// It is not a whole number of sectors of 512 octets.
+    /// Its length is not a multiple of 512 octets.
     Length,
-    /// Something on it failed, or what is on it is no journal.
+    /// An operation on it failed, or it does not hold a journal.
     Journal(JournalFault),
 }
 
-/// Why a link is refused though its file says all that a link has.
+/// Why a link is refused although its file is complete.
 #[derive(Clone, Copy)]
 pub enum LinkRefusal {
-    /// Both ends have one SCI.
+    /// Both ends have the same SCI.
     SameSci,
-    /// A key is there twice.
+    /// A key occurs twice.
     SameKey,
     /// A pair of keys has the association number of the one before it.
     AnInUse,
@@ -46,35 +46,35 @@ pub enum LinkRefusal {
 pub enum Failure {
     /// The words name no action, for this cause.
     Usage(String),
-    /// A value among the words is none that the program takes.
+    /// A value among the words is not accepted.
     Value(ValueFault),
-    /// A word that is an address is none.
+    /// A word should be an address and is not.
     Address(AddressFault),
-    /// The disk file does not serve.
+    /// The disk file cannot be used.
     Disk(DiskFault),
     /// A capture cannot be opened, read or written by a run over frames.
     Capture,
-    /// A command file that is applied cannot be read, spells no commands, or is for another
-    /// endpoint.
+    /// A command file to apply cannot be read, has no valid commands, or is for another endpoint.
     Commands,
     /// A wire cannot be bound.
     Wire,
-    /// A control socket cannot be bound; or no relay is at it, or what is said there is no answer.
+    /// A control socket cannot be bound; or no relay is listening on it, or the reply is not a
+    /// valid answer.
     Control,
-    /// The system's random source gives nothing.
+    /// The system's random source fails.
     Random,
-    /// A file or a socket that the words name does not serve, or what a command file or a link's
-    /// file says has a fault: this is said of it.
+    /// A file or a socket among the words cannot be used, or a command file or a link file has a
+    /// fault: this is the message.
     Said(String),
-    /// The disk file cannot be read, of which this is said.
+    /// The disk file cannot be read; this is the message.
     DiskFile(String),
-    /// A command file that is tried on a disk is for another end.
+    /// A command file to be tried on a disk is for another end.
     OtherEnd,
-    /// A link that a file says is refused.
+    /// The link in a file is refused.
     Link(LinkRefusal),
     /// Out of memory.
     Memory,
-    /// The input cannot be read, or spells no request.
+    /// The input cannot be read, or is not a request.
     Input(InputFault),
     /// The answer cannot be written.
     Output,
@@ -84,7 +84,7 @@ impl DiskFault {
     ghost use Rattle.std.specs.Prelude.{◌≡◌};
     ghost use Rattle.macs_offline.specs.Failing.{disk_fault_text};
 
-    /// What the program says of it.
+    /// The program's message.
     pub fn text(self) -> &'static str
         ensures { result.now ≡ disk_fault_text self }
     {
@@ -106,7 +106,7 @@ impl LinkRefusal {
     ghost use Rattle.std.specs.Prelude.{◌≡◌};
     ghost use Rattle.macs_offline.specs.Failing.{link_refusal_text};
 
-    /// What the program says of it.
+    /// The program's message.
     pub fn text(self) -> &'static str
         ensures { result.now ≡ link_refusal_text self }
     {
@@ -122,7 +122,7 @@ impl Failure {
     ghost use Rattle.std.specs.Prelude.{◌≡◌};
     ghost use Rattle.macs_offline.specs.Failing.{failure_status, failure_text};
 
-    /// What the program says of it, in one line.
+    /// The program's message, one line.
     pub fn text(&self) -> &str
         ensures { result.now ≡ failure_text self.now }
     {
@@ -146,7 +146,7 @@ impl Failure {
         }
     }
 
-    /// What the run ends with.
+    /// The status of the run.
     pub fn status(&self) -> Status
         ensures { result ≡ failure_status self.now }
     {
@@ -334,8 +334,8 @@ impl From<PcapFault> for Failure {
     }
 }
 
-/// The failure where packet numbers are not reserved. The fault is not `Busy`: no command waits, or
-/// a step is made and no refill.
+/// The failure if packet numbers are not reserved. The fault is not `Busy`: either no command is
+/// pending, or a step is made instead of a refill.
 pub fn failure_of_refill(fault: RefillFault) -> Failure
     requires { IsNotBusy fault }
     ensures { result ≡ failure_of_refill fault }
@@ -348,7 +348,7 @@ pub fn failure_of_refill(fault: RefillFault) -> Failure
     }
 }
 
-/// The failure of a run over a capture. The fault is not `Busy`: no command waits.
+/// The failure of a run over a capture. The fault is not `Busy`: no command is pending.
 pub fn failure_of_run(fault: RunFault) -> Failure
     requires { IsNotBusyRun fault }
     ensures { result ≡ failure_of_run fault }

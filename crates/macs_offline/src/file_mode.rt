@@ -10,8 +10,8 @@ use crate::stream::Stream;
 use std::fs::OpenFile;
 use std::os::unix::fs::MetadataExt;
 
-/// The mode of an open file, where it is a regular one and the system says it. Where a link was
-/// opened, it is that of the file to which the link leads.
+/// The mode of an open file, if it is a regular file and the system reports it. For a link, it is
+/// the mode of the file that the link leads to.
 pub fn mode_of<F: OpenFile>(file: &F) -> Option<u32> {
     match file.metadata() {
         Ok(about) => {
@@ -25,14 +25,14 @@ pub fn mode_of<F: OpenFile>(file: &F) -> Option<u32> {
     }
 }
 
-/// The last octal digit of a number, as it is written.
+/// The last octal digit of a number.
 fn octal_digit(number: u32) -> u8
     ensures { result ≡ octal_digit number }
 {
     b'0' + (number % 8) as u8
 }
 
-/// Whether others than the owner and the group of a file can read it.
+/// Whether users other than the owner and the group of a file can read it.
 fn others_read(mode: u32) -> bool
     ensures { result ≡ others_read mode }
 {
@@ -58,8 +58,8 @@ fn mode_line(mode: u32) -> Line
     line
 }
 
-/// Prints the line of a mode, where others can read the file that has it. It fails as `Output`
-/// where the line cannot be printed.
+/// Prints the line of a mode if others can read the file. Fails with `Output` if the line cannot be
+/// printed.
 pub fn print_mode<W: Stream>(mode: Option<u32>, out: &mut W) -> Result<(), Failure>
     ensures printed { OnOk result
         (Appends (W.contents out.old) (W.contents out.new) (mode_warning mode)) }

@@ -1,4 +1,4 @@
-//! Why a file that the words name does not serve, and the failure that says so.
+//! Why a named file cannot be used, and the failure that reports it.
 
 ghost use Rattle.std.specs.Prelude.{◌≡◌, codes, IfOk, string_bytes};
 ghost use Rattle.std.specs.IoError.{error_kind};
@@ -12,22 +12,22 @@ use std::alloc::{AllocError, Global};
 use std::io;
 use std::io::ErrorKind;
 
-/// Why a file does not serve.
+/// Why a file cannot be used.
 #[derive(Clone, Copy, Debug, PartialEq, Eq)]
 pub enum FileReason {
-    /// There is none of this name, or a folder on the way to it is missing, or is none.
+    /// No file has this name, or a folder in its path is missing or is not a folder.
     Missing,
-    /// It, or a folder on the way to it, may not be read.
+    /// The permissions of the file, or of a folder in its path, forbid reading it.
     NoPermission,
     /// It is a folder.
     Folder,
-    /// There are too many links, as on a way that goes in a circle.
+    /// Its path has too many links, such as a cycle.
     Links,
     /// Another program has claimed it.
     InUse,
-    /// A disk file is no regular file, or standard output goes to it.
+    /// A disk file is not a regular file, or standard output goes to it.
     NotRegular,
-    /// Any other error: of the device, or a file system without locks.
+    /// Any other error: a device error, or a file system without locks.
     Unreadable,
 }
 
@@ -35,7 +35,7 @@ impl FileReason {
     ghost use Rattle.std.specs.Prelude.{◌≡◌};
     ghost use Rattle.macs_offline.specs.Reasons.{reason_text};
 
-    /// What the program says of it.
+    /// The program's message.
     pub fn text(self) -> &'static str
         ensures { result.now ≡ reason_text self }
     {
@@ -51,7 +51,7 @@ impl FileReason {
     }
 }
 
-/// The reason that an error of the system is, by its kind.
+/// The reason for an error of the system, by its kind.
 fn reason_of(kind: ErrorKind) -> FileReason
     ensures { result ≡ reason_of kind }
 {
@@ -66,7 +66,8 @@ fn reason_of(kind: ErrorKind) -> FileReason
     }
 }
 
-/// A line on what has this name: a word, the name without control characters, and a reason.
+/// A message about something with this name: a word, the name without control characters, and a
+/// reason.
 pub fn told_of(alloc: Global, word: &str, name: &str, why: &str) -> Result<String, AllocError>
     ensures { IfOk result (λ text. Tells word.now name.now why.now (string_bytes text)) }
 {
@@ -74,7 +75,8 @@ pub fn told_of(alloc: Global, word: &str, name: &str, why: &str) -> Result<Strin
     format!(in alloc; "{word}: {shown}: {why}")
 }
 
-/// The failure that says why what has this name does not serve, unless there is no memory for it.
+/// The failure with a message why something with this name cannot be used, or `Memory` if there is
+/// no memory for it.
 pub fn failure_told(alloc: Global, word: &str, name: &str, why: &str) -> Failure
     ensures { Complains (Tells word.now name.now why.now) result }
 {
@@ -84,8 +86,8 @@ pub fn failure_told(alloc: Global, word: &str, name: &str, why: &str) -> Failure
     }
 }
 
-/// The failure that an error of the system is for a file that is read: want of memory, or else the
-/// reason is said.
+/// The failure for an error of the system on a file that is read: out of memory, or a message with
+/// the reason.
 pub fn failure_at(alloc: Global, word: &str, name: &str, error: io::Error) -> Failure
     ensures reason { Complains (Tells word.now name.now
         (reason_text (reason_of (error_kind error)))) result }
@@ -98,7 +100,7 @@ pub fn failure_at(alloc: Global, word: &str, name: &str, error: io::Error) -> Fa
     failure_told(alloc, word, name, reason_of(kind).text())
 }
 
-/// The failure that an error of the system is for the file of a disk.
+/// The failure for an error of the system on the file of a disk.
 pub fn failure_at_disk(alloc: Global, name: &str, error: io::Error) -> Failure
     ensures reason { ComplainsOfDisk (Tells (codes "disk file") name.now
         (reason_text (reason_of (error_kind error)))) result }

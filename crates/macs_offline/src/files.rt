@@ -1,4 +1,4 @@
-//! The files that the words name.
+//! The files named on the command line.
 
 ghost use Rattle.std.specs.Prelude.{◌≡◌, ◌≢◌, ◌⊎◌, ◌/◌, false, true, ℕ, List, [], Some, IfErr};
 ghost use Rattle.std.specs.Prelude.{IfOk, IfSome, OnErr, OnOk};
@@ -30,8 +30,8 @@ use std::os::unix::fs::MetadataExt;
 use std::rt::Files;
 use std::{fs, io};
 
-/// How many octets of a capture are kept back: so each read and write of the system but the last is
-/// one of so many, whatever frames there are.
+/// How many octets of a capture are buffered: each read and write of the system but the last
+/// transfers this many, regardless of the frames.
 const CAPTURE_ROOM: usize = 131_072;
 
 /// A capture that is read.
@@ -40,7 +40,7 @@ pub type CaptureSource<F> = ReaderSource<BufReader<F>>;
 /// A capture that is written.
 pub type CaptureSink<F> = WriterSink<WholeWrites<F>>;
 
-/// The failure that an error of the system is: want of memory, or else this one.
+/// The failure for an error of the system: `Memory` if memory ran out, else this failure.
 pub fn failure_of(error: io::Error, failure: Failure) -> Failure
     ensures memory { error_kind error ≡ OutOfMemory → result ≡ Failure.Memory }
     ensures other { error_kind error ≢ OutOfMemory → result ≡ failure }
@@ -52,11 +52,11 @@ pub fn failure_of(error: io::Error, failure: Failure) -> Failure
     failure
 }
 
-/// Where the name of standard output is.
+/// The path of standard output.
 const STANDARD_OUTPUT: &str = "/dev/stdout";
 
-/// Whether standard output goes to the file at a path, where what is printed would be written over
-/// its sectors.
+/// Whether standard output goes to the file at a path, so that printed lines would overwrite its
+/// sectors.
 pub fn is_printed_to<T: Files>(rt: &T, path: &str) -> bool {
     match (rt.metadata(path), rt.metadata(STANDARD_OUTPUT)) {
         (Ok(file), Ok(output)) => file.dev() == output.dev() && file.ino() == output.ino(),
@@ -64,9 +64,9 @@ pub fn is_printed_to<T: Files>(rt: &T, path: &str) -> bool {
     }
 }
 
-/// Opens the regular file of a disk to read it. An error where there is something else, since
-/// opening a pipe would wait for a writer, or where standard output goes to it: lines would be
-/// written over its sectors.
+/// Opens the regular file of a disk for reading. Fails if it is anything else, since opening a pipe
+/// would wait for a writer, or if standard output goes to it, since printed lines would overwrite
+/// its sectors.
 pub fn open_regular<T: Files>(rt: &T, path: &str) -> io::Result<T::File> {
     if !rt.metadata(path)?.is_file() || is_printed_to(rt, path) {
         return Err(io::Error::from(io::ErrorKind::InvalidInput));
@@ -74,8 +74,8 @@ pub fn open_regular<T: Files>(rt: &T, path: &str) -> io::Result<T::File> {
     fs::open(rt, path)
 }
 
-/// Opens the regular file of a disk to read it, as `open_regular` does, and claims it together with
-/// other readers. An error also where a writer has claimed it, and that of a folder where it is
+/// Opens the regular file of a disk for reading, as `open_regular` does, and claims it along with
+/// other readers. Also fails if a writer has claimed it, and with the error for a folder if it is
 /// one.
 pub fn open_shared<T: Files>(rt: &T, path: &str) -> io::Result<T::File>
 where
@@ -89,8 +89,8 @@ where
     Ok(file)
 }
 
-/// The disk in a file. It fails as `Memory`, or as `Disk` with `File` or `Length`, where the file
-/// is no disk, or standard output goes there.
+/// The disk in a file. Fails with `Memory`, or with `Disk` and `File` or `Length` if the file is
+/// not a disk, or if standard output goes there.
 pub fn open_disk<T: Files>(rt: &T, alloc: Global, path: &str) -> Result<FileDisk<T::File>, Failure>
 where
     T::File: DiskFile,
@@ -107,7 +107,7 @@ where
     Ok(disk)
 }
 
-/// What a command file that is open says, of which no more is read than can be of use.
+/// The commands of an open command file, of which no more is read than the limit needs.
 fn read_commands<R: Read>(alloc: Global, file: &mut R) -> Result<CommandFile<Global>, Failure>
     ensures said { IfOk result (λ told. IfSome (R.remaining file.old)
         (λ octets. SaysCommands octets told.end told.commands.items)) }
@@ -123,15 +123,14 @@ fn read_commands<R: Read>(alloc: Global, file: &mut R) -> Result<CommandFile<Glo
     }
 }
 
-/// What a command file says. It fails as `Memory` where there is no memory, the system's or
-/// the program's, and else as `Commands`, where the file cannot be opened or read, or says no
-/// commands.
+/// The commands of a command file. Fails with `Memory` if the system or the program runs out of
+/// memory, and with `Commands` if the file cannot be opened or read, or has no valid commands.
 pub fn commands_of_file<T: Files>(
     rt: &T,
     alloc: Global,
     path: &str,
 ) -> Result<CommandFile<Global>, Failure>
-    // A file was opened, and it says this.
+    // A file was opened, and these are its contents.
     ensures said { IfOk result
         (λ told. SaidByFile T.File.remaining told.end told.commands.items) }
     ensures spelled { IfOk result
@@ -145,7 +144,7 @@ pub fn commands_of_file<T: Files>(
     }
 }
 
-/// A reader that keeps octets of a capture back. It fails as `Memory`.
+/// A buffered reader of a capture. Fails with `Memory`.
 fn reader_of<F: Read + Drop>(alloc: Global, file: F) -> Result<BufReader<F>, Failure>
     ensures inner { IfOk result (λ reader. reader_inner reader ≡ file) }
     ensures empty { IfOk result (λ reader. reader_buffer reader ≡ []) }
@@ -158,7 +157,7 @@ fn reader_of<F: Read + Drop>(alloc: Global, file: F) -> Result<BufReader<F>, Fai
     }
 }
 
-/// A buffer that keeps octets of a capture back. It fails as `Memory`.
+/// A write buffer for a capture. Fails with `Memory`.
 fn buffer_of<F: Write + Drop>(alloc: Global, file: F) -> Result<BufWriter<F>, Failure>
     ensures inner { IfOk result (λ buffer. writer_inner buffer ≡ file) }
     ensures empty { IfOk result (λ buffer. writer_buffer buffer ≡ []) }
@@ -170,7 +169,7 @@ fn buffer_of<F: Write + Drop>(alloc: Global, file: F) -> Result<BufWriter<F>, Fa
     }
 }
 
-/// A capture that is read from an open file: all that the file has left. It fails as `Memory`.
+/// A capture read from an open file, from its current position to its end. Fails with `Memory`.
 pub fn source_over<F: Read + Drop>(alloc: Global, file: F) -> Result<CaptureSource<F>, Failure>
     ensures left { IfOk result (λ source. IfSome (F.remaining file)
         (λ octets. (⟦<ReaderSource<BufReader<F>> as Source>⟧.state source).left ≡ Some octets)) }
@@ -182,7 +181,7 @@ pub fn source_over<F: Read + Drop>(alloc: Global, file: F) -> Result<CaptureSour
     Ok(ReaderSource::new(reader))
 }
 
-/// A capture that is written to an open file, after what it holds. It fails as `Memory`.
+/// A capture written to an open file, after what it holds. Fails with `Memory`.
 fn sink_over<F: Write + Drop>(alloc: Global, file: F) -> Result<CaptureSink<F>, Failure>
     ensures held { IfOk result (λ sink. IfSome (F.contents file)
         (λ octets. (⟦<WriterSink<WholeWrites<F>> as Sink>⟧.state sink).held ≡ Some octets)) }
@@ -198,7 +197,7 @@ fn sink_over<F: Write + Drop>(alloc: Global, file: F) -> Result<CaptureSink<F>, 
 }
 
 /// Opens a file to read it as a capture. A regular file is claimed along with other readers, so
-/// that it is no output.
+/// that it cannot also be an output.
 pub fn open_source<T: Files>(rt: &T, path: &str) -> io::Result<T::File>
 where
     T::File: CaptureFile,
@@ -210,7 +209,8 @@ where
     Ok(file)
 }
 
-/// How a capture is opened to be written, and maybe read. What the file holds stays.
+/// The options to open a capture for writing, and maybe for reading. The contents of the file are
+/// kept.
 fn how_to_write(is_read: bool) -> OpenOptions
     ensures keeps { result.truncate ≡ false }
     ensures made { result.create ≡ true }
@@ -234,8 +234,9 @@ fn is_special<T: Files>(rt: &T, path: &str) -> bool {
     }
 }
 
-/// Opens a file to write it, or makes it: and to read it too, so that it can be looked at, where
-/// that is allowed. A pipe is not opened to read, since it would then wait for no reader.
+/// Opens or creates a file for writing, and also for reading if allowed, so that its contents can
+/// be examined. A pipe is not opened for reading, since opening it would then not wait for a
+/// reader.
 fn open_output<T: Files>(rt: &T, path: &str) -> io::Result<T::File> {
     if is_special(rt, path) {
         return how_to_write(false).open(rt, path);
@@ -248,8 +249,8 @@ fn open_output<T: Files>(rt: &T, path: &str) -> io::Result<T::File> {
     }
 }
 
-/// Claims a file and cuts it to nothing. An error where another open has claimed it, or where it
-/// holds an endpoint or cannot be looked at: then it is as it was, but for the claim.
+/// Claims a file and truncates it to zero length. Fails if another open has claimed it, or if it
+/// holds an endpoint or cannot be examined: then it is left unchanged, except for the claim.
 fn cut_output<F: CaptureFile>(file: &mut F) -> io::Result<()>
     ensures steady { (F.file file.new).behaves ≡ (F.file file.old).behaves }
     ensures same { Behaves (F.file file.old)
@@ -266,9 +267,9 @@ fn cut_output<F: CaptureFile>(file: &mut F) -> io::Result<()>
     file.cut()
 }
 
-/// Opens a file to write it as a capture, or makes it. A regular file is claimed and looked at
-/// before it is cut to nothing. An error where standard output goes to it: the line of the run
-/// would be written over the capture.
+/// Opens or creates a file to write it as a capture. A regular file is claimed and examined before
+/// it is truncated. Fails if standard output goes to it, since the line of the run would overwrite
+/// the capture.
 fn open_sink<T: Files>(rt: &T, path: &str) -> io::Result<T::File>
 where
     T::File: CaptureFile,
@@ -283,9 +284,9 @@ where
     Ok(file)
 }
 
-/// A capture that is read from a file. It fails as `Memory` where there is no memory, the system's
-/// or the program's, and else as `Capture`, where the file cannot be opened, or is claimed by who
-/// writes it: so where it is the disk file. Nothing is read yet.
+/// A capture read from a file. Fails with `Memory` if the system or the program runs out of memory,
+/// and with `Capture` if the file cannot be opened, or its writer has claimed it, as is the case
+/// for the disk file. Nothing is read yet.
 pub fn open_capture<T: Files>(
     rt: &T,
     alloc: Global,
@@ -301,10 +302,10 @@ where
     }
 }
 
-/// A capture that is written to a file, which is made, or cut to nothing. It fails as `Memory`
-/// where there is no memory, the system's or the program's, and else as `Capture`, where the file
-/// cannot be made, is another file of the run, holds an endpoint, or has a sector and cannot be
-/// read: then it is left as it is.
+/// A capture written to a file, which is created or truncated. Fails with `Memory` if the system or
+/// the program runs out of memory, and with `Capture` if the file cannot be created, is another
+/// file of the run, holds an endpoint, or has a sector and cannot be read: then it is left
+/// unchanged.
 pub fn make_capture<T: Files>(
     rt: &T,
     alloc: Global,

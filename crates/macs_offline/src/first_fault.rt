@@ -1,4 +1,4 @@
-//! Which sector of a disk in memory is the first at fault, where the journal there is bad.
+//! Which sector of an in-memory disk is the first with a fault, if its journal is bad.
 
 ghost use Rattle.std.specs.Prelude.{◌≡◌, ◌<◌, ◌≤◌, ◌+◌, ◌↔◌, IfSome, IsTrue, None};
 ghost use Rattle.macs_disk.specs.Disk.{now};
@@ -37,12 +37,12 @@ pub enum AreaHead {
 pub enum Choice {
     /// None: no head gate is open.
     Neither,
-    /// None: this is the sector of a head that is missing, or at odds with the other.
+    /// None: this is the sector of a head that is missing, or conflicts with the other.
     At(u64),
     Current(u64, Head),
 }
 
-/// The durable octets of the sector of this number.
+/// The durable octets of the sector with this number.
 fn sector_at(copy: &MemDisk, at: u64) -> [u8; SECTOR]
     requires room { least_sectors ≤ (disk_of copy.now).sectors }
     requires within { at < least_sectors }
@@ -78,7 +78,7 @@ fn head_in(copy: &MemDisk, area: u64) -> AreaHead
     }
 }
 
-/// The area whose head is open, the one of greater generation where both are.
+/// The area whose head is open, or the one with the greater generation if both are.
 fn choose(first: AreaHead, second: AreaHead) -> Choice
     ensures { (image : Image) → HeadSays image 0 first → HeadSays image 1 second
         → ChoiceSays image result }
@@ -98,8 +98,8 @@ fn choose(first: AreaHead, second: AreaHead) -> Choice
     }
 }
 
-/// Of two heads, the one of greater generation; the second is at fault where they are of one
-/// generation, or of two journals.
+/// Of two heads, the one with the greater generation; the second has a fault if both are of one
+/// generation, or of different journals.
 fn newer(first: Head, second: Head) -> Choice
     ensures { (image : Image) → HasHead image 0 first → HasHead image 1 second
         → ChoiceSays image result }
@@ -114,7 +114,7 @@ fn newer(first: Head, second: Head) -> Choice
     }
 }
 
-/// Whether a slot counts: it is of the snapshot, or its gate is open.
+/// Whether a slot counts: it is part of the snapshot, or its gate is open.
 fn counts(copy: &MemDisk, area: u64, count: u64, slot: u64) -> bool
     requires room { least_sectors ≤ (disk_of copy.now).sectors }
     requires one { IsArea area }
@@ -144,7 +144,7 @@ fn is_sound(copy: &MemDisk, area: u64, count: u64, slot: u64) -> bool
     counts(copy, area, count, slot) && has_record(copy, area, slot)
 }
 
-/// How many slots from the first one on count and have records.
+/// How many consecutive slots, from the first, count and hold records.
 fn sound_slots(copy: &MemDisk, area: u64, count: u64) -> u64
     requires room { least_sectors ≤ (disk_of copy.now).sectors }
     requires one { IsArea area }
@@ -160,7 +160,7 @@ fn sound_slots(copy: &MemDisk, area: u64, count: u64) -> u64
     SLOTS
 }
 
-/// Whether a gate is open behind a slot.
+/// Whether a gate after this slot is open.
 fn is_open_behind(copy: &MemDisk, area: u64, slot: u64) -> bool
     requires room { least_sectors ≤ (disk_of copy.now).sectors }
     requires one { IsArea area }
@@ -175,7 +175,7 @@ fn is_open_behind(copy: &MemDisk, area: u64, slot: u64) -> bool
     false
 }
 
-/// The sector of the first slot of an area that is at fault.
+/// The faulty sector of the first slot of an area that has one.
 fn area_fault(copy: &MemDisk, area: u64, count: u64) -> Option<u64>
     requires room { least_sectors ≤ (disk_of copy.now).sectors }
     requires one { IsArea area }
@@ -207,8 +207,8 @@ fn current_fault(copy: &MemDisk, area: u64, head: &Head) -> Option<u64>
     area_fault(copy, area, u64::from(head.count()))
 }
 
-/// The sector of the first fault of the journal on a disk in memory, as a power loss would leave
-/// it. `None` where the journal is not bad.
+/// The sector of the first fault of the journal on an in-memory disk, as a power loss would leave
+/// it. `None` if the journal is not bad.
 pub fn fault_of(copy: &MemDisk) -> Option<u64>
     requires { least_sectors ≤ (disk_of copy.now).sectors }
     ensures first { IfSome result (IsFirstFault (now (disk_of copy.now)).durable) }

@@ -20,7 +20,7 @@ fn line_feed_in(text: &[u8]) -> Option<usize>
     text.iter().position(|octet| *octet == b'\n')
 }
 
-/// The first line without its line feed, and the text after it; `None` of an empty text.
+/// The first line without its line feed, and the text after it; `None` if the text is empty.
 fn cut_line(text: &[u8]) -> Option<(&[u8], &[u8])>
     ensures { MatchOption result (lines text.now ≡ [])
         (λ cut. lines text.now ≡ cut.0.now ∷ lines cut.1.now) }
@@ -34,7 +34,7 @@ fn cut_line(text: &[u8]) -> Option<(&[u8], &[u8])>
     }
 }
 
-/// A line without a carriage return at its end.
+/// A line without a trailing carriage return.
 fn without_return(line: &[u8]) -> &[u8]
     ensures { result.now ≡ trimmed_line line.now }
 {
@@ -44,8 +44,8 @@ fn without_return(line: &[u8]) -> &[u8]
     }
 }
 
-/// The lines of a text of exactly four, each without its line feed and without one carriage return
-/// at its end. The last line feed may be absent.
+/// The lines of a text of exactly four, each without its line feed and without one trailing
+/// carriage return. The last line feed may be missing.
 pub fn four_lines(text: &[u8]) -> Option<FourLines<'_>>
     ensures four { IsSome result ↔ (length (lines text.now) ≡ 4) }
     ensures first { IfSome result (λ found. found.first.now ≡ line_at text.now 0) }

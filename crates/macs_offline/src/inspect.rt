@@ -1,4 +1,4 @@
-//! `inspect`: what the SecTAG of each frame of a capture says.
+//! `inspect`: prints the contents of the SecTAG of each frame of a capture.
 
 ghost use Rattle.std.specs.Prelude.{◌≡◌, ◌≢◌, ◌<◌, ◌++◌, codes, length, true, IfErr, IfOk};
 ghost use Rattle.std.specs.Prelude.{◌∷◌, [], IfSome, IsTrue, string_bytes, take};
@@ -59,7 +59,7 @@ fn bit_text(bit: bool) -> &'static str
     if bit { "1" } else { "0" }
 }
 
-/// The numbers that a SecTAG says, and its SL.
+/// The numbers in a SecTAG, and its SL.
 fn numbers_text(alloc: Global, tag: &SecTag, short: u8) -> Result<String, AllocError>
     ensures { IfOk result (λ text. string_bytes text ≡ numbers_text tag.now short) }
 {
@@ -78,7 +78,7 @@ fn bits_text(alloc: Global, tag: &SecTag) -> Result<String, AllocError>
     format!(in alloc; "e={e} c={c}{name}")
 }
 
-/// What a SecTAG says, with its SL, and how many octets its frame has.
+/// The contents of a SecTAG, its SL, and the length of its frame in octets.
 fn tag_text(alloc: Global, tag: &SecTag, short: u8, octets: usize) -> Result<String, AllocError>
     ensures { IfOk result (λ text. string_bytes text ≡ tag_text tag.now short octets) }
 {
@@ -95,7 +95,7 @@ fn short_length(frame: &[u8]) -> u8
     frame[15]
 }
 
-/// What is said of a frame: its first fault in the words of `open`, or what its SecTAG says.
+/// The text for a frame: its first fault, worded as by `open`, or the contents of its SecTAG.
 fn said_of(alloc: Global, frame: &[u8]) -> Result<String, AllocError>
     ensures { IfOk result (λ text. IsSaidOf frame.now (string_bytes text)) }
 {
@@ -105,7 +105,7 @@ fn said_of(alloc: Global, frame: &[u8]) -> Result<String, AllocError>
     }
 }
 
-/// A line of a number and what is said.
+/// A line of a number and a text.
 fn numbered(alloc: Global, at: u64, said: &str) -> Result<String, AllocError>
     ensures { IfOk result
         (λ text. string_bytes text ≡ line (decimal at ++ (codes " " ++ said.now))) }
@@ -115,7 +115,7 @@ fn numbered(alloc: Global, at: u64, said: &str) -> Result<String, AllocError>
     Ok(line)
 }
 
-/// The line of a frame by its number.
+/// The line of a frame, with its number.
 fn inspect_line(alloc: Global, at: u64, frame: &[u8]) -> Result<String, AllocError>
     ensures { IfOk result (λ text. IsLineOf at frame.now (string_bytes text)) }
 {
@@ -123,7 +123,8 @@ fn inspect_line(alloc: Global, at: u64, frame: &[u8]) -> Result<String, AllocErr
     numbered(alloc, at, said.as_str())
 }
 
-/// Prints the line of the next frame of a capture, after so many others. Whether there is one.
+/// Prints the line of the next frame of a capture, after `count` others. Returns whether there was
+/// one.
 fn inspect_next<R: Source, W: Stream>(
     alloc: Global,
     source: &mut R,
@@ -163,8 +164,8 @@ fn inspect_frames<R: Source, W: Stream>(
     Ok(Status::Done)
 }
 
-/// Prints a line for each frame of a capture. It stops at the first fault of the capture, after the
-/// lines of the frames before it; where there is no memory; and at the first line that cannot be
+/// Prints a line for each frame of a capture. Stops at the first fault of the capture, after the
+/// lines of the frames before it; when memory runs out; and at the first line that cannot be
 /// printed.
 pub fn inspect_capture<R: Source, W: Stream>(
     alloc: Global,
@@ -181,7 +182,7 @@ pub fn inspect_capture<R: Source, W: Stream>(
     }
 }
 
-/// The file of a capture, which is opened to read it. An error also where it is a folder.
+/// Opens the file of a capture for reading. Fails if it is a folder.
 fn open_file<T: Files>(rt: &T, path: &str) -> io::Result<T::File>
 where
     T::File: CaptureFile,
@@ -193,8 +194,8 @@ where
     Ok(file)
 }
 
-/// A capture that is read from a file. It fails as `Said` with the reason where the file cannot be
-/// opened, or is claimed by who writes it; and as `Memory`. Nothing is read yet.
+/// A capture read from a file. Fails with `Said` and the reason if the file cannot be opened, or
+/// its writer has claimed it; and with `Memory`. Nothing is read yet.
 fn open_to_inspect<T: Files>(
     rt: &T,
     alloc: Global,
@@ -210,7 +211,7 @@ where
     }
 }
 
-/// Whether what is read begins as a pcapng file does. False too where a read fails.
+/// Whether the input begins like a pcapng file. False if a read fails.
 fn begins_pcapng<R: Read>(file: &mut R) -> bool
     ensures { IfSome (R.remaining file.old)
         (λ octets. IsTrue result → take 4 octets ≡ 10 ∷ 13 ∷ 13 ∷ 10 ∷ []) }
@@ -222,7 +223,7 @@ fn begins_pcapng<R: Read>(file: &mut R) -> bool
     }
 }
 
-/// Whether a regular file of this name begins as a pcapng file does.
+/// Whether a regular file with this name begins like a pcapng file.
 fn is_pcapng<T: Files>(rt: &T, path: &str) -> bool {
     match rt.metadata(path) {
         Ok(about) if about.is_file() => match fs::open(rt, path) {
@@ -233,7 +234,7 @@ fn is_pcapng<T: Files>(rt: &T, path: &str) -> bool {
     }
 }
 
-/// The failure of a fault of a capture's header.
+/// The failure for a fault of a capture's header.
 fn failure_of_header<T: Files>(rt: &T, alloc: Global, name: &str, fault: PcapFault) -> Failure
     ensures { FailsSo name.now (Stop.Header fault) result }
 {
@@ -242,7 +243,7 @@ fn failure_of_header<T: Files>(rt: &T, alloc: Global, name: &str, fault: PcapFau
     failure_told(alloc, "capture", name, reason.text())
 }
 
-/// The failure of a fault of a record.
+/// The failure for a fault of a record.
 fn failure_of_record(alloc: Global, name: &str, fault: PcapFault) -> Failure
     ensures { FailsSo name.now (Stop.Record fault) result }
 {
@@ -257,7 +258,7 @@ fn failure_of_record(alloc: Global, name: &str, fault: PcapFault) -> Failure
     }
 }
 
-/// The failure of what ends an inspection of the capture of this name.
+/// The failure for what ends an inspection of the capture with this name.
 fn failure_of_stop<T: Files>(rt: &T, alloc: Global, name: &str, stop: Stop) -> Failure
     ensures { FailsSo name.now stop result }
 {
@@ -269,9 +270,9 @@ fn failure_of_stop<T: Files>(rt: &T, alloc: Global, name: &str, stop: Stop) -> F
     }
 }
 
-/// `inspect`: prints a line for each frame of a capture. It fails as `Said` with the reason where
-/// the capture cannot be opened, or at its first fault, after the lines of the frames before it; as
-/// `Memory`; and as `Output` at the first line that cannot be printed.
+/// `inspect`: prints a line for each frame of a capture. Fails with `Said` and the reason if the
+/// capture cannot be opened, or at its first fault, after the lines of the frames before it; with
+/// `Memory`; and with `Output` at the first line that cannot be printed.
 pub fn inspect<T: Files, W: Stream>(
     rt: &T,
     alloc: Global,

@@ -1,4 +1,4 @@
-//! A report to standard output, as it is or as JSON.
+//! A report to standard output, as text or as JSON.
 
 ghost use Rattle.std.specs.Prelude.{◌≡◌, ◌≢◌, ◌⊎◌, true, IfErr, OnOk};
 ghost use Rattle.std.specs.Io.KnownBytes.{Appends};
@@ -10,7 +10,7 @@ use crate::stream::Stream;
 use macs_json::json_lines;
 use std::alloc::Global;
 
-/// Prints a report as JSON, an object for each line. It fails as `Memory`, and as `Output` where it
+/// Prints a report as JSON, one object per line. Fails with `Memory`, and with `Output` if it
 /// cannot be printed.
 pub fn print_json<W: Stream>(alloc: Global, report: &str, out: &mut W) -> Result<(), Failure>
     ensures printed { OnOk result
@@ -24,7 +24,7 @@ pub fn print_json<W: Stream>(alloc: Global, report: &str, out: &mut W) -> Result
     print_octets(out, json.as_slice())
 }
 
-/// Prints a report, as JSON where that is wanted. It fails as `print_json`.
+/// Prints a report, as JSON if requested. Fails as `print_json` does.
 pub fn print_report<W: Stream>(
     alloc: Global,
     report: &str,

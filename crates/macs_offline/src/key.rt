@@ -21,18 +21,18 @@ const LONGEST: usize = 32;
 #[derive(Clone, Copy)]
 pub struct SourceFailed;
 
-/// Where the octets of a key come from. It may be known which it gave; that they are random is not
+/// A source of the octets of a key. The octets it gave may be known; that they are random is not
 /// claimed.
 pub trait OctetSource {
-    /// All octets that it gave so far, where they are known.
+    /// All octets that it has given so far, where known.
     ghost given: { Self → Option (List ℕ) };
 
-    /// Gives as many octets as there is room for.
+    /// Fills the whole buffer.
     fn fill(&mut self, octets: &mut [u8]) -> Result<(), SourceFailed>
         ensures { OnOk result (Appends (given self.old) (given self.new) octets.new) };
 }
 
-/// The system's random source. It is not known which octets it gives.
+/// The system's random source. Which octets it gives is not known.
 #[derive(Clone, Copy)]
 pub struct SystemOctets<'a, T> {
     pub rt: &'a T,
@@ -51,14 +51,14 @@ impl<T: RandomSource> OctetSource for SystemOctets<'_, T> {
     }
 }
 
-/// How many octets a key has: of 256 bits, or of 128.
+/// The length of a key in octets: of 256 bits, or of 128.
 fn key_octets(is_long: bool) -> usize
     ensures { result ≡ key_octets is_long }
 {
     if is_long { LONGEST } else { 16 }
 }
 
-/// The line of a key. It takes no memory, so no copy of the key is left in any.
+/// The line of a key. It is not allocated, so no copy of the key is left in freed memory.
 fn key_line(octets: &[u8]) -> Line
     requires { length octets.now ≤ LONGEST }
     ensures { result.items ≡ line (encode_lower octets.now) }
@@ -73,8 +73,8 @@ fn key_line(octets: &[u8]) -> Line
     line
 }
 
-/// Prints a key of the octets that a source gives. It fails as `Random` where it gives none, and as
-/// `Output` where the line cannot be printed.
+/// Prints a key made of octets from a source. Fails with `Random` if the source fails, and with
+/// `Output` if the line cannot be printed.
 pub fn print_key<S: OctetSource, W: Stream>(
     source: &mut S,
     is_long: bool,

@@ -1,7 +1,8 @@
-//! The keys that the endpoints of a disk's name were given, in a list beside the disk file.
+//! The keys that endpoints on a disk file of this name have been given, in a list beside the disk
+//! file.
 //!
-//! A new disk file does not know which keys the one before it had. Where that was lost, the list is
-//! what is left of them: no command that installs one of them is given to the new endpoint.
+//! A new disk file does not know which keys its predecessor had. If the old file was lost, the list
+//! is all that is left of them: no command that installs one of them is given to the new endpoint.
 
 ghost use Rattle.std.specs.Prelude.{◌≡◌, ◌↔◌, ◌⊎◌, ◌++◌, IfErr, IfOk, IsTrue, MatchOption, OnOk};
 ghost use Rattle.std.specs.Prelude.{map, string_bytes};
@@ -21,17 +22,17 @@ use std::path::Path;
 use std::rt::Files;
 use std::{fs, io};
 
-/// The line after the keys of the endpoints before.
+/// The line after the keys of earlier endpoints.
 const FORMATTED: &str = "formatted\n";
 
-/// A list is for its owner alone to read and write, as a disk file is.
+/// Only its owner may read and write a list, as with a disk file.
 const OWNER_ALONE: u32 = 0o600;
 
-/// The list beside a disk file: NAME.spent. A line has what stands for a key, 64 hex digits, or is
-/// `formatted`: the keys before such a line are those of endpoints that are gone. It only grows.
+/// The list beside a disk file: NAME.spent. A line is the fingerprint of a key, 64 hex digits, or
+/// `formatted`: the keys before that line belong to endpoints that are gone. The list only grows.
 ///
-/// Only who has claimed the disk file reads and writes it. Where the name is a link, the list is
-/// beside the file that this leads to.
+/// Only the program that has claimed the disk file reads and writes it. If the name is a link, the
+/// list is beside the file that the link leads to.
 #[derive(Clone, Copy)]
 pub struct KeyList<'a, T> {
     pub rt: &'a T,
@@ -76,7 +77,7 @@ impl From<io::Error> for KeyFault {
     }
 }
 
-/// Where the keys of its commands are not noted, a command file says nothing that can be applied.
+/// If the keys of its commands are not noted, a command file has no commands to apply.
 impl From<KeyFault> for Failure {
     ghost use Rattle.std.specs.Prelude.{◌≡◌};
     ghost use Rattle.macs_offline.specs.KeyLists.{failure_of_keys};
@@ -101,7 +102,7 @@ fn key_in(command: &Command) -> Option<&[u8]>
     }
 }
 
-/// What stands for the key of a command, in hex digits, if it installs one.
+/// The fingerprint of a command's key, in hex digits, if it installs one.
 fn digits_of(alloc: Global, command: &Command) -> Result<Option<String>, AllocError>
     ensures { IfOk result (λ found. option_map string_bytes found ≡ digits_of command.now) }
 {
@@ -121,7 +122,7 @@ fn has_spent(list: &str, digits: &str) -> bool
     }
 }
 
-/// What stands for the key of each of these commands.
+/// The fingerprint of the key of each of these commands.
 fn digits_of_each(alloc: Global, commands: &[Command]) -> Result<Vec<Option<String>>, AllocError>
     ensures { IfOk result (λ keys.
         map (option_map string_bytes) keys.items ≡ map digits_of commands.now) }
@@ -136,7 +137,7 @@ fn digits_of_each(alloc: Global, commands: &[Command]) -> Result<Vec<Option<Stri
     Ok(keys)
 }
 
-/// Whether a list has this key, by its digits, as one of an endpoint that is gone.
+/// Whether a list has this key, by its digits, as a key of an endpoint that is gone.
 fn is_spent(list: &str, key: &Option<String>) -> bool
     ensures { IsTrue result ↔ IsSpentIn list.now (option_map string_bytes key.now) }
 {
@@ -146,8 +147,8 @@ fn is_spent(list: &str, key: &Option<String>) -> bool
     }
 }
 
-/// The number, counted from 1, of the first of these keys, by their digits, that a list has as one
-/// of an endpoint that is gone.
+/// The index, counting from 1, of the first of these keys, by their digits, that the list has as a
+/// key of an endpoint that is gone.
 fn first_spent(list: &str, keys: &[Option<String>]) -> Option<usize>
     ensures { MatchOption result
         (All (λ key. ¬ IsSpentIn list.now key) (map (option_map string_bytes) keys.now))
@@ -161,7 +162,7 @@ fn first_spent(list: &str, keys: &[Option<String>]) -> Option<usize>
     None
 }
 
-/// Puts the line of a key, by its digits, after lines.
+/// Appends the line of a key, by its digits.
 fn push_line(lines: &mut String, key: &Option<String>) -> Result<(), AllocError>
     ensures { OnOk result (string_bytes lines.new
         ≡ string_bytes lines.old ++ key_line (option_map string_bytes key.now)) }
@@ -187,7 +188,7 @@ fn lines_of(alloc: Global, keys: &[Option<String>]) -> Result<String, AllocError
     Ok(lines)
 }
 
-/// How a list is opened: what is written comes after what it has.
+/// How a list is opened: writes append to it.
 fn how_to_append() -> OpenOptions {
     let mut options = OpenOptions::new();
     options.mode(OWNER_ALONE);
@@ -195,9 +196,9 @@ fn how_to_append() -> OpenOptions {
     options
 }
 
-/// Notes the keys that commands install in the list beside the disk file at a path, durably. It fails
-/// as `Memory`; and as `Commands`, where an endpoint that is gone was given one of them, or the list
-/// cannot be read, written or synced.
+/// Notes the keys that commands install in the list beside the disk file at a path, durably. Fails
+/// with `Memory`; and with `Commands` if an endpoint that is gone was given one of them, or the
+/// list cannot be read, written or synced.
 pub fn note_keys<T: Files>(
     rt: &T,
     alloc: Global,
@@ -211,7 +212,7 @@ pub fn note_keys<T: Files>(
     Ok(())
 }
 
-/// What a list has: nothing where there is none.
+/// The contents of a list: empty if there is no list.
 fn read_list<T: Files>(rt: &T, alloc: Global, name: &str) -> io::Result<String> {
     match fs::read_to_string(&(rt, alloc), name) {
         Err(error) if error.kind() == io::ErrorKind::NotFound => Ok(String::new(alloc)),
@@ -219,7 +220,7 @@ fn read_list<T: Files>(rt: &T, alloc: Global, name: &str) -> io::Result<String> 
     }
 }
 
-/// Puts lines after what a list has, durably, and makes its name durable too. The name is absolute.
+/// Appends lines to a list, durably, and makes its name durable too. The name is absolute.
 fn append<T: Files>(rt: &T, name: &str, lines: &str) -> io::Result<()> {
     let folder = Path::new(name)
         .parent()
@@ -243,7 +244,7 @@ impl<T: Files> KeyList<'_, T> {
         Ok(name)
     }
 
-    /// The number, counted from 1, of the first of these commands that installs a key of an
+    /// The index, counting from 1, of the first of these commands that installs a key of an
     /// endpoint that is gone.
     pub fn first_spent(&self, commands: &[Command]) -> Result<Option<usize>, KeyFault>
         ensures { IfOk result (λ found. (list : List ℕ) × MatchOption found
@@ -257,7 +258,7 @@ impl<T: Files> KeyList<'_, T> {
     }
 
     /// Notes the keys that these commands install, durably, unless an endpoint that is gone was
-    /// given one of them; then it notes none.
+    /// given one of them; then none is noted.
     pub fn note(&self, commands: &[Command]) -> Result<(), KeyFault> {
         let keys = digits_of_each(self.alloc, commands)?;
         let lines = lines_of(self.alloc, keys.as_slice())?;
@@ -273,7 +274,7 @@ impl<T: Files> KeyList<'_, T> {
         Ok(())
     }
 
-    /// Notes that the endpoint of these keys is gone, durably, where there is a list.
+    /// Notes that the endpoint with these keys is gone, durably, if there is a list.
     pub fn close(&self) -> Result<(), KeyFault> {
         let name = self.name()?;
         match self.rt.metadata(name.as_str()) {

@@ -1,5 +1,5 @@
-//! What each subcommand is made of, its files, lines, statuses and failures; and the subcommands
-//! that change no disk: `open`, `key`, `plan`, `inspect`, `check` and `examine`.
+//! What the subcommands share: files, lines, statuses and failures; and the subcommands that change
+//! no disk: `open`, `key`, `plan`, `inspect`, `check` and `examine`.
 #![tactic(auto)]
 
 mod addresses;

@@ -1,4 +1,4 @@
-//! What is asked of `open`, by four lines of text.
+//! The input of `open`, four lines of text.
 
 ghost use Rattle.std.specs.Prelude.{◌≡◌, ◌≤◌, ◌↔◌, List, ℕ, length, IfOk, MatchOption};
 ghost use Rattle.macs_aes.specs.Keys.{octets_of_key};
@@ -24,17 +24,17 @@ pub type SpelledFrame = ArrayVec<u8, MAX_SPELLED>;
 /// A protected frame, and what it is to be opened with. It holds a key, so it is not `Debug`.
 #[derive(Drop)]
 pub struct OpenInput {
-    /// The key that the frame is to be sealed under, of 128 bits or of 256.
+    /// The key that the frame should be sealed with, of 128 or 256 bits.
     pub key: Key,
-    /// The SCI of the channel that the frame is to be of.
+    /// The SCI of the channel that the frame should belong to.
     pub sci: Sci,
-    /// How much of the User Data is in the clear where the frame is encrypted.
+    /// How much of the User Data is in the clear if the frame is encrypted.
     pub offset: Offset,
     /// The frame, from its addresses to its ICV.
     pub frame: SpelledFrame,
 }
 
-/// Why an input spells no request, in the order in which the faults are looked for.
+/// Why an input is not a request, in the order in which the faults are checked.
 #[derive(Clone, Copy)]
 pub enum InputFault {
     /// It has more than 20,000 octets, or is not four lines.
@@ -53,7 +53,7 @@ impl InputFault {
     ghost use Rattle.std.specs.Prelude.{◌≡◌};
     ghost use Rattle.macs_offline.specs.Failing.{input_fault_text};
 
-    /// What the program says of it.
+    /// The program's message.
     pub fn text(self) -> &'static str
         ensures { result.now ≡ input_fault_text self }
     {
@@ -110,7 +110,7 @@ fn frame_of(line: &[u8]) -> Option<SpelledFrame>
     Some(frame)
 }
 
-/// The request that an input spells, or the first fault. Hex digits are of either case.
+/// The request in an input, or the first fault. Hex digits are of either case.
 pub fn request_of(input: &[u8]) -> Result<OpenInput, InputFault>
     ensures spelled { IfOk result (Spells input.now) }
     ensures fault { (fault : InputFault)

@@ -1,4 +1,4 @@
-//! What `open` answers: the plain frame of a protected one, or why there is none.
+//! The answer of `open`: the plain frame of a protected one, or why there is none.
 
 ghost use Rattle.std.specs.Prelude.{◌≡◌, ◌↔◌, IfOk};
 ghost use Rattle.macs_fields.specs.First.{IsFirst};
@@ -12,19 +12,19 @@ use macs_frame::{An, FrameBuf, OpenFault, Pn, TagFault, open_frame};
 use macs_gcm::GcmKey;
 use std::fmt;
 
-/// What opening a frame came to. It is displayed as the line that the program prints.
+/// The result of opening a frame. It is displayed as the line that the program prints.
 #[derive(Drop)]
 pub enum Opened {
     /// The frame is genuine: its AN, its PN and the plain frame.
     Valid { an: An, pn: Pn, plain: FrameBuf },
-    /// The frame is refused for the first fault that holds.
+    /// The frame is refused with the first fault that applies.
     Refused(OpenFault),
 }
 
 impl Opened {
     ghost use Rattle.macs_offline.specs.Opened.{answer_status};
 
-    /// What the run ends with.
+    /// The status of the run.
     pub fn status(&self) -> Status
         ensures { result ≡ answer_status self.now }
     {
@@ -35,7 +35,7 @@ impl Opened {
     }
 }
 
-/// What the program prints of a frame that is refused.
+/// What the program prints for a refused frame.
 pub fn refusal_text(fault: OpenFault) -> &'static str
     ensures { result.now ≡ refusal_text fault }
 {
@@ -83,7 +83,7 @@ fn open_request(request: &OpenInput) -> Opened
     }
 }
 
-/// Opens the frame that an input spells, or answers the first fault of the input.
+/// Opens the frame in an input, or returns the first fault of the input.
 pub fn answer_of(input: &[u8]) -> Result<Opened, InputFault>
     ensures answer { IfOk result (Answers input.now) }
     ensures fault { (fault : InputFault)

@@ -10,13 +10,13 @@ use crate::stream::Stream;
 use arrayvec::ArrayVec;
 use itoa::Buffer;
 
-/// The longest line that takes no memory.
+/// The longest line that is not allocated.
 pub const MAX_LINE: usize = 128;
 
-/// A line that takes no memory: so memory cannot run out once that is done which it reports.
+/// A line that is not allocated: so memory cannot run out after the action that it reports.
 pub type Line = ArrayVec<u8, MAX_LINE>;
 
-/// Appends a name and a number in decimal digits, 20 at most.
+/// Appends a name and a number in decimal, at most 20 digits.
 pub fn append_count(line: &mut Line, name: &str, count: u64)
     requires { length line.old.items + length name.now + 20 ≤ MAX_LINE }
     ensures appended { line.new.items ≡ line.old.items ++ (name.now ++ decimal count) }
@@ -37,8 +37,8 @@ pub fn append_text(line: &mut Line, text: &str)
     line.try_extend_from_slice(text.as_bytes()).unwrap();
 }
 
-/// Prints octets on standard output, whole, and hands them on. It fails as `Output`, and exactly
-/// where the stream does.
+/// Prints octets on standard output, whole, and flushes. Fails with `Output` if and only if the
+/// stream fails.
 pub fn print_octets<W: Stream>(out: &mut W, octets: &[u8]) -> Result<(), Failure>
     ensures printed { OnOk result (Appends (W.contents out.old) (W.contents out.new) octets.now) }
     ensures failed { IfErr result (λ failure. failure ≡ Failure.Output) }
@@ -50,7 +50,7 @@ pub fn print_octets<W: Stream>(out: &mut W, octets: &[u8]) -> Result<(), Failure
     Ok(())
 }
 
-/// The same of a text.
+/// Prints a text, as `print_octets` does.
 pub fn print<W: Stream>(out: &mut W, text: &str) -> Result<(), Failure>
     ensures printed { OnOk result (Appends (W.contents out.old) (W.contents out.new) text.now) }
     ensures failed { IfErr result (λ failure. failure ≡ Failure.Output) }
@@ -59,7 +59,7 @@ pub fn print<W: Stream>(out: &mut W, text: &str) -> Result<(), Failure>
     print_octets(out, text.as_bytes())
 }
 
-/// Prints a text, the last thing that a run does, which ends in this status.
+/// Prints a text, the last action of a run, and returns the status of the run.
 pub fn print_last<W: Stream>(out: &mut W, text: &str, status: Status) -> Result<Status, Failure>
     ensures printed { IfOk result (λ ended.
         Appends (W.contents out.old) (W.contents out.new) text.now × (ended ≡ status)) }

@@ -1,4 +1,4 @@
-//! `plan`: the commands of an end of a link for a stage of its keys, as a command file.
+//! `plan`: the commands for one end of a link and one stage of its keys, as a command file.
 
 ghost use Rattle.std.specs.Prelude.{◌≡◌, ◌≢◌, ◌⊎◌, ℕ, List, None, Some, true, IfErr, IfOk};
 ghost use Rattle.std.specs.Prelude.{IfSome};
@@ -53,7 +53,7 @@ fn stage_of(stage: PlanStage) -> Stage
     }
 }
 
-/// A key of a table, as it is written.
+/// A key of a table, as it is spelled.
 fn name_word(name: ValueName) -> &'static str
     ensures { result.now ≡ name_word name }
 {
@@ -65,7 +65,7 @@ fn name_word(name: ValueName) -> &'static str
     }
 }
 
-/// What its value is not.
+/// What its value should be and is not.
 fn name_reason(name: ValueName) -> &'static str
     ensures { result.now ≡ name_reason name }
 {
@@ -77,7 +77,7 @@ fn name_reason(name: ValueName) -> &'static str
     }
 }
 
-/// What is said of a value: its place, key and reason.
+/// The message about a value: its place, key and reason.
 fn value_text(alloc: Global, place: Place, name: ValueName) -> Result<String, AllocError>
     ensures { IfOk result (λ text. string_bytes text ≡ value_text place name) }
 {
@@ -90,7 +90,7 @@ fn value_text(alloc: Global, place: Place, name: ValueName) -> Result<String, Al
     }
 }
 
-/// What is said of a key too many: its place.
+/// The message about an unknown key: its place.
 fn extra_text(alloc: Global, place: Place) -> Result<String, AllocError>
     ensures { IfOk result (λ text. string_bytes text ≡ extra_text place) }
 {
@@ -101,7 +101,7 @@ fn extra_text(alloc: Global, place: Place) -> Result<String, AllocError>
     }
 }
 
-/// What is said of the first fault of a link's file.
+/// The message about the first fault of a link file.
 fn fault_text(alloc: Global, fault: PlanFault) -> Result<String, AllocError>
     ensures { IfOk result (λ text. string_bytes text ≡ plan_fault_text fault) }
 {
@@ -122,7 +122,7 @@ fn fault_text(alloc: Global, fault: PlanFault) -> Result<String, AllocError>
     }
 }
 
-/// The refusal of a link that a fault is, if it is one.
+/// The refusal of the link for this fault, if it is one.
 fn link_refusal(fault: PlanFault) -> Option<LinkRefusal>
     ensures { result ≡ link_refusal fault }
 {
@@ -134,8 +134,8 @@ fn link_refusal(fault: PlanFault) -> Option<LinkRefusal>
     }
 }
 
-/// The failure of a fault: a link is refused, or the fault is said, unless there is no memory for
-/// that.
+/// The failure for a fault: a refusal of the link, or a message, or `Memory` if there is no memory
+/// for it.
 fn failure_of_fault(alloc: Global, fault: PlanFault) -> Failure
     ensures { (Complains (λ said. (link_refusal fault ≡ None) × (said ≡ plan_fault_text fault))
         result) ⊎ RefusesSo (λ refusal. link_refusal fault ≡ Some refusal) result }
@@ -146,7 +146,7 @@ fn failure_of_fault(alloc: Global, fault: PlanFault) -> Failure
     }
 }
 
-/// The command file of what is planned of a table of TOML.
+/// The command file planned from a TOML table.
 fn planned_in_table(alloc: Global, table: &Table, end: End, stage: Stage) -> Result<String, Failure>
     ensures planned { IfOk result
         (λ text. PlansText (table_view table.now) end stage (string_bytes text)) }
@@ -162,7 +162,7 @@ fn planned_in_table(alloc: Global, table: &Table, end: End, stage: Stage) -> Res
     }
 }
 
-/// The command file of what is planned of a text.
+/// The command file planned from a text.
 fn planned_in_text(alloc: Global, text: &str, end: End, stage: Stage) -> Result<String, Failure>
     ensures planned { IfOk result (λ file. (members : Members)
         × (parse_document text.now ≡ Some members)
@@ -175,7 +175,7 @@ fn planned_in_text(alloc: Global, text: &str, end: End, stage: Stage) -> Result<
     }
 }
 
-/// The command file of what is planned of the octets of a file.
+/// The command file planned from the octets of a file.
 fn planned_said(alloc: Global, octets: &[u8], end: End, stage: Stage) -> Result<String, Failure>
     ensures planned { IfOk result
         (λ file. PlansFile end stage octets.now (string_bytes file)) }
@@ -192,9 +192,9 @@ fn planned_said(alloc: Global, octets: &[u8], end: End, stage: Stage) -> Result<
     planned_in_text(alloc, text, end, stage)
 }
 
-/// The command file of what is planned of an open file of this name, of which no more is read than
-/// can be of use. It fails as `Said` with the reason where a read fails, and else says the first
-/// fault, or refuses the link.
+/// The command file planned from an open file with this name, of which no more is read than the
+/// limit needs. Fails with `Said` and the reason if a read fails, else with the first fault or the
+/// refusal of the link.
 fn planned_read<R: Read>(
     alloc: Global,
     name: &str,
@@ -218,8 +218,8 @@ fn planned_read<R: Read>(
     }
 }
 
-/// The command file of what is planned of a file. It fails as `Said` with the reason where it
-/// cannot be opened or read, and else says the first fault, or refuses the link.
+/// The command file planned from a file. Fails with `Said` and the reason if the file cannot be
+/// opened or read, else with the first fault or the refusal of the link.
 fn planned_file<T: Files>(
     rt: &T,
     alloc: Global,
@@ -227,7 +227,7 @@ fn planned_file<T: Files>(
     end: End,
     stage: Stage,
 ) -> Result<String, Failure>
-    // A file was opened, and it is planned of what it says.
+    // A file was opened, and this is planned from its contents.
     ensures planned { IfOk result
         (λ text. IsPlanOfFile T.File.remaining end stage (string_bytes text)) }
     ensures spelled { IfOk result
@@ -242,10 +242,10 @@ fn planned_file<T: Files>(
     }
 }
 
-/// `plan`: prints the command file of an end of the link that a file says, for a stage of its keys.
-/// The file is not changed. It fails as `Said`, with the reason where it cannot be opened or read,
-/// else with its first fault; as `Link` where the link is refused, as `Memory`, and as `Output`
-/// where the text cannot be printed.
+/// `plan`: prints the command file for one end of the link in a file and one stage of its keys. The
+/// file is not changed. Fails with `Said`, with the reason if the file cannot be opened or read,
+/// else with its first fault; with `Link` if the link is refused; with `Memory`; and with `Output`
+/// if the text cannot be printed.
 pub fn plan<T: Files, W: Stream>(
     rt: &T,
     alloc: Global,

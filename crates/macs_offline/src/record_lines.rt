@@ -1,4 +1,4 @@
-//! The records of a journal by what they are, and how many there are of each.
+//! The records of a journal by kind, and how many there are of each.
 
 ghost use Rattle.std.specs.Prelude.{◌≡◌, IfOk, length, map, string_bytes};
 ghost use Rattle.macs_offline.specs.RecordLines.{record_line, record_word, record_words};
@@ -8,8 +8,8 @@ use macs_record::Record;
 use macs_texts::ended;
 use std::alloc::{AllocError, Global};
 
-/// The word of a record: what it is of a snapshot, its command as in a command file, or that it is
-/// a ceiling. A key of either length has the same one.
+/// The word for a record: the part of a snapshot, the command as spelled in a command file, or a
+/// ceiling. It is the same for either key length.
 fn record_word(kept: &Record) -> &'static str
     ensures { result.now ≡ record_word kept.now }
 {
@@ -34,7 +34,7 @@ fn record_word(kept: &Record) -> &'static str
     }
 }
 
-/// Each word once, in the order of the numbers of the kinds of records.
+/// Each word once, in the order of the record kinds.
 fn record_words() -> [&'static str; 17]
     ensures { map (λ word. word.now) result ≡ record_words }
 {
@@ -69,7 +69,7 @@ fn count_with(records: &[Record], word: &str) -> usize
         .count()
 }
 
-/// The line of a word: how many of the records have it, where there are any.
+/// The line of a word and how many of the records have it; empty if none has.
 fn record_line(alloc: Global, records: &[Record], word: &str) -> Result<String, AllocError>
     ensures { IfOk result (λ text. string_bytes text ≡ record_line records.now word.now) }
 {
@@ -80,7 +80,7 @@ fn record_line(alloc: Global, records: &[Record], word: &str) -> Result<String, 
     ended(format!(in alloc; "records {word} {count}")?)
 }
 
-/// How many records there are of each word, a line for each that is there.
+/// A line for each word that some record has, with the count.
 pub fn records_text(alloc: Global, records: &[Record]) -> Result<String, AllocError>
     ensures { IfOk result (λ text. string_bytes text ≡ records_text records.now) }
 {

@@ -1,4 +1,4 @@
-//! A key of a file, as it is shown.
+//! A key of a file, as it is displayed.
 
 ghost use Rattle.std.specs.Prelude.{◌≡◌, IfOk, length, string_bytes, take};
 ghost use Rattle.std.specs.Str.{chars, encode_utf8_all};
@@ -7,7 +7,7 @@ ghost use Rattle.macs_offline.specs.ShownKeys.{more_mark, shown_key};
 use macs_words::printable;
 use std::alloc::{AllocError, Global};
 
-/// How many characters of a key are shown.
+/// How many characters of a key are displayed.
 const MOST: usize = 64;
 
 /// The first 64 characters of a key, or all.
@@ -31,8 +31,8 @@ fn more_mark(key: &str) -> &'static str
     if characters(key) > MOST { ".." } else { "" }
 }
 
-/// A key as it is shown: its first 64 characters, with `?` in the place of each control character,
-/// and `..` where it has more.
+/// A key as it is displayed: its first 64 characters, with `?` for each control character, then
+/// `..` if it has more.
 pub fn shown_key(alloc: Global, key: &str) -> Result<String, AllocError>
     ensures { IfOk result (λ shown. string_bytes shown ≡ shown_key key.now) }
 {

@@ -9,7 +9,7 @@ use std::alloc::AllocError;
 pub enum Stop {
     /// Its header has this fault, or a read of it failed.
     Header(PcapFault),
-    /// So it is with a record.
+    /// A record has this fault, or a read of it failed.
     Record(PcapFault),
     /// Out of memory.
     Memory,
@@ -20,19 +20,19 @@ pub enum Stop {
 /// Why a capture is not inspected whole.
 #[derive(Clone, Copy, Debug, PartialEq, Eq)]
 pub enum CaptureReason {
-    /// It is a pcapng file, of which other programs make a capture.
+    /// It is a pcapng file, which other programs can convert to a capture.
     Pcapng,
-    /// It begins as no capture does.
+    /// It does not begin like a capture.
     NoCapture,
     /// Its version is not 2.4.
     Version,
-    /// Its frames are of another link type than Ethernet.
+    /// The link type of its frames is not Ethernet.
     NotEthernet,
     /// It ends inside its header, of 24 octets.
     CutHeader,
     /// It ends inside a record.
     CutRecord,
-    /// A record has a part of its frame alone.
+    /// A record holds only part of its frame.
     CutFrame,
     /// A record has more than 262,144 octets.
     LongRecord,
@@ -46,7 +46,7 @@ impl CaptureReason {
     ghost use Rattle.std.specs.Prelude.{◌≡◌};
     ghost use Rattle.macs_offline.specs.CaptureReasons.{capture_text, header_reason, record_reason};
 
-    /// The reason that a fault of a header is, in a file that is a pcapng file or none.
+    /// The reason for a fault of a header, in a file that is pcapng or not.
     pub fn of_header(is_pcapng: bool, fault: PcapFault) -> CaptureReason
         ensures { result ≡ header_reason is_pcapng fault }
     {
@@ -65,7 +65,7 @@ impl CaptureReason {
         }
     }
 
-    /// The reason that a fault of a record is.
+    /// The reason for a fault of a record.
     pub fn of_record(fault: PcapFault) -> CaptureReason
         ensures { result ≡ record_reason fault }
     {
@@ -78,7 +78,7 @@ impl CaptureReason {
         }
     }
 
-    /// What the program says of it.
+    /// The program's message.
     pub fn text(self) -> &'static str
         ensures { result.now ≡ capture_text self }
     {

@@ -5,28 +5,27 @@ ghost use Rattle.std.specs.Io.KnownBytes.{Appends};
 
 use std::io::Write;
 
-/// A text was not printed whole, or not handed on.
+/// A text was not printed whole, or not flushed.
 #[derive(Clone, Copy)]
 pub struct PrintFailed;
 
-/// Where texts are printed. It is known whether a print of it ever failed, and may be known what
-/// was printed.
+/// Where texts are printed. Whether a print ever failed is known; what was printed may be known.
 pub trait Stream {
-    /// What was printed, where it is known.
+    /// What was printed, where known.
     ghost contents: { Self → Option (List ℕ) };
 
-    /// A text was not printed whole, or not handed on.
+    /// Whether a text was not printed whole, or not flushed.
     ghost failed: { Self → Bool };
 
-    /// Prints a text whole and hands it on. Where that fails a front of it may be printed.
+    /// Prints a text whole and flushes. If that fails, a prefix of it may have been printed.
     fn print(&mut self, text: &[u8]) -> Result<(), PrintFailed>
         ensures printed { OnOk result (Appends (contents self.old) (contents self.new) text.now) }
         ensures done { OnOk result (failed self.new ≡ failed self.old) }
         ensures broken { OnErr result (failed self.new ≡ true) };
 }
 
-/// A stream over a writer of the standard library, which is flushed after each text: so no line is
-/// kept back while the program goes on. An interrupted write is made again.
+/// A stream over a standard-library writer, which is flushed after each text, so that no line is
+/// held back while the program runs. An interrupted write is retried.
 #[derive(Drop)]
 pub struct WriterStream<W: Write> {
     writer: W,
@@ -50,7 +49,7 @@ impl<W: Write> Stream for WriterStream<W> {
 impl<W: Write> WriterStream<W> {
     ghost use Rattle.std.specs.Prelude.{◌≡◌, false};
 
-    /// A stream that printed what the writer holds, and to which no print failed.
+    /// A stream over a writer, which starts with what the writer holds and no failed print.
     pub fn new(writer: W) -> WriterStream<W>
         ensures contents { ⟦<WriterStream<W> as Stream>⟧.contents result ≡ W.contents writer }
         ensures failed { ⟦<WriterStream<W> as Stream>⟧.failed result ≡ false }

@@ -1,4 +1,4 @@
-//! Where a text stops to be TOML.
+//! Where a text stops being TOML.
 
 ghost use Rattle.std.specs.Prelude.{◌≡◌, ◌⊎◌, ◌↔◌, ◌<◌, ◌^◌, ◌+◌, length, IfOk, IfSome};
 ghost use Rattle.std.specs.Prelude.{IsNone, string_bytes};
@@ -17,7 +17,7 @@ pub struct TextPlace {
     pub column: usize,
 }
 
-/// The place after one octet more of a text in UTF-8: of a character the first one counts.
+/// The place after one more octet of UTF-8 text: only the first octet of a character counts.
 fn step(place: TextPlace, octet: u8) -> TextPlace
     requires { (place.line + 1 < 2 ^ 64) × (place.column + 1 < 2 ^ 64) }
     ensures { result ≡ place_step place octet }
@@ -49,7 +49,7 @@ fn place_after(front: &[u8]) -> TextPlace
     place
 }
 
-/// The place where an error in a text starts, unless it is want of memory.
+/// The place where an error in a text starts, or `None` if memory ran out.
 pub fn place_of(text: &str, error: &toml::de::Error) -> Option<TextPlace>
     requires { IsWithin text.now error.now }
     ensures memory { IsNone result ↔ IsMemory error.now }
@@ -61,7 +61,7 @@ pub fn place_of(text: &str, error: &toml::de::Error) -> Option<TextPlace>
     }
 }
 
-/// What is said of a file that is not TOML from this place on.
+/// The message about a file that stops being TOML at this place.
 pub fn not_toml_text(alloc: Global, file: &str, place: TextPlace) -> Result<String, AllocError>
     ensures { IfOk result (λ text. string_bytes text ≡ not_toml_text file.now place) }
 {
@@ -70,8 +70,8 @@ pub fn not_toml_text(alloc: Global, file: &str, place: TextPlace) -> Result<Stri
     format!(in alloc; "{file}: line {line} column {column}: not TOML")
 }
 
-/// The failure that an error in the text of a file is: the place where it starts is said, unless
-/// there is no memory.
+/// The failure for an error in the text of a file: a message with the place where it starts, or
+/// `Memory`.
 pub fn failure_of_toml(alloc: Global, file: &str, text: &str, error: &toml::de::Error) -> Failure
     requires { IsWithin text.now error.now }
     ensures { (result ≡ Failure.Memory)

@@ -1,4 +1,4 @@
-//! `check FILE DISK`: what each command would be answered.
+//! `check FILE DISK`: how each command would be answered.
 
 ghost use Rattle.std.specs.Prelude.{◌≡◌, [], true, None, IfErr, IfOk, OnOk, string_bytes};
 ghost use Rattle.std.specs.declared.alloc.Global.{Global};
@@ -30,7 +30,7 @@ use macs_texts::refusal_name;
 use std::alloc::{AllocError, Global};
 use std::rt::Files;
 
-/// The failure that a fault of a disk in memory is: its calls fail only for want of memory.
+/// The failure for a fault of an in-memory disk: its calls fail only when memory runs out.
 pub fn failure_in_memory(fault: DiskFault) -> Failure
     ensures { result ≡ failure_in_memory fault }
 {
@@ -40,7 +40,7 @@ pub fn failure_in_memory(fault: DiskFault) -> Failure
     }
 }
 
-/// Gives a command to the endpoint in memory, and answers whether it was refused, and why.
+/// Gives a command to the in-memory endpoint, and returns whether and why it was refused.
 fn try_command<D: SectorDisk>(
     endpoint: &mut Endpoint<D>,
     command: Command,
@@ -56,7 +56,7 @@ fn try_command<D: SectorDisk>(
     }
 }
 
-/// Gives these commands to the endpoint, one after another, and answers which were refused, and
+/// Gives these commands to the endpoint, one after another, and returns which were refused, and
 /// why.
 fn try_commands<D: SectorDisk>(
     alloc: Global,
@@ -78,8 +78,8 @@ fn try_commands<D: SectorDisk>(
     Ok(outcomes)
 }
 
-/// Gives these commands to the endpoint in memory, if the file that says them is for it. It fails
-/// as `OtherEnd` where it is for another one.
+/// Gives these commands to the in-memory endpoint, if their file is for it. Fails with `OtherEnd`
+/// if it is for another one.
 fn try_own<D: SectorDisk>(
     alloc: Global,
     endpoint: &mut Endpoint<D>,
@@ -98,8 +98,8 @@ fn try_own<D: SectorDisk>(
     try_commands(alloc, endpoint, commands)
 }
 
-/// Gives these commands to an endpoint in memory, if it was opened, and the file that says them is
-/// for it. No command of it waits.
+/// Gives these commands to an in-memory endpoint, if it was opened and their file is for it. It has
+/// no pending command.
 #[inline(never)]
 fn try_opened(
     alloc: Global,
@@ -119,7 +119,7 @@ fn try_opened(
     }
 }
 
-/// Gives these commands to the endpoint on a disk in memory. It is a function of its own, so that
+/// Gives these commands to the endpoint on an in-memory disk. It is a function of its own, so that
 /// the endpoint has one place on the stack.
 #[inline(never)]
 fn try_on(
@@ -135,10 +135,10 @@ fn try_on(
     try_opened(alloc, Endpoint::open(copy), end, commands)
 }
 
-/// What these commands would be answered by the endpoint on the disk in an open file, which is read
-/// alone. It fails as `copy_of` does, as the opening of an endpoint does, as `OtherEnd` where the
-/// file that says them is for another end, and with `GenerationsSpent` where a command would be
-/// answered so; and as `Memory`.
+/// How the endpoint on the disk in an open file, which is only read, would answer these commands.
+/// Fails as `copy_of` does, as opening an endpoint does, with `OtherEnd` if their file is for
+/// another end, with `GenerationsSpent` if that would be the answer to a command, and with
+/// `Memory`.
 fn try_file<F: CaptureFile>(
     alloc: Global,
     file: &mut F,
@@ -152,9 +152,9 @@ fn try_file<F: CaptureFile>(
     try_on(alloc, copy, end, commands)
 }
 
-/// What these commands would be answered by the endpoint on the disk in a file, which is opened to
-/// be read alone. It fails as `DiskFile` with the reason where there is no regular file that can be
-/// opened, or a writer has claimed it; then as `try_file` does.
+/// How the endpoint on the disk in a file, which is opened only for reading, would answer these
+/// commands. Fails with `DiskFile` and the reason if there is no regular file that can be opened,
+/// or a writer has claimed it; then as `try_file` does.
 pub fn try_in<T: Files>(
     rt: &T,
     alloc: Global,
@@ -173,8 +173,8 @@ where
     }
 }
 
-/// Looks for an endpoint on the disk in an open file, which is read alone. It fails as `try_file`
-/// does.
+/// Checks that there is an endpoint on the disk in an open file, which is only read. Fails as
+/// `try_file` does.
 fn look_in<F: CaptureFile>(alloc: Global, file: &mut F) -> Result<(), Failure>
     ensures found { OnOk result (TriesIn F.file None [] []) }
     ensures ended { IfErr result (FailsIn F.file None []) }
@@ -185,8 +185,8 @@ fn look_in<F: CaptureFile>(alloc: Global, file: &mut F) -> Result<(), Failure>
     }
 }
 
-/// Looks for an endpoint on the disk in a file, which is opened to be read alone. It fails as
-/// `Disk` with `File` where there is no regular file that can be opened, or a writer has claimed
+/// Checks that there is an endpoint on the disk in a file, which is opened only for reading. Fails
+/// with `Disk` and `File` if there is no regular file that can be opened, or a writer has claimed
 /// it; then as `try_file` does.
 pub fn look_at<T: Files>(rt: &T, alloc: Global, path: &str) -> Result<(), Failure>
 where
@@ -200,7 +200,7 @@ where
     }
 }
 
-/// The text on command `at`: kept, or refused by this name.
+/// The text for command `at`: accepted, or refused with this name.
 fn trial_text(alloc: Global, at: usize, outcome: Option<Refusal>) -> Result<String, AllocError>
     ensures { IfOk result (λ text. string_bytes text ≡ trial_text at outcome) }
 {
@@ -213,7 +213,7 @@ fn trial_text(alloc: Global, at: usize, outcome: Option<Refusal>) -> Result<Stri
     }
 }
 
-/// The line of a command by its number.
+/// The line of a command, with its number.
 fn trial_line(alloc: Global, at: usize, outcome: Option<Refusal>) -> Result<String, AllocError>
     ensures { IfOk result (λ text. string_bytes text ≡ trial_line at outcome) }
 {
@@ -222,7 +222,7 @@ fn trial_line(alloc: Global, at: usize, outcome: Option<Refusal>) -> Result<Stri
     Ok(text)
 }
 
-/// The lines of commands, each with what it would be answered.
+/// The lines of commands, each with its answer.
 fn trial_lines(alloc: Global, outcomes: &[Option<Refusal>]) -> Result<String, AllocError>
     ensures { IfOk result (λ text. string_bytes text ≡ trial_lines 1 outcomes.now) }
 {
@@ -233,7 +233,7 @@ fn trial_lines(alloc: Global, outcomes: &[Option<Refusal>]) -> Result<String, Al
     Ok(text)
 }
 
-/// What is said of all commands: a line of each, or that there are none.
+/// The report on all commands: a line for each, or that there are none.
 pub fn trial_report(alloc: Global, outcomes: &[Option<Refusal>]) -> Result<String, AllocError>
     ensures { IfOk result (λ text. string_bytes text ≡ trial_report outcomes.now) }
 {
@@ -243,7 +243,7 @@ pub fn trial_report(alloc: Global, outcomes: &[Option<Refusal>]) -> Result<Strin
     trial_lines(alloc, outcomes)
 }
 
-/// The status of a run that gave all its commands: refused if one was.
+/// The status of a run that gave all its commands: refused if any was.
 pub fn outcomes_status(outcomes: &[Option<Refusal>]) -> Status
     ensures { result ≡ outcomes_status outcomes.now }
 {

@@ -10,7 +10,7 @@ use crate::open_input::sci_of;
 use macs_config::Identity;
 use macs_disk::Layout;
 
-/// Why the values are not those of an endpoint, in the order in which the faults are looked for.
+/// Why the values are not valid for an endpoint, in the order in which the faults are checked.
 #[derive(Clone, Copy)]
 pub enum ValueFault {
     /// The SCI is not 16 hex digits.
@@ -27,7 +27,7 @@ impl ValueFault {
     ghost use Rattle.std.specs.Prelude.{◌≡◌};
     ghost use Rattle.macs_offline.specs.Failing.{value_fault_text};
 
-    /// What the program says of it.
+    /// The program's message.
     pub fn text(self) -> &'static str
         ensures { result.now ≡ value_fault_text self }
     {
@@ -40,15 +40,15 @@ impl ValueFault {
     }
 }
 
-/// Whether so many packet numbers may be reserved at a time.
+/// Whether this many packet numbers may be reserved at a time.
 fn is_block(block: u32) -> bool
     ensures { IsTrue result ↔ IsBlock block }
 {
     (1..=65_536).contains(&block)
 }
 
-/// The layout of a file for the block of the device that is named, in octets: that for 512 where
-/// none is. `None` for any other block.
+/// The layout of a file for the named block size of the device in octets: that for 512 if none is
+/// named. `None` for any other size.
 fn layout_of(block: Option<&str>) -> Option<Layout>
     ensures { (layout : Layout)
         → (result ≡ Some layout) ↔ SpellsLayout (option_map (λ text. text.now) block.entry) layout }
@@ -60,16 +60,16 @@ fn layout_of(block: Option<&str>) -> Option<Layout>
     }
 }
 
-/// What `format` is given: what the endpoint is formatted with, and how its file is laid out.
+/// The values given to `format`: those of the endpoint, and the layout of its file.
 #[derive(Clone, Copy)]
 pub struct Given {
     pub identity: Identity,
     pub layout: Layout,
 }
 
-/// What `format` is given by the values of the words. Refused first as `Sci`, where the text is not
-/// 16 hex digits; then as `TxBlock` and as `RxBlock`, where the number is not 1 to 65,536; then as
-/// `DeviceBlock`, where a block of the device is named that is not `512` or `4096`.
+/// Parses the values given to `format`. Fails with the first of: `Sci` if the text is not 16 hex
+/// digits, `TxBlock` and `RxBlock` if the number is not 1 to 65,536, `DeviceBlock` if a block size
+/// is named that is not `512` or `4096`.
 pub fn given_by(
     sci: &str,
     tx_block: u32,

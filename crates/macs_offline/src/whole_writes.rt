@@ -1,11 +1,12 @@
-//! A buffer that is handed on when it is full.
+//! A buffer that is flushed when it is full.
 
 use std::io;
 use std::io::{BufWriter, Write};
 
-/// A buffer in front of a writer. Each write to that writer but the last is one of all its room:
-/// what does not fit is cut there, where a `BufWriter` by itself would hand on what it has first.
-/// So writes of a file begin and end at multiples of the room, which costs the system less.
+/// A buffer in front of a writer. Each write to that writer but the last has the full size of the
+/// buffer: data that does not fit is split there, where a `BufWriter` by itself would flush what it
+/// has first. So writes to a file begin and end at multiples of the buffer size, which costs the
+/// system less.
 #[derive(Drop)]
 pub struct WholeWrites<W: Write + Drop> {
     buffer: BufWriter<W>,
@@ -14,7 +15,7 @@ pub struct WholeWrites<W: Write + Drop> {
 impl<W: Write + Drop> WholeWrites<W> {
     ghost use Rattle.std.specs.Prelude.{◌≡◌};
 
-    /// What is written goes through this buffer.
+    /// Writes go through this buffer.
     pub fn new(buffer: BufWriter<W>) -> WholeWrites<W>
         ensures { ⟦<WholeWrites<W> as Write>⟧.contents result
             ≡ ⟦<BufWriter<W> as Write>⟧.contents buffer }

@@ -1,4 +1,4 @@
--- What `about` says of the program.
+-- The output of `about`.
 use Rattle.std.specs.Prelude.{◌≡◌, ◌++◌, ℕ, List, codes, string_bytes}
 use Rattle.macs_texts.specs.Programs.{word_line}
 use Rattle.macs_texts.specs.declared.build.Build.{Build}
@@ -11,14 +11,14 @@ abbrev pub formats_text : List ℕ
 formats_text =
     word_line (codes "journal writes format") (codes "2") ++ word_line (codes "journal reads formats") (codes "1, 2")
 
--- its version, the commit of its sources, the toolchain that built it, the processors that it is built for, and those
--- formats
+-- the program's version, the commit of its sources, the toolchain that built it, the processors it is built for, and
+-- those formats
 abbrev pub about_text : List ℕ
 about_text =
     topic_text Version ++ (word_line (codes "commit") COMMIT.now ++ (word_line (codes "toolchain") TOOLCHAIN.now
     ++ (word_line (codes "built for") LEVEL.now ++ formats_text)))
 
--- a build is this one, which its metrics name
+-- a build is this one, as its metrics name it
 abbrev pub IsThisBuild : Build → Type 0
 IsThisBuild build =
     (string_bytes build.version ≡ VERSION.now) × (string_bytes build.commit ≡ COMMIT.now)

@@ -4,18 +4,18 @@ use Rattle.std.specs.Prelude.{OnOk}
 use Rattle.macs_offline.specs.declared.failure.Failure.{Failure}
 use Rattle.macs_offline.specs.declared.status.Status.{Status}
 
--- the capture of a name is opened to be read, or made to be written: and whether it is
+-- the capture with this name is opened for reading, or created for writing; and whether that succeeds
 pub data Asked : Type 0 where
   Opens : List ℕ → Bool → Asked
   Makes : List ℕ → Bool → Asked
 
--- where it is known what was asked for, these are asked for now, and nothing else
+-- if the requests so far are known, these are added now, and nothing else
 abbrev pub Asks : Option (List Asked) → Option (List Asked) → List Asked → Type 0
 Asks None after more = ⊤
 Asks (Some before) after more = after ≡ Some (before ++ more)
 
--- INPUT is opened, then OUTPUT is made, and nothing else; where the run fails, as far as it came: OUTPUT is not made
--- where INPUT is not opened
+-- INPUT is opened, then OUTPUT is created, and nothing else; a failing run stops on the way: OUTPUT is not created
+-- unless INPUT is opened
 pub record AsksInOrder (from to : List ℕ) (before after : Option (List Asked))
     (result : Result Status Failure) : Type 0 where
   pub order : OnOk result (Asks before after (Opens from true ∷ Makes to true ∷ []))

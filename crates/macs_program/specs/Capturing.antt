@@ -1,4 +1,4 @@
--- What a run over a capture does that hands on all that was written.
+-- A run over a capture that flushes all that was written.
 use Rattle.std.specs.Prelude.{◌≡◌, ◌⊎◌, true, Result, Ok, Err}
 use Rattle.std.specs.Io.KnownBytes.{Keeps}
 use Rattle.macs_disk.specs.Disk.{Disk}
@@ -11,7 +11,7 @@ use Rattle.macs_offline.specs.Failing.{failure_of_run}
 use Rattle.macs_offline.specs.declared.failure.Failure.{Failure}
 use Rattle.macs_offline.specs.declared.failure.Failure.TheVariants as failures
 
--- all that a sink took is handed on, and nothing else of it changes
+-- all that a sink took is flushed, and nothing else about it changes
 pub record IsFlushed (before after : SinkState) : Type 0 where
   pub held : Keeps before.held after.held
   pub writes : after.failed ≡ before.failed
@@ -29,13 +29,13 @@ EndsWith (Err fault) failure before after = (failure ≡ failure_of_run fault)
     × (IsFlushed before after ⊎ FailsToFlush before after)
 EndsWith (Ok summary) failure before after = (failure ≡ failures.Capture) × FailsToFlush before after
 
--- what was written in a run with this answer is handed on, after a fault too
+-- what was written in a run with this answer is flushed, after a fault too
 abbrev pub EndsFlushed : Result Summary RunFault → Result Summary Failure → SinkState → SinkState → Type 0
 EndsFlushed answer (Ok summary) before after = (answer ≡ Ok summary) × IsFlushed before after
 EndsFlushed answer (Err failure) before after = EndsWith answer failure before after
 
--- The run goes over the capture, and then all that was written is handed on, after a fault too. A fault of the run is
--- the failure; without one it is a flush that failed
+-- The run goes over the capture, and then all that was written is flushed, after a fault too. The failure is the fault
+-- of the run, or if there is none, a failed flush
 abbrev pub PassesCapture : {D : Type 0} → (D → Disk) → Side → Run D → Result Summary Failure → Run D → Type 0
 PassesCapture disk_of side old (Ok summary) new =
     (sink : SinkState) × RunsOver disk_of side old (Ok summary) (run_of new.endpoint new.source sink)
@@ -45,7 +45,7 @@ PassesCapture disk_of side old (Err failure) new =
     × RunsOver disk_of side old answer (run_of new.endpoint new.source sink)
     × EndsWith answer failure sink new.sink
 
--- How a run with its line fails: as the run does; or the run does not, and its line cannot be written
+-- How a run with its line fails: the run itself fails; or it does not, and its line cannot be written
 abbrev pub EndsPass : {D : Type 0} → (D → Disk) → Side → Run D → Failure → Run D → Type 0
 EndsPass disk_of side old failure new =
     PassesCapture disk_of side old (Err failure) new

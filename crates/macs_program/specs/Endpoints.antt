@@ -20,10 +20,9 @@ use Rattle.macs_offline.specs.declared.failure.Failure.{Failure}
 use Rattle.macs_offline.specs.declared.failure.Failure.TheVariants as failures
 use Rattle.macs_offline.specs.declared.status.Status.{Status}
 
--- ---- the commands of a file, where `left_in` says what is left to read of one, where that is known
+-- ---- the commands of a file, whose unread octets `left_in` gives, where known
 
--- the commands that some command file says are given to an endpoint that the file is for, all of them, and a line is
--- printed for each
+-- all commands of some command file are given to an endpoint that the file is for, and a line is printed for each
 pub record AppliesFile {F D : Type 0} (left_in : F → Option (List ℕ)) (disk_of : D → Disk) (old : EndpointValue D)
     (before after : Option (List ℕ)) (status : Status) (new : EndpointValue D) : Type 0 where
   pub octets : List ℕ
@@ -45,8 +44,8 @@ pub record AppliesFront {F D : Type 0} (left_in : F → Option (List ℕ)) (disk
   pub own : is_for end (own_sci old) ≡ true
   pub applies : AppliesSome disk_of old commands before after failure new
 
--- there is no command file that is for the endpoint, or no memory, and nothing is done and printed; or the commands of
--- one end at one of them
+-- there is no command file for the endpoint, or memory runs out, and nothing is done or printed; or its commands end at
+-- one of them
 abbrev pub BreaksOff : {F D : Type 0} → (F → Option (List ℕ)) → (D → Disk) → EndpointValue D → Option (List ℕ)
     → Option (List ℕ) → Failure → EndpointValue D → Type 0
 BreaksOff left_in disk_of old before after failure new =
@@ -69,7 +68,7 @@ pub record BreaksOffIn {F : Type 0} (file : F → FileState) (left_in : F → Op
   pub endpoint : IsEndpointIn file old
   pub ends : BreaksOff left_in (disk_in_file file) old before after failure new
 
--- ---- what is shown
+-- ---- the output of `show`
 
 -- the text of an endpoint
 abbrev pub shown_text : {D : Type 0} → EndpointValue D → List ℕ
@@ -83,7 +82,7 @@ pub record ShowsIn {F : Type 0} (file : F → FileState) (before after : Option 
 
 -- ---- captures
 
--- a capture is taken through an endpoint into another one
+-- a capture is passed through an endpoint into another capture
 pub record PassesBetween {D : Type 0} (disk_of : D → Disk) (side : Side) (old : EndpointValue D) (summary : Summary)
     (new : EndpointValue D) : Type 0 where
   pub source : SourceState
@@ -92,14 +91,14 @@ pub record PassesBetween {D : Type 0} (disk_of : D → Disk) (side : Side) (old 
   pub sink_left : SinkState
   pub passes : PassesCapture disk_of side (run_of old source sink) (Ok summary) (run_of new source_left sink_left)
 
--- so it is through an endpoint on a disk in a file
+-- the same through an endpoint on a disk in a file
 pub record PassesIn {F : Type 0} (file : F → FileState) (side : Side) (summary : Summary) : Type 0 where
   pub old : EndpointValue (FileDisk F)
   pub new : EndpointValue (FileDisk F)
   pub endpoint : IsEndpointIn file old
   pub passes : PassesBetween (disk_in_file file) side old summary new
 
--- it is not, or not whole
+-- it is not passed, or not whole
 pub record StopsBetween {D : Type 0} (disk_of : D → Disk) (side : Side) (old : EndpointValue D) (failure : Failure)
     (new : EndpointValue D) : Type 0 where
   pub source : SourceState
@@ -108,13 +107,13 @@ pub record StopsBetween {D : Type 0} (disk_of : D → Disk) (side : Side) (old :
   pub sink_left : SinkState
   pub ends : EndsPass disk_of side (run_of old source sink) failure (run_of new source_left sink_left)
 
--- a capture cannot be opened, or there is no memory, and nothing is done with the endpoint; or the run ends
+-- a capture cannot be opened, or memory runs out, and nothing is done with the endpoint; or the run ends
 abbrev pub PassEnds : {D : Type 0} → (D → Disk) → Side → EndpointValue D → Failure → EndpointValue D → Type 0
 PassEnds disk_of side old failure new =
     (((failure ≡ failures.Memory) ⊎ (failure ≡ failures.Capture)) × (new ≡ old))
     ⊎ StopsBetween disk_of side old failure new
 
--- so it ends with an endpoint on a disk in a file
+-- the same with an endpoint on a disk in a file
 pub record PassEndsIn {F : Type 0} (file : F → FileState) (side : Side) (failure : Failure) : Type 0 where
   pub old : EndpointValue (FileDisk F)
   pub new : EndpointValue (FileDisk F)

@@ -31,21 +31,21 @@ use Rattle.macs_offline.specs.declared.status.Status.TheVariants as ends
 
 -- ---- lines
 
--- the line of a verdict by its number
+-- the line of a verdict, with its number
 abbrev pub verdict_line : ℕ → Verdict → List ℕ
 verdict_line at verdict = line (decimal at ++ (codes " " ++ verdict_words verdict))
 
--- the lines of verdicts, the first of which has this number
+-- the lines of verdicts, numbered from `at`
 abbrev pub verdict_lines : ℕ → List Verdict → List ℕ
 verdict_lines at [] = []
 verdict_lines at (verdict ∷ more) = verdict_line at verdict ++ verdict_lines (at + 1) more
 
--- some are printed, the first of them as number 1
+-- some are printed, numbered from 1
 abbrev pub PrintsVerdicts : Option (List ℕ) → Option (List ℕ) → Type 0
 PrintsVerdicts before after = (verdicts : List Verdict) × Appends before after (verdict_lines 1 verdicts)
 
--- The line of a verdict is printed, by the number that comes next; or that fails. Once a line could not be printed no
--- other one is
+-- The line of a verdict is printed, with the next number; or printing fails. After a line that could not be printed no
+-- other is printed
 abbrev pub TellsLine : {W : Type 0} → (W → Option (List ℕ)) → (W → Bool) → Tells VerdictLines W
 TellsLine contents failed old before verdict new after =
     ((old.has_failed ≡ true) × (new ≡ old) × (after ≡ before))
@@ -55,11 +55,11 @@ TellsLine contents failed old before verdict new after =
 
 -- ---- a run
 
--- how a run fails that prints nothing
+-- the failure of a run that prints nothing
 abbrev pub IsOfRun : Failure → Type 0
 IsOfRun failure = ((fault : RunFault) × (failure ≡ failure_of_run fault)) ⊎ (failure ≡ failures.Capture)
 
--- The run goes over the capture with these verdicts on its frames, and then all that was written is handed on, after a
+-- The run goes over the capture with these verdicts on its frames, and then all that was written is flushed, after a
 -- fault too
 abbrev pub JudgesCapture : {D : Type 0} → (D → Disk) → Run D → Result Summary Failure → List Verdict → Run D → Type 0
 JudgesCapture disk_of old (Ok summary) verdicts new =
@@ -70,8 +70,8 @@ JudgesCapture disk_of old (Err failure) verdicts new =
     × JudgesRun disk_of Common old answer verdicts (run_of new.endpoint new.source sink)
     × EndsWith answer failure sink new.sink
 
--- How it fails where a line is printed for each verdict: as the run does, after the lines of all its verdicts; or a
--- line cannot be printed, whatever the run comes to
+-- How it fails if a line is printed for each verdict: as the run does, after the lines of all its verdicts; or,
+-- regardless of the result of the run, because a line cannot be printed
 abbrev pub StopsEach : {D W : Type 0} → (D → Disk) → (W → Option (List ℕ)) → (W → Bool) → Run D → W → Failure → Run D
     → W → Type 0
 StopsEach disk_of contents failed old before failure new after =
@@ -80,7 +80,7 @@ StopsEach disk_of contents failed old before failure new after =
     ⊎ ((failure ≡ failures.Output) × (failed after ≡ true)
     × (answer : Result Summary Failure) × (verdicts : List Verdict) × JudgesCapture disk_of old answer verdicts new)
 
--- such a run, after the lines of all its verdicts; or it fails
+-- such a run, after the lines of all its verdicts; or its failure
 abbrev pub PrintsEach : {D W : Type 0} → (D → Disk) → (W → Option (List ℕ)) → (W → Bool) → Run D → W
     → Result Summary Failure → Run D → W
     → Type 0
@@ -90,7 +90,7 @@ PrintsEach disk_of contents failed old before (Ok summary) new after =
 PrintsEach disk_of contents failed old before (Err failure) new after =
     StopsEach disk_of contents failed old before failure new after
 
--- and its own line is printed after them
+-- its own line is printed after them
 pub record ValidatesEach {D W : Type 0} (disk_of : D → Disk) (contents : W → Option (List ℕ)) (failed : W → Bool)
     (is_all : Bool)
     (old : Run D) (before : W) (result : Result Status Failure) (new : Run D) (after : W) : Type 0 where
@@ -102,14 +102,14 @@ pub record ValidatesEach {D W : Type 0} (disk_of : D → Disk) (contents : W →
 
 -- ---- through an endpoint
 
--- how a run fails, whatever is printed
+-- how a run fails, regardless of what is printed
 abbrev pub EndsEach : {D : Type 0} → (D → Disk) → Run D → Failure → Run D → Type 0
 EndsEach disk_of old failure new =
     ((verdicts : List Verdict) × JudgesCapture disk_of old (Err failure) verdicts new)
     ⊎ ((failure ≡ failures.Output) × (answer : Result Summary Failure) × (verdicts : List Verdict)
     × JudgesCapture disk_of old answer verdicts new)
 
--- a capture is validated by an endpoint into another one, with these verdicts
+-- a capture is validated by an endpoint into another capture, with these verdicts
 pub record JudgesBetween {D : Type 0} (disk_of : D → Disk) (old : EndpointValue D) (summary : Summary)
     (verdicts : List Verdict)
     (new : EndpointValue D) : Type 0 where
@@ -119,7 +119,7 @@ pub record JudgesBetween {D : Type 0} (disk_of : D → Disk) (old : EndpointValu
   pub sink_left : SinkState
   pub judges : JudgesCapture disk_of (run_of old source sink) (Ok summary) verdicts (run_of new source_left sink_left)
 
--- it is not, or not whole
+-- it is not validated, or not whole
 pub record StopsJudging {D : Type 0} (disk_of : D → Disk) (old : EndpointValue D) (failure : Failure)
     (new : EndpointValue D) : Type 0 where
   pub source : SourceState
@@ -128,12 +128,12 @@ pub record StopsJudging {D : Type 0} (disk_of : D → Disk) (old : EndpointValue
   pub sink_left : SinkState
   pub ends : EndsEach disk_of (run_of old source sink) failure (run_of new source_left sink_left)
 
--- a capture cannot be opened, or there is no memory, and nothing is done with the endpoint; or the run ends
+-- a capture cannot be opened, or memory runs out, and nothing is done with the endpoint; or the run ends
 abbrev pub JudgingEnds : {D : Type 0} → (D → Disk) → EndpointValue D → Failure → EndpointValue D → Type 0
 JudgingEnds disk_of old failure new =
     (((failure ≡ failures.Memory) ⊎ (failure ≡ failures.Capture)) × (new ≡ old)) ⊎ StopsJudging disk_of old failure new
 
--- `validate --each`: so it is done with an endpoint and a stream
+-- `validate --each` with an endpoint and a stream
 pub record DoesJudge {D W : Type 0} (disk_of : D → Disk) (contents : W → Option (List ℕ)) (has_failed : W → Bool)
     (is_all : Bool)
     (old : EndpointValue D) (before : W) (result : Result Status Failure) (new : EndpointValue D)
@@ -147,14 +147,14 @@ pub record DoesJudge {D W : Type 0} (disk_of : D → Disk) (contents : W → Opt
   pub front : IfErr result (λ failure. failure ≢ failures.Output → PrintsVerdicts (contents before) (contents after))
   pub broken : IfErr result (λ failure. failure ≡ failures.Output → has_failed after ≡ true)
 
--- so it is with an endpoint on a disk in a file
+-- the same with an endpoint on a disk in a file
 pub record JudgesIn {F : Type 0} (file : F → FileState) (summary : Summary) (verdicts : List Verdict) : Type 0 where
   pub old : EndpointValue (FileDisk F)
   pub new : EndpointValue (FileDisk F)
   pub endpoint : IsEndpointIn file old
   pub judges : JudgesBetween (disk_in_file file) old summary verdicts new
 
--- and it ends so
+-- its failure with an endpoint on a disk in a file
 pub record JudgingEndsIn {F : Type 0} (file : F → FileState) (failure : Failure) : Type 0 where
   pub old : EndpointValue (FileDisk F)
   pub new : EndpointValue (FileDisk F)

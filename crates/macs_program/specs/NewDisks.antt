@@ -1,4 +1,4 @@
--- Which files become the disk of a new endpoint, by what they show.
+-- Which files become the disk of a new endpoint, depending on their contents.
 use Rattle.std.specs.Prelude.{◌≡◌, ◌≢◌, ◌⊎◌, ◌/◌, if◌then◌else◌, ⊤, ℕ, Bool, true, List, Option, Some, None, Result, Ok}
 use Rattle.std.specs.Prelude.{Err, IfErr, IfOk, codes}
 use Rattle.std.specs.Io.KnownBytes.{Appends}
@@ -23,18 +23,19 @@ use Rattle.macs_offline.specs.declared.failure.Failure.TheVariants as failures
 use Rattle.macs_offline.specs.declared.status.Status.{Status}
 use Rattle.macs_offline.specs.declared.status.Status.TheVariants as ends
 
--- why a file that holds this is not written over, if it is not
+-- why a file with these contents is not overwritten, if it is not
 abbrev pub refusal_of : Contents → Bool → Option DiskFault
 refusal_of contents.Blank is_over = None
 refusal_of contents.Endpoint is_over = Some (disk.Journal journal.AlreadyFormatted)
 refusal_of contents.Other is_over = if is_over then None else Some disk.File
 
--- a file of so many sectors holds something that is not written over for this reason, or with None something that is
+-- a file of `sectors` sectors holds something that is not overwritten for this reason, or with None something that may
+-- be overwritten
 abbrev pub Permits : Bool → FileState → ℕ → Option DiskFault → Type 0
 Permits is_over file sectors refusal = (held : Contents) × ContentsAre file sectors held
     × (refusal_of held is_over ≡ refusal)
 
--- a file may become that of a new endpoint, by what it holds: no endpoint, and nothing else, or that may be lost
+-- a file may become that of a new endpoint: it holds no endpoint, and nothing else unless it may be overwritten
 abbrev pub IsFree : Bool → FileState → Type 0
 IsFree is_over file = Permits is_over file (file.size / 512) None
 
@@ -47,7 +48,7 @@ pub record MakesEndpoint {F : Type 0} (file : F → FileState) (made : F) (layou
   pub new : FileDisk F
   pub formats : IsFormat (disk_in_file file) blank identity (Ok tt) new
 
--- a file that was free for it was replaced by one that was made that of a new endpoint
+-- a file that was free for it was replaced by one made for a new endpoint
 pub record Formats {F : Type 0} (file : F → FileState) (is_over : Bool) (layout : Layout)
     (identity : Identity) : Type 0 where
   pub old : F
@@ -55,19 +56,19 @@ pub record Formats {F : Type 0} (file : F → FileState) (is_over : Bool) (layou
   pub made : F
   pub makes : MakesEndpoint file made layout identity
 
--- a file may not become that of a new endpoint for this fault, by what it holds
+-- a file may not become that of a new endpoint for this fault, because of its contents
 abbrev pub IsTaken : Bool → FileState → DiskFault → Type 0
 IsTaken is_over file fault = Permits is_over file (file.size / 512) (Some fault)
 
--- Why a file is not free: it does not serve as one of a disk, for this fault; or it cannot be looked at, or holds what
--- is not written over
+-- Why a file is not free: it cannot be the file of a disk, for this fault; or it cannot be examined, or holds something
+-- that is not overwritten
 abbrev pub BlankFails : Bool → FileState → Failure → Type 0
 BlankFails is_over file failure =
     ((fault : FileFault) × (failure ≡ failure_of_file fault))
     ⊎ ((fault : DiskFault) × (failure ≡ failures.Disk fault)
     × (Behaves file → (fault ≡ disk.Journal journal.Disk) ⊎ IsTaken is_over file fault))
 
--- why no endpoint is made in a new file: it cannot be written, or synced; or the blank disk in it is not formatted, for
+-- why no endpoint is made in a new file: it cannot be written or synced; or formatting the blank disk in it fails, for
 -- this fault
 abbrev pub EndpointFails : {F : Type 0} → (F → FileState) → Identity → Failure → Type 0
 EndpointFails {F} file identity failure =
@@ -75,15 +76,15 @@ EndpointFails {F} file identity failure =
     ⊎ ((blank : FileDisk F) × (left : FileDisk F) × (fault : JournalFault) × (failure ≡ failure_of_journal fault)
     × IsFormat (disk_in_file file) blank identity (Err fault) left)
 
--- Why no file becomes the disk of a new endpoint: there is no file that serves as one of a disk, or it cannot be
--- replaced; or none that is free for it; or no endpoint is made
+-- Why no file becomes the disk of a new endpoint: no file can be that of a disk, or it cannot be replaced; or it is not
+-- free; or no endpoint is made
 abbrev pub FormatFails : {F : Type 0} → (F → FileState) → Bool → Identity → Failure → Type 0
 FormatFails {F} file is_over identity failure =
     ((fault : FileFault) × (failure ≡ failure_of_file fault))
     ⊎ ((given : F) × BlankFails is_over (file given) failure)
     ⊎ EndpointFails file identity failure
 
--- the failures after those of the values: of the disk, memory and standard output
+-- the failures after those of the values: disk, memory and standard output
 abbrev pub IsAfterValues : Failure → Type 0
 IsAfterValues (failures.Disk fault) = ⊤
 IsAfterValues failures.Memory = ⊤

@@ -1,4 +1,4 @@
--- What a relay of the program comes to, and how it ends.
+-- The result of a relay of the program, and how it ends.
 use Rattle.std.specs.Prelude.{◌≡◌, ◌⊎◌, ◌-◌, ◌^◌, ◌||◌, ⊤, ℕ, Bool, true, false, List, [], None, Some, is_some, Result}
 use Rattle.std.specs.Prelude.{Ok}
 use Rattle.std.specs.Prelude.{Err}
@@ -22,44 +22,43 @@ use Rattle.macs_offline.specs.Trying.{LookFails, TriesIn}
 use Rattle.macs_offline.specs.declared.failure.Failure.{Failure}
 use Rattle.macs_offline.specs.declared.failure.Failure.TheVariants as failures
 
--- what a wire over UDP reports at first: no call of it failed, and its frames are not known
+-- the state of a new UDP wire: no call of it failed, and its frames are not known
 abbrev pub new_wire : WireState
 new_wire = record { waiting = None; sent = None; failed_receives = 0; failed_sends = 0 }
 
--- how many turns a relay takes: as many as 64 bits count where it waits and none are given
+-- how many turns a relay takes: if it waits and no number is given, the maximum of 64 bits
 abbrev pub turns_of : Pace → ℕ
 turns_of (Sleepless turns) = turns
 turns_of (Waiting limit None) = 2 ^ 64 - 1
 turns_of (Waiting limit (Some turns)) = turns
 
--- how many receives in a row a wire of it leaves out at most, where it gives nothing: none where the relay does not
--- sleep
+-- how many receives in a row a wire skips at most while it yields no frames: none if the relay does not sleep
 abbrev pub left_out : Pace → ℕ
 left_out (Sleepless turns) = 0
 left_out (Waiting limit turns) = 7
 
--- what a relay is to be: whether a desk attends it, and how many turns it takes at most
+-- the configuration of a relay: whether a desk attends it, and its maximum number of turns
 pub record Course : Type 0 where
   pub attended : Bool
   pub turns : ℕ
 
--- one that nobody attends
+-- one without a desk
 abbrev pub unattended : ℕ → Course
 unattended turns = record { attended = false; turns = turns }
 
--- one that a desk attends
+-- one with a desk
 abbrev pub attended : ℕ → Course
 attended turns = record { attended = true; turns = turns }
 
--- a desk attends it where there is a control socket or a file of counters
+-- a desk attends it if there is a control socket or a file of counters
 abbrev pub is_attended : Running → Bool
 is_attended running = is_some running.control || is_some running.metrics
 
--- what the words want
+-- what the words request
 abbrev pub course_of : Running → Course
 course_of running = record { attended = is_attended running; turns = turns_of running.pace }
 
--- Frames are relayed, and a desk that attends it hands in commands, is given what becomes of them, and may end it
+-- Frames are relayed, and a desk, if there is one, submits commands, is given their results, and may end the relay
 abbrev pub IsRunBy : Bool → {D : Type 0} → (D → Disk) → ℕ → Relay D → Result RelaySummary RefillFault → EndpointValue D
     → WireState → WireState → Type 0
 IsRunBy false disk_of turns old result endpoint controlled common =
@@ -67,14 +66,14 @@ IsRunBy false disk_of turns old result endpoint controlled common =
 IsRunBy true disk_of turns old result endpoint controlled common =
     (events : List DeskEvent) × IsAttended disk_of turns old events result endpoint controlled common
 
--- a relay is run as the words want it: with or without a desk, for so many turns, or until it ends
+-- a relay runs as configured: with or without a desk, for a number of turns, or until it ends
 abbrev pub IsRun : {D : Type 0} → (D → Disk) → Course → Relay D → Result RelaySummary RefillFault → EndpointValue D
     → WireState → WireState → Type 0
 IsRun disk_of course old result endpoint controlled common =
     IsRunBy course.attended disk_of course.turns old result endpoint controlled common
 
--- a relay comes to this summary: of an endpoint that was opened on a disk in a file, where this is what a file is,
--- between two new wires
+-- a relay ends with this summary: of an endpoint that was opened on a disk in a file with this state, between two new
+-- wires
 pub record ComesTo {F : Type 0} (file : F → FileState) (course : Course) (summary : RelaySummary) : Type 0 where
   pub old : EndpointValue (FileDisk F)
   pub new : EndpointValue (FileDisk F)
@@ -84,7 +83,7 @@ pub record ComesTo {F : Type 0} (file : F → FileState) (course : Course) (summ
   pub relayed : IsRun (disk_in_file file) course (relay_of old new_wire new_wire empty_lane empty_lane) (Ok summary) new
       controlled common
 
--- how a relay fails: with the fault that has the name of a step's; or it is at its end, and its line cannot be written
+-- how a relay fails: with the failure of a step's fault; or it ends normally, and its line cannot be written
 abbrev pub EndsRelay : {D : Type 0} → (D → Disk) → Course → Relay D → Failure → EndpointValue D → WireState
     → WireState → Type 0
 EndsRelay disk_of course old failure endpoint controlled common =
@@ -94,7 +93,7 @@ EndsRelay disk_of course old failure endpoint controlled common =
     × (summary : RelaySummary) × IsRun disk_of course old (Ok summary) endpoint controlled common)
 
 -- the failures that `relay` ends with: an address, the disk, a wire, the control socket, memory and standard output,
--- and no capture, command file or input
+-- but no capture, command file or input
 abbrev pub IsOfRelay : Failure → Type 0
 IsOfRelay (failures.Address fault) = ⊤
 IsOfRelay (failures.Disk fault) = ⊤
@@ -113,7 +112,7 @@ IsAfterAddresses failures.Memory = ⊤
 IsAfterAddresses failures.Output = ⊤
 IsAfterAddresses other = ⊥
 
--- from this endpoint a relay between two wires that are new comes to this
+-- from this endpoint a relay between two new wires ends with this summary
 pub record Relays {D : Type 0} (disk_of : D → Disk) (course : Course) (old : EndpointValue D) (summary : RelaySummary)
     (new : EndpointValue D) : Type 0 where
   pub controlled : WireState
@@ -129,20 +128,20 @@ pub record StopsRelay {D : Type 0} (disk_of : D → Disk) (course : Course) (old
   pub ends : EndsRelay disk_of course (relay_of old new_wire new_wire empty_lane empty_lane) failure new
       controlled common
 
--- the control socket cannot be bound, or there is no memory, and nothing is done with the endpoint; or the relay ends
+-- the control socket cannot be bound, or memory runs out, and nothing is done with the endpoint; or the relay ends
 abbrev pub RelayEnds : {D : Type 0} → (D → Disk) → Course → EndpointValue D → Failure → EndpointValue D → Type 0
 RelayEnds disk_of course old failure new =
     (((failure ≡ failures.Memory) ⊎ (failure ≡ failures.Control)) × (new ≡ old))
     ⊎ StopsRelay disk_of course old failure new
 
--- Not both wires can be bound, or there is no memory for them. Then the disk in the file is looked at, and its file is
--- not made anew: this is the failure where an endpoint is there, else the one of the disk
+-- The two wires cannot both be bound, or there is no memory for them. Then the disk in the file is examined, without
+-- writing its file anew: the failure is this one if there is an endpoint, else that of the disk
 abbrev pub IsUnbound : {F : Type 0} → (F → FileState) → Failure → Type 0
 IsUnbound file failure =
     (((failure ≡ failures.Memory) ⊎ (failure ≡ failures.Wire)) × TriesIn file None [] [])
     ⊎ LookFails file failure
 
--- so it ends with an endpoint on a disk in a file
+-- the same with an endpoint on a disk in a file
 pub record RelayEndsIn {F : Type 0} (file : F → FileState) (course : Course) (failure : Failure) : Type 0 where
   pub old : EndpointValue (FileDisk F)
   pub new : EndpointValue (FileDisk F)

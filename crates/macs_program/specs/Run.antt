@@ -50,15 +50,15 @@ use Rattle.macs_offline.specs.declared.status.Status.{Status}
 use Rattle.macs_offline.specs.declared.status.Status.TheVariants as ends
 use Rattle.macs_offline.specs.declared.values.ValueFault.{ValueFault}
 
--- `open`: the answer that belongs to the input is printed as one line, and the run ends with its status
+-- `open`: the answer for the input is printed as one line, and the run ends with its status
 abbrev pub Prints : List ℕ → Option (List ℕ) → Option (List ℕ) → Status → Type 0
 Prints input before after status =
     (answer : Opened) × Answers input answer × Appends before after (line (answer_text answer))
     × (status ≡ answer_status answer)
 
--- What a run prints that does what it is asked for, where `state_of` says what files are, and `left_in` what is left to
--- read of one. Which file has a name is not known here: the lines are those of what is done with some endpoint that was
--- opened on a disk in a file, and of the commands that some file says; that of a relay is what some endpoint comes to
+-- What a run prints that succeeds, where `state_of` gives the state of files, and `left_in` their unread octets. Which
+-- file has a name is not known here: the lines are those of what is done with some endpoint that was opened on a disk
+-- in a file, and of the commands of some file; that of a relay is the result for some endpoint
 abbrev pub Does : {F : Type 0} → (F → FileState) → (F → Option (List ℕ)) → Action → InputRead → Option (List ℕ)
     → Option (List ℕ) → Status → Type 0
 Does state_of left_in Open input before after status = IfSome input.octets (λ octets. Prints octets before after status)
@@ -94,7 +94,7 @@ Does state_of left_in (Examine disk is_json) input before after status =
     PrintsExamined state_of is_json before after status
 Does state_of left_in About input before after status = Appends before after about_text × (status ≡ ends.Done)
 
--- a run that does not fail is asked for help and prints it, or its words are taken and name an action, and it does that
+-- a run that does not fail prints help on request, or its words are accepted and name an action, which it carries out
 abbrev pub Replies : {F : Type 0} → (F → FileState) → (F → Option (List ℕ)) → List Text → InputRead
     → Option (List ℕ) → Option (List ℕ) → Status → Type 0
 Replies state_of left_in words input before after status =
@@ -103,8 +103,8 @@ Replies state_of left_in words input before after status =
     × (action : Action) × Names (subcommand_of macsecd words) action
     × Does state_of left_in action input before after status)
 
--- What was printed before a failure: of `apply` and of `ask PATH apply` the lines of the commands before it, of
--- `inspect` those of the frames before it, of `validate --each` those of the verdicts before it, else nothing
+-- What was printed before a failure: for `apply` and `ask PATH apply` the lines of the commands before it, for
+-- `inspect` those of the frames before it, for `validate --each` those of the verdicts before it, else nothing
 abbrev pub HasPrinted : Action → Option (List ℕ) → Option (List ℕ) → Type 0
 HasPrinted (Apply disk file) before after = (outcomes : List (Option Refusal))
     × Appends before after (outcome_lines 1 outcomes)
@@ -113,15 +113,15 @@ HasPrinted (Ask path asked is_json) before after = PrintsFront asked before afte
 HasPrinted (Inspect from) before after = PrintsFrames before after
 HasPrinted action before after = after ≡ before
 
--- a value of the action is none that it takes
+-- a value of the action is not accepted
 abbrev pub WrongValues : Action → Type 0
 WrongValues (Format disk sci tx_block rx_block block is_over) =
     (fault : ValueFault) × ValueFaultHolds sci.now tx_block rx_block (option_map (λ text. text.now) block) fault
 WrongValues (Relay disk controlled common running) = (fault : AddressFault) × AddressFaultHolds controlled common fault
 WrongValues action = ⊥
 
--- How `open` fails: a read failed, or the input, of which 20,001 octets at most are read, has this first fault; or
--- there is no memory; or a print failed
+-- How `open` fails: a read failed, or the input, of which at most 20,001 octets are read, has this first fault; or
+-- memory runs out; or a print failed
 abbrev pub OpenFails : InputRead → Failure → Type 0
 OpenFails input failure =
     ((failure ≡ Input request_faults.Input) × (input.has_failed ≡ true))
@@ -129,8 +129,8 @@ OpenFails input failure =
     × IfSome input.octets (λ all. IsFirst (InputFaultHolds (take 20001 all)) input_faults fault))
     ⊎ (failure ≡ Memory) ⊎ (failure ≡ Output)
 
--- How an action fails, where `state_of` says what files are, and `left_in` what is left to read of one: for the first
--- value of the words that is none, for the opening of the endpoint, or as what is done with it ends
+-- How an action fails, where `state_of` gives the state of files, and `left_in` their unread octets: at the first value
+-- of the words that is not accepted, when opening the endpoint, or as what is done with it ends
 abbrev pub FailsAs : {F : Type 0} → (F → FileState) → (F → Option (List ℕ)) → Action → InputRead → Option (List ℕ)
     → Option (List ℕ) → Failure → Type 0
 FailsAs state_of left_in Open input before after failure = OpenFails input failure
@@ -166,7 +166,7 @@ FailsAs state_of left_in (Plan file end stage) octets before after failure =
 FailsAs state_of left_in (Examine disk is_json) octets before after failure = ExamineFails state_of disk.now failure
 FailsAs state_of left_in About octets before after failure = (failure ≡ Memory) ⊎ (failure ≡ Output)
 
--- it is one that reads no standard input and opens no disk file to write it
+-- the action reads no standard input and opens no disk file for writing
 abbrev pub is_apart : Action → Bool
 is_apart (Ask path asked is_json) = true
 is_apart (Key is_long) = true
@@ -177,22 +177,22 @@ is_apart (Examine disk is_json) = true
 is_apart About = true
 is_apart action = false
 
--- it is one that has an endpoint and hands it no frames
+-- the action has an endpoint and gives it no frames
 abbrev pub is_on_disk : Action → Bool
 is_on_disk (Format disk sci tx_block rx_block block is_over) = true
 is_on_disk (Apply disk file) = true
 is_on_disk (Show disk) = true
 is_on_disk action = false
 
--- it is one that hands frames to an endpoint
+-- the action gives frames to an endpoint
 abbrev pub is_on_frames : Action → Bool
 is_on_frames (Protect disk from to is_all) = true
 is_on_frames (Validate disk from to is_all is_each) = true
 is_on_frames (Relay disk controlled common running) = true
 is_on_frames action = false
 
--- An action is done, with a status of these two, or fails. A failure that is wrong usage is that of a wrong value, and
--- nothing was printed; one of the disk is that of another action than `open`; and one of the output is that of a print
+-- An action is carried out, with one of these two statuses, or fails. A usage failure is that of a wrong value, and
+-- nothing was printed; a disk failure is that of another action than `open`; and an output failure is that of a print
 -- that failed
 pub record Performs {F W : Type 0} (state_of : F → FileState) (left_in : F → Option (List ℕ))
     (contents : W → Option (List ℕ)) (failed : W → Bool) (action : Action)
@@ -206,7 +206,8 @@ pub record Performs {F W : Type 0} (state_of : F → FileState) (left_in : F →
   pub fails : IfErr result (FailsAs state_of left_in action input (contents old) (contents new))
   pub broken : IfErr result (λ failure. failure ≡ Output → failed new ≡ true)
 
--- how a run fails: its words are refused, or help cannot be printed, or they are taken and name an action that fails so
+-- how a run fails: its words are refused, or help cannot be printed, or the words are accepted and name an action that
+-- fails with this failure
 abbrev pub FailsFor : {F : Type 0} → (F → FileState) → (F → Option (List ℕ)) → List Text → InputRead
     → Option (List ℕ) → Option (List ℕ) → Failure → Type 0
 FailsFor state_of left_in words octets before after failure =
@@ -216,20 +217,20 @@ FailsFor state_of left_in words octets before after failure =
     × (action : Action) × Names (subcommand_of macsecd words) action
     × FailsAs state_of left_in action octets before after failure)
 
--- what was printed before a failure: nothing, or the lines of the commands or frames before it
+-- what was printed before a failure: nothing, or the lines of the commands, frames or verdicts before it
 abbrev pub PrintedBefore : List Text → Option (List ℕ) → Option (List ℕ) → Type 0
 PrintedBefore words before after =
     (after ≡ before) ⊎ ((action : Action) × Names (subcommand_of macsecd words) action × HasPrinted action before after)
 
--- the words name an action with such a value
+-- the words name an action with a wrong value
 abbrev pub HasWrongValues : List Text → Type 0
 HasWrongValues words =
     (action : Action) × Names (subcommand_of macsecd words) action × WrongValues action
 
--- What a run does but for the line of a failure: it replies, with a status of these two, or fails. A failure that is
--- wrong usage is that of words which ask for no help, and nothing was printed; one of the disk is that of an action
--- that the words name, other than `open`; and one of the output is that of a print that failed. The input is left
--- unread by all words but those that name `open`
+-- What a run does apart from the line of a failure: it replies, with one of these two statuses, or fails. A usage
+-- failure is that of words that do not ask for help, and nothing was printed; a disk failure is that of an action in
+-- the words, other than `open`; and an output failure is that of a print that failed. The input is left unread unless
+-- the words name `open`
 pub record Acts {F R W : Type 0} (state_of : F → FileState) (left_in : F → Option (List ℕ))
     (remaining : R → Option (List ℕ)) (read_failed : R → Bool) (contents : W → Option (List ℕ)) (failed : W → Bool)
     (words : List Text) (input : R) (old : W) (result : Result Status Failure) (left : R) (new : W) : Type 0 where

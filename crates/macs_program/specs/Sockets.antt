@@ -1,11 +1,11 @@
--- Why a control socket that is asked does not serve, and what is said of it.
+-- Why a control socket cannot be asked, and the message about it.
 use Rattle.std.specs.Prelude.{ℕ, List, codes}
 use Rattle.std.specs.declared.io.ErrorKind.{ErrorKind}
 use Rattle.std.specs.declared.io.ErrorKind.TheVariants as system
 use Rattle.macs_program.specs.declared.socket_reason.SocketReason.{SocketReason}
 use Rattle.macs_program.specs.declared.socket_reason.SocketReason.TheVariants as reason
 
--- The reason that an error of a connection is, by its kind. A relay that took no connection in time gives no answer
+-- The reason for an error of a connection, by its kind. A relay that accepts no connection in time gives no answer
 abbrev pub socket_reason : ErrorKind → SocketReason
 socket_reason system.NotFound = reason.Missing
 socket_reason system.NotADirectory = reason.Missing
@@ -15,7 +15,7 @@ socket_reason system.WouldBlock = reason.NoAnswer
 socket_reason system.TimedOut = reason.NoAnswer
 socket_reason kind = reason.NoSocket
 
--- what is said of it
+-- its text
 abbrev pub socket_text : SocketReason → List ℕ
 socket_text reason.Missing = codes "no such socket"
 socket_text reason.NoPermission = codes "no permission"

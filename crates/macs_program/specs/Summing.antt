@@ -1,4 +1,4 @@
--- The lines that a run over a capture and a relay end with.
+-- The last lines of a run over a capture and of a relay.
 use Rattle.std.specs.Prelude.{◌++◌, ◌&&◌, if◌then◌else◌, nat_lt, Bool, ℕ, List, codes}
 use Rattle.std.specs.Fmt.{decimal}
 use Rattle.macs_edge.specs.declared.capture_runs.Summary.{Summary}
@@ -14,7 +14,7 @@ abbrev pub summary_line : Side → Summary → List ℕ
 summary_line Controlled s = line (codes "protected " ++ (decimal s.passed ++ (codes " dropped " ++ decimal s.dropped)))
 summary_line Common s = line (codes "delivered " ++ (decimal s.passed ++ (codes " discarded " ++ decimal s.dropped)))
 
--- how a run over a capture ends: refused where all frames were to pass and one did not, else done
+-- the status of a run over a capture: Refused if all frames should pass and one did not, else Done
 abbrev pub pass_status : Bool → Summary → Status
 pass_status is_all s = if is_all && nat_lt 0 s.dropped then ends.Refused else ends.Done
 

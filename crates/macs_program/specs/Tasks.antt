@@ -1,4 +1,4 @@
--- What a subcommand does with the endpoint that it opens, whole, and what comes of it on a disk in a file.
+-- What a subcommand does with the endpoint that it opens, and the result on a disk in a file.
 use Rattle.std.specs.Prelude.{◌≡◌, ◌≢◌, ◌⊎◌, ℕ, Bool, true, List, Option, Result, Err, IfErr, IfOk}
 use Rattle.std.specs.Io.KnownBytes.{Appends}
 use Rattle.macs_disk.specs.Disk.{Disk}
@@ -19,7 +19,7 @@ use Rattle.macs_offline.specs.declared.failure.Failure.TheVariants.{Memory, Outp
 use Rattle.macs_offline.specs.declared.status.Status.{Status}
 use Rattle.macs_offline.specs.declared.status.Status.TheVariants as ends
 
--- what is done with an endpoint and a stream: from both, with this answer, to both
+-- what is done with an endpoint and a stream: both before, the answer, both after
 abbrev pub Doing : Type 0 → Type 0 → Type 1
 Doing D W = EndpointValue D → W → Result Status Failure → EndpointValue D → W → Type 0
 
@@ -42,13 +42,13 @@ pub record IsDoneWith {F W : Type 0} (file : F → FileState) (done : Doing (Fil
   pub endpoint : IsEndpointIn file old
   pub does : done old before result new after
 
--- the one or the other
+-- either of the two
 abbrev pub IsRunIn : {F W : Type 0} → (F → FileState) → Doing (FileDisk F) W → W → Result Status Failure → W → Type 0
 IsRunIn file done before result after = IsNotOpened file before result after ⊎ IsDoneWith file done before result after
 
 -- ---- what each does
 
--- `apply`: the commands of a file are given to the endpoint, or not all of them
+-- `apply`: the commands of a file are given to the endpoint, all or only some
 pub record DoesApply {F D W : Type 0} (left_in : F → Option (List ℕ)) (disk_of : D → Disk)
     (contents : W → Option (List ℕ)) (has_failed : W → Bool) (old : EndpointValue D) (before : W)
     (result : Result Status Failure) (new : EndpointValue D) (after : W) : Type 0 where
@@ -56,7 +56,7 @@ pub record DoesApply {F D W : Type 0} (left_in : F → Option (List ℕ)) (disk_
   pub ended : IfErr result (λ failure. BreaksOff left_in disk_of old (contents before) (contents after) failure new)
   pub broken : IfErr result (λ failure. failure ≡ Output → has_failed after ≡ true)
 
--- `show`: the text of the endpoint is printed, which stays as it is
+-- `show`: the text of the endpoint is printed, and the endpoint is unchanged
 pub record DoesShow {D W : Type 0} (contents : W → Option (List ℕ)) (has_failed : W → Bool) (old : EndpointValue D)
     (before : W)
     (result : Result Status Failure) (new : EndpointValue D) (after : W) : Type 0 where
@@ -67,7 +67,7 @@ pub record DoesShow {D W : Type 0} (contents : W → Option (List ℕ)) (has_fai
   pub silent : IfErr result (λ failure. failure ≢ Output → after ≡ before)
   pub broken : IfErr result (λ failure. failure ≡ Output → has_failed after ≡ true)
 
--- `protect` and `validate`: a capture is taken through the endpoint into another one, or not whole
+-- `protect` and `validate`: a capture is passed through the endpoint into another capture, or not whole
 pub record DoesPass {D W : Type 0} (disk_of : D → Disk) (contents : W → Option (List ℕ)) (has_failed : W → Bool)
     (side : Side) (is_all : Bool)
     (old : EndpointValue D) (before : W) (result : Result Status Failure) (new : EndpointValue D)

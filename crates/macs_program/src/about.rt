@@ -1,4 +1,4 @@
-//! `about`: which program this is.
+//! `about`: the version and build of the program.
 
 ghost use Rattle.std.specs.Prelude.{◌≡◌, ◌≢◌, ◌⊎◌, true, IfErr, IfOk, string_bytes};
 ghost use Rattle.std.specs.Io.KnownBytes.{Appends};
@@ -20,7 +20,7 @@ fn formats_text(alloc: Global) -> Result<String, AllocError>
     )
 }
 
-/// What is said of the program: its version, the commit of its sources, the toolchain, its
+/// The text of `about`: the program's version, the commit of its sources, the toolchain, its
 /// processors, and which formats of the journal it writes and reads.
 fn about_text(alloc: Global) -> Result<String, AllocError>
     ensures { IfOk result (λ text. string_bytes text ≡ about_text) }
@@ -31,8 +31,8 @@ fn about_text(alloc: Global) -> Result<String, AllocError>
     joined(String::from_str(alloc, Topic::Version.text()), text)
 }
 
-/// `about`: prints which program this is. It fails as `Memory`, and as `Output` where the text
-/// cannot be printed.
+/// `about`: prints the version and build of the program. Fails with `Memory`, and with `Output` if
+/// the text cannot be printed.
 pub fn about<W: Stream>(alloc: Global, out: &mut W) -> Result<Status, Failure>
     ensures printed { IfOk result (λ status.
         Appends (W.contents out.old) (W.contents out.new) about_text × (status ≡ Status.Done)) }

@@ -1,4 +1,4 @@
-//! `ask`: what a running relay is asked over its control socket, and what it answers.
+//! `ask`: puts a question to a running relay over its control socket, and prints the answer.
 
 ghost use Rattle.std.specs.Prelude.{◌≡◌, ◌≢◌, ◌⊎◌, ◌↔◌, ◌++◌, ℕ, List, Option, None, is_some};
 ghost use Rattle.std.specs.Prelude.{true, false};
@@ -57,10 +57,11 @@ const REFUSALS: [Refusal; 12] = [
     Refusal::SpentFull,
 ];
 
-/// What the text of each endpoint begins with.
+/// The first octets of the text of each endpoint.
 const SCI_WORD: &[u8] = b"sci ";
 
-/// The failure that an error of a connection is: its reason is said, unless there is no memory.
+/// The failure for an error of a connection: a message with the reason, or `Memory` if there is no
+/// memory for it.
 fn failure_of_connection(alloc: Global, path: &str, error: io::Error) -> Failure
     ensures { Complains (Tells (codes "control") path.now
         (socket_text (socket_reason (error_kind error)))) result }
@@ -69,8 +70,8 @@ fn failure_of_connection(alloc: Global, path: &str, error: io::Error) -> Failure
     failure_told(alloc, "control", path, reason.text())
 }
 
-/// Who asks the relay that listens at a name. It fails as `Said` with the reason, where none does,
-/// and as `Memory`.
+/// Connects to the relay that listens on the socket with this name. Fails with `Said` and the
+/// reason if none does, and with `Memory`.
 fn asker_at<N: Net>(net: &N, alloc: Global, path: &str) -> Result<Asker<PatientStream>, Failure>
     ensures { IfErr result (TellsOfSocket path.now) }
 {
@@ -80,8 +81,8 @@ fn asker_at<N: Net>(net: &N, alloc: Global, path: &str) -> Result<Asker<PatientS
     }
 }
 
-/// What a relay answers to a request. It fails as `Memory`, where this program has none, and as
-/// `Control` where the relay goes away or does not answer.
+/// The relay's answer to a request. Fails with `Memory` if this program has none, and with
+/// `Control` if the relay goes away or does not answer.
 fn answer_to<S: Connection>(
     alloc: Global,
     asker: &mut Asker<S>,
@@ -98,7 +99,7 @@ fn answer_to<S: Connection>(
     Ok(answer)
 }
 
-/// What the status of an answer means where the request was not done.
+/// The meaning of the status of an answer if the request was not carried out.
 fn failure_in(status: u8) -> Failure
     ensures { result ≡ failure_in status }
 {
@@ -109,8 +110,8 @@ fn failure_in(status: u8) -> Failure
     }
 }
 
-/// Prints the text of an answer as JSON. It fails as `Memory`, as `Control` where the text is no
-/// UTF-8, as that of a relay is, and as `Output`.
+/// Prints the text of an answer as JSON. Fails with `Memory`; with `Control` if the text is not
+/// UTF-8, as a relay's text always is; and with `Output`.
 fn print_as_json<W: Stream>(alloc: Global, text: &[u8], out: &mut W) -> Result<(), Failure>
     ensures printed { OnOk result
         (Appends (W.contents out.old) (W.contents out.new) (json_text text.now)) }
@@ -124,7 +125,7 @@ fn print_as_json<W: Stream>(alloc: Global, text: &[u8], out: &mut W) -> Result<(
     print_json(alloc, text, out)
 }
 
-/// Prints the text of an answer, as JSON where that is wanted. It fails as `print_as_json`.
+/// Prints the text of an answer, as JSON if requested. Fails as `print_as_json` does.
 fn print_text<W: Stream>(
     alloc: Global,
     text: &[u8],
@@ -143,7 +144,7 @@ fn print_text<W: Stream>(
     print_octets(out, text)
 }
 
-/// Prints the text of an answer, as JSON where that is wanted, if the request was done.
+/// Prints the text of an answer, as JSON if requested, if the request was carried out.
 fn print_answer<W: Stream>(
     alloc: Global,
     answer: &Answer,
@@ -162,7 +163,7 @@ fn print_answer<W: Stream>(
     Ok(Status::Done)
 }
 
-/// Asks a relay for a text, and prints it, as JSON where that is wanted.
+/// Asks a relay for a text, and prints it, as JSON if requested.
 fn ask_once<N: Net, W: Stream>(
     net: &N,
     alloc: Global,
@@ -179,7 +180,7 @@ fn ask_once<N: Net, W: Stream>(
     print_answer(alloc, &answer, is_json, out)
 }
 
-/// Asks a relay to end, and waits until it did: its last line is printed then.
+/// Asks a relay to end, and waits until it has ended: its last line is printed then.
 fn ask_stop<N: Net, W: Stream>(
     net: &N,
     alloc: Global,
@@ -194,7 +195,7 @@ fn ask_stop<N: Net, W: Stream>(
     print_answer(alloc, &answer, false, out)
 }
 
-/// The refusal whose line a text is.
+/// The refusal with this line.
 fn refusal_in(text: &[u8]) -> Option<Refusal> {
     let name = text.strip_prefix(b"refused ")?.strip_suffix(b"\n")?;
     for refusal in REFUSALS {
@@ -205,8 +206,8 @@ fn refusal_in(text: &[u8]) -> Option<Refusal> {
     None
 }
 
-/// What a relay made of a command, by its answer: it is kept, or refused. It fails where the answer
-/// says neither.
+/// A relay's verdict on a command, by its answer: accepted or refused. Fails if the answer is
+/// neither.
 fn outcome_in(answer: &Answer) -> Result<Option<Refusal>, Failure>
     ensures { IfErr result (λ failure. failure ≡ failure_in answer.now.status) }
 {
@@ -220,8 +221,8 @@ fn outcome_in(answer: &Answer) -> Result<Option<Refusal>, Failure>
     }
 }
 
-/// Sends a command to a relay, which keeps or refuses it. It fails as `answer_to`, and where the
-/// answer says neither.
+/// Sends a command to a relay, which accepts or refuses it. Fails as `answer_to` does, and if the
+/// answer is neither.
 fn outcome_from<S: Connection>(
     alloc: Global,
     asker: &mut Asker<S>,
@@ -233,7 +234,7 @@ fn outcome_from<S: Connection>(
     outcome_in(&answer)
 }
 
-/// Sends a command to a relay, prints its line once it is answered, and answers whether it was
+/// Sends a command to a relay, prints its line once it is answered, and returns whether it was
 /// refused.
 fn apply_one<S: Connection, W: Stream>(
     alloc: Global,
@@ -271,7 +272,7 @@ fn apply_each<S: Connection, W: Stream>(
     Ok(status)
 }
 
-/// The line with which the text of the endpoint with this SCI begins.
+/// The first line of the text of the endpoint with this SCI.
 fn sci_line(alloc: Global, sci: Sci) -> Result<String, AllocError>
     ensures { IfOk result (λ text. string_bytes text ≡ sci_line sci) }
 {
@@ -279,7 +280,7 @@ fn sci_line(alloc: Global, sci: Sci) -> Result<String, AllocError>
     ended(format!(in alloc; "sci {sci}")?)
 }
 
-/// Whether an answer is the text of the endpoint with this SCI: it begins with that line.
+/// Whether an answer is the text of the endpoint with this SCI, that is, begins with that line.
 fn is_shown(alloc: Global, answer: &Answer, sci: Sci) -> Result<bool, AllocError>
     ensures { IfOk result
         (λ is. IsTrue is ↔ Begins (sci_line sci) answer.now.text.items) }
@@ -295,7 +296,7 @@ fn is_of_endpoint(text: &[u8]) -> bool
     text.starts_with(SCI_WORD)
 }
 
-/// Why a text is not that of the end which a command file names: it is that of another end, or of
+/// Why a text is not that of the end named by a command file: it is that of another end, or of
 /// none.
 fn failure_of_other(text: &[u8]) -> Failure
     ensures cause { result ≡ failure_of_other text.now }
@@ -307,8 +308,8 @@ fn failure_of_other(text: &[u8]) -> Failure
     Failure::Control
 }
 
-/// Refuses an answer that is not the text of the endpoint with this SCI. It fails as `Commands`
-/// where it is that of another, and as `Control` where it is that of none.
+/// Refuses an answer that is not the text of the endpoint with this SCI. Fails with `Commands` if
+/// it is that of another endpoint, and with `Control` if it is that of none.
 fn refuse_other(alloc: Global, answer: &Answer, sci: Sci) -> Result<(), Failure>
     ensures own { OnOk result
         ((answer.now.status ≡ 0) × Begins (sci_line sci) answer.now.text.items) }
@@ -328,8 +329,8 @@ fn refuse_other(alloc: Global, answer: &Answer, sci: Sci) -> Result<(), Failure>
     Ok(())
 }
 
-/// Asks a relay for the text of its endpoint, which has to have this SCI. It fails as `answer_to`,
-/// and as `Commands` where it has another one.
+/// Asks a relay for the text of its endpoint, which must have this SCI. Fails as `answer_to` does,
+/// and with `Commands` if the endpoint has another SCI.
 fn find_own<S: Connection>(alloc: Global, asker: &mut Asker<S>, sci: Sci) -> Result<(), Failure>
     ensures own { OnOk result
         (BeginsWithOwn (unread_by S.link asker.old) sci (unread_by S.link asker.new)) }
@@ -339,8 +340,8 @@ fn find_own<S: Connection>(alloc: Global, asker: &mut Asker<S>, sci: Sci) -> Res
     refuse_other(alloc, &answer, sci)
 }
 
-/// Asks a relay whether it is that of the end which a command file names. Where the file names none
-/// it is for each end, and the relay is not asked.
+/// Checks that a relay is that of the end named by a command file. If the file names none, it is
+/// for each end, and the relay is not asked.
 fn find_end<S: Connection>(
     alloc: Global,
     asker: &mut Asker<S>,
@@ -390,12 +391,12 @@ fn ask_apply<T: Files + Net, W: Stream>(
     apply_file(rt, alloc, &mut asker, file, out)
 }
 
-/// Asks a running relay, and prints its answer, a report as JSON where that is wanted. It fails
-/// first as `Said`, where no relay is at the socket; then for the command file, as `Said`, and as
-/// `Commands` where the file names an end and the relay's endpoint has another SCI: before the
-/// first command the relay is asked for its text. Then it fails as `Disk` with `Stopped`, where the
-/// relay ended before it answered a command; and as `Control`, where it went away, or gave no
-/// answer that a relay gives.
+/// Asks a running relay, and prints its answer, a report as JSON if requested. Fails first with
+/// `Said` if no relay is listening on the socket; then for the command file, with `Said`, and with
+/// `Commands` if the file names an end and the relay's endpoint has another SCI: before the first
+/// command the relay is asked for its text. Then it fails with `Disk` and `Stopped` if the relay
+/// ended before it answered a command; and with `Control` if the relay went away, or its reply is
+/// not a valid answer.
 fn put_question<T: Files + Net, W: Stream>(
     rt: &T,
     alloc: Global,
@@ -452,11 +453,11 @@ fn named_failure(alloc: Global, path: &str, question: Question, failure: Failure
     }
 }
 
-/// `ask`: asks a running relay, and prints its answer, a report as JSON where that is wanted. It
-/// fails as `Said`, with the reason, where no relay is at the socket, or gives no answer; where the
+/// `ask`: asks a running relay, and prints its answer, a report as JSON if requested. Fails with
+/// `Said` and the reason if no relay is listening on the socket, or gives no answer, or if the
 /// command file cannot be read, has a fault, or names an end and the relay's endpoint has another
-/// SCI; as `Disk` with `Stopped`, where the relay ended before it answered a command; as `Memory`;
-/// and as `Output`.
+/// SCI; with `Disk` and `Stopped` if the relay ended before it answered a command; with `Memory`;
+/// and with `Output`.
 pub fn ask<T: Files + Net, W: Stream>(
     rt: &T,
     alloc: Global,

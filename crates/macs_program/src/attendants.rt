@@ -1,4 +1,4 @@
-//! What serves a relay that is attended.
+//! The desk that attends a relay, and what it consists of.
 
 ghost use Rattle.std.specs.Prelude.{◌≡◌, ◌⊎◌, IfErr};
 
@@ -20,7 +20,7 @@ pub type SystemDesk<'a, T> = ControlDesk<
     RelaySystem<'a, T>,
 >;
 
-/// How long a sleep of a relay is at most, in milliseconds: 0 where it does not sleep.
+/// The longest sleep of a relay, in milliseconds: 0 if it does not sleep.
 fn limit_of(pace: Pace) -> u16 {
     match pace {
         Pace::Sleepless { .. } => 0,
@@ -28,8 +28,8 @@ fn limit_of(pace: Pace) -> u16 {
     }
 }
 
-/// The control socket, if the words name one, over the sockets of both wires. It fails as `Memory`;
-/// or as `Control`, if it cannot be bound.
+/// The control socket, if the words name one, watched with the sockets of both wires. Fails with
+/// `Memory`, or with `Control` if it cannot be bound.
 fn clients_for<'a, T: Files + Net + Clock>(
     rt: &'a T,
     alloc: Global,
@@ -43,9 +43,9 @@ fn clients_for<'a, T: Files + Net + Clock>(
     Ok(clients)
 }
 
-/// A desk over the sockets of both wires, over this place of the counters, over the control socket,
-/// if the words name one, and over the list of keys beside a disk file. It fails as `Memory`; or as
-/// `Control`, if the control socket cannot be bound.
+/// A desk for the sockets of both wires, the file of counters at this place, the control socket, if
+/// the words name one, and the list of keys beside a disk file. Fails with `Memory`, or with
+/// `Control` if the control socket cannot be bound.
 fn desk_over<'a, T: Files + Net + Clock>(
     rt: &'a T,
     alloc: Global,
@@ -68,7 +68,7 @@ fn desk_over<'a, T: Files + Net + Clock>(
     Ok(ControlDesk::new(alloc, program, clients, metrics, system))
 }
 
-/// Where the counters are written to, if they are. It fails as `Memory`; or as `Control`, if another
+/// Where the counters are written, if they are. Fails with `Memory`, or with `Control` if another
 /// file has the name.
 fn place_for<'a, T: Files + Clock>(
     rt: &'a T,
@@ -84,10 +84,10 @@ fn place_for<'a, T: Files + Clock>(
     Ok(place)
 }
 
-/// The desk of a relay: over the sockets of both wires, over the control socket and the file of
-/// counters, if the words name them, and over the list of keys beside a disk file. It fails as
-/// `Memory`; or as `Control`, if the control socket cannot be bound, or if another file has the name
-/// of the file of counters.
+/// The desk of a relay: for the sockets of both wires, the control socket and the file of counters,
+/// if the words name them, and the list of keys beside a disk file. Fails with `Memory`; or with
+/// `Control` if the control socket cannot be bound, or if another file has the name of the file of
+/// counters.
 pub fn desk_for<'a, T: Files + Net + Clock>(
     rt: &'a T,
     alloc: Global,
@@ -101,7 +101,7 @@ pub fn desk_for<'a, T: Files + Net + Clock>(
     desk_over(rt, alloc, disk, running, wires, metrics)
 }
 
-/// Leaves the control socket: its name is removed.
+/// Removes the name of the control socket.
 pub fn leave<T: Files>(rt: &T, running: &Running) {
     if let Some(path) = running.control {
         remove_name(rt, path);

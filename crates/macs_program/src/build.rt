@@ -10,13 +10,13 @@ use std::alloc::{AllocError, Global};
 use std::rt::Clock;
 use std::time::{SystemTime, UNIX_EPOCH};
 
-/// The version, as `--version` has it.
+/// The version, as `--version` prints it.
 pub const VERSION: &str = "0.1.0";
 
 /// The commit of the sources.
 pub const COMMIT: &str = "unknown";
 
-/// The toolchain that builds it, with its logic, as `rt version` has them.
+/// The toolchain that builds it, with its logic, as `rt version` prints them.
 pub const TOOLCHAIN: &str = "unknown";
 
 /// Whether each function was proved before it was built: `yes` or `no`.
@@ -32,14 +32,14 @@ pub fn this_build(alloc: Global) -> Result<Build, AllocError>
     Build::new(alloc, VERSION, COMMIT, PROVED)
 }
 
-/// How many seconds the clock is past the beginning of 1970 (UTC), where it can be read.
+/// Seconds since the beginning of 1970 (UTC), if the clock can be read.
 pub fn seconds_now(clock: &impl Clock) -> Option<u64> {
     let now = SystemTime::now(clock).ok()?;
     let since = now.duration_since(UNIX_EPOCH).ok()?;
     Some(since.as_secs())
 }
 
-/// This program, which begins now.
+/// This program, started now.
 pub fn this_program(clock: &impl Clock, alloc: Global) -> Result<Program, AllocError>
     ensures { IfOk result (λ program. IsThisBuild program.build) }
 {

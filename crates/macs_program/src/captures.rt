@@ -9,20 +9,19 @@ use macs_pcap::{Sink, Source};
 use std::alloc::Global;
 use std::rt::Files;
 
-/// What opens the captures of a run. It may be known for what it was asked; of the system that is
-/// not known.
+/// Opens the captures of a run. Which captures it was asked for may be known; the state of the
+/// system is not.
 pub trait Captures {
-    /// A capture that is read.
+    /// A capture to read.
     type Input: Source + Drop;
 
-    /// A capture that is written.
+    /// A capture to write.
     type Output: Sink + Drop;
 
-    /// The captures that it was asked for so far, in their order, and what it answered, where that
-    /// is known.
+    /// The captures that it was asked for so far, in order, and what it returned, where known.
     ghost asked: { Self → Option (List Asked) } = { λ _. None };
 
-    /// The capture of this name, to be read. It fails as `Memory`, and else as `Capture`.
+    /// The capture with this name, for reading. Fails with `Memory`, else with `Capture`.
     fn open(&mut self, path: &str) -> Result<Self::Input, Failure>
         ensures opened { OnOk result
             (Asks (asked self.old) (asked self.new) (Opens path.now true ∷ [])) }
@@ -31,8 +30,8 @@ pub trait Captures {
         ensures failed { IfErr result
             (λ failure. (failure ≡ Failure.Memory) ⊎ (failure ≡ Failure.Capture)) };
 
-    /// The capture of this name, to be written: it is made, or its file cut to nothing. It fails as
-    /// `Memory`, and else as `Capture`.
+    /// The capture with this name, for writing: its file is created or truncated. Fails with
+    /// `Memory`, else with `Capture`.
     fn make(&mut self, path: &str) -> Result<Self::Output, Failure>
         ensures made { OnOk result
             (Asks (asked self.old) (asked self.new) (Makes path.now true ∷ [])) }

@@ -16,7 +16,7 @@ use macs_offline::{Failure, Line, Status, Stream, append_count, failure_of_run, 
 use macs_pcap::{Sink, Source};
 use std::alloc::Global;
 
-/// The line that a run ends with.
+/// The last line of a run.
 pub(crate) fn summary_line(side: Side, summary: Summary) -> Line
     ensures { result.items ≡ summary_line side summary }
 {
@@ -35,7 +35,7 @@ pub(crate) fn summary_line(side: Side, summary: Summary) -> Line
     line
 }
 
-/// How a run over a capture ends: refused where all frames were to pass and one did not.
+/// The status of a run over a capture: refused if all frames should pass and one did not.
 pub(crate) fn pass_status(is_all: bool, summary: Summary) -> Status
     ensures { result ≡ pass_status is_all summary }
 {
@@ -46,7 +46,7 @@ pub(crate) fn pass_status(is_all: bool, summary: Summary) -> Status
     }
 }
 
-/// Takes a whole capture through an endpoint. Nothing is flushed.
+/// Passes a whole capture through an endpoint. Nothing is flushed.
 fn run_side<D: SectorDisk, R: Source, W: Sink>(
     alloc: Global,
     endpoint: &mut Endpoint<D>,
@@ -64,7 +64,7 @@ fn run_side<D: SectorDisk, R: Source, W: Sink>(
     }
 }
 
-/// The summary of a run with this answer, or the failure that its fault is.
+/// The summary of a run with this answer, or the failure for its fault.
 fn failing_as(answer: Result<Summary, RunFault>) -> Result<Summary, Failure>
     requires { IfErr answer IsNotBusyRun }
     ensures done { IfOk result (λ summary. answer ≡ Ok summary) }
@@ -78,7 +78,7 @@ fn failing_as(answer: Result<Summary, RunFault>) -> Result<Summary, Failure>
     }
 }
 
-/// Hands on all that was written in a run with this answer, where a fault ended it too.
+/// Flushes all that was written in a run with this answer, even if a fault ended it.
 pub(crate) fn handed_on<W: Sink>(
     answer: Result<Summary, RunFault>,
     sink: &mut W,
@@ -97,8 +97,8 @@ pub(crate) fn handed_on<W: Sink>(
     }
 }
 
-/// Takes a whole capture through an endpoint, of which no command waits, and hands on all that was
-/// written, where a fault ended the run too.
+/// Passes a whole capture through an endpoint, which has no pending command, and flushes all that
+/// was written, even if a fault ended the run.
 fn run_capture<D: SectorDisk, R: Source, W: Sink>(
     alloc: Global,
     endpoint: &mut Endpoint<D>,
@@ -118,11 +118,11 @@ fn run_capture<D: SectorDisk, R: Source, W: Sink>(
     handed_on(answer, sink)
 }
 
-/// Takes a whole capture through an endpoint, hands on all that was written, and prints what became
-/// of its frames. It fails with the first fault of the run: as `Capture` or `Memory` at the header
-/// or a record, as `Disk` at a reservation; without one, as `Capture` where what was written cannot
-/// be handed on. Nothing is printed then. Else it fails as `Output` where the line cannot be
-/// written. No command waits.
+/// Passes a whole capture through an endpoint, flushes all that was written, and prints what became
+/// of its frames. Fails with the first fault of the run: with `Capture` or `Memory` at the header
+/// or a record, with `Disk` at a reservation; without a fault, with `Capture` if what was written
+/// cannot be flushed. Nothing is printed then. Otherwise fails with `Output` if the line cannot be
+/// written. No command is pending.
 pub fn pass_frames<D: SectorDisk, R: Source, S: Sink, W: Stream>(
     alloc: Global,
     endpoint: &mut Endpoint<D>,

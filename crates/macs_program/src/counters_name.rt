@@ -8,13 +8,13 @@ use std::fs;
 use std::io::{ErrorKind, Read};
 use std::rt::Files;
 
-/// How each file of counters begins.
+/// The first octets of each file of counters.
 const FIRST_OCTETS: &[u8] = b"# HELP macsec_";
 
 /// How many octets that is.
 const LENGTH: usize = 14;
 
-/// Whether the octets that are left are counters so far: none, or the first of such a file.
+/// Whether the unread octets can be those of a file of counters: none, or its first octets.
 fn are_counters<R: Read>(file: &mut R) -> bool {
     let mut octets = [0; LENGTH];
     match file.read(&mut octets) {
@@ -23,8 +23,8 @@ fn are_counters<R: Read>(file: &mut R) -> bool {
     }
 }
 
-/// Whether nothing but a file of counters has this name. One that a killed relay left half written
-/// is such a file; a link is none, whatever it leads to.
+/// Whether nothing but a file of counters has this name. A file that a killed relay left half
+/// written counts as one; a link does not, regardless of its target.
 fn is_free<T: Files>(rt: &T, path: &str) -> bool {
     match rt.symlink_metadata(path) {
         Ok(about) if about.is_file() => match fs::open(rt, path) {
@@ -36,9 +36,9 @@ fn is_free<T: Files>(rt: &T, path: &str) -> bool {
     }
 }
 
-/// Refuses a name that another file than one of counters has, and one whose new file, of this name
-/// and `.new`, would take the place of another: a disk file would be lost. It fails as `Control`
-/// then, and as `Memory`.
+/// Refuses a name that belongs to a file that is not a file of counters, and a name whose new file,
+/// with `.new` appended, would replace another file: a disk file could be lost. Fails with
+/// `Control` then, and with `Memory`.
 pub fn refuse_other_file<T: Files>(rt: &T, alloc: Global, path: &str) -> Result<(), Failure>
     ensures { IfErr result (λ failure. (failure ≡ Failure.Memory) ⊎ (failure ≡ Failure.Control)) }
 {

@@ -7,19 +7,19 @@ use arrayvec::ArrayVec;
 use std::io;
 use std::io::Read;
 
-/// One octet more than the longest input that is taken.
+/// One octet more than the longest input that is accepted.
 const MAX_READ: usize = 20_001;
 
-/// An input as it was read, to its end or to one octet more than it may have.
+/// An input as it was read, to its end or to one octet more than the limit.
 pub type InputText = ArrayVec<u8, MAX_READ>;
 
 /// A read of an input failed.
 #[derive(Clone, Copy)]
 pub struct ReadFailed;
 
-/// An input. It is known whether a read of it ever failed, and may be known what is left of it.
+/// An input. Whether a read of it ever failed is known; what is left of it may be known.
 pub trait Input {
-    /// What is left of it, where it is known.
+    /// What is left of it, where known.
     ghost remaining: { Self → Option (List ℕ) };
 
     /// A read of it failed.
@@ -33,7 +33,7 @@ pub trait Input {
         ensures broken { OnErr result (failed self.new ≡ true) };
 }
 
-/// Reads an input, as far as it can be of use.
+/// Reads an input, but no more than is needed.
 fn read_input<R: Read>(input: &mut R) -> Result<InputText, ReadFailed>
     ensures { IfOk result (λ text. IfSome (R.remaining input.old)
         (λ octets. text.items ≡ take MAX_READ octets)) }
@@ -45,7 +45,7 @@ fn read_input<R: Read>(input: &mut R) -> Result<InputText, ReadFailed>
     }
 }
 
-/// An input over a reader of the standard library. An interrupted read is made again.
+/// An input from a standard-library reader. An interrupted read is retried.
 #[derive(Drop)]
 pub struct ReaderInput<R: Read> {
     reader: R,
@@ -69,7 +69,7 @@ impl<R: Read> Input for ReaderInput<R> {
 impl<R: Read> ReaderInput<R> {
     ghost use Rattle.std.specs.Prelude.{◌≡◌, false};
 
-    /// An input that has what the reader has, and none of whose reads failed.
+    /// An input over a reader, none of whose reads has failed.
     pub fn new(reader: R) -> ReaderInput<R>
         ensures remaining { ⟦<ReaderInput<R> as Input>⟧.remaining result ≡ R.remaining reader }
         ensures failed { ⟦<ReaderInput<R> as Input>⟧.failed result ≡ false }

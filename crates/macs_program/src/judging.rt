@@ -26,7 +26,7 @@ fn word_of(verdict: Verdict) -> &'static str
     verdict_words(verdict)
 }
 
-/// The line of a verdict by its number.
+/// The line of a verdict, with its number.
 fn verdict_line(at: u64, verdict: Verdict) -> Line
     ensures { result.items ≡ verdict_line at verdict }
 {
@@ -38,8 +38,8 @@ fn verdict_line(at: u64, verdict: Verdict) -> Line
     line
 }
 
-/// The lines of verdicts: how many were printed, and whether one could not be. After that none is
-/// printed.
+/// The lines of verdicts: how many were printed, and whether one could not be. After that no more
+/// are printed.
 #[derive(Clone, Copy)]
 pub(crate) struct VerdictLines {
     pub count: u64,
@@ -63,8 +63,8 @@ impl<W: Stream> Verdicts<W> for VerdictLines {
     }
 }
 
-/// Validates a whole capture, prints the line of each verdict, and hands on all that was written,
-/// where a fault ended the run too. No command waits.
+/// Validates a whole capture, prints the line of each verdict, and flushes all that was written,
+/// even if a fault ended the run. No command is pending.
 fn run_judging<D: SectorDisk, R: Source, S: Sink, W: Stream>(
     alloc: Global,
     endpoint: &mut Endpoint<D>,
@@ -85,7 +85,7 @@ fn run_judging<D: SectorDisk, R: Source, S: Sink, W: Stream>(
     handed_on(answer, sink)
 }
 
-/// The same, where a line that could not be printed is the failure.
+/// The same, except that a line that could not be printed is the failure.
 fn print_each<D: SectorDisk, R: Source, S: Sink, W: Stream>(
     alloc: Global,
     endpoint: &mut Endpoint<D>,
@@ -110,12 +110,12 @@ fn print_each<D: SectorDisk, R: Source, S: Sink, W: Stream>(
     answer
 }
 
-/// Validates a whole capture, prints the line of each verdict, as the frames are validated, hands
-/// on all that was written, and prints what became of the frames. A line that cannot be printed
-/// does not end the run, which fails as `Output` then. Else it fails with the first fault of the
-/// run: as `Capture` or `Memory` at the header or a record, as `Disk` at a reservation; without
-/// one, as `Capture` where what was written cannot be handed on. The lines of all verdicts before
-/// were printed then. No command waits.
+/// Validates a whole capture, prints the line of each verdict as the frames are validated, flushes
+/// all that was written, and prints what became of the frames. A line that cannot be printed does
+/// not end the run, which then fails with `Output`. Otherwise fails with the first fault of the
+/// run: with `Capture` or `Memory` at the header or a record, with `Disk` at a reservation; without
+/// a fault, with `Capture` if what was written cannot be flushed. The lines of all verdicts before
+/// were printed then. No command is pending.
 pub fn judge_frames<D: SectorDisk, R: Source, S: Sink, W: Stream>(
     alloc: Global,
     endpoint: &mut Endpoint<D>,

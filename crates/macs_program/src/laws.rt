@@ -6,16 +6,16 @@ ghost use Rattle.macs_offline.specs.Contents.{ContentsAre, HasOpenGate, IsBlankF
 ghost use Rattle.macs_program.specs.NewDisks.{Permits};
 ghost use Rattle.macs_offline.specs.declared.contents.Contents.{Contents};
 
-/// A file becomes that of a new endpoint only where it holds nothing, or where it may be written
-/// over and holds no endpoint in use.
+/// A file becomes that of a new endpoint only if it holds nothing, or if it may be overwritten and
+/// holds no endpoint in use.
 pub fn written_over()
-    // One thing is in a file.
+    // The contents of a file are unique.
     ensures one { (file : FileState) (sectors : ℕ) (a b : Contents) → ContentsAre file sectors a
         → ContentsAre file sectors b → a ≡ b }
-    // Without leave to write over, only a blank file is.
+    // Without permission to overwrite, only a blank file is permitted.
     ensures blank { (file : FileState) (sectors : ℕ) → Permits false file sectors None
         → IsBlankFile file sectors × ¬ HasOpenGate file sectors }
-    // And with it none in which the gate of a head is open.
+    // With it, no file in which the gate of a head is open is permitted.
     ensures closed { (file : FileState) (sectors : ℕ) → Permits true file sectors None
         → ¬ HasOpenGate file sectors }
 {}

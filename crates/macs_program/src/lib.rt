@@ -1,4 +1,4 @@
-//! The program over its words, a reader and two streams.
+//! The program, given its words, a reader and two streams.
 #![tactic(auto)]
 
 mod about;

@@ -27,14 +27,14 @@ use std::rt::Files;
 /// How the file of a new endpoint is made.
 #[derive(Clone, Copy)]
 pub struct NewFile {
-    /// How the sectors lie in it.
+    /// How the sectors are laid out in it.
     pub layout: Layout,
-    /// Whether what else it holds may be lost.
+    /// Whether anything else that it holds may be overwritten.
     pub is_over: bool,
 }
 
-/// Opens the file at a path to read and write it, or makes it. An error where it is no regular
-/// file, since nothing says what else is on a device, or where standard output goes there.
+/// Opens or creates the file at a path for reading and writing. Fails if it is not a regular file,
+/// since nothing is known about other data on a device, or if standard output goes there.
 fn open_file<T: Files>(rt: &T, path: &str) -> io::Result<T::File> {
     if is_printed_to(rt, path) {
         return Err(io::Error::from(io::ErrorKind::AlreadyExists));
@@ -46,7 +46,7 @@ fn open_file<T: Files>(rt: &T, path: &str) -> io::Result<T::File> {
     Err(io::Error::from(io::ErrorKind::InvalidInput))
 }
 
-/// Why a file that holds this is not written over, if it is not.
+/// Why a file with these contents is not overwritten, if it is not.
 fn refusal_of(contents: Contents, is_over: bool) -> Option<DiskFault>
     ensures { result ≡ refusal_of contents is_over }
 {
@@ -58,8 +58,8 @@ fn refusal_of(contents: Contents, is_over: bool) -> Option<DiskFault>
     }
 }
 
-/// Looks at a file of so many sectors, and refuses it where it has an endpoint (`Journal`
-/// with `AlreadyFormatted`), or something else that may not be lost (`File`). Nothing of it is
+/// Examines a file of `sectors` sectors, and refuses it if it holds an endpoint (`Journal` with
+/// `AlreadyFormatted`), or something else that may not be overwritten (`File`). The file is not
 /// changed.
 fn admit<F: DiskFile>(file: &mut F, sectors: u64, is_over: bool) -> Result<(), Failure>
     requires { 512 * sectors < 2 ^ 64 }
@@ -82,10 +82,10 @@ fn admit<F: DiskFile>(file: &mut F, sectors: u64, is_over: bool) -> Result<(), F
     }
 }
 
-/// Claims a file that is open to read and write, where it may become the disk of an endpoint. The
-/// first of these that holds is the fault: it is claimed or cannot be measured (`File`), it is not
-/// whole sectors (`Length`), it cannot be read (`Journal` with `Disk`), it is not admitted. Want of
-/// the system's memory is `Memory`. It is left as it is.
+/// Claims a file that is open for reading and writing, if it may become the disk of an endpoint.
+/// The fault is the first of these that applies: it is claimed or cannot be measured (`File`), its
+/// length is not whole sectors (`Length`), it cannot be read (`Journal` with `Disk`), it is not
+/// admitted. If the system runs out of memory the failure is `Memory`. The file is left unchanged.
 fn claim_free<F: DiskFile>(file: F, is_over: bool) -> Result<ClaimedFile<F>, Failure>
     ensures free { Behaves (F.file file) → OnOk result (IsFree is_over (F.file file)) }
     ensures refused { IfErr result (BlankFails is_over (F.file file)) }
@@ -98,8 +98,8 @@ fn claim_free<F: DiskFile>(file: F, is_over: bool) -> Result<ClaimedFile<F>, Fai
     Ok(claimed)
 }
 
-/// Makes the disk of a new endpoint in a file that is new and empty. It fails as `Memory`, or as
-/// `Disk`: `File` where there is no room, or it cannot be synced; then the fault of the journal.
+/// Makes the disk of a new endpoint in a new, empty file. Fails with `Memory`, or with `Disk`:
+/// `File` if there is no space, or it cannot be synced; then the fault of the journal.
 fn format_new<F: DiskFile>(file: F, layout: Layout, identity: &Identity) -> Result<(), Failure>
     ensures made { OnOk result (MakesEndpoint F.file file layout identity.now) }
     ensures refused { IfErr result (EndpointFails F.file identity.now) }
@@ -111,7 +111,7 @@ fn format_new<F: DiskFile>(file: F, layout: Layout, identity: &Identity) -> Resu
     Ok(())
 }
 
-/// What the system answers of the file, or why that does not serve: `Memory`, or else `File`.
+/// What the system returns for the file, or the failure: `Memory`, else `File`.
 fn of_file<V>(answer: io::Result<V>) -> Result<V, Failure>
     ensures value { IfOk result (λ value. answer ≡ Ok value) }
     ensures memory { IfErr answer (λ error. error_kind error ≡ OutOfMemory
@@ -127,8 +127,8 @@ fn of_file<V>(answer: io::Result<V>) -> Result<V, Failure>
     }
 }
 
-/// Notes that the endpoint with the keys in the list beside a disk file is gone, where there is a
-/// list. It fails as `Memory`, or as `Disk` with `File`.
+/// Notes that the endpoint with the keys in the list beside a disk file is gone, if there is a
+/// list. Fails with `Memory`, or with `Disk` and `File`.
 fn close_keys<T: Files>(rt: &T, alloc: Global, path: &str) -> Result<(), Failure>
     ensures { IfErr result
         (λ failure. (failure ≡ Failure.Memory) ⊎ (failure ≡ Failure.Disk disk.File)) }
@@ -145,7 +145,7 @@ fn close_keys<T: Files>(rt: &T, alloc: Global, path: &str) -> Result<(), Failure
     }
 }
 
-/// Makes the file of a new endpoint in place of a claimed one, under its name.
+/// Makes the file of a new endpoint in place of a claimed one, with the same name.
 fn replace<T: Files>(
     rt: &T,
     alloc: Global,
@@ -176,12 +176,12 @@ where
     }
 }
 
-/// Makes the file at a path that of a new endpoint. Where there is no file it is made. A new file
-/// is formatted, and takes the name of the one that is there. It fails as `Memory`, or as `Disk`
-/// with the first fault: `File` where there is no regular file, or standard output goes there; then
-/// as the file is not free for it; `File` where the list of keys beside it cannot be written, or no
-/// new file can be made beside it; then as the new one cannot be written or synced; `File` where it
-/// cannot take the name, durably.
+/// Makes the file at a path that of a new endpoint, creating it if there is none. A new file is
+/// formatted, then renamed over the existing one. Fails with `Memory`, or with `Disk` and the first
+/// fault: `File` if there is no regular file, or standard output goes there; then as the file is
+/// not free for it; `File` if the list of keys beside it cannot be written, or no new file can be
+/// created beside it; then as the new one cannot be written or synced; `File` if it cannot be
+/// renamed durably.
 pub fn format_disk<T: Files>(
     rt: &T,
     alloc: Global,

@@ -1,10 +1,10 @@
 //! What each subcommand does that has a disk file.
 //!
-//! An endpoint is large. A subcommand is a `Task` that three functions do one after the other. The
-//! first opens the disk file and hands the disk on; the second does no more than to open the
-//! endpoint and hand it on in turn, by value; the third lends it to the task. So the stack holds it
-//! once while the disk is read. None of these is inlined, nor what a task does: else the compiler
-//! has a second place for it there.
+//! An endpoint is large. A subcommand is a `Task` that three functions run, one calling the next.
+//! The first opens the disk file and passes the disk on; the second does nothing but open the
+//! endpoint and pass it on, by value; the third lends it to the task. So the stack holds only one
+//! endpoint while the disk is read. None of these functions is inlined, nor is the body of a task:
+//! otherwise the compiler would reserve a second place for the endpoint on the stack.
 
 ghost use Rattle.std.specs.Prelude.{◌≡◌, ◌≢◌, ◌⊎◌, ◌↔◌, ◌++◌, List, Option, [], ◌∷◌, codes};
 ghost use Rattle.std.specs.Prelude.{option_map, Err, false, true, IfErr, IfOk, OnErr, OnOk};
@@ -63,7 +63,7 @@ use std::net::{Net, UdpSocket};
 use std::os::fd::AsRawFd;
 use std::rt::{Clock, Env, Files};
 
-/// Makes the disk file of an endpoint by what was given, and says so.
+/// Makes the disk file of an endpoint from the given values, and prints a line that says so.
 fn format_given<T: Files, W: Stream>(
     rt: &T,
     alloc: Global,
@@ -127,16 +127,16 @@ where
 
 /// What a subcommand does with the endpoint on its disk.
 trait Task<D: SectorDisk, W: Stream>: Drop {
-    /// What it answers, and what it leaves of the endpoint and of the stream.
+    /// What it returns, and what it leaves of the endpoint and of the stream.
     ghost does: { Self → Doing D W };
 
-    /// Does it. No command of the endpoint waits.
+    /// Runs it. The endpoint has no pending command.
     fn run(self, endpoint: &mut Endpoint<D>, out: &mut W) -> Result<Status, Failure>
         requires { endpoint.old.waiting ≡ [] }
         ensures { does self endpoint.old out.old result endpoint.new out.new };
 }
 
-/// Does a task with the endpoint on the disk in a file.
+/// Runs a task with the endpoint on the disk in a file.
 #[inline(never)]
 fn with_file<T: Files, K: Task<FileDisk<T::File>, W>, W: Stream>(
     rt: &T,
@@ -153,7 +153,7 @@ where
     with_disk(disk, task, out)
 }
 
-/// Does a task with the endpoint on a disk.
+/// Runs a task with the endpoint on a disk.
 #[inline(never)]
 fn with_disk<F: DiskFile, K: Task<FileDisk<F>, W>, W: Stream>(
     disk: FileDisk<F>,
@@ -166,7 +166,7 @@ fn with_disk<F: DiskFile, K: Task<FileDisk<F>, W>, W: Stream>(
     with_opened(Endpoint::open(disk), task, out)
 }
 
-/// Does a task with an endpoint, if it was opened.
+/// Runs a task with an endpoint, if it was opened.
 #[inline(never)]
 fn with_opened<F: DiskFile, K: Task<FileDisk<F>, W>, W: Stream>(
     mut opened: Result<Endpoint<FileDisk<F>>, OpenRefused<FileDisk<F>>>,
@@ -206,10 +206,10 @@ impl<T: Files, D: SectorDisk, W: Stream> Task<D, W> for ApplyFile<'_, T> {
     }
 }
 
-/// `apply`: applies the commands of a file that is for the endpoint. Once the endpoint is opened it
-/// fails as `Commands`, with nothing applied, where the file cannot be read, says no commands or is
-/// for another end, or its keys cannot be noted beside the disk file; and then as `apply_commands`
-/// does.
+/// `apply`: applies the commands of a file that is for the endpoint. Once the endpoint is opened,
+/// fails with `Commands`, with nothing applied, if the file cannot be read, has no valid commands
+/// or is for another end, or its keys cannot be noted beside the disk file; and then as
+/// `apply_commands` does.
 #[inline(never)]
 pub fn apply<'a, T: Files, W: Stream>(
     rt: &'a T,
@@ -279,7 +279,7 @@ where
     with_file(rt, alloc, disk, task, out)
 }
 
-/// The captures of a run. INPUT is opened first, and OUTPUT is made only where it is.
+/// The captures of a run. INPUT is opened first, and OUTPUT is created only if that succeeds.
 fn open_both<C: Captures>(
     captures: &mut C,
     from: &str,
@@ -299,7 +299,7 @@ fn open_both<C: Captures>(
     Ok((source, sink))
 }
 
-/// Takes a capture through an endpoint into another one.
+/// Passes a capture through an endpoint into another capture.
 fn pass_between<C: Captures, D: SectorDisk, W: Stream>(
     captures: &mut C,
     alloc: Global,
@@ -320,7 +320,7 @@ fn pass_between<C: Captures, D: SectorDisk, W: Stream>(
     pass_frames(alloc, endpoint, side, is_all, &mut source, &mut sink, out)
 }
 
-/// Takes a capture in a file through an endpoint into another file.
+/// Passes a capture in a file through an endpoint into another file.
 #[derive(Drop)]
 struct PassFile<'a, T> {
     rt: &'a T,
@@ -354,7 +354,7 @@ where
     }
 }
 
-/// `protect` and `validate`: takes a capture through an endpoint.
+/// `protect` and `validate`: passes a capture through an endpoint.
 #[inline(never)]
 pub fn pass<'a, T: Files, W: Stream>(
     rt: &'a T,
@@ -389,7 +389,7 @@ where
     with_file(rt, alloc, disk, task, out)
 }
 
-/// Validates a capture by an endpoint into another one, with a line for each verdict.
+/// Validates a capture by an endpoint into another capture, with a line for each verdict.
 fn judge_between<C: Captures, D: SectorDisk, W: Stream>(
     captures: &mut C,
     alloc: Global,
@@ -480,8 +480,8 @@ struct Wires {
     common: UdpWire<Global>,
 }
 
-/// The same wire, once the system was asked to keep so many octets of the datagrams that wait at
-/// it: how many it keeps is noted.
+/// The same wire, after asking the system to buffer this many octets of datagrams that wait at it:
+/// how many it buffers is noted.
 fn with_buffer<N: Net>(net: &N, mut wire: UdpWire<Global>, octets: u32) -> UdpWire<Global>
     ensures state { ⟦<UdpWire<Global, UdpSocket> as Wire>⟧.state result
         ≡ ⟦<UdpWire<Global, UdpSocket> as Wire>⟧.state wire }
@@ -494,7 +494,7 @@ fn with_buffer<N: Net>(net: &N, mut wire: UdpWire<Global>, octets: u32) -> UdpWi
     wire
 }
 
-/// Binds a wire, and asks for its buffer where one is given. It fails as `bind` does.
+/// Binds a wire, and requests its buffer size if one is given. Fails as `bind` does.
 fn bind_wire<N: Net>(
     net: &N,
     alloc: Global,
@@ -514,7 +514,7 @@ fn bind_wire<N: Net>(
     }
 }
 
-/// Binds the wires of a relay, from left to right. It fails as `bind` does.
+/// Binds the wires of a relay, from left to right. Fails as `bind` does.
 fn bind_wires<N: Net>(
     net: &N,
     alloc: Global,
@@ -534,11 +534,11 @@ fn bind_wires<N: Net>(
     Ok(Wires { controlled, common })
 }
 
-/// How many receives in a row a wire of a relay that sleeps leaves out at most, where it gives
-/// nothing and the other wire gives frames.
+/// How many receives in a row a wire of a sleeping relay skips at most, while it yields no frames
+/// and the other wire does.
 const LEFT_OUT: u8 = 7;
 
-/// How many a wire of a relay with this pace leaves out: none where the relay does not sleep.
+/// How many a wire of a relay with this pace skips: none if the relay does not sleep.
 fn left_out(pace: Pace) -> u8
     ensures { result ≡ left_out pace }
 {
@@ -553,7 +553,7 @@ impl Wires {
     ghost use Rattle.macs_program.specs.Relaying.{attended, course_of, new_wire, unattended};
     ghost use Rattle.macs_program.specs.Tasks.{DoesRelay};
 
-    /// What is watched of them, where a sleep is so long at most.
+    /// What is watched of them, for sleeps of at most this length.
     fn watch(&self, limit: Milliseconds) -> Watch
         ensures controlled { IfSome
             (⟦<UdpWire<Global, UdpSocket> as AsRawFd>⟧.raw_fd self.now.controlled)
@@ -582,7 +582,7 @@ impl Wires {
         Sockets { controlled, common }
     }
 
-    /// Relays frames between them in turns of which none waits.
+    /// Relays frames between them in turns that never wait.
     fn relay<D: SectorDisk, W: Stream>(
         &mut self,
         endpoint: &mut Endpoint<D>,
@@ -598,8 +598,7 @@ impl Wires {
         relay_frames(endpoint, &mut self.controlled, &mut self.common, turns, out)
     }
 
-    /// Relays frames between them in turns of which each that brought nothing is followed by a
-    /// sleep.
+    /// Relays frames between them in turns, with a sleep after each turn that brought nothing.
     fn relay_resting<D: SectorDisk, W: Stream>(
         self,
         endpoint: &mut Endpoint<D>,
@@ -627,8 +626,8 @@ impl Wires {
         )
     }
 
-    /// Relays frames between them, attended by this desk. A wire leaves out so many receives in a
-    /// row at most.
+    /// Relays frames between them, attended by this desk. A wire skips at most this many receives
+    /// in a row.
     fn relay_attended<T: Files + Net + Clock, D: SectorDisk, W: Stream>(
         self,
         endpoint: &mut Endpoint<D>,
@@ -649,7 +648,7 @@ impl Wires {
         relay_frames_attended(endpoint, &mut controlled, &mut common, desk, turns, out)
     }
 
-    /// Relays frames between them, attended. Whoever started the program is notified once all is
+    /// Relays frames between them, attended. The program's parent is notified once everything is
     /// bound, and when the relay ends.
     fn attend<T: Files + Net + Clock + Env, D: SectorDisk, W: Stream>(
         self,
@@ -676,7 +675,7 @@ impl Wires {
         result
     }
 
-    /// Relays frames between them at a pace, with nobody to attend.
+    /// Relays frames between them at a pace, without a desk.
     fn relay_unattended<D: SectorDisk, W: Stream>(
         mut self,
         endpoint: &mut Endpoint<D>,
@@ -696,7 +695,7 @@ impl Wires {
         }
     }
 
-    /// Relays frames between them as the words want it.
+    /// Relays frames between them as the words request.
     fn run<T: Files + Net + Clock + Env, D: SectorDisk, W: Stream>(
         self,
         rt: &T,
@@ -721,7 +720,8 @@ impl Wires {
     }
 }
 
-/// How many turns a relay takes: where it waits and none are given, more than a lifetime has.
+/// How many turns a relay takes: if it waits and no number is given, more than it can take in a
+/// lifetime.
 fn turns_of(pace: Pace) -> u64
     ensures { result ≡ turns_of pace }
 {
@@ -742,7 +742,7 @@ fn is_attended(running: &Running) -> bool
     running.control.is_some() || running.metrics.is_some()
 }
 
-/// Relays frames through an endpoint between two wires, of which no call was made yet.
+/// Relays frames through an endpoint between two wires, of which no call has been made yet.
 #[derive(Drop)]
 struct RelayWires<'a, T> {
     rt: &'a T,
@@ -771,9 +771,9 @@ impl<T: Files + Net + Clock + Env, D: SectorDisk, W: Stream> Task<D, W> for Rela
     }
 }
 
-/// The failure of a relay whose wires cannot be bound: that of its disk, which comes first, where
-/// there is one. The file is looked at where it lies, and not made anew: a relay that is started
-/// again and again writes nothing.
+/// The failure of a relay whose wires cannot be bound: that of its disk, which comes first, if
+/// there is one. The file is examined in place and not rewritten, so that a relay that is restarted
+/// over and over writes nothing.
 fn unbound<T: Files>(rt: &T, alloc: Global, disk: &str, failure: Failure) -> Failure
 where
     T::File: CaptureFile,

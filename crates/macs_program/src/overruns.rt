@@ -1,4 +1,4 @@
-//! What the system dropped of datagrams before a wire could take them.
+//! How many datagrams the system dropped before a wire could take them.
 
 ghost use Rattle.std.specs.Prelude.{◌≡◌, IfOk, IfSome, string_bytes};
 ghost use Rattle.macs_program.specs.Overruns.{HasDigits, IsBehind, IsLastColumn, SaysDropped};
@@ -10,14 +10,13 @@ use std::os::fd::RawFd;
 use std::os::unix::fs::MetadataExt;
 use std::rt::Files;
 
-/// Where Linux lists the sockets of UDP over IPv4, of the network that this process is in
-/// (proc(5)).
+/// Where Linux lists the IPv4 UDP sockets of the network namespace of this process (proc(5)).
 const SOCKETS: &str = "/proc/self/net/udp";
 
-/// The same over IPv6.
+/// The same for IPv6.
 const SOCKETS_OF_SIX: &str = "/proc/self/net/udp6";
 
-/// What is before the last three columns of a socket's line: its timeout, which is 0, and its
+/// The fields of a socket's line before its last three columns: its timeout, which is 0, and its
 /// inode.
 fn mark_of(alloc: Global, inode: u64) -> Result<String, AllocError>
     ensures { IfOk result (λ text. string_bytes text ≡ mark_of inode) }
@@ -26,7 +25,7 @@ fn mark_of(alloc: Global, inode: u64) -> Result<String, AllocError>
     Ok(text)
 }
 
-/// What is behind a mark, where it is first.
+/// What follows the first occurrence of a mark.
 fn behind<'a>(text: &'a str, mark: &str) -> Option<&'a str>
     ensures { IfSome result (λ rest. IsBehind mark.now text.now rest.now) }
 {
@@ -49,8 +48,8 @@ fn last_column(text: &str) -> Option<&str>
     }
 }
 
-/// The digits of the last column of the line with this mark: behind it are the references, the
-/// pointer, and these.
+/// The digits of the last column of the line with this mark: after it come the references, the
+/// pointer, and these digits.
 fn digits_in<'a>(sockets: &'a str, mark: &str) -> Option<&'a str>
     ensures { IfSome result (λ digits. HasDigits mark.now sockets.now digits.now) }
 {
@@ -66,8 +65,8 @@ fn digits_in<'a>(sockets: &'a str, mark: &str) -> Option<&'a str>
     }
 }
 
-/// How many datagrams were dropped at the socket with this mark, by a text as that of
-/// `/proc/net/udp`; `None` where it has no such line.
+/// How many datagrams were dropped at the socket with this mark, according to a text like that of
+/// `/proc/net/udp`; `None` if it has no such line.
 pub fn dropped_in(sockets: &str, mark: &str) -> Option<u64>
     ensures { IfSome result (λ count. SaysDropped mark.now sockets.now count) }
 {
@@ -77,7 +76,7 @@ pub fn dropped_in(sockets: &str, mark: &str) -> Option<u64>
     }
 }
 
-/// The same by a list of sockets of the system.
+/// The same, read from a list of sockets of the system.
 fn dropped_by<T: Files>(rt: &T, alloc: Global, path: &str, mark: &str) -> Option<u64> {
     match fs::read_to_string(&(rt, alloc), path) {
         Ok(sockets) => dropped_in(sockets.as_str(), mark),
@@ -96,8 +95,8 @@ fn mark_for<T: Files>(rt: &T, alloc: Global, socket: RawFd) -> Option<String> {
     }
 }
 
-/// How many datagrams the system dropped at a socket of UDP, since there was no room for them. It
-/// is not known where that cannot be read, or where memory is refused.
+/// How many datagrams the system dropped at a UDP socket because its buffer was full. `None` if
+/// that cannot be read, or if memory runs out.
 pub(crate) fn dropped_at<T: Files>(rt: &T, alloc: Global, socket: RawFd) -> Option<u64> {
     let Some(mark) = mark_for(rt, alloc, socket) else {
         return None;

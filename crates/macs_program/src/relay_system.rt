@@ -1,4 +1,4 @@
-//! What the desk of a relay asks of the system.
+//! What the desk of a relay needs from the system.
 
 use crate::build::seconds_now;
 use crate::overruns::dropped_at;
@@ -10,7 +10,7 @@ use std::alloc::Global;
 use std::rt::{Clock, Files};
 use std::slice;
 
-/// Linux, of the sockets of both wires and of time, and the list of keys beside the disk file.
+/// Linux, for the sockets of both wires and for time, and the list of keys beside the disk file.
 #[derive(Drop)]
 pub struct RelaySystem<'a, T> {
     pub rt: &'a T,

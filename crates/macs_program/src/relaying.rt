@@ -22,7 +22,7 @@ use macs_offline::{
 use std::alloc::Global;
 use std::net::{Net, UdpSocket};
 
-/// The line that a relay ends with.
+/// The last line of a relay.
 fn relay_line(summary: RelaySummary) -> Line
     ensures { result.items ≡ relay_line summary }
 {
@@ -35,8 +35,8 @@ fn relay_line(summary: RelaySummary) -> Line
     line
 }
 
-/// A wire that is bound. It fails first as `Memory`, where there is none for a frame of the wire;
-/// then as `Wire`, where the own address cannot be bound.
+/// A bound wire. Fails first with `Memory` if there is none for a frame of the wire; then with
+/// `Wire` if the own address cannot be bound.
 pub fn bind<N: Net>(net: &N, alloc: Global, wire: WireAddresses) -> Result<UdpWire<Global>, Failure>
     ensures fresh { IfOk result
         (λ bound. ⟦<UdpWire<Global, UdpSocket> as Wire>⟧.state bound ≡ new_wire) }
@@ -48,7 +48,7 @@ pub fn bind<N: Net>(net: &N, alloc: Global, wire: WireAddresses) -> Result<UdpWi
     Ok(bound)
 }
 
-/// Prints what became of the frames of a relay that took all its turns. It fails as `Output` alone.
+/// Prints what became of the frames of a relay that took all its turns. Fails only with `Output`.
 fn print_summary<W: Stream>(summary: RelaySummary, out: &mut W) -> Result<Status, Failure>
     ensures printed { IfOk result (λ status.
         Appends (W.contents out.old) (W.contents out.new) (relay_line summary)
@@ -60,9 +60,9 @@ fn print_summary<W: Stream>(summary: RelaySummary, out: &mut W) -> Result<Status
     Ok(Status::Done)
 }
 
-/// Relays frames between two wires, and prints what became of them. It fails as `Disk` at the first
-/// reservation of packet numbers that cannot be made, with nothing printed; and as `Output` after
-/// the last turn, where the line cannot be written.
+/// Relays frames between two wires, and prints what became of them. Fails with `Disk` at the first
+/// reservation of packet numbers that cannot be made, with nothing printed; and with `Output` after
+/// the last turn, if the line cannot be written.
 pub fn relay_frames<D: SectorDisk, P: Wire, C: Wire, W: Stream>(
     endpoint: &mut Endpoint<D>,
     controlled: &mut P,
@@ -125,7 +125,7 @@ pub fn relay_frames_resting<D: SectorDisk, P: Wire, C: Wire, I: Idle, W: Stream>
     }
 }
 
-/// Relays frames as `relay_frames` does, attended by a desk, which may hand in commands and end the
+/// Relays frames as `relay_frames` does, attended by a desk, which may submit commands and end the
 /// relay before a turn.
 pub fn relay_frames_attended<D: SectorDisk, P: Wire, C: Wire, K: Desk<D, P, C>, W: Stream>(
     endpoint: &mut Endpoint<D>,

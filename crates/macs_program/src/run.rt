@@ -1,4 +1,4 @@
-//! The program over its words, a reader and two streams.
+//! The program, given its words, a reader and two streams.
 
 ghost use Rattle.std.specs.Prelude.{◌≡◌, ◌≢◌, ◌⊎◌, ◌++◌, ◌∷◌, ℕ, List, [], Option, true, take};
 ghost use Rattle.std.specs.Prelude.{IfErr, IfOk, IfSome, OnErr, OnOk, string_bytes};
@@ -38,7 +38,7 @@ use std::net::Net;
 use std::random::RandomSource;
 use std::rt::{Clock, Env, Files};
 
-/// Reads an input, as far as it can be of use.
+/// Reads an input, but no more than is needed.
 fn read_input<R: Input>(input: &mut R) -> Result<InputText, Failure>
     ensures read { IfOk result
         (λ text. IfSome (R.remaining input.old) (λ octets. text.items ≡ take 20001 octets)) }
@@ -81,7 +81,7 @@ fn open_input<R: Input, W: Stream>(
     Ok(answer.status())
 }
 
-/// Does what an action asks for.
+/// Carries out an action.
 fn perform<T: Files + Net + Clock + Env + RandomSource, R: Input, W: Stream>(
     rt: &T,
     alloc: Global,
@@ -113,7 +113,7 @@ where
     }
 }
 
-/// Does what an action asks for that reads no standard input and opens no disk file to write it.
+/// Carries out an action that reads no standard input and opens no disk file for writing.
 fn perform_apart<T: Files + Net + RandomSource, W: Stream>(
     rt: &T,
     alloc: Global,
@@ -143,7 +143,7 @@ where
     }
 }
 
-/// Does what an action asks for that has an endpoint and hands it no frames.
+/// Carries out an action that has an endpoint and gives it no frames.
 fn perform_on_disk<T: Files, W: Stream>(
     rt: &T,
     alloc: Global,
@@ -174,7 +174,7 @@ where
     }
 }
 
-/// Does what an action asks for that hands frames to an endpoint.
+/// Carries out an action that gives frames to an endpoint.
 fn perform_on_frames<T: Files + Net + Clock + Env, W: Stream>(
     rt: &T,
     alloc: Global,
@@ -218,7 +218,7 @@ where
     }
 }
 
-/// Does what the words ask for.
+/// Carries out what the words ask for.
 fn act<T: Files + Net + Clock + Env + RandomSource, R: Input, W: Stream>(
     rt: &T,
     alloc: Global,
@@ -250,8 +250,8 @@ fn complain<E: Stream>(failure: &Failure, err: &mut E) -> Result<(), PrintFailed
     err.print(b"\n")
 }
 
-/// Prints what ends a run on standard error as one line, and answers the status of the process,
-/// also where the line cannot be printed.
+/// Prints what ended a run on standard error as one line, and returns the exit status of the
+/// process, even if the line cannot be printed.
 pub fn report<E: Stream>(failure: &Failure, err: &mut E) -> u8
     ensures status { result ≡ code_of (failure_status failure.now) }
     ensures printed { PrintsUnlessFailed (E.contents err.old) (E.contents err.new)
@@ -262,11 +262,11 @@ pub fn report<E: Stream>(failure: &Failure, err: &mut E) -> u8
     failure.status().code()
 }
 
-/// Runs the program: the words without the program's own name, standard input, standard output and
-/// standard error. It answers the status of the process. Faults are found in this order: the words;
-/// the SCI, the blocks and the addresses; the disk file and its opening; the other files or the
-/// binds from left to right; of `check` the command file before the disk file. That the order among
-/// files is this one is tested.
+/// Runs the program, given the words without the program's own name, standard input, standard
+/// output and standard error. Returns the exit status of the process. Faults are found in this
+/// order: the words; the SCI, the blocks and the addresses; the disk file and its opening; the
+/// other files or the binds from left to right; with `check` the command file before the disk file.
+/// The order among files is tested, not proved.
 pub fn run<T: Files + Net + Clock + Env + RandomSource, R: Input, W: Stream, E: Stream>(
     rt: &T,
     alloc: Global,
@@ -279,10 +279,10 @@ where
     T::File: CaptureFile,
     // The status is one of 0, 2, 3, 4 and 5.
     ensures status { (status : Status) × (result ≡ code_of status) }
-    // At 0 and 3 the words ask for help or are taken, the help or what the action prints is written
-    // to standard output, and nothing is written to standard error. Or, at 3, a link is refused:
-    // the words are taken, this is the failure of the action that they name, and its line is
-    // printed on standard error, whole, unless that fails.
+    // At 0 and 3 the words ask for help or are accepted, the help or the output of the action is
+    // written to standard output, and nothing is written to standard error. Or, at 3, a link is
+    // refused: the words are accepted, this is the failure of their action, and its line is printed
+    // on standard error, whole, unless that fails.
     ensures replied { (result ≡ 0) ⊎ (result ≡ 3) → ((status : Status) × (result ≡ code_of status)
         × Replies T.File.file T.File.remaining (texts words.now)
         (read_of R.remaining R.failed input.old input.new) (W.contents out.old)
@@ -298,19 +298,19 @@ where
     ensures quiet { result ≡ 0 → err.new ≡ err.old }
     // At 2 the words ask for no help.
     ensures help { result ≡ 2 → AsksForNothing (texts words.now) }
-    // And they are none that are taken, or a value among them is none, and nothing is printed.
+    // The words are not accepted, or a value among them is not, and nothing is printed.
     ensures usage { result ≡ 2 → (AreRefused (texts words.now) ⊎ HasWrongValues (texts words.now))
         × (out.new ≡ out.old) }
-    // At 4 the words are taken and name another action than `open`, and nothing was printed but, of
-    // `apply`, the lines of the commands before the fault.
+    // At 4 the words are accepted and name another action than `open`, and nothing was printed
+    // except, for `apply`, the lines of the commands before the fault.
     ensures disk { result ≡ 4 → (takes macsecd (texts words.now) ≡ true)
         × (action : Action) × Names (subcommand_of macsecd (texts words.now)) action
         × (action ≢ Action.Open)
         × HasPrinted action (W.contents out.old) (W.contents out.new) }
-    // At 2, 4 and 5 there is a failure of this status, of the words or, where they are taken, of
-    // the action that they name, whose line is printed on standard error, whole, unless that fails.
-    // Nothing was printed on standard output before it but, of `apply`, `ask` and `inspect`, the
-    // lines before the failure; where the failure is that of standard output, a print there failed.
+    // At 2, 4 and 5 there is a failure with this status, of the words or, if they are accepted, of
+    // their action, and its line is printed on standard error, whole, unless that fails. Nothing
+    // was printed on standard output before it except, for `apply`, `ask` and `inspect`, the lines
+    // before the failure; if the failure is that of standard output, a print there failed.
     ensures reported { (result ≢ 0) → (result ≢ 3)
         → (failure : Failure) × (result ≡ code_of (failure_status failure))
         × PrintsUnlessFailed (E.contents err.old) (E.contents err.new) (E.failed err.new)
@@ -321,8 +321,8 @@ where
         × (failure ≢ Failure.Output
         → PrintedBefore (texts words.now) (W.contents out.old) (W.contents out.new))
         × (failure ≡ Failure.Output → W.failed out.new ≡ true) }
-    // Where the words are none that are taken, as those that ask for help, or name another action
-    // than `open`, the input is left unread.
+    // If the words are not accepted, ask for help, or name another action than `open`, the input is
+    // left unread.
     ensures unread { ((takes macsecd (texts words.now) ≡ true)
         × Names (subcommand_of macsecd (texts words.now)) Action.Open → ⊥) → input.new ≡ input.old }
 {

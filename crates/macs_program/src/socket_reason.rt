@@ -1,23 +1,24 @@
-//! Why a control socket that is asked does not serve.
+//! Why a control socket cannot be asked.
 
 ghost use Rattle.std.specs.Prelude.{◌≡◌};
 ghost use Rattle.macs_program.specs.Sockets.{socket_reason};
 
 use std::io::ErrorKind;
 
-/// Why a control socket does not serve.
+/// Why a control socket cannot be asked.
 #[derive(Clone, Copy, Debug, PartialEq, Eq)]
 pub enum SocketReason {
-    /// There is no file of this name.
+    /// No file has this name.
     Missing,
-    /// It, or a folder on the way to it, may not be used.
+    /// The permissions of the socket, or of a folder in its path, forbid using it.
     NoPermission,
-    /// Nobody listens at it, as where a relay was killed.
+    /// Nobody listens on it, for example after a relay was killed.
     Refused,
-    /// It cannot be connected to for another cause: it is no socket, or its name is too long.
+    /// It cannot be connected to for another reason: it is not a socket, or its name is too long.
     NoSocket,
-    /// No answer of a relay came from it: it did not take the connection in time, as where it is
-    /// stopped; it went away while it was asked, or what it answers is no answer of a relay.
+    /// No answer of a relay came from it: the relay did not accept the connection in time, for
+    /// example because it is stopped; it went away while it was asked; or its reply is not a valid
+    /// answer.
     NoAnswer,
 }
 
@@ -25,7 +26,7 @@ impl SocketReason {
     ghost use Rattle.std.specs.Prelude.{◌≡◌};
     ghost use Rattle.macs_program.specs.Sockets.{socket_text};
 
-    /// What the program says of it.
+    /// The program's message.
     pub fn text(self) -> &'static str
         ensures { result.now ≡ socket_text self }
     {
@@ -39,8 +40,8 @@ impl SocketReason {
     }
 }
 
-/// The reason that an error of a connection is, by its kind. A relay that took no connection in
-/// time gives no answer.
+/// The reason for an error of a connection, by its kind. A relay that accepts no connection in time
+/// gives no answer.
 pub fn socket_reason(kind: ErrorKind) -> SocketReason
     ensures { result ≡ socket_reason kind }
 {

@@ -1,4 +1,4 @@
-//! The sleep of a relay that waits: until a datagram is there on either wire.
+//! The sleep of a waiting relay: until a datagram arrives on either wire.
 
 ghost use Rattle.std.specs.Prelude.{◌≡◌, ◌∷◌, [], pos};
 ghost use Rattle.macs_program.specs.Watching.{asks};
@@ -9,7 +9,7 @@ use macs_edge::Idle;
 use macs_words::Milliseconds;
 use std::os::fd::RawFd;
 
-/// What is watched: the sockets of both wires, each sleep for so long at most.
+/// What is watched: the sockets of both wires, and how long each sleep may be.
 #[derive(Clone, Copy)]
 pub struct Watch {
     pub controlled: RawFd,
@@ -17,7 +17,7 @@ pub struct Watch {
     pub limit: Milliseconds,
 }
 
-/// Asks whether a socket can be read.
+/// Asks whether a socket is readable.
 fn readable(socket: RawFd) -> pollfd
     ensures { result ≡ asks socket }
 {
@@ -32,14 +32,14 @@ impl Watch {
     ghost use Rattle.std.specs.Prelude.{◌≡◌, ◌∷◌, [], pos};
     ghost use Rattle.macs_program.specs.Watching.{asks};
 
-    /// What the system is asked, for each of both sockets.
+    /// What the system is asked, for both sockets.
     fn asked(&self) -> [pollfd; 2]
         ensures { result ≡ asks self.now.controlled ∷ asks self.now.common ∷ [] }
     {
         [readable(self.controlled), readable(self.common)]
     }
 
-    /// The longest sleep in milliseconds, as the system takes it.
+    /// The longest sleep in milliseconds, in the system's type.
     fn timeout(&self) -> i32
         ensures { result ≡ pos self.now.limit.0 }
     {
@@ -48,8 +48,8 @@ impl Watch {
 }
 
 impl Idle for Watch {
-    /// A datagram that is there already ends the sleep at once, as does one that comes
-    /// (POSIX.1-2017, `poll`). Where the call fails, there is no sleep.
+    /// A datagram that is already waiting ends the sleep at once, as does one that arrives
+    /// (POSIX.1-2017, `poll`). If the call fails, there is no sleep.
     fn idle(&mut self) {
         let _ = poll(&mut self.asked(), self.timeout());
     }

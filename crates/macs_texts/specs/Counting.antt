@@ -24,7 +24,7 @@ use Rattle.macs_texts.specs.Showing.{association_numbers}
 
 -- ---- words
 
--- why a plain frame did not go out
+-- why a plain frame was not sent
 abbrev pub fault_words : TxFault → List ℕ
 fault_words tx.Runt = codes "runt"
 fault_words tx.TooLong = codes "too-long"
@@ -54,7 +54,7 @@ verdict_words HeldBack = codes "held-back"
 
 -- ---- frames
 
--- the faults that are counted, in the order in which they are looked for
+-- the faults that are counted, in the order in which they are checked
 abbrev pub tx_faults : List TxFault
 tx_faults = tx.Runt ∷ tx.TooLong ∷ tx.ForeignSource ∷ tx.NoEncodingSa ∷ tx.Exhausted ∷ tx.NoNumber ∷ []
 
@@ -62,7 +62,7 @@ tx_faults = tx.Runt ∷ tx.TooLong ∷ tx.ForeignSource ∷ tx.NoEncodingSa ∷ 
 abbrev pub tx_line : TxCounters → TxFault → List ℕ
 tx_line c fault = count_line (codes "tx") (fault_words fault) (fault_count fault c)
 
--- how many went out, and how many met each fault
+-- how many plain frames were protected, and how many met each fault
 abbrev pub tx_text : TxCounters → List ℕ
 tx_text c = count_line (codes "tx") (codes "protected") c.protected ++ concat (map (tx_line c) tx_faults)
 
@@ -75,11 +75,11 @@ rx_verdicts =
     ∷ Discarded reason.ForKay ∷ Discarded reason.NoSci ∷ Discarded reason.NotUsingSa ∷ Discarded reason.Late
     ∷ Discarded reason.NotValid ∷ []
 
--- how often a verdict was given
+-- how often this verdict was given
 abbrev pub rx_line : RxCounters → Verdict → List ℕ
 rx_line c verdict = count_line (codes "rx") (verdict_words verdict) (count_of verdict c)
 
--- and each of them
+-- how often each verdict was given
 abbrev pub rx_text : RxCounters → List ℕ
 rx_text c = concat (map (rx_line c) rx_verdicts)
 
@@ -89,19 +89,19 @@ channel_verdicts =
     Delivered kind.Ok ∷ Delivered kind.Delayed ∷ Delivered kind.Invalid ∷ Delivered kind.UnusedSa
     ∷ Discarded reason.NotUsingSa ∷ Discarded reason.Late ∷ Discarded reason.NotValid ∷ []
 
--- how often a verdict was given on frames of a channel, where there is such a channel
+-- how often this verdict was given on frames of a channel, if the channel exists
 abbrev pub channel_line : (List ℕ → Option ChannelCounters) → List ℕ → Verdict → List ℕ
 channel_line table sci verdict =
     count_line_of (codes "channel " ++ encode_lower sci) (verdict_words verdict)
     (option_map (channel_count_of verdict) (table sci))
 
--- and each of them
+-- how often each verdict was given on frames of a channel
 abbrev pub channel_text : (List ℕ → Option ChannelCounters) → List ℕ → List ℕ
 channel_text table sci = concat (map (channel_line table sci) channel_verdicts)
 
 -- ---- wires
 
--- what a wire counted, by its number, and how many octets of datagrams are kept for it, where that is known
+-- the counters of a wire, by its number, and how many octets of datagrams the system buffers for it, if known
 abbrev pub wire_text : List ℕ → WireCounts → List ℕ
 wire_text side c =
     count_line side (codes "taken") c.taken
@@ -112,32 +112,32 @@ wire_text side c =
     ++ (count_line side (codes "failed-sends") c.failed_sends
     ++ count_line_of side (codes "buffer") c.buffer)))))
 
--- the report of a wire that counted this, of which so many datagrams were dropped, where that is known
+-- the report of a wire with these counts, of whose datagrams the system dropped `overrun`, if known
 abbrev pub reported : WireCounts → Option ℕ → WireReport
 reported counts overrun = record { counts = counts; overrun = overrun }
 
--- what is reported of a wire: what it counted, and how many datagrams the system dropped before it could take them
+-- the report of a wire: its counters, and how many datagrams the system dropped before it could take them
 abbrev pub report_text : List ℕ → WireReport → List ℕ
 report_text side wire = wire_text side wire.counts ++ count_line_of side (codes "overrun") wire.overrun
 
 -- ---- what is left
 
--- how many packet numbers are left under a transmit association, where there is one
+-- how many packet numbers are left under a transmit association, if it exists
 abbrev pub left_line : State → ℕ → List ℕ
 left_line s an = count_line_of (codes "left tx") (decimal an) (option_map (λ next. 2 ^ 32 - next) (s.next an))
 
--- and under each
+-- how many are left under each
 abbrev pub left_text : State → List ℕ
 left_text s = concat (map (left_line s) association_numbers)
 
--- how many keys may still be installed on either side
+-- how many keys may still be installed in each direction
 abbrev pub keys_text : Config → List ℕ
 keys_text config = count_line (codes "left keys") (codes "tx") (max_spent - length config.spent_tx)
     ++ count_line (codes "left keys") (codes "rx") (max_spent - length config.spent_rx)
 
--- ---- the whole
+-- ---- all of it
 
--- the counters of an endpoint in this state and of its wires, a line for each
+-- the counters of an endpoint in this state and of its wires, one per line
 abbrev pub counters_text : State → TxCounters → RxCounters → (List ℕ → Option ChannelCounters) → WireReport
     → WireReport → List ℕ
 counters_text s sent received table controlled common =

@@ -1,4 +1,4 @@
--- Which keys are installed, without the keys themselves.
+-- Which keys are installed, without revealing them.
 use Rattle.std.specs.Prelude.{ℕ, ◌*◌, List, [], ◌++◌, length, map, take, codes, Option, Some, None}
 use Rattle.std.specs.Fmt.{decimal}
 use Rattle.std.specs.List.{concat}
@@ -10,11 +10,11 @@ use Rattle.macs_config.specs.declared.association.TxSa.{TxSa}
 use Rattle.macs_texts.specs.Lines.{line}
 use Rattle.macs_texts.specs.Showing.{association_numbers}
 
--- what stands for a key: the SHA-256 of these words and the key, one after the other (FIPS 180-4), 32 octets
+-- the digest that identifies a key: the SHA-256 of these words followed by the key (FIPS 180-4), 32 octets
 abbrev pub key_digest : List ℕ → List ℕ
 key_digest key = sha256 (codes "macsecd key " ++ key)
 
--- its identifier: the first eight hex digits of that
+-- its identifier: the first eight hex digits of the digest
 abbrev pub key_id : List ℕ → List ℕ
 key_id key = encode_lower (take 4 (key_digest key))
 
@@ -26,30 +26,30 @@ key_words key = codes "key " ++ (decimal (8 * length key) ++ (codes " id " ++ ke
 abbrev pub tx_key_line : ℕ → List ℕ → List ℕ
 tx_key_line an key = line (codes "tx " ++ (decimal an ++ (codes " " ++ key_words key)))
 
--- and of a receive association's
+-- the line of a receive association's key
 abbrev pub rx_key_line : List ℕ → ℕ → List ℕ → List ℕ
 rx_key_line sci an key =
     line (codes "rx " ++ (encode_lower sci ++ (codes " " ++ (decimal an ++ (codes " " ++ key_words key)))))
 
--- the line where there is such a transmit association
+-- the line of the key of this transmit association, if it exists
 abbrev pub tx_key_text_of : ℕ → Option TxSa → List ℕ
 tx_key_text_of an None = []
 tx_key_text_of an (Some sa) = tx_key_line an sa.key
 
--- the same of a receive association
+-- the same for a receive association
 abbrev pub rx_key_text_of : List ℕ → ℕ → Option RxSa → List ℕ
 rx_key_text_of sci an None = []
 rx_key_text_of sci an (Some sa) = rx_key_line sci an sa.key
 
--- the same of the transmit association with this number
+-- the same for the transmit association with this number
 abbrev pub tx_key_text : Config → ℕ → List ℕ
 tx_key_text c an = tx_key_text_of an (c.tx an)
 
--- and of the receive association with this number
+-- the same for the receive association with this number
 abbrev pub rx_key_text : Config → List ℕ → ℕ → List ℕ
 rx_key_text c sci an = rx_key_text_of sci an (c.rx sci an)
 
--- the keys of a channel, by the numbers of its associations
+-- the keys of a channel, by association number
 abbrev pub channel_keys : Config → List ℕ → List ℕ
 channel_keys c sci = concat (map (rx_key_text c sci) association_numbers)
 

@@ -1,5 +1,4 @@
--- The counters of an endpoint and of its wires, as a collector of metrics reads them: the text format of Prometheus,
--- version 0.0.4.
+-- The counters of an endpoint and of its wires for a metrics collector: the Prometheus text format, version 0.0.4.
 use Rattle.std.specs.Prelude.{ℕ, ◌-◌, ◌^◌, List, [], ◌∷◌, ◌++◌, length, map, codes, string_bytes, Option, Some, None}
 use Rattle.std.specs.Fmt.{decimal}
 use Rattle.std.specs.List.{concat}
@@ -27,31 +26,31 @@ use Rattle.macs_texts.specs.Showing.{association_numbers}
 abbrev pub label : List ℕ → List ℕ → List ℕ
 label name value = name ++ (codes "=\"" ++ (value ++ codes "\""))
 
--- a number of a metric of the endpoint with this SCI, under that and these labels
+-- a sample of a metric of the endpoint with this SCI, with that and these labels
 abbrev pub sample : List ℕ → List ℕ → List ℕ → ℕ → List ℕ
 sample own name labels number = line (name ++ (codes "{" ++ (label (codes "sci") (encode_lower own)
     ++ (codes "," ++ (labels ++ (codes "} " ++ decimal number))))))
 
--- the same of a number that may be absent
+-- the same for a number that may be absent
 abbrev pub sample_of : List ℕ → List ℕ → List ℕ → Option ℕ → List ℕ
 sample_of own name labels None = []
 sample_of own name labels (Some number) = sample own name labels number
 
--- what a metric is
+-- the description of a metric
 abbrev pub help_line : List ℕ → List ℕ → List ℕ
 help_line name help = line (codes "# HELP " ++ (name ++ (codes " " ++ help)))
 
--- of which kind it is
+-- its type
 abbrev pub type_line : List ℕ → List ℕ → List ℕ
 type_line name kind = line (codes "# TYPE " ++ (name ++ (codes " " ++ kind)))
 
--- both: what comes before its numbers
+-- both: the lines before its samples
 abbrev pub metric_head : List ℕ → List ℕ → List ℕ → List ℕ
 metric_head name kind help = help_line name help ++ type_line name kind
 
 -- ---- frames
 
--- plain frames, by what was answered
+-- plain frames, by outcome
 abbrev pub tx_name : List ℕ
 tx_name = codes "macsec_tx_frames_total"
 
@@ -59,11 +58,11 @@ tx_name = codes "macsec_tx_frames_total"
 abbrev pub tx_sample : List ℕ → TxCounters → TxFault → List ℕ
 tx_sample own c fault = sample own tx_name (label (codes "answer") (fault_words fault)) (fault_count fault c)
 
--- how many went out
+-- how many were protected
 abbrev pub protected_sample : List ℕ → TxCounters → List ℕ
 protected_sample own c = sample own tx_name (label (codes "answer") (codes "protected")) c.protected
 
--- what comes before the faults
+-- the lines before the faults
 abbrev pub tx_front : List ℕ → TxCounters → List ℕ
 tx_front own c =
     metric_head tx_name (codes "counter") (codes "Plain frames by what was answered.") ++ protected_sample own c
@@ -72,15 +71,15 @@ tx_front own c =
 abbrev pub tx_metric : List ℕ → TxCounters → List ℕ
 tx_metric own c = tx_front own c ++ concat (map (tx_sample own c) tx_faults)
 
--- received frames, by their verdict
+-- received frames, by verdict
 abbrev pub rx_name : List ℕ
 rx_name = codes "macsec_rx_frames_total"
 
--- how often a verdict was given
+-- how often this verdict was given
 abbrev pub rx_sample : List ℕ → RxCounters → Verdict → List ℕ
 rx_sample own c verdict = sample own rx_name (label (codes "verdict") (verdict_words verdict)) (count_of verdict c)
 
--- what comes before these
+-- the lines before these
 abbrev pub rx_head : List ℕ
 rx_head = metric_head rx_name (codes "counter") (codes "Received frames by verdict.")
 
@@ -88,7 +87,7 @@ rx_head = metric_head rx_name (codes "counter") (codes "Received frames by verdi
 abbrev pub rx_metric : List ℕ → RxCounters → List ℕ
 rx_metric own c = rx_head ++ concat (map (rx_sample own c) rx_verdicts)
 
--- received frames of a channel, by their verdict
+-- received frames of a channel, by verdict
 abbrev pub channel_name : List ℕ
 channel_name = codes "macsec_rx_channel_frames_total"
 
@@ -97,60 +96,60 @@ abbrev pub channel_labels : List ℕ → Verdict → List ℕ
 channel_labels sci verdict =
     label (codes "channel") (encode_lower sci) ++ (codes "," ++ label (codes "verdict") (verdict_words verdict))
 
--- how often a verdict was given on frames of a channel, where there is such a channel
+-- how often this verdict was given on frames of a channel, if the channel exists
 abbrev pub channel_sample : List ℕ → (List ℕ → Option ChannelCounters) → List ℕ → Verdict → List ℕ
 channel_sample own table sci verdict = sample_of own channel_name (channel_labels sci verdict)
     (option_map (channel_count_of verdict) (table sci))
 
--- and each of them
+-- how often each verdict was given
 abbrev pub channel_samples : List ℕ → (List ℕ → Option ChannelCounters) → List ℕ → List ℕ
 channel_samples own table sci = concat (map (channel_sample own table sci) channel_verdicts)
 
--- what comes before these
+-- the lines before these
 abbrev pub channel_head : List ℕ
 channel_head = metric_head channel_name (codes "counter") (codes "Received frames of a channel by verdict.")
 
--- of all channels
+-- the samples of all channels
 abbrev pub channel_metric : List ℕ → State → (List ℕ → Option ChannelCounters) → List ℕ
 channel_metric own s table = channel_head ++ concat (map (channel_samples own table) s.config.channels)
 
 -- ---- wires
 
--- a number of either wire: the controlled one is the first
+-- a number for each wire: the controlled one is the first
 abbrev pub wire_numbers : List ℕ → List ℕ → ℕ → ℕ → List ℕ
 wire_numbers own name controlled common =
     sample own name (label (codes "wire") (codes "1")) controlled
     ++ sample own name (label (codes "wire") (codes "2")) common
 
--- what was counted of either
+-- a counter of each wire
 abbrev pub wire_metric : List ℕ → List ℕ → List ℕ → ℕ → ℕ → List ℕ
 wire_metric own name help controlled common =
     metric_head name (codes "counter") help ++ wire_numbers own name controlled common
 
--- a number of a wire, where that is known
+-- a number of a wire, if known
 abbrev pub known_sample : List ℕ → List ℕ → List ℕ → Option ℕ → List ℕ
 known_sample own name wire number = sample_of own name (label (codes "wire") wire) number
 
--- and of either
+-- the same for each wire
 abbrev pub known_numbers : List ℕ → List ℕ → Option ℕ → Option ℕ → List ℕ
 known_numbers own name controlled common =
     known_sample own name (codes "1") controlled ++ known_sample own name (codes "2") common
 
--- what is kept for either wire
+-- the buffer size of each wire
 abbrev pub buffer_metric : List ℕ → Option ℕ → Option ℕ → List ℕ
 buffer_metric own controlled common =
     metric_head (codes "macsec_wire_buffer_octets") (codes "gauge")
     (codes "Octets of waiting datagrams that the system keeps for a wire.")
     ++ known_numbers own (codes "macsec_wire_buffer_octets") controlled common
 
--- what was dropped of either before it could be taken
+-- how many datagrams of each wire were dropped before it could take them
 abbrev pub overrun_metric : List ℕ → Option ℕ → Option ℕ → List ℕ
 overrun_metric own controlled common =
     metric_head (codes "macsec_wire_overrun_total") (codes "counter")
     (codes "Datagrams that the system dropped, since a wire had no room for them.")
     ++ known_numbers own (codes "macsec_wire_overrun_total") controlled common
 
--- what went wrong at the wires, and what is kept for them
+-- errors at the wires, and their buffer sizes
 abbrev pub trouble_metrics : List ℕ → WireCounts → WireCounts → List ℕ
 trouble_metrics own controlled common =
     wire_metric own (codes "macsec_wire_strangers_total") (codes "Datagrams of another address than the peer's.")
@@ -161,7 +160,7 @@ trouble_metrics own controlled common =
     controlled.failed_sends common.failed_sends
     ++ buffer_metric own controlled.buffer common.buffer))
 
--- what they counted, and what is kept for them
+-- the counters of the wires, and their buffer sizes
 abbrev pub wires_metrics : List ℕ → WireCounts → WireCounts → List ℕ
 wires_metrics own controlled common =
     wire_metric own (codes "macsec_wire_taken_total") (codes "Frames taken off a wire.") controlled.taken common.taken
@@ -170,7 +169,7 @@ wires_metrics own controlled common =
     ++ (wire_metric own (codes "macsec_wire_sent_total") (codes "Frames sent on a wire.") controlled.sent common.sent
     ++ trouble_metrics own controlled common))
 
--- and what was dropped of them
+-- these, and what was dropped before the wires could take it
 abbrev pub report_metrics : List ℕ → WireReport → WireReport → List ℕ
 report_metrics own controlled common =
     wires_metrics own controlled.counts common.counts ++ overrun_metric own controlled.overrun common.overrun
@@ -181,16 +180,16 @@ report_metrics own controlled common =
 abbrev pub left_name : List ℕ
 left_name = codes "macsec_tx_numbers_left"
 
--- how many there are, where there is such an association
+-- how many there are, if the association exists
 abbrev pub left_sample : List ℕ → State → ℕ → List ℕ
 left_sample own s an =
     sample_of own left_name (label (codes "an") (decimal an)) (option_map (λ next. 2 ^ 32 - next) (s.next an))
 
--- what comes before these
+-- the lines before these
 abbrev pub left_head : List ℕ
 left_head = metric_head left_name (codes "gauge") (codes "Packet numbers left under a transmit key.")
 
--- and under each
+-- how many there are under each
 abbrev pub left_metric : List ℕ → State → List ℕ
 left_metric own s = left_head ++ concat (map (left_sample own s) association_numbers)
 
@@ -198,13 +197,13 @@ left_metric own s = left_head ++ concat (map (left_sample own s) association_num
 abbrev pub keys_name : List ℕ
 keys_name = codes "macsec_keys_left"
 
--- so many on either side
+-- the number in each direction
 abbrev pub key_numbers : List ℕ → ℕ → ℕ → List ℕ
 key_numbers own tx rx = metric_head keys_name (codes "gauge") (codes "Keys that may still be installed.")
     ++ sample own keys_name (label (codes "side") (codes "tx")) tx
     ++ sample own keys_name (label (codes "side") (codes "rx")) rx
 
--- as many as are left
+-- how many may still be installed
 abbrev pub keys_metric : List ℕ → Config → List ℕ
 keys_metric own config = key_numbers own (max_spent - length config.spent_tx) (max_spent - length config.spent_rx)
 
@@ -220,16 +219,16 @@ build_labels build = label (codes "version") (string_bytes build.version) ++ (co
     ++ (label (codes "commit") (string_bytes build.commit)
     ++ (codes "," ++ label (codes "proved") (string_bytes build.proved))))
 
--- it reports
+-- its sample
 abbrev pub build_sample : List ℕ → Build → List ℕ
 build_sample own build = sample own build_name (build_labels build) 1
 
--- what it is, and that
+-- its description and sample
 abbrev pub build_metric : List ℕ → Build → List ℕ
 build_metric own build =
     metric_head build_name (codes "gauge") (codes "The program that reports, always 1.") ++ build_sample own build
 
--- ---- the whole
+-- ---- all of it
 
 -- the metrics of the endpoint with this SCI in this state and of its wires, by this program
 abbrev pub metrics_of : List ℕ → Build → State → TxCounters → RxCounters → (List ℕ → Option ChannelCounters)
@@ -239,7 +238,7 @@ metrics_of own build s sent received table controlled common =
     ++ (report_metrics own controlled common ++ (left_metric own s ++ (keys_metric own s.config
     ++ build_metric own build)))))
 
--- its SCI is that of the endpoint's state
+-- with the SCI of the endpoint's state
 abbrev pub metrics_text : Build → State → TxCounters → RxCounters → (List ℕ → Option ChannelCounters) → WireReport
     → WireReport → List ℕ
 metrics_text build s = metrics_of s.identity.sci build s

@@ -4,11 +4,11 @@ use Rattle.std.specs.Fmt.{decimal}
 use Rattle.macs_texts.specs.Lines.{line}
 use Rattle.macs_texts.specs.declared.build.Build.{Build}
 
--- the line of a word: what it is, and which
+-- the line of a word: its name and value
 abbrev pub word_line : List ℕ → List ℕ → List ℕ
 word_line name word = line (name ++ (codes " " ++ word))
 
--- when the run began, in seconds since the beginning of 1970, where that is known
+-- when the run began, in seconds since the beginning of 1970, if known
 abbrev pub started_line : Option ℕ → List ℕ
 started_line None = []
 started_line (Some seconds) = word_line (codes "started") (decimal seconds)

@@ -3,7 +3,7 @@ use Rattle.std.specs.Prelude.{ℕ, List, codes}
 use Rattle.macs_config.specs.declared.refusal.Refusal.{Refusal}
 use Rattle.macs_config.specs.declared.refusal.Refusal.TheVariants as refusal
 
--- how a refusal is named
+-- the name of a refusal
 abbrev pub refusal_name : Refusal → List ℕ
 refusal_name refusal.StartRange = codes "StartRange"
 refusal_name refusal.OffsetChoice = codes "OffsetChoice"

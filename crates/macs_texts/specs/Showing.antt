@@ -1,4 +1,4 @@
--- What `show` prints of an endpoint.
+-- The output of `show` for an endpoint.
 use Rattle.std.specs.Prelude.{ℕ, List, [], ◌∷◌, ◌++◌, length, map, codes, if◌then◌else◌, Option, Some, None}
 use Rattle.std.specs.Fmt.{decimal}
 use Rattle.std.specs.List.{concat}
@@ -25,7 +25,7 @@ use Rattle.macs_texts.specs.Lines.{line}
 abbrev pub sci_line : Identity → List ℕ
 sci_line identity = line (codes "sci " ++ encode_lower identity.sci)
 
--- how many packet numbers the blocks of either side have
+-- the sizes of the packet number blocks in each direction
 abbrev pub blocks_line : Identity → List ℕ
 blocks_line identity =
     line (codes "blocks tx " ++ (decimal identity.tx_block ++ (codes " rx " ++ decimal identity.rx_block)))
@@ -54,7 +54,7 @@ mode_word mode.Implicit = codes "implicit"
 abbrev pub mode_line : SciMode → List ℕ
 mode_line mode = line (codes "sci-mode " ++ mode_word mode)
 
--- the association that frames go out under, if one is
+-- the association that frames are sent under, if any
 abbrev pub encoding_word : Option ℕ → List ℕ
 encoding_word None = codes "none"
 encoding_word (Some an) = decimal an
@@ -83,7 +83,7 @@ rx_line sci an sa numbers = line (codes "rx "
     ++ (encode_lower sci ++ (codes " " ++ (decimal an ++ (codes " offset " ++ (decimal (octets_of sa.offset)
     ++ (codes " next " ++ (decimal numbers.next ++ (codes " lowest " ++ decimal numbers.lowest)))))))))
 
--- how many keys are spent on either side
+-- how many keys are spent in each direction
 abbrev pub spent_line : Config → List ℕ
 spent_line config =
     line (codes "spent tx " ++ (decimal (length config.spent_tx) ++ (codes " rx " ++ decimal (length config.spent_rx))))
@@ -94,29 +94,29 @@ spent_line config =
 abbrev pub association_numbers : List ℕ
 association_numbers = 0 ∷ 1 ∷ 2 ∷ 3 ∷ []
 
--- the line of a transmit association and its next number, where they exist
+-- the line of a transmit association and its next number, if they exist
 abbrev pub tx_text_of : ℕ → Option TxSa → Option ℕ → List ℕ
 tx_text_of an (Some sa) (Some next) = tx_line an sa next
 tx_text_of an sa next = []
 
--- the same of the transmit association with this number
+-- the same for the transmit association with this number
 abbrev pub tx_text : State → ℕ → List ℕ
 tx_text s an = tx_text_of an (s.config.tx an) (s.next an)
 
--- the line of a receive association and its numbers, where they exist
+-- the line of a receive association and its numbers, if they exist
 abbrev pub rx_text_of : List ℕ → ℕ → Option RxSa → Option Numbers → List ℕ
 rx_text_of sci an (Some sa) (Some numbers) = rx_line sci an sa numbers
 rx_text_of sci an sa numbers = []
 
--- the same of the receive association with this number
+-- the same for the receive association with this number
 abbrev pub rx_text : State → List ℕ → ℕ → List ℕ
 rx_text s sci an = rx_text_of sci an (s.config.rx sci an) (s.numbers sci an)
 
--- a channel, and its associations by their numbers
+-- a channel, and its associations by number
 abbrev pub channel_text : State → List ℕ → List ℕ
 channel_text s sci = channel_line sci ++ concat (map (rx_text s sci) association_numbers)
 
--- ---- the whole
+-- ---- all of it
 
 -- the configuration, the associations and the channels, line by line
 abbrev pub show_text : State → List ℕ

@@ -18,30 +18,30 @@ abbrev pub carried_words : List ℕ → Carried → List ℕ
 carried_words kind c =
     kind ++ (codes " frames " ++ (decimal c.frames ++ (codes " octets " ++ decimal c.octets)))
 
--- the line of frames of a kind that went out under a transmit association, where there were any
+-- the line for frames of a kind that were sent under a transmit association, if there were any
 abbrev pub tx_line : ℕ → List ℕ → Carried → List ℕ
 tx_line an kind c =
     if c.frames == 0 then [] else line (codes "tx " ++ (decimal an ++ (codes " " ++ carried_words kind c)))
 
--- the line of frames of a kind that verified under a receive association, where there were any
+-- the line for frames of a kind that verified under a receive association, if there were any
 abbrev pub rx_line : List ℕ → ℕ → List ℕ → Carried → List ℕ
 rx_line sci an kind c = if c.frames == 0 then [] else
     line (codes "rx " ++ (encode_lower sci ++ (codes " " ++ (decimal an ++ (codes " " ++ carried_words kind c)))))
 
--- the lines of what went out under an association number: with integrity alone, and encrypted
+-- the lines for what was sent under an association number: with integrity only, and encrypted
 abbrev pub tx_text_of : ℕ → Traffic → List ℕ
 tx_text_of an t = tx_line an (codes "protected") t.plain ++ tx_line an (codes "encrypted") t.encrypted
 
--- the same by what was counted
+-- the same, from the counters
 abbrev pub tx_text : TxCounters → ℕ → List ℕ
 tx_text c an = tx_text_of an (traffic_under c.traffic an)
 
--- the lines of what verified under an association number: with integrity alone, and encrypted
+-- the lines for what verified under an association number: with integrity only, and encrypted
 abbrev pub rx_text_of : List ℕ → ℕ → Option Traffic → List ℕ
 rx_text_of sci an None = []
 rx_text_of sci an (Some t) = rx_line sci an (codes "validated") t.plain ++ rx_line sci an (codes "decrypted") t.encrypted
 
--- the same of a channel's association number
+-- the same for a channel's association number
 abbrev pub rx_text : (List ℕ → Option ChannelCounters) → List ℕ → ℕ → List ℕ
 rx_text table sci an =
     rx_text_of sci an (option_map (λ (c : ChannelCounters). traffic_under c.traffic an) (table sci))
@@ -50,12 +50,12 @@ rx_text table sci an =
 abbrev pub channel_text : (List ℕ → Option ChannelCounters) → List ℕ → List ℕ
 channel_text table sci = concat (map (rx_text table sci) association_numbers)
 
--- when the last frame came that verified, in seconds since the beginning of 1970, where that is known
+-- when the last frame arrived that verified, in seconds since the beginning of 1970, if known
 abbrev pub last_line : Option ℕ → List ℕ
 last_line None = []
 last_line (Some seconds) = word_line (codes "last-good") (decimal seconds)
 
--- what went out, and what verified on these channels, under each association number; and when the last frame verified
+-- what was sent, and what verified on these channels, under each association number; and when the last frame verified
 abbrev pub traffic_text : TxCounters → List (List ℕ) → (List ℕ → Option ChannelCounters) → Option ℕ → List ℕ
 traffic_text sent channels table last =
     concat (map (tx_text sent) association_numbers)

@@ -4,7 +4,7 @@ ghost use Rattle.std.specs.Prelude.{◌≡◌, IfOk, string_bytes};
 
 use std::alloc::{AllocError, Global};
 
-/// A build of the program. No text of it has a quote, a backslash or a line feed in it.
+/// A build of the program. None of its texts contains a quote, a backslash or a line feed.
 #[derive(Drop)]
 pub struct Build {
     /// Its version.
@@ -15,7 +15,7 @@ pub struct Build {
     pub proved: String,
 }
 
-/// A text of its own.
+/// An owned copy of a text.
 fn owned(alloc: Global, text: &str) -> Result<String, AllocError>
     ensures { IfOk result (λ copy. string_bytes copy ≡ text.now) }
 {
@@ -26,7 +26,7 @@ fn owned(alloc: Global, text: &str) -> Result<String, AllocError>
 impl Build {
     ghost use Rattle.std.specs.Prelude.{◌≡◌, IfOk, string_bytes};
 
-    /// A build of this version and of this commit, that was proved or not.
+    /// A build of this version and commit; `proved` says whether its functions were proved.
     pub fn new(
         alloc: Global,
         version: &str,

@@ -24,7 +24,7 @@ use macs_rxsc::{Kind, Reason, Verdict};
 use macs_txsc::TxFault;
 use std::alloc::{AllocError, Global};
 
-/// The faults that are counted, in the order in which they are looked for.
+/// The faults that are counted, in the order in which they are checked.
 pub(crate) const TX_FAULTS: [TxFault; 6] = [
     TxFault::Runt,
     TxFault::TooLong,
@@ -34,7 +34,7 @@ pub(crate) const TX_FAULTS: [TxFault; 6] = [
     TxFault::NoNumber,
 ];
 
-/// The verdicts whose counts are reported: each but `HeldBack`.
+/// The verdicts whose counts are reported: all except `HeldBack`.
 pub const RX_VERDICTS: [Verdict; 15] = [
     Verdict::Delivered(Kind::Ok),
     Verdict::Delivered(Kind::Delayed),
@@ -80,7 +80,7 @@ fn tx_line<D: SectorDisk>(
     count_line(alloc, "tx", fault_words(fault), count)
 }
 
-/// How many plain frames went out, and how many met each fault.
+/// How many plain frames were protected, and how many met each fault.
 fn tx_lines<D: SectorDisk>(alloc: Global, endpoint: &Endpoint<D>) -> Result<String, AllocError>
     ensures { IfOk result (λ text. string_bytes text ≡ tx_text (txsc.counters_of endpoint.now.tx)) }
 {
@@ -91,7 +91,7 @@ fn tx_lines<D: SectorDisk>(alloc: Global, endpoint: &Endpoint<D>) -> Result<Stri
     Ok(text)
 }
 
-/// How often a verdict was given.
+/// How often this verdict was given.
 fn rx_line<D: SectorDisk>(
     alloc: Global,
     endpoint: &Endpoint<D>,
@@ -115,7 +115,7 @@ fn rx_lines<D: SectorDisk>(alloc: Global, endpoint: &Endpoint<D>) -> Result<Stri
     Ok(text)
 }
 
-/// How often a verdict was given on frames of a channel.
+/// How often this verdict was given on frames of a channel.
 fn channel_line<D: SectorDisk>(
     alloc: Global,
     endpoint: &Endpoint<D>,
@@ -147,7 +147,7 @@ fn channel_lines<D: SectorDisk>(
     Ok(text)
 }
 
-/// The same of each channel.
+/// The same for each channel.
 fn channels_lines<D: SectorDisk>(
     alloc: Global,
     endpoint: &Endpoint<D>,
@@ -164,7 +164,7 @@ fn channels_lines<D: SectorDisk>(
     Ok(text)
 }
 
-/// What a wire counted.
+/// The counters of a wire.
 fn wire_lines(alloc: Global, side: &str, counts: &WireCounts) -> Result<String, AllocError>
     ensures { IfOk result (λ text. string_bytes text ≡ wire_text side.now counts.now) }
 {
@@ -179,7 +179,7 @@ fn wire_lines(alloc: Global, side: &str, counts: &WireCounts) -> Result<String, 
     joined(count_line(alloc, side, "taken", counts.taken), text)
 }
 
-/// The same, with what the system dropped of it, where that is known.
+/// The same, with what the system dropped before the wire could take it, if known.
 fn report_lines(alloc: Global, side: &str, wire: &WireReport) -> Result<String, AllocError>
     ensures { IfOk result (λ text. string_bytes text ≡ report_text side.now wire.now) }
 {
@@ -189,7 +189,7 @@ fn report_lines(alloc: Global, side: &str, wire: &WireReport) -> Result<String, 
     )
 }
 
-/// How many packet numbers are left, by the next one.
+/// How many packet numbers are left, given the next one.
 pub(crate) fn left_of(next: Option<u64>) -> Option<u64>
     ensures { result ≡ option_map (λ n. 2 ^ 32 - n) next }
 {
@@ -222,7 +222,7 @@ fn left_lines<D: SectorDisk>(alloc: Global, endpoint: &Endpoint<D>) -> Result<St
     Ok(text)
 }
 
-/// How many keys may still be installed on either side.
+/// How many keys may still be installed in each direction.
 fn key_lines(alloc: Global, config: &Config) -> Result<String, AllocError>
     ensures { IfOk result (λ text. string_bytes text ≡ keys_text (config_of config.now)) }
 {
@@ -234,8 +234,7 @@ fn key_lines(alloc: Global, config: &Config) -> Result<String, AllocError>
     )
 }
 
-/// The counters of an endpoint and of its wires, a line for each. It fails only where memory is
-/// refused.
+/// The counters of an endpoint and of its wires, one per line. Fails only if memory runs out.
 pub fn counter_lines<D: SectorDisk>(
     alloc: Global,
     endpoint: &Endpoint<D>,

@@ -1,4 +1,4 @@
-//! What stands for a key where that must not be shown.
+//! Identifiers for keys that must not be shown.
 
 ghost use Rattle.std.specs.Prelude.{◌≡◌, IfOk, string_bytes};
 ghost use Rattle.macs_texts.specs.KeyTexts.{key_digest, key_id};
@@ -6,8 +6,9 @@ ghost use Rattle.macs_texts.specs.KeyTexts.{key_digest, key_id};
 use sha2::{Digest, Sha256};
 use std::alloc::{AllocError, Global};
 
-/// What stands for a key of these octets: the SHA-256 of `macsecd key `, with the blank at its end,
-/// and of the key (FIPS 180-4), 32 octets. It is not what the disk file has of a key.
+/// The digest that identifies a key: the SHA-256 of `macsecd key `, including the trailing space,
+/// followed by the key (FIPS 180-4), 32 octets. It differs from what the disk file stores for a
+/// key.
 pub fn key_digest(key: &[u8]) -> [u8; 32]
     ensures { result ≡ key_digest key.now }
 {
@@ -17,8 +18,7 @@ pub fn key_digest(key: &[u8]) -> [u8; 32]
     hasher.finalize()
 }
 
-/// The identifier of a key, by which two ends compare keys: the first eight hex digits of what
-/// stands for it.
+/// The identifier by which two ends compare keys: the first eight hex digits of the digest.
 pub fn key_id(alloc: Global, key: &[u8]) -> Result<String, AllocError>
     ensures { IfOk result (λ text. string_bytes text ≡ key_id key.now) }
 {

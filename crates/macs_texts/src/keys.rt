@@ -42,7 +42,7 @@ fn rx_key_line(alloc: Global, sci: Sci, an: An, key: KeyOctets) -> Result<String
     ended(format!(in alloc; "rx {sci} {an} {words}")?)
 }
 
-/// The line of a transmit association's key, where there is one.
+/// The line of a transmit association's key, if it exists.
 fn tx_key_text(alloc: Global, config: &Config, an: An) -> Result<String, AllocError>
     ensures { IfOk result (λ text. string_bytes text ≡ tx_key_text (config_of config.now) an) }
 {
@@ -52,7 +52,7 @@ fn tx_key_text(alloc: Global, config: &Config, an: An) -> Result<String, AllocEr
     }
 }
 
-/// The line of a receive association's key, where there is one.
+/// The line of a receive association's key, if it exists.
 fn rx_key_text(alloc: Global, config: &Config, sci: Sci, an: An) -> Result<String, AllocError>
     ensures { IfOk result (λ text. string_bytes text ≡ rx_key_text (config_of config.now) sci an) }
 {
@@ -62,7 +62,7 @@ fn rx_key_text(alloc: Global, config: &Config, sci: Sci, an: An) -> Result<Strin
     }
 }
 
-/// The keys of the transmit associations, by their numbers.
+/// The keys of the transmit associations, by number.
 fn tx_keys(alloc: Global, config: &Config) -> Result<String, AllocError>
     ensures { IfOk result (λ text. string_bytes text
         ≡ concat (map (tx_key_text (config_of config.now)) association_numbers)) }
@@ -74,7 +74,7 @@ fn tx_keys(alloc: Global, config: &Config) -> Result<String, AllocError>
     Ok(text)
 }
 
-/// The keys of a channel's associations, by their numbers.
+/// The keys of a channel's associations, by number.
 fn channel_keys(alloc: Global, config: &Config, sci: Sci) -> Result<String, AllocError>
     ensures { IfOk result (λ text. string_bytes text ≡ channel_keys (config_of config.now) sci) }
 {
@@ -98,8 +98,8 @@ fn rx_keys(alloc: Global, config: &Config) -> Result<String, AllocError>
     Ok(text)
 }
 
-/// A line for each installed key: of which association it is, its length in bits, and its
-/// identifier. The keys themselves are not in it. It fails only where memory is refused.
+/// A line for each installed key: its association, its length in bits, and its identifier. The keys
+/// themselves are not shown. Fails only if memory runs out.
 pub fn keys_lines(alloc: Global, config: &Config) -> Result<String, AllocError>
     ensures { IfOk result (λ text. string_bytes text ≡ keys_text (config_of config.now)) }
 {

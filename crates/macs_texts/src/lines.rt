@@ -13,14 +13,14 @@ pub fn ended(mut text: String) -> Result<String, AllocError>
     Ok(text)
 }
 
-/// The line of a count: on which side, of what, and how many.
+/// The line of a count: its side, its name, and the count.
 pub fn count_line(alloc: Global, side: &str, what: &str, count: u64) -> Result<String, AllocError>
     ensures { IfOk result (λ text. string_bytes text ≡ count_line side.now what.now count) }
 {
     ended(format!(in alloc; "{side} {what} {count}")?)
 }
 
-/// The line of a count that may be absent: no text where it is.
+/// The line of a count that may be absent: empty if it is.
 pub fn count_line_of(
     alloc: Global,
     side: &str,
@@ -35,7 +35,7 @@ pub fn count_line_of(
     }
 }
 
-/// One text after another, where there are both.
+/// The concatenation of two texts, unless one of them failed.
 pub fn joined(
     text: Result<String, AllocError>,
     more: Result<String, AllocError>,

@@ -1,4 +1,4 @@
-//! The counters of an endpoint and of its wires, for a collector of metrics.
+//! The counters of an endpoint and of its wires, for a metrics collector.
 
 ghost use Rattle.std.specs.Prelude.{◌≡◌, ◌++◌, map, IfOk, string_bytes};
 ghost use Rattle.std.specs.List.{concat};
@@ -53,7 +53,7 @@ fn tx_sample<D: SectorDisk>(
     )
 }
 
-/// How many plain frames went out.
+/// How many plain frames were protected.
 fn protected_sample<D: SectorDisk>(
     alloc: Global,
     own: Sci,
@@ -73,7 +73,7 @@ fn protected_sample<D: SectorDisk>(
     )
 }
 
-/// What comes before the faults: how many went out.
+/// The lines before the faults, and how many frames were protected.
 fn tx_front<D: SectorDisk>(
     alloc: Global,
     own: Sci,
@@ -91,7 +91,7 @@ fn tx_front<D: SectorDisk>(
     joined(head, protected_sample(alloc, own, endpoint))
 }
 
-/// Plain frames, by what was answered.
+/// Plain frames, by outcome.
 fn tx_metric<D: SectorDisk>(
     alloc: Global,
     own: Sci,
@@ -107,7 +107,7 @@ fn tx_metric<D: SectorDisk>(
     Ok(text)
 }
 
-/// How often a verdict was given.
+/// How often this verdict was given.
 fn rx_sample<D: SectorDisk>(
     alloc: Global,
     own: Sci,
@@ -128,7 +128,7 @@ fn rx_sample<D: SectorDisk>(
     )
 }
 
-/// Received frames, by their verdict.
+/// Received frames, by verdict.
 fn rx_metric<D: SectorDisk>(
     alloc: Global,
     own: Sci,
@@ -160,7 +160,7 @@ fn channel_labels(alloc: Global, sci: Sci, verdict: Verdict) -> Result<String, A
     Ok(text)
 }
 
-/// How often a verdict was given on frames of a channel.
+/// How often this verdict was given on frames of a channel.
 fn channel_sample<D: SectorDisk>(
     alloc: Global,
     own: Sci,
@@ -199,7 +199,7 @@ fn channel_samples<D: SectorDisk>(
     Ok(text)
 }
 
-/// Received frames of channels, by their verdict.
+/// Received frames of channels, by verdict.
 fn channel_metric<D: SectorDisk>(
     alloc: Global,
     own: Sci,
@@ -221,7 +221,7 @@ fn channel_metric<D: SectorDisk>(
     Ok(text)
 }
 
-/// A number of either wire.
+/// A number for each wire.
 fn wire_numbers(
     alloc: Global,
     own: Sci,
@@ -238,7 +238,7 @@ fn wire_numbers(
     )
 }
 
-/// What was counted of either wire.
+/// A counter of each wire.
 fn wire_metric(
     alloc: Global,
     own: Sci,
@@ -256,7 +256,7 @@ fn wire_metric(
     )
 }
 
-/// A number of a wire, where that is known.
+/// A number of a wire, if known.
 fn known_sample(
     alloc: Global,
     own: Sci,
@@ -270,7 +270,7 @@ fn known_sample(
     sample_of(alloc, own, name, labels.as_str(), number)
 }
 
-/// A number of either wire, where that is known.
+/// A number for each wire, if known.
 fn known_numbers(
     alloc: Global,
     own: Sci,
@@ -287,7 +287,7 @@ fn known_numbers(
     )
 }
 
-/// How many octets are kept for either wire.
+/// The buffer size of each wire in octets.
 fn buffer_metric(
     alloc: Global,
     own: Sci,
@@ -304,7 +304,7 @@ fn buffer_metric(
     )
 }
 
-/// How many datagrams the system dropped of either wire.
+/// How many datagrams of each wire the system dropped.
 fn overrun_metric(
     alloc: Global,
     own: Sci,
@@ -321,7 +321,7 @@ fn overrun_metric(
     )
 }
 
-/// What went wrong at the wires, and what is kept for them.
+/// Errors at the wires, and their buffer sizes.
 fn trouble_metrics(
     alloc: Global,
     own: Sci,
@@ -361,7 +361,7 @@ fn trouble_metrics(
     joined(more, text)
 }
 
-/// What the wires counted, and what is kept for them.
+/// The counters of the wires, and their buffer sizes.
 fn wires_metrics(
     alloc: Global,
     own: Sci,
@@ -401,7 +401,7 @@ fn wires_metrics(
     joined(more, text)
 }
 
-/// The same, with what the system dropped of them.
+/// The same, with what the system dropped.
 fn report_metrics(
     alloc: Global,
     own: Sci,
@@ -454,7 +454,7 @@ fn left_metric<D: SectorDisk>(
     Ok(text)
 }
 
-/// How many keys may still be installed, of so many each.
+/// How many keys may still be installed, given the number for each direction.
 fn key_numbers(alloc: Global, own: Sci, tx: u64, rx: u64) -> Result<String, AllocError>
     ensures { IfOk result (λ text. string_bytes text ≡ key_numbers own tx rx) }
 {
@@ -464,7 +464,7 @@ fn key_numbers(alloc: Global, own: Sci, tx: u64, rx: u64) -> Result<String, Allo
     joined(text, labelled(alloc, own, name, "side", "rx", rx))
 }
 
-/// How many keys may still be installed on either side.
+/// How many keys may still be installed in each direction.
 fn keys_metric(alloc: Global, own: Sci, config: &Config) -> Result<String, AllocError>
     ensures { IfOk result (λ text. string_bytes text ≡ keys_metric own (config_of config.now)) }
 {
@@ -492,7 +492,7 @@ fn build_sample(alloc: Global, own: Sci, build: &Build) -> Result<String, AllocE
     sample(alloc, own, "macsecd_build_info", labels.as_str(), 1)
 }
 
-/// The same, with what it is.
+/// The same, after its description.
 fn build_metric(alloc: Global, own: Sci, build: &Build) -> Result<String, AllocError>
     ensures { IfOk result (λ text. string_bytes text ≡ build_metric own build.now) }
 {
@@ -528,9 +528,8 @@ fn metrics_of<D: SectorDisk>(
     joined(tx_metric(alloc, own, endpoint), text)
 }
 
-/// The counters of an endpoint and of its wires in the text format of Prometheus, version 0.0.4,
-/// each under the label `sci` of the endpoint, and which program reports them. It fails only where
-/// memory is refused.
+/// The counters of an endpoint and of its wires in the Prometheus text format, version 0.0.4, each
+/// with the endpoint's `sci` label, and which program reports them. Fails only if memory runs out.
 pub fn metric_lines<D: SectorDisk>(
     alloc: Global,
     build: &Build,

@@ -11,10 +11,10 @@ use std::alloc::{AllocError, Global};
 #[derive(Drop)]
 pub struct Program {
     pub build: Build,
-    /// When it began, in seconds since the beginning of 1970 (UTC), where the clock could be read.
+    /// When it began, in seconds since the beginning of 1970 (UTC), if the clock could be read.
     pub started: Option<u64>,
-    /// When a frame was last seen to have verified, in such seconds, where one has, and the clock
-    /// could be read then.
+    /// When a frame was last seen to have verified, in seconds since the beginning of 1970 (UTC),
+    /// if one has, and the clock could be read then.
     pub last_good: Option<u64>,
 }
 
@@ -34,14 +34,14 @@ impl Program {
     }
 }
 
-/// The line of a word: what it is, and which.
+/// The line of a word: its name and value.
 pub fn word_line(alloc: Global, name: &str, word: &str) -> Result<String, AllocError>
     ensures { IfOk result (λ text. string_bytes text ≡ word_line name.now word.now) }
 {
     ended(format!(in alloc; "{name} {word}")?)
 }
 
-/// When a run began, where that is known.
+/// When a run began, if known.
 fn started_line(alloc: Global, started: Option<u64>) -> Result<String, AllocError>
     ensures { IfOk result (λ text. string_bytes text ≡ started_line started) }
 {
@@ -51,7 +51,7 @@ fn started_line(alloc: Global, started: Option<u64>) -> Result<String, AllocErro
     }
 }
 
-/// Which program runs, and since when, a line each. It fails only where memory is refused.
+/// Which program runs, and since when, one line each. Fails only if memory runs out.
 pub fn about_lines(alloc: Global, program: &Program) -> Result<String, AllocError>
     ensures { IfOk result
         (λ text. string_bytes text ≡ about_text program.now.build program.now.started) }

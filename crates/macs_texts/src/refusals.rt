@@ -5,7 +5,7 @@ ghost use Rattle.macs_texts.specs.Refusals.{refusal_name};
 
 use macs_config::Refusal;
 
-/// How a refusal is named.
+/// The name of a refusal.
 pub fn refusal_name(refusal: Refusal) -> &'static str
     ensures name { result.now ≡ refusal_name refusal }
     ensures short { length result.now ≤ 13 }

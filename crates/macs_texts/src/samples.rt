@@ -1,4 +1,4 @@
-//! Lines that a collector of metrics reads.
+//! Lines for a metrics collector.
 
 ghost use Rattle.std.specs.Prelude.{◌≡◌, IfOk, string_bytes};
 ghost use Rattle.macs_texts.specs.Measuring.{help_line, label, metric_head, sample, sample_of};
@@ -8,7 +8,7 @@ use crate::lines::{ended, joined};
 use macs_frame::Sci;
 use std::alloc::{AllocError, Global};
 
-/// A label and its value, which has no quote and no backslash in it.
+/// A label and its value, which contains no quote or backslash.
 pub fn label(alloc: Global, name: &str, value: &str) -> Result<String, AllocError>
     ensures { IfOk result (λ text. string_bytes text ≡ label name.now value.now) }
 {
@@ -16,7 +16,7 @@ pub fn label(alloc: Global, name: &str, value: &str) -> Result<String, AllocErro
     Ok(text)
 }
 
-/// A number of a metric of the endpoint with this SCI, under that and these labels.
+/// A sample of a metric of the endpoint with this SCI, with that and these labels.
 pub fn sample(
     alloc: Global,
     own: Sci,
@@ -31,7 +31,7 @@ pub fn sample(
     ended(format!(in alloc; "{name}{{{sci},{labels}}} {number}")?)
 }
 
-/// The same under one label.
+/// The same with one label.
 pub fn labelled(
     alloc: Global,
     own: Sci,
@@ -47,7 +47,7 @@ pub fn labelled(
     sample(alloc, own, name, labels.as_str(), number)
 }
 
-/// The same of a number that may be absent: no text where it is.
+/// The same for a number that may be absent: empty if it is.
 pub fn sample_of(
     alloc: Global,
     own: Sci,
@@ -75,7 +75,7 @@ fn type_line(alloc: Global, name: &str, kind: &str) -> Result<String, AllocError
     ended(format!(in alloc; "# TYPE {name} {kind}")?)
 }
 
-/// What a metric is, and of which kind: the lines before its numbers.
+/// The description and type of a metric: the lines before its samples.
 pub fn metric_head(alloc: Global, name: &str, kind: &str, help: &str) -> Result<String, AllocError>
     ensures { IfOk result (λ text. string_bytes text ≡ metric_head name.now kind.now help.now) }
 {

@@ -157,7 +157,7 @@ fn spent_line(alloc: Global, config: &Config) -> Result<String, AllocError>
     ended(format!(in alloc; "spent tx {tx} rx {rx}")?)
 }
 
-/// The line of a transmit association, where there is one.
+/// The line of a transmit association, if it exists.
 fn tx_text<D: SectorDisk>(
     alloc: Global,
     endpoint: &Endpoint<D>,
@@ -174,7 +174,7 @@ fn tx_text<D: SectorDisk>(
     tx_line(alloc, an, &sa, next)
 }
 
-/// The line of a receive association, where there is one.
+/// The line of a receive association, if it exists.
 fn rx_text<D: SectorDisk>(
     alloc: Global,
     endpoint: &Endpoint<D>,
@@ -193,7 +193,7 @@ fn rx_text<D: SectorDisk>(
     rx_line(alloc, sci, an, &sa, numbers)
 }
 
-/// A channel, and its associations by their numbers.
+/// A channel, and its associations by number.
 fn channel_text<D: SectorDisk>(
     alloc: Global,
     endpoint: &Endpoint<D>,
@@ -209,7 +209,7 @@ fn channel_text<D: SectorDisk>(
     Ok(text)
 }
 
-/// The transmit associations by their numbers.
+/// The transmit associations, by number.
 fn tx_texts<D: SectorDisk>(alloc: Global, endpoint: &Endpoint<D>) -> Result<String, AllocError>
     ensures { IfOk result (λ text. string_bytes text
         ≡ concat (map (tx_text (state_of endpoint.now no_logs)) association_numbers)) }
@@ -235,7 +235,7 @@ fn channel_texts<D: SectorDisk>(alloc: Global, endpoint: &Endpoint<D>) -> Result
     Ok(text)
 }
 
-/// What was formatted: the SCI and the blocks.
+/// The values given at formatting: the SCI and the blocks.
 fn identity_lines(alloc: Global, identity: &Identity) -> Result<String, AllocError>
     ensures { IfOk result
         (λ text. string_bytes text ≡ sci_line identity.now ++ blocks_line identity.now) }
@@ -257,8 +257,7 @@ fn setting_lines(alloc: Global, config: &Config) -> Result<String, AllocError>
     joined(validate_line(alloc, config.validate()), text)
 }
 
-/// The lines that `show` prints of an endpoint. It fails only where memory is
-/// refused.
+/// The output of `show` for an endpoint. Fails only if memory runs out.
 pub fn show_lines<D: SectorDisk>(
     alloc: Global,
     endpoint: &Endpoint<D>,

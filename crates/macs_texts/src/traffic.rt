@@ -26,7 +26,7 @@ fn carried_words(alloc: Global, kind: &str, carried: Carried) -> Result<String, 
     Ok(text)
 }
 
-/// The line of frames of a kind that went out under a transmit association, where there were any.
+/// The line for frames of a kind that were sent under a transmit association, if there were any.
 fn tx_line(alloc: Global, an: An, kind: &str, carried: Carried) -> Result<String, AllocError>
     ensures { IfOk result (λ text. string_bytes text ≡ tx_line an kind.now carried) }
 {
@@ -38,7 +38,7 @@ fn tx_line(alloc: Global, an: An, kind: &str, carried: Carried) -> Result<String
     ended(format!(in alloc; "tx {an} {words}")?)
 }
 
-/// The line of frames of a kind that verified under a receive association, where there were any.
+/// The line for frames of a kind that verified under a receive association, if there were any.
 fn rx_line(
     alloc: Global,
     sci: Sci,
@@ -57,7 +57,7 @@ fn rx_line(
     ended(format!(in alloc; "rx {sci} {an} {words}")?)
 }
 
-/// The lines of what went out under an association number.
+/// The lines for what was sent under an association number.
 fn tx_text<D: SectorDisk>(
     alloc: Global,
     endpoint: &Endpoint<D>,
@@ -73,7 +73,7 @@ fn tx_text<D: SectorDisk>(
     )
 }
 
-/// The lines of what verified under an association number, where the channel exists.
+/// The lines for what verified under an association number, if the channel exists.
 fn rx_text_of(
     alloc: Global,
     sci: Sci,
@@ -91,7 +91,7 @@ fn rx_text_of(
     }
 }
 
-/// The same of an association number of a channel.
+/// The same for an association number of a channel.
 fn rx_text<D: SectorDisk>(
     alloc: Global,
     endpoint: &Endpoint<D>,
@@ -105,7 +105,7 @@ fn rx_text<D: SectorDisk>(
     rx_text_of(alloc, sci, an, traffic)
 }
 
-/// The lines of what went out, by association numbers.
+/// The lines for what was sent, by association number.
 fn tx_texts<D: SectorDisk>(alloc: Global, endpoint: &Endpoint<D>) -> Result<String, AllocError>
     ensures { IfOk result (λ text. string_bytes text
         ≡ concat (map (tx_text (txsc.counters_of endpoint.now.tx)) association_numbers)) }
@@ -117,7 +117,7 @@ fn tx_texts<D: SectorDisk>(alloc: Global, endpoint: &Endpoint<D>) -> Result<Stri
     Ok(text)
 }
 
-/// The lines of what verified on a channel, by association numbers.
+/// The lines for what verified on a channel, by association number.
 fn channel_text<D: SectorDisk>(
     alloc: Global,
     endpoint: &Endpoint<D>,
@@ -147,7 +147,7 @@ fn channel_texts<D: SectorDisk>(alloc: Global, endpoint: &Endpoint<D>) -> Result
     Ok(text)
 }
 
-/// When the last frame came that verified, where that is known.
+/// When the last frame arrived that verified, if known.
 fn last_line(alloc: Global, last: Option<u64>) -> Result<String, AllocError>
     ensures { IfOk result (λ text. string_bytes text ≡ last_line last) }
 {
@@ -157,9 +157,9 @@ fn last_line(alloc: Global, last: Option<u64>) -> Result<String, AllocError>
     }
 }
 
-/// What the frames carried that went out and that verified, a line for each association number
-/// and kind with frames; and when the last one verified, in seconds since the beginning of 1970 (UTC), where that
-/// is known. It fails only where memory is refused.
+/// What the frames carried that were sent and that verified, a line for each association number and
+/// kind with frames; and when the last one verified, in seconds since the beginning of 1970 (UTC),
+/// if known. Fails only if memory runs out.
 pub fn traffic_lines<D: SectorDisk>(
     alloc: Global,
     endpoint: &Endpoint<D>,

@@ -6,7 +6,7 @@ ghost use Rattle.macs_texts.specs.Counting.{fault_words, verdict_words};
 use macs_rxsc::{Kind, Reason, Verdict};
 use macs_txsc::TxFault;
 
-/// The word for the reason why a plain frame did not go out.
+/// The words for the reason why a plain frame was not sent.
 pub fn fault_words(fault: TxFault) -> &'static str
     ensures { result.now ≡ fault_words fault }
 {
@@ -20,7 +20,7 @@ pub fn fault_words(fault: TxFault) -> &'static str
     }
 }
 
-/// The word for what became of a received frame.
+/// The words for what became of a received frame.
 pub fn verdict_words(verdict: Verdict) -> &'static str
     ensures { result.now ≡ verdict_words verdict }
 {
