@@ -15,13 +15,13 @@ count (member key value members) = suc (count members)
 
 -- ---- one table
 
--- what table `at` says: a key that is wrong comes before one that its command does not have
+-- the contents of table `at`: a wrong key is reported before one that its command does not have
 abbrev pub told : (at : ℕ) (extra : Option (List ℕ)) → Result Command KeyName → Result Command ConfigFault
 told at extra (Err name) = Err (fault.Key at name)
 told at (Some key) (Ok command) = Err (fault.Extra at)
 told at None (Ok command) = Ok command
 
--- the command of table `at`, counted from 1
+-- the command of table `at`, counting from 1
 abbrev pub table_command : ℕ → Members → Result Command ConfigFault
 table_command at members = elim (word_in members) [
   | None ↦ Err (fault.Word at)
@@ -53,13 +53,13 @@ abbrev pub array_commands : Data → Result (List Command) ConfigFault
 array_commands (array items) = if are_tables items then table_commands 1 items else Err fault.Shape
 array_commands other = Err fault.Shape
 
--- the commands of a file of which so many keys may be theirs: only `command` is, and without that there are none
+-- the commands of a file with this many keys for them: only `command` is allowed, and without it there are none
 abbrev pub commands_among : ℕ → Members → Result (List Command) ConfigFault
 commands_among keys members = elim (get_member (codes "command") members) [
   | None ↦ if keys == 0 then Ok [] else Err fault.Shape
   | Some value ↦ if keys == 1 then array_commands value else Err fault.Shape
 ]
 
--- the commands of a whole file: its only key is `command`, and without that there are none
+-- the commands of a whole file: its only key is `command`, and without it there are none
 abbrev pub file_commands : Members → Result (List Command) ConfigFault
 file_commands members = commands_among (count members) members

@@ -1,4 +1,4 @@
--- Command files that may name the end of a link that they are for.
+-- Command files that may name the end of a link for which they are meant.
 use Rattle.std.specs.Prelude.{◌≡◌, ◌-◌, ℕ, codes, List, Option, Some, None, Result, Ok, Err}
 use Rattle.toml.specs.Data.{Members, get_member}
 use Rattle.macs_config.specs.declared.command.Command.{Command}
@@ -10,7 +10,7 @@ use Rattle.macs_commands.specs.declared.config_fault.ConfigFault.{ConfigFault}
 
 -- ---- the end
 
--- the end whose SCI is at the key `sci`, or a fault where that is none
+-- the end whose SCI is at the key `sci`, or a fault if that is not an SCI
 abbrev pub named : Option (List ℕ) → Result (Option (List ℕ)) CommandFileFault
 named (Some sci) = Ok (Some sci)
 named None = Err file.Sci
@@ -31,7 +31,7 @@ keys_beside members = elim (get_member (codes "sci") members) [
   | Some value ↦ count members - 1
 ]
 
--- the commands of a whole file: its only key besides `sci` is `command`, and without that there are none
+-- the commands of a whole file: its only other key besides `sci` is `command`, and without that there are none
 abbrev pub end_commands : Members → Result (List Command) ConfigFault
 end_commands members = commands_among (keys_beside members) members
 

@@ -1,4 +1,4 @@
--- What is at a key of a table: a number, a flag, a text, a mode, an association number, an SCI or a key.
+-- The value at a key of a table: a number, a flag, a text, a mode, an association number, an SCI or a key.
 use Rattle.std.specs.Prelude.{◌-◌, ◌^◌, ℕ, nat_le, pos, codes, if◌then◌else◌, Bool, List, Option, Some, None}
 use Rattle.std.specs.Prelude.{option_and_then}
 use Rattle.std.specs.Str.{bytes_eq}
@@ -32,7 +32,7 @@ sci_mode_of text =
 
 -- ---- values at a key
 
--- the number at a key, where it is at most `most`
+-- the number at a key, if it is at most `most`
 abbrev pub number_at : List ℕ → ℕ → Members → Option ℕ
 number_at key most members = option_and_then (number_to most) (get_member key members)
 
@@ -44,7 +44,7 @@ flag_at key members = option_and_then as_bool (get_member key members)
 abbrev pub text_at : List ℕ → Members → Option (List ℕ)
 text_at key members = option_and_then as_str (get_member key members)
 
--- the octets at a key, so many of them
+-- this many octets at a key
 abbrev pub octets_at : List ℕ → ℕ → Members → Option (List ℕ)
 octets_at key count members = option_and_then (octets_of count) (text_at key members)
 
@@ -58,15 +58,15 @@ an_in members = number_at (codes "an") 3 members
 abbrev pub sci_in : Members → Option (List ℕ)
 sci_in members = octets_at (codes "sci") 8 members
 
--- a SAK: 32 hex digits, or 64
+-- a SAK: 32 or 64 hex digits
 abbrev pub key_in : Members → Option Key
 key_in members = option_and_then key_of (text_at (codes "key") members)
 
--- a first packet number, 0 to 2^32 - 1: that 0 is none is said when the command is applied
+-- a first packet number, 0 to 2^32 - 1; 0 is refused when the command is applied
 abbrev pub start_in : Members → Option ℕ
 start_in members = number_at (codes "start") (2 ^ 32 - 1) members
 
--- a confidentiality offset, 0 to 255 octets: which of them are offsets is said when the command is applied
+-- a confidentiality offset, 0 to 255 octets; invalid ones are refused when the command is applied
 abbrev pub offset_in : Members → Option ℕ
 offset_in members = number_at (codes "offset") 255 members
 

@@ -1,4 +1,4 @@
--- The words of the commands, and the keys of each one's table in their order.
+-- The words of the commands, and the keys of each command's table in order.
 use Rattle.std.specs.Prelude.{ℕ, codes, if◌then◌else◌, Bool, List, [], ◌∷◌, Option, Some, None}
 use Rattle.std.specs.Prelude.{option_and_then, Result, Ok, Err}
 use Rattle.std.specs.List.{list_any}
@@ -17,7 +17,7 @@ use Rattle.macs_commands.specs.declared.word.Word.TheVariants as word
 
 -- ---- words
 
--- the word of a receive command that a text is
+-- the receive command word in a text
 abbrev pub rx_word_of : List ℕ → Option Word
 rx_word_of text =
     if bytes_eq text (codes "rx-add") then Some word.RxAdd
@@ -26,7 +26,7 @@ rx_word_of text =
     else if bytes_eq text (codes "rx-remove") then Some word.RxRemove
     else None
 
--- the word of a transmit or of a receive command that a text is
+-- the transmit or receive command word in a text
 abbrev pub channel_word_of : List ℕ → Option Word
 channel_word_of text =
     if bytes_eq text (codes "tx-install") then Some word.TxInstall
@@ -34,7 +34,7 @@ channel_word_of text =
     else if bytes_eq text (codes "tx-remove") then Some word.TxRemove
     else rx_word_of text
 
--- the word that a text is
+-- the command word in a text
 abbrev pub word_of : List ℕ → Option Word
 word_of text =
     if bytes_eq text (codes "set-validate") then Some word.SetValidate
@@ -67,7 +67,7 @@ keys_of word.RxRemove = codes "do" ∷ codes "sci" ∷ codes "an" ∷ []
 abbrev pub has_key : List (List ℕ) → List ℕ → Bool
 has_key keys key = list_any (λ one. bytes_eq key one) keys
 
--- the first key of a table that is none of these
+-- the first key of a table that is not among these
 abbrev pub key_beside : List (List ℕ) → Members → Option (List ℕ)
 key_beside keys no_members = None
 key_beside keys (member key value members) = if has_key keys key then key_beside keys members else Some key
@@ -78,19 +78,19 @@ extra_key members = option_and_then (λ which. key_beside (keys_of which) member
 
 -- ---- lines
 
--- the value, or else the name of the key that it should be at
+-- the value, or the name of the key that it should have been at
 abbrev pub required : {X : Type 0} → KeyName → Option X → Result X KeyName
 required name (Some x) = Ok x
 required name None = Err name
 
 infixl 10 ◌>>=◌
--- the first of two readings, and after it the second
+-- the first of two readings, followed by the second
 abbrev pub ◌>>=◌ : {X Y : Type 0} → Result X KeyName → (X → Result Y KeyName) → Result Y KeyName
 Ok x >>= f = f x
 Err name >>= f = Err name
 
--- the command that a table says with its word, or the first key in the order of the line that is absent, of another
--- kind or out of range
+-- the command of a table with this word, or the first key in the order of the line that is missing, of another type or
+-- out of range
 abbrev pub command_of : Word → Members → Result Command KeyName
 command_of word.SetValidate members = do
   mode ← required Mode (validate_in members)

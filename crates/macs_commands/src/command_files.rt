@@ -30,10 +30,10 @@ use toml::{Table, Value};
 /// | `rx-install` | `sci`, `an`, `key`, `start`, `offset` |
 /// | `rx-remove` | `sci`, `an` |
 ///
-/// `an` is 0 to 3, `start` 0 to 2^32 - 1, `offset` 0 to 255 octets, `key` a text of 32 hex digits
-/// or 64, `sci` one of 16, of either case. A start of 0 and an offset that is none are read here,
-/// and refused when the command is applied. Refused with the file's first fault, or as `Memory`;
-/// that this comes only from a growth that was refused is tested.
+/// `an` is 0 to 3, `start` 0 to 2^32 - 1, `offset` 0 to 255 octets, `key` a text of 32 or 64 hex
+/// digits, `sci` one of 16, of either case. A start of 0 and an invalid offset are accepted here,
+/// and refused when the command is applied. Fails with the file's first fault, or with `Memory`;
+/// that this happens only when memory runs out is tested, not proved.
 pub fn commands_of<A: Allocator>(alloc: A, file: &Table) -> Result<Vec<Command, A>, ConfigFault>
     ensures commands { IfOk result
         (λ commands. file_commands (table_view file.now) ≡ Ok commands.items) }
@@ -43,7 +43,7 @@ pub fn commands_of<A: Allocator>(alloc: A, file: &Table) -> Result<Vec<Command, 
     commands_among(alloc, keys(file), file)
 }
 
-/// The commands of a file of which so many keys may be theirs.
+/// The commands of a file with this many keys for them.
 pub(crate) fn commands_among<A: Allocator>(
     alloc: A,
     keys: usize,
@@ -91,7 +91,7 @@ pub fn are_tables(values: &[Value]) -> bool
     true
 }
 
-/// The commands of these tables, which are counted from 1.
+/// The commands of these tables, counting from 1.
 fn table_commands<A: Allocator>(alloc: A, tables: &[Value]) -> Result<Vec<Command, A>, ConfigFault>
     requires { length tables.now < 2 ^ 63 }
     ensures commands { IfOk result
@@ -112,7 +112,7 @@ fn table_commands<A: Allocator>(alloc: A, tables: &[Value]) -> Result<Vec<Comman
     Ok(commands)
 }
 
-/// The command of table `at`, counted from 1.
+/// The command of table `at`, counting from 1.
 fn table_command(at: usize, table: &Table) -> Result<Command, ConfigFault>
     ensures { result ≡ table_command at (table_view table.now) }
 {
@@ -128,7 +128,7 @@ fn table_command(at: usize, table: &Table) -> Result<Command, ConfigFault>
     }
 }
 
-/// The first key of a table, in the order of its keys, that a command of this word does not have.
+/// The first key of a table, in key order, that a command with this word does not have.
 fn key_beside(word: Word, table: &Table) -> Option<&str>
     ensures { option_map (λ key. key.now) result
         ≡ key_beside (keys_of word) (table_view table.now) }
@@ -141,8 +141,7 @@ fn key_beside(word: Word, table: &Table) -> Option<&str>
     None
 }
 
-/// The first key of a table that its command does not have. A table has its keys in the order of
-/// their octets.
+/// The first key of a table that its command does not have. The keys of a table are in octet order.
 pub fn extra_key(table: &Table) -> Option<&str>
     ensures { option_map (λ key. key.now) result ≡ extra_key (table_view table.now) }
 {

@@ -1,6 +1,6 @@
-//! Why a command file is not read.
+//! Why a command file cannot be read.
 
-/// A key of a command's table, but for `do`.
+/// A key of a command's table, except `do`.
 #[derive(Clone, Copy, Debug, PartialEq, Eq)]
 pub enum KeyName {
     Mode,
@@ -18,15 +18,15 @@ pub enum KeyName {
 /// and in a table `Word`, `Key` and `Extra` in this order. Tables are counted from 1.
 #[derive(Clone, Copy, Debug, PartialEq, Eq)]
 pub enum ConfigFault {
-    /// A key besides `command` is outside the tables, or `command` is no array of tables.
+    /// The file has another key besides `command`, or `command` is not an array of tables.
     Shape,
     /// A table has no key `do`, or no command has this word.
     Word { at: usize },
-    /// A key of the command is absent, of another kind or out of range: the first such one in the
+    /// A key of the command is missing, of another type or out of range: the first such key in the
     /// order of the command's line.
     Key { at: usize, name: KeyName },
-    /// A table has a key that its command does not have: `extra_key` is the first such one.
+    /// A table has a key that its command does not have: `extra_key` returns the first one.
     Extra { at: usize },
-    /// There is no memory for the commands.
+    /// Memory ran out.
     Memory,
 }

@@ -1,4 +1,4 @@
-//! Command files that may name the end of a link that they are for.
+//! Command files that may name the end of a link for which they are meant.
 
 ghost use Rattle.std.specs.Prelude.{◌≡◌, ◌≢◌, IfOk, IfErr, Ok};
 ghost use Rattle.toml.specs.View.{table_view};
@@ -13,10 +13,10 @@ use macs_fields::Sci;
 use std::alloc::Allocator;
 use toml::Table;
 
-/// What a command file says.
+/// The contents of a command file.
 #[derive(Drop)]
 pub struct CommandFile<A: Allocator> {
-    /// The SCI of the end that it is for, where it names one.
+    /// The SCI of the end that it is for, if it names one.
     pub end: Option<Sci>,
     /// Its commands, in order.
     pub commands: Vec<Command, A>,
@@ -25,13 +25,13 @@ pub struct CommandFile<A: Allocator> {
 /// The first fault of a command file that may name its end. `Sci` comes before all others.
 #[derive(Clone, Copy, Debug, PartialEq, Eq)]
 pub enum CommandFileFault {
-    /// What is at the key `sci` is no text of 16 hex digits.
+    /// The value at the key `sci` is not a text of 16 hex digits.
     Sci,
     /// This is the first fault of its commands.
     Commands(ConfigFault),
 }
 
-/// The SCI of the end that a file is for, where it names one.
+/// The SCI of the end that a file is for, if it names one.
 fn end_in(file: &Table) -> Result<Option<Sci>, CommandFileFault>
     ensures { result ≡ end_in (table_view file.now) }
 {
@@ -54,9 +54,9 @@ fn keys_beside(file: &Table) -> usize
     }
 }
 
-/// What a command file says that may name the end that it is for: at the key `sci`, a text of 16
-/// hex digits of either case. Without it the file is for any end. All else is as `commands_of` has
-/// it. Refused with the file's first fault, or as `Memory`.
+/// The contents of a command file that may name the end that it is for: at the key `sci`, a text of
+/// 16 hex digits of either case. Without it the file is for any end. Everything else is read as by
+/// `commands_of`. Fails with the file's first fault, or with `Memory`.
 pub fn command_file<A: Allocator>(
     alloc: A,
     file: &Table,

@@ -1,4 +1,4 @@
-//! What is at a key of a command's table.
+//! The values at the keys of a command's table.
 
 ghost use Rattle.std.specs.Prelude.{◌≡◌, ◌<◌, codes, option_map};
 ghost use Rattle.toml.specs.Data.{get_member};
@@ -26,7 +26,7 @@ pub fn value<'a>(table: &'a Table, key: &str) -> Option<&'a Value>
     table.get(key)
 }
 
-/// The number, where it is from 0 to `most`.
+/// The number, if it is from 0 to `most`.
 fn number_to(value: &Value, most: u32) -> Option<u32>
     ensures { result ≡ number_to most (view value.now) }
 {
@@ -39,7 +39,7 @@ fn number_to(value: &Value, most: u32) -> Option<u32>
     }
 }
 
-/// The number at a key, where it is at most `most`.
+/// The number at a key, if it is at most `most`.
 fn number(table: &Table, key: &str, most: u32) -> Option<u32>
     ensures { result ≡ number_at key.now most (table_view table.now) }
 {
@@ -92,7 +92,7 @@ pub(crate) fn an(table: &Table) -> Result<An, KeyName>
     }
 }
 
-/// The SCI at its key, where that is one.
+/// The SCI at its key, if valid.
 pub(crate) fn sci_at(table: &Table) -> Option<Sci>
     ensures { result ≡ sci_in (table_view table.now) }
 {

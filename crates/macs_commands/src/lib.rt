@@ -1,5 +1,5 @@
-//! Command files: the commands of an operator, in TOML. What reads a table of them reads a table of
-//! a link too.
+//! Command files: an operator's commands, in TOML. The functions that read their tables also read
+//! those of a link file.
 #![tactic(auto)]
 
 mod command_files;

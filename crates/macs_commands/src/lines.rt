@@ -11,7 +11,7 @@ use crate::word::Word;
 use macs_config::Command;
 use toml::Table;
 
-/// The command that a table says with its word, or the first key that is wrong.
+/// The command of a table with this word, or the first key that is wrong.
 pub(crate) fn command_of(word: Word, table: &Table) -> Result<Command, KeyName>
     ensures { result ≡ command_of word (table_view table.now) }
 {

@@ -4,7 +4,7 @@ ghost use Rattle.std.specs.Prelude.{◌≡◌, map};
 ghost use Rattle.macs_commands.specs.Lines.{channel_word_of, has_key, keys_of, rx_word_of};
 ghost use Rattle.macs_commands.specs.Lines.{word_of};
 
-/// What the key `do` of a table says.
+/// The value of the key `do` of a table.
 #[derive(Clone, Copy, Debug, PartialEq, Eq)]
 pub enum Word {
     SetValidate,
@@ -27,7 +27,7 @@ fn is_one_of(key: &str, keys: &[&str]) -> bool
 }
 
 impl Word {
-    /// The word that a text is, `None` where it is none.
+    /// The command word in a text, `None` if it is none.
     pub(crate) fn of(text: &str) -> Option<Word>
         ensures { result ≡ word_of text.now }
     {
@@ -42,7 +42,7 @@ impl Word {
         }
     }
 
-    /// The word of a transmit or of a receive command that a text is.
+    /// The transmit or receive command word in a text.
     fn of_channels(text: &str) -> Option<Word>
         ensures { result ≡ channel_word_of text.now }
     {
@@ -57,7 +57,7 @@ impl Word {
         }
     }
 
-    /// The word of a receive command that a text is.
+    /// The receive command word in a text.
     fn of_rx(text: &str) -> Option<Word>
         ensures { result ≡ rx_word_of text.now }
     {

@@ -1,11 +1,11 @@
--- Which calls make a control socket, and in which order.
+-- The system calls that make a control socket, and their order.
 use Rattle.std.specs.Prelude.{◌≡◌, ◌⊎◌, ◌++◌, ℕ, Bool, true, false, List, [], ◌∷◌, Option}
 use Rattle.std.specs.Option.{option_map}
 use Rattle.macs_control.specs.declared.binding.Reach.{Reach}
 use Rattle.macs_control.specs.declared.binding.Reach.TheVariants as found
 
--- it is looked who has a name; a name is removed; a socket is made; its mode is set; it is given a name; it takes
--- connections: and what came of it
+-- a name is looked up; a name is removed; a socket is made; its mode is set; it is bound to a name; it listens: and the
+-- result of each
 pub data SocketCall : Type 0 where
   Reaches : (path : List ℕ) → (reach : Reach) → SocketCall
   Removes : (path : List ℕ) → (done : Bool) → SocketCall
@@ -14,11 +14,11 @@ pub data SocketCall : Type 0 where
   Binds : (path : List ℕ) → (done : Bool) → SocketCall
   Listens : (done : Bool) → SocketCall
 
--- the calls that are known, where they are, and these
+-- the known calls, if they are known, and these
 abbrev pub with_calls : Option (List SocketCall) → List SocketCall → Option (List SocketCall)
 with_calls known more = option_map (λ before. before ++ more) known
 
--- the calls that find a name free, or free it: the second of them removes a socket that was left behind
+-- the calls that find a name free, or free it: the second of them removes a stale socket
 abbrev pub IsClear : List ℕ → List SocketCall → Type 0
 IsClear path calls =
     (calls ≡ Reaches path found.Nothing ∷ []) ⊎ (calls ≡ Reaches path found.Stale ∷ Removes path true ∷ [])
@@ -33,7 +33,7 @@ abbrev pub Clears : List ℕ → Option (List SocketCall) → Option (List Socke
 Clears path before after true = (calls : List SocketCall) × IsClear path calls × (after ≡ with_calls before calls)
 Clears path before after false = (calls : List SocketCall) × IsTaken path calls × (after ≡ with_calls before calls)
 
--- the calls that make a socket with a name: it is made, its mode set to 0600, and then it gets the name
+-- the calls that make a socket with a name: it is made, its mode is set to 0600, and then it is bound
 abbrev pub named_calls : List ℕ → List SocketCall
 named_calls path = Makes true ∷ SetsMode 384 true ∷ Binds path true ∷ []
 
@@ -46,7 +46,7 @@ CutCalls path calls = (calls ≡ Makes false ∷ []) ⊎ (calls ≡ Makes true �
 abbrev pub IsNotNamed : List ℕ → Option (List SocketCall) → Option (List SocketCall) → Type 0
 IsNotNamed path before after = (calls : List SocketCall) × CutCalls path calls × (after ≡ with_calls before calls)
 
--- the name is free, the socket gets it, and takes connections
+-- the name is free, the socket is bound to it and listens
 abbrev pub IsBound : List ℕ → Option (List SocketCall) → Option (List SocketCall) → Type 0
 IsBound path before after =
     (calls : List SocketCall) × IsClear path calls

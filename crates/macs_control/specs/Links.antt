@@ -1,4 +1,4 @@
--- Octets that come over a connection and go over it, and lines of them.
+-- Octets received and sent over a connection, and lines made of them.
 use Rattle.std.specs.Prelude.{◌≡◌, ◌≤◌, ◌++◌, ⊤, ℕ, Bool, true, false, List, [], ◌∷◌, take, Option, Some, None}
 use Rattle.macs_control.specs.declared.connection.Taken.{Taken}
 use Rattle.macs_control.specs.declared.connection.Taken.TheVariants.{Octets, Nothing, Ended, Gone}
@@ -6,18 +6,18 @@ use Rattle.macs_control.specs.declared.seat.Hearing.{Hearing}
 use Rattle.macs_control.specs.declared.seat.Hearing.TheVariants as hears
 use Rattle.macs_requests.specs.Inboxes.{HasNoFeed}
 
--- what is known of a connection: the octets that the other side sent and that were not taken yet, and those that it
--- was sent, both in their order
+-- what is known about a connection: the octets that the other side sent and that were not taken yet, and those sent to
+-- it, both in order
 pub record Link : Type 0 where
   pub coming : List ℕ
   pub given : List ℕ
 
--- no more octets are answered than there is room for
+-- no more octets are returned than fit
 abbrev pub IsAtMost : Taken → ℕ → Type 0
 IsAtMost (Octets count) room = count ≤ room
 IsAtMost other room = ⊤
 
--- The first octets that came are taken; or none, and nothing is lost. At the end no more come
+-- The first octets that arrived are taken; or none, and nothing is lost. After the end no more arrive
 abbrev pub TakesOctets : Option Link → Option Link → List ℕ → Taken → Type 0
 TakesOctets None new into answer = ⊤
 TakesOctets (Some old) new into (Octets count) =
@@ -33,7 +33,7 @@ GivesOctets (Some old) new octets true = new ≡ Some (record old { given = old.
 GivesOctets (Some old) new octets false =
     (some rest : List ℕ) × (octets ≡ some ++ rest) × (new ≡ Some (record old { given = old.given ++ some }))
 
--- Octets that came are put after those that are held; or none, and nothing changes. At the end no more come
+-- Octets that arrived are appended to those that are held; or none, and nothing changes. After the end no more arrive
 abbrev pub Fills : List ℕ → Option Link → Taken → List ℕ → Option Link → Type 0
 Fills held None taken kept new = ⊤
 Fills held (Some old) (Octets count) kept new =
@@ -42,15 +42,15 @@ Fills held (Some old) (Octets count) kept new =
 Fills held (Some old) Ended kept new = (old.coming ≡ []) × (kept ≡ held) × (new ≡ Some old)
 Fills held (Some old) other kept new = (kept ≡ held) × (new ≡ Some old)
 
--- What is heard of a client that sent `text` more than was heard: its first line, and then what comes after that; or
--- no line is whole, and nothing is lost; or it sends no more, and no whole line is left; or it is gone
+-- What is heard of a client with these unheard octets: its first line, after which the rest is left; or no line is
+-- whole, and nothing is lost; or it sends no more, and no whole line is left; or it is gone
 abbrev pub HearsOf : List ℕ → Hearing → List ℕ → Type 0
 HearsOf text (hears.Line line) left = (text ≡ line.items ++ 10 ∷ left) × HasNoFeed line.items
 HearsOf text hears.Silence left = left ≡ text
 HearsOf text hears.Ended left = (left ≡ text) × HasNoFeed text
 HearsOf text hears.Gone left = left ≡ text
 
--- so it is of octets that are at hand and a connection of which it is known what comes; and nothing is sent
+-- the same for the octets held and a connection whose octets are known; and nothing is sent
 abbrev pub Hears : List ℕ → Option Link → Hearing → List ℕ → Option Link → Type 0
 Hears held None heard kept new = ⊤
 Hears held (Some old) heard kept new =

@@ -12,7 +12,7 @@ use Rattle.macs_control.specs.declared.standing.Standing.{Standing}
 abbrev pub seat_in : {S : Type 0} → Place S → Seat S
 seat_in place = place.seat
 
--- how it stands with the relay
+-- its state
 abbrev pub standing_in : {S : Type 0} → Place S → Standing
 standing_in place = place.standing
 
@@ -20,7 +20,7 @@ standing_in place = place.standing
 abbrev pub places_of : {S : Type 0} → Seats S → List (Place S)
 places_of seats = seats.places.items
 
--- how many seconds ended
+-- how many seconds have ended
 abbrev pub second_of : {S : Type 0} → Seats S → ℕ
 second_of seats = seats.second
 
@@ -28,14 +28,14 @@ second_of seats = seats.second
 abbrev pub gives_way : {S : Type 0} → ℕ → Place S → Bool
 gives_way now place = is_idle now (standing_in place)
 
--- those that keep their places before each newcomer
+-- those that keep their places when a newcomer arrives
 abbrev pub kept : {S : Type 0} → ℕ → List (Place S) → List (Place S)
 kept now places = filter (λ place. not (gives_way now place)) places
 
--- those that are left before a newcomer: where four have places, the first that gives way loses its own
+-- those that are left when a newcomer arrives: if four have places, the first that is idle loses its own
 abbrev pub left : {S : Type 0} → ℕ → List (Place S) → List (Place S)
 left now places = if nat_lt (length places) 4 then places else remove places (position_or_len (gives_way now) places)
 
--- there is a place to be had: fewer than four are taken, or one of the four gives way
+-- a place is available: fewer than four are taken, or one of the four is idle
 abbrev pub has_room : {S : Type 0} → ℕ → List (Place S) → Bool
 has_room now places = nat_lt (length places) 4 || is_some (position (gives_way now) places)

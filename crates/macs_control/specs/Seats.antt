@@ -13,7 +13,7 @@ client_of seat = seat.client
 abbrev pub connection_of : {S : Type 0} → Seat S → S
 connection_of seat = seat.connection
 
--- the octets that it sent and from which no line was heard yet, as far as they were taken
+-- the octets taken from it that do not form a line yet
 abbrev pub held_by : {S : Type 0} → Seat S → List ℕ
 held_by seat = octets_in seat.inbox
 

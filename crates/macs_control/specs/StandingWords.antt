@@ -1,4 +1,4 @@
--- What is to be drawn of the words on how a client stands with its relay: which one loses its place, and when.
+-- What follows from the definitions of a client's state: which client loses its place, and when.
 use Rattle.std.specs.Prelude.{◌≡◌, ◌≢◌, ◌≤◌, ◌<◌, ◌+◌, ◌-◌, ◌^◌, ◌∷◌, ◌++◌, ℕ, true, false, List, [], length}
 use Rattle.std.specs.List.{list_any}
 use Rattle.std.specs.Prelude.{is_some, position}
@@ -6,8 +6,8 @@ use Rattle.macs_control.specs.Places.{gives_way, has_room, kept, left, standing_
 use Rattle.macs_control.specs.Standings.{is_idle}
 use Rattle.macs_control.specs.declared.place.Place.{Place}
 
--- The same of places. Before a newcomer all are left where there are fewer than four, or none gives way. Else the first
--- that gives way is not, and all others are, in their order: nobody loses a place but one that gives way.
+-- The same for places. When a newcomer arrives all are left if there are fewer than four, or none is idle. Otherwise
+-- the first idle one is not, and all others are, in order: only an idle client loses its place.
 pub record PlaceWords (S : Type 0) : Type 0 where
   pub way : (now : ℕ) (place : Place S) → gives_way now place ≡ is_idle now (standing_in place)
   pub none : (now : ℕ) → kept {S = S} now [] ≡ []

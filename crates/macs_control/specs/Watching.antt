@@ -3,11 +3,11 @@ use Rattle.std.specs.Prelude.{ℤ, pos, List, [], ◌∷◌}
 use Rattle.libc.specs.declared.types.pollfd.{pollfd}
 use Rattle.macs_control.specs.declared.watch.Watch.{Watch}
 
--- whether it can be read (POLLIN is 1)
+-- whether it is readable (POLLIN is 1)
 abbrev pub asks : ℤ → pollfd
 asks socket = record { fd = socket; events = pos 1; revents = pos 0 }
 
--- the sockets that are watched: both wires, the one that clients connect to, and the clients
+-- the sockets that are watched: both wires, the listening socket, and the clients
 abbrev pub watched : Watch → List ℤ
 watched watch =
     watch.wires.controlled ∷ watch.wires.common ∷ watch.listener

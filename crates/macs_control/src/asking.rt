@@ -1,4 +1,4 @@
-//! The side that asks: a line is sent, and the lines of the answer are read up to its end.
+//! The client side: a line is sent, and the lines of the answer are read up to its end.
 
 ghost use Rattle.std.specs.Prelude.{◌≡◌, ◌∷◌, ◌++◌, [], IfOk, IfSome, OnOk};
 ghost use Rattle.macs_requests.specs.Requests.{end_line};
@@ -18,7 +18,7 @@ const MAX_LINES: usize = 65_536;
 pub enum AskFault {
     /// There is no memory for its answer.
     Memory,
-    /// It went away, or what it said is no answer.
+    /// It went away, or its reply is not a valid answer.
     Gone,
 }
 
@@ -33,20 +33,20 @@ impl From<AllocError> for AskFault {
     }
 }
 
-/// An answer: its lines, each with its end, and the status that comes after them.
+/// An answer: its lines, each with its line feed, and the status that follows them.
 #[derive(Drop)]
 pub struct Answer {
     pub text: Vec<u8>,
     pub status: u8,
 }
 
-/// Who asks a relay.
+/// A client of a relay.
 #[derive(Drop)]
 pub struct Asker<S> {
     relay: Seat<S>,
 }
 
-/// The status of a line that ends an answer.
+/// The status in a line that ends an answer.
 fn status_in(alloc: Global, line: &Line) -> Result<Option<u8>, AskFault>
     ensures { IfOk result (λ found. IfSome found (λ status. line.now.items ≡ end_line status)) }
 {
@@ -57,7 +57,7 @@ fn status_in(alloc: Global, line: &Line) -> Result<Option<u8>, AskFault>
     Ok(status)
 }
 
-/// Puts a line and its end after a text.
+/// Appends a line and its line feed to a text.
 fn put_line(text: &mut Vec<u8>, line: &Line) -> Result<(), AllocError>
     ensures { OnOk result (text.new.items ≡ text.old.items ++ (line.now.items ++ 10 ∷ [])) }
 {
@@ -72,7 +72,7 @@ impl<S: Connection> Asker<S> {
     ghost use Rattle.macs_control.specs.Links.{GivesOctets};
     ghost use Rattle.macs_control.specs.Seats.{connection_of, held_by};
 
-    /// Over a connection of which nothing was heard yet.
+    /// A client over a connection from which nothing was heard yet.
     pub fn over(connection: S) -> Asker<S>
         ensures connection { connection_of (seat_of result) ≡ connection }
         ensures held { held_by (seat_of result) ≡ [] }
@@ -82,7 +82,7 @@ impl<S: Connection> Asker<S> {
         }
     }
 
-    /// Sends a line, to which its end is added.
+    /// Sends a line, to which its line feed is added.
     pub fn send(&mut self, alloc: Global, line: &str) -> Result<(), AskFault>
         ensures sent { IfOk result (λ done. GivesOctets (S.link (connection_of (seat_of self.old)))
             (S.link (connection_of (seat_of self.new))) (line.now ++ 10 ∷ []) true) }
@@ -95,8 +95,8 @@ impl<S: Connection> Asker<S> {
         Err(AskFault::Gone)
     }
 
-    /// The next line. A look at the connection that brings no whole line brings an octet of it at
-    /// least, or was interrupted.
+    /// The next line. A read that does not complete a line takes at least one octet, or was
+    /// interrupted.
     fn next_line(&mut self) -> Option<Line>
         ensures { IfSome result (λ line. BeginsWithLine
             (unread (held_by (seat_of self.old)) (S.link (connection_of (seat_of self.old))))
@@ -113,7 +113,7 @@ impl<S: Connection> Asker<S> {
         None
     }
 
-    /// The next line, which has to come.
+    /// The next line. Fails if there is none.
     fn line(&mut self) -> Result<Line, AskFault>
         ensures { IfOk result (λ line. BeginsWithLine
             (unread (held_by (seat_of self.old)) (S.link (connection_of (seat_of self.old))))
@@ -126,7 +126,7 @@ impl<S: Connection> Asker<S> {
         }
     }
 
-    /// Waits until the relay ends the connection, or says nothing for a minute.
+    /// Waits until the relay ends the connection, or sends nothing for a minute.
     pub fn outlast(&mut self) {
         for _look in 0..MAX_LINES {
             match self.relay.hear() {

@@ -1,5 +1,5 @@
-//! How a control socket gets its name: one that was left behind is removed, and nobody but the
-//! owner of the program reaches the new one, from its first moment on.
+//! How a control socket gets its name: a stale socket is removed, and only the owner of the program
+//! can reach the new one, from its first moment on.
 
 ghost use Rattle.std.specs.Prelude.{◌≡◌, IfNone, OnSome};
 ghost use Rattle.macs_control.specs.Binding.{Clears, IsBound, IsNotBound, IsNotNamed};
@@ -12,37 +12,37 @@ use std::os::unix::fs::FileTypeExt;
 use std::os::unix::net::{SocketAddr, UnixListener, UnixStream};
 use std::rt::Files;
 
-/// The mode of the socket: its owner alone connects to it.
+/// The mode of the socket: only its owner can connect to it.
 const OWNER_ALONE: u32 = 0o600;
 
-/// How many connections may wait to be taken.
+/// How many connections may wait to be accepted.
 const WAITING: i32 = 16;
 
 /// What is found at the name of a socket.
 #[derive(Clone, Copy, Debug, PartialEq, Eq)]
 pub enum Reach {
-    /// Nothing, or a name that the system does not take.
+    /// Nothing, or a name that the system rejects.
     Nothing,
     /// The socket of a program that ended.
     Stale,
-    /// A program that listens, or something that is no socket.
+    /// A program that listens, or something that is not a socket.
     Taken,
 }
 
-/// What is asked of the system to make a control socket. Tests put others in its place.
+/// The system calls that make a control socket. Tests replace them.
 pub trait LocalSockets {
     ghost use Rattle.std.specs.Prelude.{◌≡◌, [], ◌∷◌, List, Option, None, is_some};
     ghost use Rattle.macs_control.specs.Binding.{Binds, Listens, Makes, Reaches, Removes, SetsMode};
     ghost use Rattle.macs_control.specs.Binding.{SocketCall, with_calls};
 
-    /// The calls so far, in their order, and what came of each, where that is known.
+    /// The calls so far, in order, and the result of each, if known.
     ghost asked: { Self → Option (List SocketCall) } = { λ _. None };
 
-    /// Looks who has a name.
+    /// Looks up what has a name.
     fn reach(&mut self, path: &str) -> Reach
         ensures { asked self.new ≡ with_calls (asked self.old) (Reaches path.now result ∷ []) };
 
-    /// Removes a name, and answers whether that was done.
+    /// Removes a name, and returns whether that succeeded.
     fn remove(&mut self, path: &str) -> bool
         ensures { asked self.new ≡ with_calls (asked self.old) (Removes path.now result ∷ []) };
 
@@ -50,15 +50,15 @@ pub trait LocalSockets {
     fn make(&mut self) -> Option<OwnedFd>
         ensures { asked self.new ≡ with_calls (asked self.old) (Makes (is_some result) ∷ []) };
 
-    /// Sets the mode of a socket, which its file gets with the name.
+    /// Sets the mode of a socket, which its file gets when it is bound.
     fn set_mode(&mut self, socket: &OwnedFd, mode: u32) -> bool
         ensures { asked self.new ≡ with_calls (asked self.old) (SetsMode mode result ∷ []) };
 
-    /// Gives a socket its name.
+    /// Binds a socket to a name.
     fn bind(&mut self, socket: &OwnedFd, path: &str) -> bool
         ensures { asked self.new ≡ with_calls (asked self.old) (Binds path.now result ∷ []) };
 
-    /// Has a socket take connections, and wait at no call.
+    /// Makes a socket listen, and makes it non-blocking.
     fn listen(&mut self, socket: OwnedFd) -> Option<UnixListener>
         ensures { asked self.new ≡ with_calls (asked self.old) (Listens (is_some result) ∷ []) };
 }
@@ -69,7 +69,7 @@ pub struct SystemSockets<'a, T> {
     pub rt: &'a T,
 }
 
-/// Whether there is a socket at a name, and no other file.
+/// Whether a socket, and no other kind of file, has a name.
 fn is_socket<T: Files>(rt: &T, path: &str) -> bool {
     match rt.symlink_metadata(path) {
         Ok(found) => found.file_type().is_socket(),
@@ -81,7 +81,7 @@ impl<T: Files + Net> LocalSockets for SystemSockets<'_, T> {
     fn reach(&mut self, path: &str) -> Reach {
         match UnixStream::connect(self.rt, path) {
             Ok(_) => Reach::Taken,
-            // A file that is no socket refuses too.
+            // A file that is not a socket refuses too.
             Err(error) if error.kind() == ErrorKind::ConnectionRefused => {
                 if is_socket(self.rt, path) {
                     Reach::Stale
@@ -125,7 +125,7 @@ impl<T: Files + Net> LocalSockets for SystemSockets<'_, T> {
     }
 }
 
-/// Sees that a name is free: a socket that was left behind is removed.
+/// Frees a name: a stale socket is removed.
 fn clear<L: LocalSockets>(sockets: &mut L, path: &str) -> bool
     ensures { Clears path.now (L.asked sockets.old) (L.asked sockets.new) result }
 {
@@ -136,7 +136,7 @@ fn clear<L: LocalSockets>(sockets: &mut L, path: &str) -> bool
     }
 }
 
-/// A socket with a name that was free. Its mode is set before it has the name.
+/// A socket bound to a free name. Its mode is set before it is bound.
 fn named<L: LocalSockets>(sockets: &mut L, path: &str) -> Option<OwnedFd>
     ensures named { OnSome result
         (L.asked sockets.new ≡ with_calls (L.asked sockets.old) (named_calls path.now)) }
@@ -153,8 +153,8 @@ fn named<L: LocalSockets>(sockets: &mut L, path: &str) -> Option<OwnedFd>
     Some(socket)
 }
 
-/// A socket that takes connections at a name. There is none where a program listens there, where
-/// the name belongs to something else, or where a call of the system fails.
+/// A socket that listens on a name. `None` if a program already listens there, if the name belongs
+/// to something else, or if a system call fails.
 pub fn bind<L: LocalSockets>(sockets: &mut L, path: &str) -> Option<UnixListener>
     ensures bound { OnSome result (IsBound path.now (L.asked sockets.old) (L.asked sockets.new)) }
     ensures failed { IfNone result

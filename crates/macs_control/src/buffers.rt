@@ -1,4 +1,4 @@
-//! How much the system keeps of datagrams that wait.
+//! How much the system buffers of waiting datagrams.
 
 ghost use Rattle.std.specs.Prelude.{◌≡◌, ◌++◌, take};
 ghost use Rattle.std.specs.Int.{to_le_bytes, w32};
@@ -8,7 +8,7 @@ use libc::net as c;
 use std::net::Net;
 use std::os::fd::RawFd;
 
-/// A number of 32 bits as the value of an option.
+/// A 32-bit number as the value of an option.
 fn option_value(number: u32) -> [u8; 16]
     ensures { result ≡ option_value number }
 {
@@ -18,7 +18,7 @@ fn option_value(number: u32) -> [u8; 16]
     ]
 }
 
-/// What the system keeps for a socket, in octets, where it says so.
+/// The system's buffer size for a socket, in octets, if it reports it.
 fn kept_for(socket: RawFd) -> Option<u32> {
     let mut value = [0; 16];
     let mut length = 4;
@@ -32,9 +32,9 @@ fn kept_for(socket: RawFd) -> Option<u32> {
     Some(u32::from_le_bytes([first, second, third, fourth]))
 }
 
-/// Asks the system to keep so many octets of the datagrams that wait at a socket (`SO_RCVBUF`,
-/// socket(7)), and answers how many it keeps: Linux keeps twice as many, up to twice
-/// `net.core.rmem_max`. Where it refuses, it keeps what it kept.
+/// Asks the system to buffer `octets` octets of the datagrams that wait at a socket (`SO_RCVBUF`,
+/// socket(7)), and returns how many it buffers: Linux buffers twice as many, up to twice
+/// `net.core.rmem_max`. If it refuses, the buffer size is unchanged.
 pub fn ask_for_buffer<N: Net>(_net: &N, socket: RawFd, octets: u32) -> Option<u32> {
     let value = option_value(octets);
     let _ = unsafe { c::setsockopt(socket, c::SOL_SOCKET, c::SO_RCVBUF, &value, 4) };

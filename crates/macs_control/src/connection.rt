@@ -1,4 +1,4 @@
-//! A connection over which lines come and answers go.
+//! A connection that receives lines and sends answers.
 
 ghost use Rattle.std.specs.Prelude.{◌≤◌, length, Option, None};
 ghost use Rattle.macs_control.specs.Links.{GivesOctets, IsAtMost, Link, TakesOctets};
@@ -6,38 +6,38 @@ ghost use Rattle.macs_control.specs.Links.{GivesOctets, IsAtMost, Link, TakesOct
 use std::io::{ErrorKind, Read, Write};
 use std::os::unix::net::UnixStream;
 
-/// What came of a look at a connection.
+/// The result of a read from a connection.
 #[derive(Clone, Copy, Debug, PartialEq, Eq)]
 pub enum Taken {
-    /// So many octets are at the front of the buffer.
+    /// This many octets are at the front of the buffer.
     Octets(usize),
-    /// None is there yet.
+    /// No octet has arrived yet.
     Nothing,
-    /// All that the other side sends was taken.
+    /// Everything that the other side sends has been taken.
     Ended,
     /// It failed.
     Gone,
 }
 
-/// A connection of a control socket. Tests put others in its place.
+/// A connection of a control socket. Tests replace it.
 ///
-/// Where it is known which octets come and go, each call does what is said here. Of a socket of the
-/// operating system nothing is known.
+/// If it is known which octets arrive and are sent, each call does what its contract says. Nothing
+/// is known about a socket of the operating system.
 pub trait Connection: Drop {
-    /// What comes and went, where that is known.
+    /// What arrived and was sent, if known.
     ghost link: { Self → Option Link } = { λ _. None };
 
-    /// Takes octets that came: as many as there is room for.
+    /// Takes octets that arrived: as many as fit.
     fn take_into(&mut self, into: &mut [u8]) -> Taken
         ensures bound { IsAtMost result (length into.new) }
         ensures taken { TakesOctets (link self.old) (link self.new) into.new result };
 
-    /// Sends octets, and answers whether all of them were taken at once.
+    /// Sends octets, and returns whether all of them were taken at once.
     fn give(&mut self, octets: &[u8]) -> bool
         ensures given { GivesOctets (link self.old) (link self.new) octets.now result };
 }
 
-/// A socket that does not wait: what a client does not take at once it is not sent.
+/// A non-blocking socket: what a client does not take at once is not sent to it.
 impl Connection for UnixStream {
     fn take_into(&mut self, into: &mut [u8]) -> Taken {
         match self.read(into) {

@@ -1,4 +1,4 @@
-//! The control socket of a relay, and all that a relay that is attended sleeps on.
+//! The control socket of a relay, and everything that an attended relay sleeps on.
 
 use crate::binding::{SystemSockets, bind};
 use crate::seats::{MAX_CLIENTS, Seats};
@@ -12,10 +12,11 @@ use std::os::fd::{AsRawFd, RawFd};
 use std::os::unix::net::{UnixListener, UnixStream};
 use std::rt::{Clock, Files};
 
-/// The longest sleep, in milliseconds: so that an end from outside is seen within a second.
+/// The longest sleep, in milliseconds: so that a request to end from outside is seen within a
+/// second.
 const LONGEST_SLEEP: u16 = 1_000;
 
-/// Why there is no control socket.
+/// Why the control socket cannot be made.
 #[derive(Clone, Copy, Debug, PartialEq, Eq)]
 pub enum ControlFault {
     /// There is no memory for its clients.
@@ -46,13 +47,13 @@ pub struct ControlSocket<'a, T> {
     listener: Option<UnixListener>,
     seats: Seats<UnixStream>,
     second: EachSecond,
-    /// A line was heard last: more may be at hand.
+    /// A line was heard last: more may be waiting.
     has_heard: bool,
-    /// The sleep before showed that nobody says anything.
+    /// The last sleep showed that no client is sending anything.
     is_still: bool,
 }
 
-/// Takes in a client that connected, and answers whether there was one.
+/// Accepts a client that connected, and returns whether there was one.
 fn greet_one(listener: &UnixListener, seats: &mut Seats<UnixStream>) -> bool {
     let Ok((stream, _)) = listener.accept() else {
         return false;
@@ -63,7 +64,7 @@ fn greet_one(listener: &UnixListener, seats: &mut Seats<UnixStream>) -> bool {
     true
 }
 
-/// Takes in clients that connected, as long as a place is free.
+/// Accepts clients that connected, as long as a place is free.
 fn greet(listener: &UnixListener, seats: &mut Seats<UnixStream>) {
     for _place in seats.len()..MAX_CLIENTS {
         if !greet_one(listener, seats) {
@@ -72,8 +73,8 @@ fn greet(listener: &UnixListener, seats: &mut Seats<UnixStream>) {
     }
 }
 
-/// Hears the clients. Where none of them says a line, and one of them gives way, the next client
-/// that connected has its place.
+/// Hears the clients. If none of them sends a line, and one of them is idle, the next client that
+/// connected gets its place.
 fn hear(listener: &UnixListener, seats: &mut Seats<UnixStream>) -> Option<Heard> {
     greet(listener, seats);
     let heard = seats.hear();
@@ -83,7 +84,7 @@ fn hear(listener: &UnixListener, seats: &mut Seats<UnixStream>) -> Option<Heard>
     heard
 }
 
-/// The socket of the client at a place, or none: nothing more comes from one that sends no more.
+/// The socket of the client at a place, or none: nothing more arrives from one that sends no more.
 fn socket_at(seats: &Seats<UnixStream>, at: usize) -> RawFd {
     if at < seats.len() && !seats.has_ended(at) {
         seats.connection(at).as_raw_fd()
@@ -92,7 +93,7 @@ fn socket_at(seats: &Seats<UnixStream>, at: usize) -> RawFd {
     }
 }
 
-/// The listener at a name, where there is to be one.
+/// The listener on a name, if a name is given.
 fn listener_at<T: Files + Net>(
     rt: &T,
     path: Option<&str>,
@@ -107,8 +108,8 @@ fn listener_at<T: Files + Net>(
 }
 
 impl<'a, T: Files + Clock> ControlSocket<'a, T> {
-    /// Over these wires and a socket at a name, or without one: then there are no clients. Each
-    /// sleep is for so many milliseconds at most, and for a second at most.
+    /// Over these wires and a socket with a name, or without one: then there are no clients. Each
+    /// sleep lasts at most this many milliseconds, and at most a second.
     pub fn bind(
         rt: &'a T,
         alloc: Global,
@@ -134,7 +135,7 @@ impl<'a, T: Files + Clock> ControlSocket<'a, T> {
         })
     }
 
-    /// The socket that clients connect to, or none: whoever finds no place waits there.
+    /// The listening socket, or none: a client that finds no place waits there.
     fn greeting(&self) -> RawFd {
         match &self.listener {
             Some(listener) if self.seats.has_room() => listener.as_raw_fd(),
@@ -175,9 +176,9 @@ impl<T: Files + Clock> Clients for ControlSocket<'_, T> {
         self.seats.say(client, text);
     }
 
-    /// Where a line was heard last, more of them may be at hand, and there is no sleep. While a
-    /// newcomer would find no place, it is not known whether one is there: clients are looked at
-    /// after each sleep.
+    /// If a line was heard last, more may be waiting, and there is no sleep. While a newcomer would
+    /// find no place, it is not known whether one is waiting: clients are looked at after each
+    /// sleep.
     fn sleep(&mut self) {
         if self.has_heard {
             return;
@@ -195,8 +196,8 @@ impl<T: Files + Clock> Clients for ControlSocket<'_, T> {
     }
 }
 
-/// Removes the name of a control socket at the end. Where that fails, the next relay finds it left
-/// behind.
+/// Removes the name of a control socket at the end. If that fails, the next relay finds the stale
+/// socket.
 pub fn remove_name<T: Files>(rt: &T, path: &str) {
     let _ = rt.remove_file(path);
 }

@@ -3,7 +3,7 @@
 ghost use Rattle.std.specs.Prelude.{◌≡◌};
 ghost use Rattle.macs_control.specs.Standings.{ends_answer};
 
-/// How many octets the line that ends an answer has, with its end: its status has one digit.
+/// How many octets the line that ends an answer has, with its line feed: its status has one digit.
 const END_LENGTH: usize = 6;
 
 /// Whether a text ends an answer: its last line is `end STATUS`.

@@ -1,4 +1,4 @@
-//! Places, found by who has them.
+//! Places, found by their client.
 
 ghost use Rattle.std.specs.Prelude.{◌≡◌, ◌<◌, length, position, IfSome};
 ghost use Rattle.macs_control.specs.Places.{gives_way};
@@ -7,14 +7,14 @@ use crate::connection::Connection;
 use crate::place::Place;
 use macs_requests::Client;
 
-/// The place of a client, where it has one.
+/// The place of a client, if it has one.
 pub(crate) fn at_client<S: Connection>(places: &[Place<S>], client: Client) -> Option<usize>
     ensures { IfSome result (λ at. at < length places.now) }
 {
     places.iter().position(|place| place.client() == client)
 }
 
-/// The first place that gives way in this second.
+/// The first place that is idle in this second.
 pub(crate) fn at_idle<S: Connection>(places: &[Place<S>], now: u64) -> Option<usize>
     ensures { result ≡ position (gives_way now) places.now }
 {

@@ -1,4 +1,4 @@
-//! The control socket of a relay: what the system is asked for it, and what comes of its clients.
+//! The control socket of a relay: the system calls for it, and its clients.
 #![tactic(auto)]
 
 mod asking;

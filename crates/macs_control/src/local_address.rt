@@ -5,7 +5,7 @@ ghost use Rattle.std.specs.Prelude.{◌≡◌, ◌≤◌, ◌+◌, ◌∷◌, le
 /// The longest name of a local socket, in octets (unix(7)).
 pub(crate) const MAX_NAME: usize = 107;
 
-/// The address of a local socket, as the system takes it: so many of these octets count.
+/// The address of a local socket, as the system takes it: the first `count` of these octets.
 #[derive(Clone, Copy)]
 pub(crate) struct LocalAddress {
     pub(crate) octets: [u8; 128],
@@ -13,8 +13,8 @@ pub(crate) struct LocalAddress {
     ghost short: { count ≤ 109 },
 }
 
-/// Puts the family of local sockets (`AF_UNIX`, a number of 16 bits, the low octet first) and a
-/// name at the front.
+/// Puts the family of local sockets (`AF_UNIX`, a 16-bit number, low octet first) and a name at the
+/// front.
 fn put_name(octets: &mut [u8], name: &[u8])
     requires { 2 + length name.now ≤ length octets.old }
     ensures { take (2 + length name.now) octets.new ≡ 1 ∷ 0 ∷ name.now }
@@ -23,7 +23,7 @@ fn put_name(octets: &mut [u8], name: &[u8])
     octets[2..2 + name.len()].copy_from_slice(name);
 }
 
-/// The address of these octets, where they may be one: 1 to 107.
+/// The address with these octets, if their number is valid: 1 to 107.
 pub(crate) fn address_with(name: &[u8]) -> Option<LocalAddress>
     ensures count { IfSome result (λ address. address.count ≡ 2 + length name.now) }
     ensures address { IfSome result

@@ -1,4 +1,4 @@
-//! The counters in a file: a new one is written whole, and then has its name.
+//! The counters in a file: a new one is written whole, and then renamed.
 
 ghost use Rattle.std.specs.Prelude.{◌≡◌, [], ◌∷◌, IfOk, string_bytes, codes, ◌++◌};
 ghost use Rattle.macs_control.specs.MetricsFiles.{Replaces};
@@ -10,26 +10,26 @@ use std::fs::File;
 use std::io::{ErrorKind, Write};
 use std::rt::{Clock, Files};
 
-/// What is asked of files. Tests put others in its place.
+/// The file operations needed. Tests replace them.
 pub trait FileCalls {
     ghost use Rattle.std.specs.Prelude.{◌≡◌, [], ◌∷◌, List, Option, None};
     ghost use Rattle.macs_control.specs.MetricsFiles.{FileCall, Makes, Removes, Renames};
     ghost use Rattle.macs_control.specs.MetricsFiles.{with_calls};
 
-    /// The calls so far, in their order, and whether each was done, where that is known.
+    /// The calls so far, in order, and whether each succeeded, if known.
     ghost asked: { Self → Option (List FileCall) } = { λ _. None };
 
-    /// Removes the file or the link of this name, and answers whether nothing has that now.
+    /// Removes the file or the link with this name, and returns whether the name is unused now.
     fn remove(&mut self, path: &str) -> bool
         ensures { asked self.new ≡ with_calls (asked self.old) (Removes path.now result ∷ []) };
 
-    /// Makes a file of this name, which nothing may have, and writes a text to it: all of it, or
-    /// the call has failed.
+    /// Makes a file with this name, which must be unused, and writes a text to it: all of it, or
+    /// the call fails.
     fn make(&mut self, path: &str, text: &[u8]) -> bool
         ensures { asked self.new
             ≡ with_calls (asked self.old) (Makes path.now text.now result ∷ []) };
 
-    /// Gives a file the name of another one, in place of that.
+    /// Renames a file over another.
     fn rename(&mut self, from: &str, to: &str) -> bool
         ensures { asked self.new
             ≡ with_calls (asked self.old) (Renames from.now to.now result ∷ []) };
@@ -49,7 +49,7 @@ impl<T: Files> FileCalls for SystemFiles<'_, T> {
         }
     }
 
-    /// No link is followed, and nothing that has the name already is opened (`O_EXCL`, open(2)).
+    /// No link is followed, and no existing file is opened (`O_EXCL`, open(2)).
     fn make(&mut self, path: &str, text: &[u8]) -> bool {
         match File::create_new(self.rt, path) {
             Ok(mut file) => file.write_all(text).is_ok(),
@@ -62,8 +62,8 @@ impl<T: Files> FileCalls for SystemFiles<'_, T> {
     }
 }
 
-/// Puts a text in place of a file: whoever reads that finds the old text or the new one, whole. The
-/// new file is made anew each time, so that the text goes to no other file.
+/// Replaces a file by one with this text: whoever reads it finds the old text or the new one,
+/// whole. The new file is created each time, so that the text is not written to any other file.
 pub fn replace<F: FileCalls>(files: &mut F, new: &str, path: &str, text: &[u8])
     ensures { Replaces new.now path.now text.now (F.asked files.old) (F.asked files.new) }
 {
@@ -72,7 +72,7 @@ pub fn replace<F: FileCalls>(files: &mut F, new: &str, path: &str, text: &[u8])
     }
 }
 
-/// A file of counters, written once a second at most.
+/// A file of counters, written at most once a second.
 #[derive(Drop)]
 pub struct MetricsFile<'a, T> {
     rt: &'a T,
@@ -90,7 +90,7 @@ fn new_name(alloc: Global, path: &str) -> Result<String, AllocError>
 }
 
 impl<'a, T: Files + Clock> MetricsFile<'a, T> {
-    /// The file of this name, which need not be there.
+    /// The file with this name, which need not exist.
     pub fn new(rt: &'a T, alloc: Global, path: &'a str) -> Result<MetricsFile<'a, T>, AllocError> {
         let new = new_name(alloc, path)?;
         Ok(MetricsFile {
@@ -121,7 +121,7 @@ pub enum MetricsPlace<'a, T> {
 }
 
 impl<'a, T: Files + Clock> MetricsPlace<'a, T> {
-    /// The file of this name, where one is given.
+    /// The file with this name, if one is given.
     pub fn new(
         rt: &'a T,
         alloc: Global,

@@ -1,4 +1,4 @@
-//! How far the program is, reported to whoever started it (sd_notify(3)).
+//! Reports the state of the program to its parent (sd_notify(3)).
 
 ghost use Rattle.std.specs.Prelude.{◌≡◌, ◌≤◌, ◌+◌, ◌∷◌, length, take, IfSome};
 ghost use Rattle.macs_control.specs.Notices.{HasAddress, name_octets};
@@ -14,7 +14,7 @@ use std::rt::Env;
 /// A name as it is in an address.
 type Name = ArrayVec<u8, MAX_NAME>;
 
-/// A name as it is in an address: of an abstract one, which begins with `@`, the first octet is 0.
+/// A name as it is in an address: for an abstract one, which begins with `@`, the first octet is 0.
 fn name_octets(name: &[u8]) -> Name
     requires { length name.now ≤ 107 }
     ensures octets { result.items ≡ name_octets name.now }
@@ -28,7 +28,7 @@ fn name_octets(name: &[u8]) -> Name
     octets
 }
 
-/// The address of a name, where it is one: 1 to 107 octets, a path or an abstract name.
+/// The address for a name, if it is valid: 1 to 107 octets, a path or an abstract name.
 fn address_of(name: &[u8]) -> Option<LocalAddress>
     ensures count { IfSome result (λ address. address.count ≡ 2 + length name.now) }
     ensures address { IfSome result (λ address. HasAddress name.now address.octets) }
@@ -39,14 +39,13 @@ fn address_of(name: &[u8]) -> Option<LocalAddress>
     address_with(name_octets(name).as_slice())
 }
 
-/// Where it is reported how far the program is: the socket that `NOTIFY_SOCKET` names, if there is
-/// one.
+/// Where the state of the program is reported: the socket that `NOTIFY_SOCKET` names, if any.
 #[derive(Clone, Copy)]
 pub struct Notifier {
     address: Option<LocalAddress>,
 }
 
-/// Sends a text to an address, as one datagram. Nobody hears of a failure: the program goes on.
+/// Sends a text to an address, as one datagram. A failure is ignored: the program continues.
 fn send_to(address: &LocalAddress, text: &[u8]) {
     let fd = unsafe { c::socket(c::AF_UNIX, c::SOCK_DGRAM | c::SOCK_CLOEXEC, 0) };
     if fd < 0 {
@@ -65,7 +64,7 @@ fn send_to(address: &LocalAddress, text: &[u8]) {
 }
 
 impl Notifier {
-    /// Whom the environment names.
+    /// The notifier named by the environment.
     pub fn of_environment<R: Env + Net>(rt: &R, alloc: Global) -> Notifier {
         match env::var(&(rt, alloc), "NOTIFY_SOCKET") {
             Ok(name) => Notifier {
@@ -75,19 +74,19 @@ impl Notifier {
         }
     }
 
-    /// Sends it a text.
+    /// Sends a text to it.
     fn tell(&self, text: &[u8]) {
         if let Some(address) = &self.address {
             send_to(address, text);
         }
     }
 
-    /// Reports to it that the program serves.
+    /// Reports that the program is ready.
     pub fn ready(&self) {
         self.tell(b"READY=1");
     }
 
-    /// Reports to it that the program ends.
+    /// Reports that the program is stopping.
     pub fn stopping(&self) {
         self.tell(b"STOPPING=1");
     }

@@ -13,16 +13,16 @@ use std::time::Duration;
 /// How long a call waits, in seconds: longer than any command takes.
 const PATIENCE: u64 = 60;
 
-/// A connection to a relay. Each call waits for a minute at most, and then fails.
+/// A connection to a relay. Each call waits for at most a minute, and then fails.
 #[derive(Drop)]
 pub struct PatientStream {
     stream: UnixStream,
 }
 
 impl PatientStream {
-    /// Connects to the relay that listens at this name. It fails with the error of the system if no
+    /// Connects to the relay that listens on this name. Fails with the error of the system if no
     /// relay does. If as many clients wait for that relay as the system allows, the call waits too,
-    /// for a minute at most: the limit of a write is also that of a connection (socket(7)).
+    /// for at most a minute: the limit of a write is also that of a connection (socket(7)).
     pub fn connect<N: Net>(net: &N, path: &str) -> io::Result<PatientStream> {
         let Some(address) = address_with(path.as_bytes()) else {
             return Err(Error::from(ErrorKind::InvalidInput));

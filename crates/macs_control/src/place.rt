@@ -8,7 +8,7 @@ use crate::seat::{Hearing, Seat};
 use crate::standing::Standing;
 use macs_requests::Client;
 
-/// A client with its connection, and how it stands with the relay.
+/// A client with its connection and its state.
 #[derive(Drop)]
 pub struct Place<S> {
     seat: Seat<S>,
@@ -23,7 +23,7 @@ impl<S: Connection> Place<S> {
     ghost use Rattle.macs_control.specs.Standings.{after_hearing, after_saying, is_over};
     ghost use Rattle.macs_control.specs.Standings.{new_standing};
 
-    /// A client of which nothing was heard yet, and that came in this second.
+    /// A client that connected in this second, from which nothing was heard yet.
     pub fn new(client: Client, connection: S, now: u64) -> Place<S>
         ensures client { client_of (seat_in result) ≡ client }
         ensures connection { connection_of (seat_in result) ≡ connection }
@@ -35,7 +35,7 @@ impl<S: Connection> Place<S> {
         }
     }
 
-    /// Which client it is.
+    /// Its client.
     pub fn client(&self) -> Client
         ensures { result ≡ client_of (seat_in self.now) }
     {
@@ -49,7 +49,7 @@ impl<S: Connection> Place<S> {
         self.seat.connection()
     }
 
-    /// How it stands with the relay.
+    /// Its state.
     pub fn standing(&self) -> Standing
         ensures { result ≡ standing_in self.now }
     {
@@ -70,9 +70,9 @@ impl<S: Connection> Place<S> {
         heard
     }
 
-    /// Says a text to the client, in this second, and answers whether the client keeps its place:
-    /// where it took all of it at once, unless nothing more is to be heard of it or said to it. A
-    /// text that ends an answer is the answer to a line, or the last part of one.
+    /// Sends a text to the client, in this second, and returns whether the client keeps its place:
+    /// it does if it took all of the text at once, unless it sends no more and no other answer is
+    /// due. A text that ends an answer is the answer to a line, or the last part of one.
     pub fn say(&mut self, text: &[u8], now: u64) -> bool
         ensures client { client_of (seat_in self.new) ≡ client_of (seat_in self.old) }
         ensures standing { standing_in self.new

@@ -6,20 +6,20 @@ use crate::connection::{Connection, Taken};
 use macs_requests::{Client, Inbox, Line, MAX_LINE};
 use macs_secrets::wipe;
 
-/// What is heard of a client.
+/// The result of hearing a client.
 #[derive(Drop)]
 pub enum Hearing {
-    /// Its next line, without the end of it.
+    /// Its next line, without its line feed.
     Line(Line),
     /// No line is whole yet.
     Silence,
-    /// It sends no more, and each whole line of it was heard.
+    /// It sends no more, and each of its whole lines was heard.
     Ended,
-    /// Its connection failed, or it sent 256 octets without the end of a line.
+    /// Its connection failed, or it sent 256 octets without a line feed.
     Gone,
 }
 
-/// A client with a connection, and the octets from it in which no line was heard yet.
+/// A client with a connection, and the octets from it that do not form a line yet.
 #[derive(Drop)]
 pub struct Seat<S> {
     client: Client,
@@ -32,7 +32,7 @@ impl<S: Connection> Seat<S> {
     ghost use Rattle.macs_control.specs.Links.{Fills, GivesOctets, Hears};
     ghost use Rattle.macs_control.specs.Seats.{client_of, connection_of, held_by};
 
-    /// A client of which nothing was heard yet.
+    /// A client from which nothing was heard yet.
     pub fn new(client: Client, connection: S) -> Seat<S>
         ensures client { client_of result ≡ client }
         ensures connection { connection_of result ≡ connection }
@@ -45,7 +45,7 @@ impl<S: Connection> Seat<S> {
         }
     }
 
-    /// Which client it is.
+    /// Its client.
     pub fn client(&self) -> Client
         ensures { result ≡ client_of self.now }
     {
@@ -59,7 +59,7 @@ impl<S: Connection> Seat<S> {
         &self.connection
     }
 
-    /// Takes what came, as far as there is room for it.
+    /// Takes what arrived, as far as it fits.
     fn fill(&mut self) -> Taken
         ensures client { client_of self.new ≡ client_of self.old }
         ensures fills { Fills (held_by self.old) (S.link (connection_of self.old)) result
@@ -79,8 +79,8 @@ impl<S: Connection> Seat<S> {
         taken
     }
 
-    /// Hears the client. Where a line of it is at hand, its connection is not looked at. A client
-    /// that is gone is never heard again.
+    /// Hears the client. If a whole line of it is held already, its connection is not read. A
+    /// client that is gone is never heard again.
     pub fn hear(&mut self) -> Hearing
         ensures client { client_of self.new ≡ client_of self.old }
         ensures hears { Hears (held_by self.old) (S.link (connection_of self.old)) result
@@ -100,7 +100,7 @@ impl<S: Connection> Seat<S> {
         }
     }
 
-    /// Sends a text to the client, and answers whether it took all of it at once.
+    /// Sends a text to the client, and returns whether it took all of it at once.
     pub fn give(&mut self, text: &[u8]) -> bool
         ensures client { client_of self.new ≡ client_of self.old }
         ensures held { held_by self.new ≡ held_by self.old }

@@ -13,14 +13,14 @@ use std::alloc::{AllocError, Global};
 /// How many clients are served at a time.
 pub const MAX_CLIENTS: usize = 4;
 
-/// The clients of a control socket, four at most, that which was silent longest first. A further
-/// one takes the place of the first that gives way: of which every line is answered, and that said
-/// nothing while two seconds ended. Where none does, it finds no place.
+/// The clients of a control socket, at most four, the one that has been silent longest first. One
+/// more takes the place of the first idle one, that is, one whose lines are all answered and that
+/// has sent nothing while two seconds ended. If none is idle, it finds no place.
 #[derive(Drop)]
 pub struct Seats<S> {
     places: Vec<Place<S>>,
     last: u64,
-    /// How many seconds ended.
+    /// How many seconds have ended.
     second: u64,
     ghost few: { length places.items ≤ 4 },
     ghost room: { 4 ≤ vec_capacity places },
@@ -74,7 +74,7 @@ impl<S: Connection> Seats<S> {
         self.places[at].standing().has_ended()
     }
 
-    /// A second ended.
+    /// Counts a second that ended.
     pub fn pass_second(&mut self)
         ensures second { second_of self.new ≡ min (second_of self.old + 1) (2 ^ 64 - 1) }
         ensures places { places_of self.new ≡ places_of self.old }
@@ -89,8 +89,8 @@ impl<S: Connection> Seats<S> {
         self.places.len() < MAX_CLIENTS || at_idle(self.places.as_slice(), self.second).is_some()
     }
 
-    /// Sees that there is a place, and answers whether there is one. Where four have one, the first
-    /// that gives way loses it.
+    /// Makes a place available, and returns whether one is. If four have one, the first idle client
+    /// loses its own.
     fn make_room(&mut self) -> bool
         ensures room { result ≡ has_room (second_of self.old) (places_of self.old) }
         ensures free { IsTrue result → length (places_of self.new) < 4 }
@@ -109,8 +109,8 @@ impl<S: Connection> Seats<S> {
         }
     }
 
-    /// Takes in one client more, in the last place, where it finds one. Nobody loses a place but
-    /// the first that gives way.
+    /// Accepts one more client, in the last place, if a place is available. Only the first idle
+    /// client may lose its place.
     pub fn take_in(&mut self, connection: S)
         ensures taken { IsTrue (has_room (second_of self.old) (places_of self.old))
             → (place : Place S) × (connection_of (seat_in place) ≡ connection)
@@ -129,7 +129,7 @@ impl<S: Connection> Seats<S> {
         let _ = self.places.push(place);
     }
 
-    /// Has the client at a place go to the last one.
+    /// Moves the client at a place to the last one.
     fn move_last(&mut self, at: usize)
         requires { at < seat_count self.old }
     {
@@ -137,8 +137,8 @@ impl<S: Connection> Seats<S> {
         let _ = self.places.push(place);
     }
 
-    /// Hears the client at a place. One that said a line goes to the last place, and one that is
-    /// let go loses its own.
+    /// Hears the client at a place. One that sent a line moves to the last place, and one that is
+    /// dropped loses its own.
     fn hear_at(&mut self, at: usize) -> Option<Heard>
         requires { at < seat_count self.old }
     {

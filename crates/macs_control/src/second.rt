@@ -6,13 +6,13 @@ ghost use Rattle.macs_control.specs.Seconds.{is_over};
 use std::rt::Clock;
 use std::time::Duration;
 
-/// Seconds that end: by a clock that never goes back, from the first look on.
+/// Seconds that end: by a monotonic clock, starting with the first look.
 #[derive(Clone, Copy)]
 pub(crate) struct EachSecond {
     last: Option<Duration>,
 }
 
-/// Whether a second or more is between two times, or there was none before.
+/// Whether a second or more has passed between two times, or there was no earlier one.
 fn is_over(last: Option<Duration>, now: Duration) -> bool
     ensures { result ≡ is_over last now }
 {
@@ -26,14 +26,15 @@ impl EachSecond {
     ghost use Rattle.std.specs.Prelude.{◌≡◌, None, Some, if◌then◌else◌};
     ghost use Rattle.macs_control.specs.Seconds.{is_over};
 
-    /// Before the first look, which finds a second over.
+    /// Before the first look, which finds that a second has ended.
     pub(crate) fn new() -> EachSecond
         ensures { result.last ≡ None }
     {
         EachSecond { last: None }
     }
 
-    /// Looks at a time, and answers whether a second is over; the next one begins then.
+    /// Compares a time with the last one, and returns whether a second has ended; the next one
+    /// begins then.
     fn look(&mut self, now: Duration) -> bool
         ensures over { result ≡ is_over self.old.last now }
         ensures last { self.new.last ≡ (if result then Some now else self.old.last) }
@@ -45,7 +46,7 @@ impl EachSecond {
         false
     }
 
-    /// Looks at the clock: no second is over where that fails.
+    /// Looks at the clock: no second has ended if that fails.
     pub(crate) fn is_over<C: Clock>(&mut self, clock: &C) -> bool {
         match clock.monotonic() {
             Ok(now) => self.look(now),

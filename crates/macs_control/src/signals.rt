@@ -1,4 +1,4 @@
-//! A signal that is held back.
+//! A pending signal that is blocked.
 
 ghost use Rattle.std.specs.Prelude.{◌≡◌, IsTrue, true, IfSome};
 ghost use Rattle.macs_control.specs.Signals.{HasDigits, IsTermPending, is_term_set};
@@ -7,13 +7,13 @@ use std::alloc::Global;
 use std::fs;
 use std::rt::Files;
 
-/// What Linux says of this process (proc(5)).
+/// What Linux reports about this process (proc(5)).
 const STATUS: &str = "/proc/self/status";
 
-/// What is before the signals that wait for the process as a whole, in 16 hex digits.
+/// The text before the signals pending for the process as a whole, in 16 hex digits.
 const MARK: &str = "ShdPnd:\t";
 
-/// The weight of SIGTERM (15) among them.
+/// The bit of SIGTERM (15) in that set.
 const TERM: u64 = 16_384;
 
 /// The digits after the mark, up to the end of the line.
@@ -29,7 +29,7 @@ fn digits_in(status: &str) -> Option<&str>
     Some(digits)
 }
 
-/// Whether SIGTERM is among the signals that hex digits say.
+/// Whether SIGTERM is in the set of signals given by hex digits.
 fn is_term_in(digits: &str) -> bool
     ensures { IsTrue result → is_term_set digits.now ≡ true }
 {
@@ -39,8 +39,8 @@ fn is_term_in(digits: &str) -> bool
     }
 }
 
-/// Whether a text as that of `/proc/self/status` says that SIGTERM waits: it was sent to the
-/// process, which was started with that signal held back.
+/// Whether a text like that of `/proc/self/status` says that SIGTERM is pending: it was sent to the
+/// process, which was started with that signal blocked.
 pub fn is_term_pending(status: &str) -> bool
     ensures { IsTrue result → IsTermPending status.now }
 {
@@ -50,7 +50,7 @@ pub fn is_term_pending(status: &str) -> bool
     }
 }
 
-/// Whether SIGTERM was sent to this process and is held back. It is not where that cannot be read.
+/// Whether SIGTERM was sent to this process and is blocked. False if that cannot be read.
 pub(crate) fn is_told_to_end<T: Files>(rt: &T, alloc: Global) -> bool {
     match fs::read_to_string(&(rt, alloc), STATUS) {
         Ok(status) => is_term_pending(status.as_str()),

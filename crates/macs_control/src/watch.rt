@@ -1,4 +1,4 @@
-//! What a relay that is attended sleeps on.
+//! What an attended relay sleeps on.
 
 ghost use Rattle.std.specs.Prelude.{◌≡◌};
 ghost use Rattle.macs_control.specs.Watching.{asks};
@@ -7,7 +7,7 @@ use libc::net::{POLLIN, poll};
 use libc::types::pollfd;
 use std::os::fd::RawFd;
 
-/// The number in place of a descriptor where there is none: the system passes over it.
+/// The number in place of a missing descriptor: the system ignores it.
 pub(crate) const NO_SOCKET: RawFd = -1;
 
 /// The sockets of both wires.
@@ -17,8 +17,7 @@ pub struct Wires {
     pub common: RawFd,
 }
 
-/// What is watched: the sockets of both wires, the one that clients connect to, and those of four
-/// clients.
+/// What is watched: the sockets of both wires, the listening socket, and those of four clients.
 #[derive(Clone, Copy)]
 pub struct Watch {
     pub wires: Wires,
@@ -29,7 +28,7 @@ pub struct Watch {
     pub fourth: RawFd,
 }
 
-/// Asks whether a socket can be read.
+/// Asks whether a socket is readable.
 fn readable(socket: RawFd) -> pollfd
     ensures { result ≡ asks socket }
 {
@@ -40,7 +39,7 @@ fn readable(socket: RawFd) -> pollfd
     }
 }
 
-/// Whether one of these was found to be ready, or has failed.
+/// Whether one of these is ready, or has failed.
 fn is_any_found(asked: &[pollfd]) -> bool {
     asked.iter().any(|each| each.revents != 0)
 }
@@ -64,9 +63,10 @@ impl Watch {
         ]
     }
 
-    /// Sleeps until one of them can be read, so many milliseconds at most, and answers whether one
-    /// is that is no wire. What is there already ends the sleep at once (POSIX.1-2017, `poll`).
-    /// Where the call fails there is no sleep, and whether one is is not known.
+    /// Sleeps until one of them is readable, for at most this many milliseconds, and returns
+    /// whether one other than a wire is. What has already arrived ends the sleep at once
+    /// (POSIX.1-2017, `poll`). If the call fails there is no sleep, and whether one is readable is
+    /// not known.
     pub fn sleep(&self, milliseconds: u16) -> bool {
         let mut asked = self.asked();
         let found = poll(&mut asked, i32::from(milliseconds));

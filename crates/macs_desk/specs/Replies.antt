@@ -1,4 +1,4 @@
--- What clients are answered: lines, the last of which has the exit status of the program that asked.
+-- Answers to clients: lines, the last of which has the exit status for the program that asked.
 use Rattle.std.specs.Prelude.{ℕ, ◌++◌, List, codes, Result, Ok, Err}
 use Rattle.macs_config.specs.declared.refusal.Refusal.TheVariants.{KeySpent}
 use Rattle.macs_edge.specs.declared.attending.CommandEnd.{CommandEnd}
@@ -13,12 +13,12 @@ use Rattle.macs_texts.specs.Refusals.{refusal_name}
 use Rattle.macs_desk.specs.declared.key_notes.NoteFault.{NoteFault}
 use Rattle.macs_desk.specs.declared.key_notes.NoteFault.TheVariants as note
 
--- the last line of an answer: 0 where the request is done, 2 where there is none, 3 where a command is refused, 4
--- where the disk failed, 5 where memory is refused
+-- the last line of an answer: 0 if the request is done, 2 if the line is not a request, 3 if a command is refused, 4 if
+-- the disk failed, 5 if memory ran out
 abbrev pub end_text : ℕ → List ℕ
 end_text status = line (end_line status)
 
--- a command is refused, by this name
+-- a command is refused, with this name
 abbrev pub refused_line : List ℕ → List ℕ
 refused_line name = line (codes "refused " ++ name)
 
@@ -32,12 +32,12 @@ abbrev pub failed_text : CommandFault → List ℕ
 failed_text (Refused refusal) = refused_line (refusal_name refusal) ++ end_text 3
 failed_text fault = end_text 4
 
--- a command is done: it is kept, or it is not
+-- a command is done: it is kept, or not
 abbrev pub done_text : Result (Unit {0}) CommandFault → List ℕ
 done_text (Ok done) = line (codes "ok") ++ end_text 0
 done_text (Err fault) = failed_text fault
 
--- what became of a command that was taken
+-- the result of a command that was taken
 abbrev pub ended_text : CommandEnd → List ℕ
 ended_text (Done answer) = done_text answer
 ended_text Failed = end_text 4

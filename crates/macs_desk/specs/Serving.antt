@@ -1,4 +1,4 @@
--- What is reported to clients over a whole relay: what became of each command that one of them gave, once, in the order
+-- What is reported to clients over a whole relay: the result of each command that one of them gave, once, in the order
 -- of tickets.
 use Rattle.std.specs.Prelude.{◌≡◌, ◌++◌, ℕ, Bool, List, [], ◌∷◌, flat_map, map, Some, Ok}
 use Rattle.macs_edge.specs.Commanding.{Ended, ended_by, tickets_taken}
@@ -14,12 +14,12 @@ use Rattle.macs_desk.specs.declared.under_way.UnderWay.{UnderWay as Entry}
 
 -- ---- a desk, from event to event
 
--- the commands under way with who gave them, and the client whose line was taken last
+-- the commands under way and their clients, and the client whose line was taken last
 pub record DeskState : Type 0 where
   pub under_way : List Entry
   pub asking : Client
 
--- what is said to clients at an event, and what becomes of the commands under way: as each call of a desk ensures
+-- what is sent to clients at an event, and the commands under way after it: as each call of a desk ensures
 abbrev pub SpeaksAt : DeskState → DeskEvent → List Talk → DeskState → Type 0
 SpeaksAt old (Wanted was_quiet order) talk new = (is_time : Bool) × (reports : Reports)
     × LooksIf is_time was_quiet (is_full old.under_way) reports old.asking talk order new.asking
@@ -38,21 +38,21 @@ Speaks old events talks new = ⊥
 
 -- ---- what is reported to clients
 
--- a command that was taken: the client that gave it, its ticket, and what became of it
+-- a command that was taken: the client that gave it, its ticket, and its result
 pub record Told : Type 0 where
   pub client : Client
   pub ticket : ℕ
   pub end : CommandEnd
 
--- what became of a command, whoever gave it
+-- the result of a command, regardless of who gave it
 abbrev pub ended_in : Told → Ended
 ended_in told = record { ticket = told.ticket; end = told.end }
 
--- what is said of it: to its client, and to no other
+-- the message about it: to its client, and to no other
 abbrev pub saying : Told → Talk
 saying told = Said told.client (ended_text told.end)
 
--- the client whose line was taken last, once this was said
+-- the client whose line was taken last, after these messages
 abbrev pub asking_after : Client → List Talk → Client
 asking_after client [] = client
 asking_after client (Heard (Some heard) ∷ talk) = asking_after heard.client talk
@@ -63,24 +63,24 @@ abbrev pub giver : Client → DeskEvent → List Client
 giver client (Took (Ok ticket)) = client ∷ []
 giver client event = []
 
--- those of all commands that are taken, in order
+-- the clients of all commands that are taken, in order
 abbrev pub givers : Client → List DeskEvent → List (List Talk) → List Client
 givers client (event ∷ events) (talk ∷ talks) = giver client event ++ givers (asking_after client talk) events talks
 givers client events talks = []
 
--- what is said of a command that is taken: when it is taken, and when it is known what became of it
+-- the messages about a command that is taken: when it is taken, and when its result is known
 abbrev pub said_at : DeskEvent → List Talk → List Talk
 said_at (Took (Ok ticket)) talk = talk
 said_at (Answered ticket end) talk = talk
 said_at event talk = []
 
--- all that is said so, in order
+-- all such messages, in order
 abbrev pub endings : List DeskEvent → List (List Talk) → List Talk
 endings (event ∷ events) (talk ∷ talks) = said_at event talk ++ endings events talks
 endings events talks = []
 
--- Each command that was taken is there once, in the order of tickets, with the client that gave it and what became of
--- it. That is said to this client, in the same order, and nothing else is said where commands are taken and answered
+-- Each command that was taken is listed once, in the order of tickets, with the client that gave it and its result. The
+-- result is sent to this client, in the same order, and nothing else is sent when commands are taken and answered
 pub record ClientsAreTold (asking : Client) (events : List DeskEvent) (talks : List (List Talk)) : Type 0 where
   pub told : List Told
   pub once : map (λ (t : Told). t.ticket) told ≡ tickets_taken events

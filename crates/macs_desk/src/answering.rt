@@ -1,4 +1,4 @@
-//! What a line of a client comes to.
+//! How a line of a client is handled.
 
 ghost use Rattle.std.specs.Prelude.{◌≡◌, ℕ, List, Result, IfOk, string_bytes};
 ghost use Rattle.std.specs.Str.{IsUtf8};
@@ -24,8 +24,8 @@ use macs_texts::{
 };
 use std::alloc::{AllocError, Global};
 
-/// The request of a line, `None` where it is no text, or the line of no request. It fails only
-/// where memory is refused.
+/// Parses a request from a line; `None` if it is not UTF-8, or not a request. Fails only if memory
+/// runs out.
 fn request_of(alloc: Global, line: &[u8]) -> Result<Option<Request>, AllocError>
     ensures { IfOk result (λ found. IsRead line.now found) }
 {
@@ -35,7 +35,8 @@ fn request_of(alloc: Global, line: &[u8]) -> Result<Option<Request>, AllocError>
     }
 }
 
-/// Says a report to a client, with the end of the answer; or that there is no memory for it.
+/// Sends a report to a client, followed by the end of the answer; or the answer that there is no
+/// memory for it.
 fn say_report<C: Clients>(clients: &mut C, client: Client, report: Result<String, AllocError>)
     ensures { (text : List ℕ) → IfOk report (λ told. string_bytes told ≡ text)
         → (talk : List Talk) × Tells client text talk
@@ -50,7 +51,7 @@ fn say_report<C: Clients>(clients: &mut C, client: Client, report: Result<String
     }
 }
 
-/// Answers a request with a report, and says what the desk wants then: that the relay goes on.
+/// Answers a request with a report, and returns the desk's order: the relay continues.
 fn tell<C: Clients>(clients: &mut C, client: Client, report: Result<String, AllocError>) -> Order
     ensures { (text : List ℕ) → IfOk report (λ told. string_bytes told ≡ text)
         → (talk : List Talk) × (Tells client text talk × (result ≡ Go))
@@ -81,7 +82,7 @@ fn counted<D: SectorDisk, O: Overruns>(
     counter_lines(alloc, endpoint, &controlled, &common)
 }
 
-/// Hands in a command once its key is noted, and says what the desk wants then.
+/// Submits a command once its key is noted, and returns the desk's order.
 fn hand_in<K: KeyNotes, C: Clients>(
     notes: &K,
     client: Client,
@@ -101,7 +102,7 @@ fn hand_in<K: KeyNotes, C: Clients>(
     }
 }
 
-/// Answers a request, where it is answered at once, and says what the desk wants then.
+/// Answers a request, if it is answered at once, and returns the desk's order.
 fn answer<D: SectorDisk, S: Overruns + KeyNotes, C: Clients>(
     alloc: Global,
     program: &Program,
@@ -139,7 +140,7 @@ fn answer<D: SectorDisk, S: Overruns + KeyNotes, C: Clients>(
     }
 }
 
-/// Reads a line, and says what the desk wants then.
+/// Handles a line, and returns the desk's order.
 pub fn read<D: SectorDisk, S: Overruns + KeyNotes, C: Clients>(
     alloc: Global,
     program: &Program,

@@ -23,15 +23,15 @@ use macs_requests::{Client, Clients, Metrics};
 use macs_texts::Program;
 use std::alloc::Global;
 
-/// A desk that serves clients. It listens to them after a quiet turn, before which it sleeps, and
-/// else at each 64th turn, and takes one line then; after a command it listens again before the
-/// next turn. Reports are answered at once. A command is handed in once its key is noted, and its
-/// client is answered once it is done: `ok` after it is kept, and not before. Up to 16 commands are
-/// under way; while they are, no line is taken. `stop` ends the relay, and so does the wish to end the
+/// A desk that serves clients. It listens to them after each quiet turn, preceded by a sleep, and
+/// otherwise at each 64th turn, and then takes one line; after a command it listens again before
+/// the next turn. Reports are answered at once. A command is submitted once its key is noted, and
+/// its client is answered once it is done: `ok` only after it is kept. Up to 16 commands are under
+/// way; while there are 16, no line is taken. `stop` ends the relay, as does a request to end the
 /// process.
 ///
-/// What clients do never holds a frame: no call waits for one of them. A client that goes away
-/// loses its answers, and none of its commands that were taken.
+/// Nothing that clients do delays a frame: no call waits for a client. A client that goes away
+/// loses its answers, but none of its commands that were taken.
 #[derive(Drop)]
 pub struct ControlDesk<C, M, S> {
     alloc: Global,
@@ -42,14 +42,14 @@ pub struct ControlDesk<C, M, S> {
     under_way: Queue,
     /// The client whose line was taken last.
     asking: Client,
-    /// How many frames had verified when it looked last.
+    /// How many frames had verified at the last look.
     good: u64,
     /// How many turns may pass before it looks after its clients, if none of them is quiet.
     turns_left: u8,
 }
 
 impl<C: Clients, M: Metrics, S: Overruns + KeyNotes> ControlDesk<C, M, S> {
-    /// A desk of this run of the program, with no command under way.
+    /// A desk for this run of the program, with no command under way.
     pub fn new(
         alloc: Global,
         program: Program,

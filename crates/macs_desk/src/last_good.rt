@@ -1,4 +1,4 @@
-//! When the last frame came that verified.
+//! When the last frame arrived that verified.
 
 ghost use Rattle.std.specs.Prelude.{◌≡◌};
 ghost use Rattle.macs_desk.specs.LastGood.{NotesGood, good_frames};
@@ -9,15 +9,15 @@ use macs_endpoint::Endpoint;
 use macs_rxsc::{Kind, Verdict};
 use macs_texts::Program;
 
-/// Who knows what time it is.
+/// A source of the current time.
 pub trait Time {
     ghost use Rattle.std.specs.Prelude.{ℕ, Option, None};
     ghost use Rattle.macs_desk.specs.Listening.{IsKnown};
 
-    /// What it answers, where that is known.
+    /// What it returns, if known.
     ghost time: { Self → Option (Option ℕ) } = { λ _. None };
 
-    /// How many seconds have passed since the beginning of 1970 (UTC), where the clock can be read.
+    /// Seconds since the beginning of 1970 (UTC), if the clock can be read.
     fn seconds(&self) -> Option<u64>
         ensures { IsKnown (time self.now) result };
 }
@@ -32,7 +32,7 @@ pub fn good_frames<D: SectorDisk>(endpoint: &Endpoint<D>) -> u64
     ok.saturating_add(delayed)
 }
 
-/// Notes what time it is, where more frames verified than so many.
+/// Notes the current time if more than `before` frames verified.
 pub fn note_good<T: Time>(program: &mut Program, before: u64, frames: u64, system: &T)
     ensures good { NotesGood (T.time system.now) before frames
         program.old.last_good program.new.last_good }

@@ -11,11 +11,12 @@ ghost use Rattle.macs_desk.specs.Serving.{ClientsAreTold, DeskState, Speaks};
 
 use macs_disk::SectorDisk;
 
-/// Over a whole relay that a desk attends, from an endpoint in which no command waits: each command
-/// that was taken is answered once, in the order of tickets, to the client that gave it, with what
-/// the relay said became of it; and when the relay has ended none is left. What a relay says became
-/// of commands is what steps were done with (`macs_edge::laws::attended`), so `ok` is said after a
-/// step answered that the command is kept, and of no other.
+/// Over a whole relay that a desk attends, starting from an endpoint without pending commands: each
+/// command that was taken is answered once, in the order of tickets, to the client that gave it,
+/// with the result that the relay reported; and when the relay has ended no command is left. The
+/// results that a relay reports are those of the commands that steps completed
+/// (`macs_edge::laws::attended`), so `ok` is sent only after a step answered that the command is
+/// kept.
 pub fn clients_are_told<D: SectorDisk>()
     ensures { (turns : ℕ) (old new : Relay D) (events : List DeskEvent) (talks : List (List Talk))
         (before after : DeskState) (result : Result RelaySummary RefillFault)

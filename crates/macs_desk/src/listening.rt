@@ -18,15 +18,15 @@ use std::alloc::Global;
 /// How many turns pass without a look at the clients, if none of them is quiet.
 pub const TURNS_BETWEEN: u8 = 63;
 
-/// Whether it is time to look after the clients, where so many turns may pass without it.
+/// Whether it is time to look at the clients, if `left` more turns may pass without it.
 pub fn is_time(was_quiet: bool, left: u8) -> bool
     ensures { result ≡ is_time was_quiet left }
 {
     was_quiet || left == 0
 }
 
-/// How many turns may pass without it, once the desk wanted this: none after a command, since more
-/// may come with it.
+/// How many turns may pass without a look after this order: none after a command, since more may
+/// follow.
 pub fn turns_between(order: &Order) -> u8
     ensures { result ≡ turns_between order.now }
 {
@@ -45,7 +45,8 @@ pub fn rest<C: Clients>(was_quiet: bool, clients: &mut C)
     }
 }
 
-/// Takes the next line of a client, where there is one, and reads it. Who asks is its client then.
+/// Takes the next line of a client, if there is one, and handles it. Its client is then the asking
+/// client.
 fn listen<D: SectorDisk, S: Overruns + KeyNotes, C: Clients>(
     alloc: Global,
     program: &Program,
@@ -73,7 +74,7 @@ fn listen<D: SectorDisk, S: Overruns + KeyNotes, C: Clients>(
     }
 }
 
-/// Looks whether the process was asked to end, and listens, unless 16 commands are under way.
+/// Checks whether the process was asked to end, and listens, unless 16 commands are under way.
 pub fn look<D: SectorDisk, S: Overruns + KeyNotes, C: Clients>(
     alloc: Global,
     program: &Program,

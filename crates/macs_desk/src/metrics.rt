@@ -1,4 +1,4 @@
-//! The counters for a collector of metrics.
+//! The counters for a metrics collector.
 
 ghost use Rattle.std.specs.Prelude.{◌≡◌, List, IfOk, string_bytes};
 ghost use Rattle.macs_requests.specs.Talks.{Note, with_notes};
@@ -35,7 +35,7 @@ fn measured<D: SectorDisk, O: Overruns>(
     metric_lines(alloc, build, endpoint, &controlled, &common)
 }
 
-/// Writes the metrics, where that is due and there is memory for them.
+/// Writes the metrics, if they are due and there is memory for them.
 pub fn measure<D: SectorDisk, O: Overruns, M: Metrics>(
     alloc: Global,
     build: &Build,

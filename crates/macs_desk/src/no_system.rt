@@ -1,12 +1,12 @@
-//! A system of which nothing is known.
+//! A system about which nothing is known.
 
 use crate::key_notes::{KeyNotes, NoteFault};
 use crate::last_good::Time;
 use crate::overruns::{Dropped, Overruns};
 use macs_config::Command;
 
-/// A system of which nothing is known: neither what it dropped of either wire nor what time it is,
-/// and each key may be installed.
+/// A system about which nothing is known: neither how many datagrams of the wires it dropped nor
+/// what time it is; and each key may be installed.
 #[derive(Drop)]
 pub struct NoSystem;
 

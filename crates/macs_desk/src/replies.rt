@@ -1,4 +1,4 @@
-//! What clients are answered.
+//! Answers to clients.
 
 ghost use Rattle.std.specs.Prelude.{◌≡◌, ◌≤◌, ◌++◌, codes, length};
 ghost use Rattle.macs_desk.specs.Replies.{done_text, ended_text, failed_text, not_noted_text};
@@ -15,16 +15,16 @@ use macs_texts::refusal_name;
 /// The last line of the answer to a request that is done.
 pub const DONE: &str = "end 0\n";
 
-/// That of a line that is no request.
+/// The last line of the answer to a line that is not a request.
 pub const NO_REQUEST: &str = "end 2\n";
 
-/// That of a request for which there is no memory.
+/// The last line of the answer to a request for which memory ran out.
 pub const NO_MEMORY: &str = "end 5\n";
 
-/// An answer that takes no memory: a command that is kept is always reported.
+/// An answer that is not allocated: a command that is kept is always reported.
 pub type Reply = ArrayVec<u8, 48>;
 
-/// The answer of this text.
+/// The answer with this text.
 fn reply_of(text: &str) -> Reply
     requires { length text.now ≤ 48 }
     ensures { result.items ≡ text.now }
@@ -34,7 +34,7 @@ fn reply_of(text: &str) -> Reply
     reply
 }
 
-/// The answer that a command is refused by this name, and these octets after it.
+/// The answer that a command is refused, with this name followed by `end`.
 fn refused(name: &str, end: &str) -> Reply
     requires name { length name.now ≤ 13 }
     requires end { length end.now ≤ 8 }
@@ -48,7 +48,7 @@ fn refused(name: &str, end: &str) -> Reply
     reply
 }
 
-/// The answer where the key of a command may not be installed.
+/// The answer if the key of a command may not be installed.
 pub fn not_noted(fault: NoteFault) -> Reply
     ensures { result.items ≡ not_noted_text fault }
 {
@@ -58,7 +58,7 @@ pub fn not_noted(fault: NoteFault) -> Reply
     }
 }
 
-/// The answer where a command is not kept.
+/// The answer if a command is not kept.
 fn failed(fault: CommandFault) -> Reply
     ensures { result.items ≡ failed_text fault }
 {

@@ -1,4 +1,4 @@
-//! The commands under way, and who gave them.
+//! The commands under way, and the clients that gave them.
 
 ghost use Rattle.std.specs.Prelude.{◌≡◌, ◌≤◌, [], length};
 ghost use Rattle.macs_desk.specs.UnderWay.{client_of, entries_of, is_full, joined, without};
@@ -16,14 +16,14 @@ pub struct UnderWay {
     pub client: Client,
 }
 
-/// The commands under way, the earliest first.
+/// The commands under way, earliest first.
 #[derive(Drop)]
 pub struct Queue {
     entries: ArrayVec<UnderWay, MOST_UNDER_WAY>,
 }
 
 impl Queue {
-    /// None.
+    /// An empty queue.
     pub fn new() -> Queue
         ensures { entries_of result ≡ [] }
     {
@@ -40,7 +40,7 @@ impl Queue {
         self.entries.is_full()
     }
 
-    /// One command more. Where 16 are under way it is left out, and it is reported to nobody.
+    /// Adds a command. If 16 are under way it is left out, and nobody gets its result.
     pub fn join(&mut self, entry: UnderWay)
         ensures { entries_of self.new ≡ joined (entries_of self.old) entry }
     {
@@ -49,7 +49,7 @@ impl Queue {
         }
     }
 
-    /// Gives up the earliest command, where that has this ticket, and answers who gave it.
+    /// Removes the earliest command, if that has this ticket, and returns the client that gave it.
     pub fn leave(&mut self, ticket: u64) -> Option<Client>
         ensures client { result ≡ client_of (entries_of self.old) ticket }
         ensures entries { entries_of self.new ≡ without (entries_of self.old) ticket }

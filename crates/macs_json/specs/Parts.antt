@@ -1,4 +1,4 @@
--- The places of a kind of line, the words that fit there, and what these say.
+-- The places of a kind of line, the words that fit there, and their values.
 use Rattle.std.specs.Prelude.{ℕ, ◌==◌, ◌||◌, Bool, true, false, List, [], ◌∷◌, if◌then◌else◌, codes, Option, Some, None}
 use Rattle.std.specs.List.{after_first, before_first}
 use Rattle.std.specs.Str.{bytes_eq}
@@ -8,32 +8,32 @@ use Rattle.json.specs.Word.{after_number}
 use Rattle.macs_json.specs.declared.parts.Part as declared
 use Rattle.macs_json.specs.declared.parts.Part.TheVariants as variants
 
--- what is in a place: this very word, or any word that is a text, a number or a switch, under a name
+-- the content of a place: this exact word, or, under a name, any word that is a text, a number or a switch
 pub data Part : Type 0 where
   word : List ℕ → Part
   text : List ℕ → Part
   number : List ℕ → Part
   switch : List ℕ → Part
 
--- the same of the program
+-- the program's type for the same
 abbrev pub view_of : declared.Part → Part
 view_of (variants.Word own) = word own.now
 view_of (variants.Text name) = text name.now
 view_of (variants.Number name) = number name.now
 view_of (variants.Switch name) = switch name.now
 
--- a name with a type; of no type it is a word of its own
+-- a name with a type; with no type it is a literal word
 abbrev pub typed : List ℕ → List ℕ → List ℕ → Part
 typed own name type =
     if bytes_eq type (codes "text") then text name
     else (if bytes_eq type (codes "number") then number name
     else (if bytes_eq type (codes "switch") then switch name else word own))
 
--- what the word of a kind of line stands for: before its first colon (58) is a name, after it a type
+-- the place described by a word of a kind: its name before the first colon (58), its type after it
 abbrev pub part : List ℕ → Part
 part own = typed own (before_first (λ octet. octet == 58) own) (after_first (λ octet. octet == 58) own)
 
--- the name of the member that a word there is, if it is one
+-- the name of the member for a word there, if it is one
 abbrev pub name_of : Part → Option (List ℕ)
 name_of (word own) = None
 name_of (text name) = Some name
@@ -46,29 +46,28 @@ is_end None = false
 is_end (Some []) = true
 is_end (Some (octet ∷ rest)) = false
 
--- a word is a number of JSON, whole
+-- a whole word is a JSON number
 abbrev pub is_number : List ℕ → Bool
 is_number said = is_end (after_number said)
 
--- a word says that nothing is there
+-- a word stands for a missing value
 abbrev pub is_none : List ℕ → Bool
 is_none said = bytes_eq said (codes "none")
 
--- a word may be there
+-- a word fits a place
 abbrev pub fits : Part → List ℕ → Bool
 fits (word own) said = bytes_eq said own
 fits (text name) said = true
 fits (number name) said = is_none said || is_number said
 fits (switch name) said = is_none said || (bytes_eq said (codes "on") || bytes_eq said (codes "off"))
 
--- the value of a word that is there and is not `none`
+-- the value of a word in a place that is not `none`
 abbrev pub some_value : Part → List ℕ → Json
 some_value (word own) said = json.string said
 some_value (text name) said = json.string said
 some_value (number name) said = if is_number said then json.number said else json.string said
 some_value (switch name) said = boolean (bytes_eq said (codes "on"))
 
--- the value of a word that is there: `none` is null, `on` true, `off` false, a number itself, and any other word a
--- string
+-- the value of a word in a place: `none` is null, `on` true, `off` false, a number itself, and any other word a string
 abbrev pub value_of : Part → List ℕ → Json
 value_of its said = if is_none said then null else some_value its said

@@ -3,8 +3,8 @@
 ghost use Rattle.std.specs.Prelude.{◌≡◌, ◌<◌, [], ◌∷◌, length, MatchOption};
 ghost use Rattle.macs_json.specs.Cutting.{pieces};
 
-/// The first piece of a text, up to an end or whole, and the text after it; `None` of an empty
-/// text.
+/// The first piece of a text, up to an end or whole, and the text after it; `None` if the text is
+/// empty.
 pub fn cut(text: &str, end: char) -> Option<(&str, &str)>
     requires { end < 128 }
     ensures pieces { MatchOption result (pieces end text.now ≡ [])

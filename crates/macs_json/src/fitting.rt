@@ -1,4 +1,4 @@
-//! Which kind a line is of.
+//! The kind that a line belongs to.
 
 ghost use Rattle.std.specs.Prelude.{◌≡◌, map, option_map};
 ghost use Rattle.macs_json.specs.Cutting.{words};
@@ -8,7 +8,7 @@ use crate::cutting::cut;
 use crate::kinds::KINDS;
 use crate::parts::part_of;
 
-/// Whether a line is of a kind: its words fit there, one after another.
+/// Whether a line belongs to a kind: its words fit there, one after another.
 fn fit(kind: &str, line: &str) -> bool
     ensures { result ≡ fit (parts kind.now) (words line.now) }
 {
@@ -27,7 +27,7 @@ fn fit(kind: &str, line: &str) -> bool
     cut(rest, ' ').is_none()
 }
 
-/// The first of these kinds that a line is of, if it is of one.
+/// The first of these kinds that a line belongs to, if any.
 fn kind_among<'a>(kinds: &'a [&'a str], line: &str) -> Option<&'a str>
     ensures { option_map (λ kind. kind.now) result
         ≡ kind_among (map (λ kind. kind.now) kinds.now) (words line.now) }
@@ -40,7 +40,7 @@ fn kind_among<'a>(kinds: &'a [&'a str], line: &str) -> Option<&'a str>
     None
 }
 
-/// The kind of a line, if it is of one.
+/// The kind of a line, if any.
 pub fn kind_of<'a>(line: &'a str) -> Option<&'a str>
     ensures { option_map (λ kind. kind.now) result ≡ kind_of (words line.now) }
 {

@@ -1,14 +1,14 @@
-//! The kinds of lines that a report has, in one table.
+//! The kinds of lines in a report, in one table.
 
-/// The lines, word for word: a word with a colon, NAME:TYPE, is in the place of any word that fits
-/// the type, and the name is that of its member. The types are
+/// The lines, word for word: a word with a colon, NAME:TYPE, matches any word that fits the type,
+/// and NAME is the name of its member. The types are
 ///
-/// - `text`: any word, a string, also where it has digits alone;
-/// - `number`: a number of JSON, of any size;
+/// - `text`: any word, a string, even if it is all digits;
+/// - `number`: a JSON number, of any size;
 /// - `switch`: `on` or `off`, true or false.
 ///
-/// The word `none` fits each of them, and is null. No line is of two kinds. A new kind is a line
-/// more here.
+/// The word `none` fits each of them, and is null. No line belongs to two kinds. A new kind is one
+/// more line here.
 pub const KINDS: &[&str] = &[
     // of `show`
     "sci sci:text",

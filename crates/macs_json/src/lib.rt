@@ -1,4 +1,4 @@
-//! The lines of a report as JSON, an object for each line.
+//! The lines of a report as JSON, one object per line.
 #![tactic(auto)]
 
 mod cutting;

@@ -10,22 +10,21 @@ use crate::objects::object_of;
 use json::to_vec;
 use std::alloc::{AllocError, Global};
 
-/// A line of a report, which comes without its line feed, as JSON: one object. It fails only where
-/// memory is refused.
+/// A line of a report, without its line feed, as JSON: one object. Fails only if memory runs out.
 pub fn json_of_line(alloc: Global, line: &str) -> Result<Vec<u8>, AllocError>
     ensures text { IfOk result (λ json. json.items ≡ object_text line.now) }
-    // JSON that is read gives the object again.
+    // The JSON parses to the object.
     ensures reads_back { IfOk result (λ json. document json.items ≡ Some (object_of line.now)) }
 {
     let object = object_of(alloc, line)?;
     to_vec(alloc, &object)
 }
 
-/// A report of whole lines as JSON: an object for each line, in the same order, with a line feed
-/// after each. It fails only where memory is refused.
+/// A report of whole lines as JSON: an object for each line, in the same order, each followed by a
+/// line feed. Fails only if memory runs out.
 pub fn json_lines(alloc: Global, report: &str) -> Result<Vec<u8>, AllocError>
     ensures text { IfOk result (λ json. json.items ≡ json_text report.now) }
-    // JSON that is read, line by line, gives the objects again.
+    // The JSON parses, line by line, to the objects.
     ensures reads_back { IfOk result (λ json. ReadsBack (lines report.now) json.items) }
 {
     let mut json = Vec::new(alloc);

@@ -1,4 +1,4 @@
-//! The object of JSON that a line is.
+//! The JSON object for a line.
 
 ghost use Rattle.std.specs.Prelude.{◌≡◌, ◌++◌, Some, None, IfOk};
 ghost use Rattle.json.specs.Tree.{HasNumbers, MembersHaveNumbers};
@@ -22,7 +22,7 @@ fn first_word(line: &str) -> &str
     }
 }
 
-/// The members of a line of a kind.
+/// The members for a line of a kind.
 fn known_members<'a>(
     alloc: Global,
     kind: &'a str,
@@ -50,7 +50,7 @@ fn known_members<'a>(
     Ok(found)
 }
 
-/// The members of a line of no kind.
+/// The members for a line of no kind.
 fn unknown_members<'a>(
     alloc: Global,
     line: &'a str,
@@ -65,7 +65,7 @@ fn unknown_members<'a>(
     Ok(found)
 }
 
-/// The members of a line.
+/// The members for a line.
 fn members_of<'a>(alloc: Global, line: &'a str) -> Result<Vec<(&'a str, Value<'a>)>, AllocError>
     ensures members { IfOk result
         (λ found. members_view found.items ≡ members_of (kind_of (words line.now)) line.now) }
@@ -77,7 +77,7 @@ fn members_of<'a>(alloc: Global, line: &'a str) -> Result<Vec<(&'a str, Value<'a
     known_members(alloc, kind, line)
 }
 
-/// The object that a line is.
+/// The object for a line.
 pub fn object_of<'a>(alloc: Global, line: &'a str) -> Result<Value<'a>, AllocError>
     ensures value { IfOk result (λ object. value_view object ≡ object_of line.now) }
     ensures writable { IfOk result (λ object. HasNumbers (value_view object)) }

@@ -7,20 +7,20 @@ ghost use Rattle.macs_json.specs.Parts.{fits, name_of, part, typed, value_of, vi
 
 use json::{Value, is_number};
 
-/// What is in a place of a kind of line.
+/// The content of a place of a kind of line.
 #[derive(Clone, Copy)]
 pub enum Part<'a> {
-    /// This very word.
+    /// This exact word.
     Word(&'a str),
-    /// Any word, of this name.
+    /// Any word, with this name.
     Text(&'a str),
-    /// A number, of this name.
+    /// A number, with this name.
     Number(&'a str),
-    /// `on` or `off`, of this name.
+    /// `on` or `off`, with this name.
     Switch(&'a str),
 }
 
-/// A name with a type; of no type it is a word of its own.
+/// A name with a type; with no type it is a literal word.
 fn typed<'a>(own: &'a str, name: &'a str, kind: &str) -> Part<'a>
     ensures { view_of result ≡ typed own.entry.now name.entry.now kind.now }
 {
@@ -32,7 +32,7 @@ fn typed<'a>(own: &'a str, name: &'a str, kind: &str) -> Part<'a>
     }
 }
 
-/// What the word of a kind of line stands for.
+/// The place described by a word of a kind.
 pub fn part_of(own: &str) -> Part<'_>
     ensures { view_of result ≡ part own.now }
 {
@@ -43,7 +43,7 @@ pub fn part_of(own: &str) -> Part<'_>
 }
 
 impl<'a> Part<'a> {
-    /// The name of the member that a word there is, if it is one.
+    /// The name of the member for a word there, if it is one.
     pub fn name(self) -> Option<&'a str>
         ensures { option_map (λ name. name.now) result ≡ name_of (view_of self.entry) }
     {
@@ -53,7 +53,7 @@ impl<'a> Part<'a> {
         }
     }
 
-    /// Whether a word may be there.
+    /// Whether a word fits.
     pub fn takes(self, word: &str) -> bool
         ensures { result ≡ fits (view_of self.entry) word.now }
     {
@@ -65,7 +65,7 @@ impl<'a> Part<'a> {
         }
     }
 
-    /// The value of a word that is there.
+    /// The value of a word in this place.
     pub fn value<'w>(self, word: &'w str) -> Value<'w>
         ensures value { value_view result ≡ value_of (view_of self.entry) word.entry.now }
         ensures writable { HasNumbers (value_view result) }

@@ -1,4 +1,4 @@
-//! Each kind of line, and lines of none, in JSON as Python's `json` writes it.
+//! Each kind of line, and lines of no kind, as JSON in the form of Python's `json`.
 
 use crate::{json_lines, json_of_line};
 use std::alloc::Global;
@@ -7,7 +7,7 @@ use std::process::Abort;
 /// A line, and its object.
 type Row = (&'static str, &'static str);
 
-/// What `show` prints.
+/// The output of `show`.
 const SHOWN: &[Row] = &[
     (
         "sci 0200000000010001",
@@ -65,7 +65,7 @@ const SHOWN: &[Row] = &[
     ),
 ];
 
-/// What `counters` prints.
+/// The output of `counters`.
 const COUNTED: &[Row] = &[
     (
         "tx protected 18446744073709551615",
@@ -105,7 +105,7 @@ const COUNTED: &[Row] = &[
     ),
 ];
 
-/// What `keys` and `about` print.
+/// The output of `keys` and `about`.
 const NAMED: &[Row] = &[
     (
         "tx 0 key 128 id 31415926",
@@ -133,7 +133,7 @@ const NAMED: &[Row] = &[
     ),
 ];
 
-/// What `examine` prints.
+/// The output of `examine`.
 const EXAMINED: &[Row] = &[
     ("format 2", "{\"line\":\"format\",\"format\":2}"),
     ("block 4096", "{\"line\":\"block\",\"octets\":4096}"),
@@ -165,7 +165,7 @@ const EXAMINED: &[Row] = &[
     ("whole", "{\"line\":\"whole\"}"),
 ];
 
-/// Lines that no report has.
+/// Lines that occur in no report.
 const UNKNOWN: &[Row] = &[
     ("", "{\"line\":\"\",\"known\":false}"),
     ("color blue", "{\"line\":\"color blue\",\"known\":false}"),
@@ -248,7 +248,7 @@ fn unknown(rt: HostRuntime) {
     expect_each(&rt, rt.alloc(), UNKNOWN);
 }
 
-/// A report has its objects in the order of its lines, also where its last line does not end.
+/// A report has its objects in the order of its lines, even if its last line has no line feed.
 #[test]
 fn whole_reports(rt: HostRuntime) {
     let alloc = rt.alloc();

@@ -9,13 +9,13 @@ pub record IsHeader (header : Header) : Type 0 where
   pub zone_fits : header.zone < 2 ^ 32
   pub sigfigs_fits : header.sigfigs < 2 ^ 32
 
--- the numbers of a stamp have four octets, and the frame is not too long
+-- the numbers of a timestamp have four octets, and the frame is not too long
 pub record IsCaptureRecord (taken : CaptureRecord) : Type 0 where
   pub seconds : taken.stamp.seconds < 2 ^ 32
   pub fraction : taken.stamp.fraction < 2 ^ 32
   pub short : length taken.frame ≤ longest
 
--- these capture records are in front of `left`, one after another, and `rest` comes after them
+-- `left` begins with these capture records, one after another, followed by `rest`
 abbrev pub BeginsWithRecords : Bool → List ℕ → List CaptureRecord → List ℕ → Type 0
 BeginsWithRecords big left [] rest = rest ≡ left
 BeginsWithRecords big left (taken ∷ more) rest =

@@ -1,4 +1,4 @@
--- What is wrong with the octets of a capture: the first of the faults that hold, in their order.
+-- What is wrong with the octets of a capture: the first fault that applies, in order.
 use Rattle.std.specs.Prelude.{ℕ, ◌-◌, ◌^◌, ◌==◌, nat_le, nat_lt, if◌then◌else◌, Bool, not, List, length, take, Option}
 use Rattle.std.specs.Prelude.{Some, None}
 use Rattle.std.specs.Option.{option_or}
@@ -8,11 +8,11 @@ use Rattle.macs_pcap.specs.declared.fault.PcapFault.{PcapFault}
 use Rattle.macs_pcap.specs.declared.fault.PcapFault.TheVariants.{BadMagic, BadVersion, NotEthernet, CutFile, CutRecord}
 use Rattle.macs_pcap.specs.declared.fault.PcapFault.TheVariants.{RecordTooLong, TooManyRecords}
 
--- the most capture records that are read
+-- the maximum number of capture records that are read
 abbrev pub max_records : ℕ
 max_records = 2 ^ 32 - 1
 
--- of the 24 octets of a header
+-- in the 24 octets of a header
 abbrev pub field_fault : List ℕ → Option PcapFault
 field_fault octets =
     if not (has_magic octets) then Some BadMagic
@@ -20,11 +20,11 @@ field_fault octets =
     else if not (is_of_ethernet octets) then Some NotEthernet
     else None
 
--- of the octets where a header should be
+-- in the octets where a header should be
 abbrev pub header_fault : List ℕ → Option PcapFault
 header_fault left = if nat_lt (length left) 24 then Some CutFile else field_fault (take 24 left)
 
--- of the 16 octets of a record header, after so many capture records
+-- in the 16 octets of a record header, after `count` capture records
 abbrev pub record_header_fault : Bool → ℕ → List ℕ → Option PcapFault
 record_header_fault big count header =
     if nat_le max_records count then Some TooManyRecords
@@ -32,11 +32,11 @@ record_header_fault big count header =
     else if nat_lt (kept_in big header) (original_in big header) then Some CutRecord
     else None
 
--- of the octets after a record header, where its frame should be
+-- in the octets after a record header, where its frame should be
 abbrev pub frame_fault : ℕ → ℕ → Option PcapFault
 frame_fault kept octets = if nat_lt octets kept then Some CutFile else None
 
--- of the octets where a capture record should be, after so many; none where there is no octet, which is the end
+-- in the octets where a capture record should be, after `count` others; none if there is no octet, which is the end
 abbrev pub record_fault : Bool → ℕ → List ℕ → Option PcapFault
 record_fault big count left =
     if length left == 0 then None

@@ -1,18 +1,18 @@
--- The header of a capture, its first 24 octets. The magic in front says the order of the octets of every number in the
--- capture, and what stamps count in.
+-- The header of a capture, its first 24 octets. The magic at the start gives the octet order of every number in the
+-- capture, and the unit of timestamps.
 use Rattle.std.specs.Prelude.{◌≡◌, ℕ, ◌==◌, ◌&&◌, ◌||◌, if◌then◌else◌, Bool, true, false, List, ◌++◌, take}
 use Rattle.macs_pcap.specs.Numbers.{number_at, octets_of}
 use Rattle.macs_pcap.specs.declared.header.Header.{Header}
 
--- the magic as a number: stamps count in nanoseconds, or in microseconds
+-- the magic as a number: timestamps are in nanoseconds, or in microseconds
 abbrev pub magic_of : Bool → ℕ
 magic_of nanos = if nanos then 0xa1b23c4d else 0xa1b2c3d4
 
--- the version of the format is 2.4: its first number
+-- the version of the format is 2.4: its major number
 abbrev pub major_version : ℕ
 major_version = 2
 
--- and its second one
+-- its minor number
 abbrev pub minor_version : ℕ
 minor_version = 4
 
@@ -38,11 +38,11 @@ header_text header =
 abbrev pub is_magic : ℕ → Bool
 is_magic number = number == magic_of false || number == magic_of true
 
--- the highest octet of each number comes first: so the magic is read
+-- big-endian, according to the magic
 abbrev pub is_big : List ℕ → Bool
 is_big octets = is_magic (number_at true 4 0 octets)
 
--- the magic is read in one of the two orders
+-- the magic is valid in one of the two octet orders
 abbrev pub has_magic : List ℕ → Bool
 has_magic octets = is_big octets || is_magic (number_at false 4 0 octets)
 
@@ -55,7 +55,7 @@ has_version octets =
 abbrev pub is_of_ethernet : List ℕ → Bool
 is_of_ethernet octets = number_at (is_big octets) 4 20 octets == ethernet
 
--- what a header says that is kept
+-- the fields of a header that are kept
 abbrev pub header_in : List ℕ → Header
 header_in octets = record {
   big = is_big octets;
@@ -64,7 +64,7 @@ header_in octets = record {
   sigfigs = number_at (is_big octets) 4 12 octets;
 }
 
--- a header is in front of `left` and says this, and `rest` comes after it
+-- `left` begins with a header with these fields, followed by `rest`
 pub record BeginsWithHeader (left : List ℕ) (header : Header) (rest : List ℕ) : Type 0 where
   pub says : header ≡ header_in (take 24 left)
   pub octets : left ≡ take 24 left ++ rest

@@ -4,12 +4,12 @@ use Rattle.macs_pcap.specs.Header.{longest}
 use Rattle.macs_pcap.specs.Numbers.{number_at, octets_of}
 use Rattle.macs_pcap.specs.declared.header.Stamp.{Stamp}
 
--- a frame with its stamp
+-- a frame with its timestamp
 pub record CaptureRecord : Type 0 where
   pub stamp : Stamp
   pub frame : List ℕ
 
--- a record header as it is written: stamp, and both lengths as that of the frame
+-- a record header as it is written: timestamp, and both lengths as that of the frame
 abbrev pub record_header_text : Bool → Stamp → ℕ → List ℕ
 record_header_text big stamp size =
     octets_of big 4 stamp.seconds ++ (octets_of big 4 stamp.fraction ++ (octets_of big 4 size ++ octets_of big 4 size))
@@ -20,7 +20,7 @@ record_text big stamp frame = record_header_text big stamp (length frame) ++ fra
 
 -- ---- a capture record as it is read
 
--- the stamp that a record header says
+-- the timestamp in a record header
 abbrev pub stamp_in : Bool → List ℕ → Stamp
 stamp_in big header = record { seconds = number_at big 4 0 header; fraction = number_at big 4 4 header }
 
@@ -38,7 +38,7 @@ pub record IsSoundRecordHeader (big : Bool) (header : List ℕ) : Type 0 where
   pub short : kept_in big header ≤ longest
   pub uncut : original_in big header ≤ kept_in big header
 
--- a capture record is in front of `left`, and `rest` comes after it
+-- `left` begins with a capture record, followed by `rest`
 pub record BeginsWithRecord (big : Bool) (left : List ℕ) (taken : CaptureRecord) (rest : List ℕ) : Type 0 where
   pub header : IsSoundRecordHeader big (take 16 left)
   pub stamp : taken.stamp ≡ stamp_in big (take 16 left)

@@ -1,13 +1,13 @@
--- What a source and a sink report of themselves.
+-- The states that a source and a sink report.
 use Rattle.std.specs.Prelude.{ℕ, Bool, List, Option}
 
--- the octets that a source has left, where they are known, and whether a read of it ever failed
+-- the octets that a source has left, if known, and whether a read of it ever failed
 pub record SourceState : Type 0 where
   pub left : Option (List ℕ)
   pub failed : Bool
 
--- the octets that a sink took, where they are known, whether a write or a flush of it ever failed, and whether all that
--- it took is handed on
+-- the octets that a sink took, if known, whether a write or a flush of it ever failed, and whether all that it took is
+-- flushed
 pub record SinkState : Type 0 where
   pub held : Option (List ℕ)
   pub failed : Bool

@@ -1,4 +1,4 @@
-//! Headers and record headers, between their fields and their octets.
+//! Headers and record headers, converted between fields and octets.
 
 ghost use Rattle.std.specs.Prelude.{◌≡◌, ◌+◌, ◌≤◌, ◌<◌, length, IfErr, IfOk, OnOk};
 ghost use Rattle.macs_pcap.specs.Faults.{field_fault, record_header_fault, max_records};
@@ -13,13 +13,13 @@ use crate::fault::PcapFault;
 use crate::header::{Header, LONGEST, Stamp};
 use byteorder::{BigEndian, ByteOrder, LittleEndian};
 
-/// The magic of a capture whose stamps count in microseconds.
+/// The magic of a capture whose timestamps are in microseconds.
 const MICROSECONDS: u32 = 0xa1b2_c3d4;
 
-/// The magic of a capture whose stamps count in nanoseconds.
+/// The magic of a capture whose timestamps are in nanoseconds.
 const NANOSECONDS: u32 = 0xa1b2_3c4d;
 
-/// The number in the two octets from a place on.
+/// The number in the two octets starting at a place.
 #[tactic(auto, unfolding(crate::specs::Numbers::number_at))]
 fn u16_at(big: bool, octets: &[u8], place: usize) -> u16
     requires { place + 2 ≤ length octets.now }
@@ -32,7 +32,7 @@ fn u16_at(big: bool, octets: &[u8], place: usize) -> u16
     }
 }
 
-/// The number in the four octets from a place on.
+/// The number in the four octets starting at a place.
 #[tactic(auto, unfolding(crate::specs::Numbers::number_at))]
 fn u32_at(big: bool, octets: &[u8], place: usize) -> u32
     requires { place + 4 ≤ length octets.now }
@@ -51,7 +51,7 @@ fn is_magic(number: u32) -> bool
     number == MICROSECONDS || number == NANOSECONDS
 }
 
-/// What a header says, or the first of its faults.
+/// The fields of a header, or the first of its faults.
 pub(crate) fn parse_header(octets: &[u8; 24]) -> Result<Header, PcapFault>
     ensures header { IfOk result (λ header. header ≡ header_in octets.now) }
     ensures fault { fault_in result ≡ field_fault octets.now }
@@ -75,15 +75,15 @@ pub(crate) fn parse_header(octets: &[u8; 24]) -> Result<Header, PcapFault>
     })
 }
 
-/// What is needed of a record header.
+/// The fields of a record header that are needed.
 #[derive(Clone, Copy)]
 pub(crate) struct RecordHeader {
     pub(crate) stamp: Stamp,
-    /// The octets of the frame, 0 to 262,144.
+    /// How many octets the frame has, 0 to 262,144.
     pub(crate) kept: u32,
 }
 
-/// What a record header says, after so many capture records, or the first of its faults.
+/// The fields of a record header, after `count` capture records, or the first of its faults.
 pub(crate) fn parse_record_header(
     big: bool,
     count: u32,
@@ -158,7 +158,7 @@ pub(crate) fn header_octets(header: &Header) -> [u8; 24]
     ]
 }
 
-/// The 16 octets of the record header in front of a frame of so many octets.
+/// The 16 octets of the record header before a frame of `size` octets.
 pub(crate) fn record_header_octets(big: bool, stamp: Stamp, size: u32) -> [u8; 16]
     ensures { result ≡ record_header_text big stamp size }
 {

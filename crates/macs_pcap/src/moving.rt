@@ -8,7 +8,7 @@ use crate::fault::PcapFault;
 use crate::sink::Sink;
 use crate::source::Source;
 
-/// Fills a buffer from its front, or as much of it as the source has octets, and answers how much.
+/// Fills a buffer from its front with as many octets as the source has, and returns how many.
 pub(crate) fn fill<R: Source>(source: &mut R, into: &mut [u8]) -> Result<usize, PcapFault>
     ensures bound { IfOk result (λ count. count ≤ length into.new) }
     ensures octets { IfOk result (λ count.
@@ -30,7 +30,7 @@ pub(crate) fn fill<R: Source>(source: &mut R, into: &mut [u8]) -> Result<usize, 
     Ok(count)
 }
 
-/// Writes all these octets. Where a write fails, their front is written and not all of them.
+/// Writes all these octets. If a write fails, a prefix of them is written, not all.
 pub(crate) fn send<W: Sink>(sink: &mut W, octets: &[u8]) -> Result<(), PcapFault>
     ensures { WritesText (W.state sink.old) (W.state sink.new) octets.now result }
 {

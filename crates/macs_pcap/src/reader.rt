@@ -1,4 +1,4 @@
-//! Captures that are read.
+//! Reading captures.
 
 ghost use Rattle.std.specs.Prelude.{◌≡◌, ◌≢◌, ◌<◌, ◌≤◌, ◌+◌, ◌⊎◌, [], length, Some, None, Ok, Err};
 ghost use Rattle.std.specs.Prelude.{IfOk, IfErr, IfSome, OnOk, vec_capacity};
@@ -30,7 +30,7 @@ pub fn read_header<R: Source>(source: &mut R) -> Result<Header, PcapFault>
     parse_header(&octets)
 }
 
-/// Takes the octets of the next record header. At the end there are none.
+/// Takes the octets of the next record header, or `None` at the end.
 fn take_record_header<R: Source>(source: &mut R) -> Result<Option<[u8; 16]>, PcapFault>
     ensures taken { IfOk result (λ header.
         HoldsOfLeft (R.state source.old).left (R.state source.new).left (TakesOctets header)) }
@@ -50,7 +50,7 @@ fn take_record_header<R: Source>(source: &mut R) -> Result<Option<[u8; 16]>, Pca
     Ok(Some(octets))
 }
 
-/// Reads the next record header, after so many capture records. At the end there is none.
+/// Reads the next record header, after `count` capture records, or `None` at the end.
 fn read_record_header<R: Source>(
     source: &mut R,
     big: bool,
@@ -75,8 +75,8 @@ fn read_record_header<R: Source>(
     Ok(Some(header))
 }
 
-/// Reads the octets of a frame, which are all that the buffer then holds. What it held before is
-/// not looked at: a buffer that is as long already is not filled twice.
+/// Reads the octets of a frame, which are then the whole contents of the buffer. Its previous
+/// contents are overwritten in place: a buffer that is already that long is not filled twice.
 fn read_frame<R: Source, A: Allocator>(
     source: &mut R,
     kept: usize,
@@ -102,7 +102,8 @@ fn read_frame<R: Source, A: Allocator>(
     Ok(())
 }
 
-/// Reads the next capture record. Where there is none, or a fault, nothing is said of the buffer.
+/// Reads the next capture record. At the end or at a fault, the contents of the buffer are not
+/// specified.
 fn read_into<R: Source, A: Allocator>(
     source: &mut R,
     big: bool,
@@ -128,9 +129,9 @@ fn read_into<R: Source, A: Allocator>(
     Ok(Some(header.stamp))
 }
 
-/// Reads the next capture record of a capture whose numbers are in this order, after so many
-/// others. Its frame is all that `into` then holds. At the end there is none, and at a fault
-/// neither: then `into` is empty.
+/// Reads the next capture record of a capture whose numbers are in this order, after `count`
+/// others. Its frame is then the whole contents of `into`. At the end and at a fault, `into` is
+/// empty.
 pub fn read_record<R: Source, A: Allocator>(
     source: &mut R,
     big: bool,
@@ -149,19 +150,19 @@ pub fn read_record<R: Source, A: Allocator>(
     answer
 }
 
-/// A capture that is read.
+/// A capture that is being read.
 #[derive(Drop)]
 pub struct PcapReader<R: Source> {
     source: R,
     header: Header,
     /// How many capture records were taken.
     count: u32,
-    /// The fault that was answered and is answered from then on.
+    /// The first fault returned, which every later call returns too.
     fault: Option<PcapFault>,
 }
 
 impl<R: Source> PcapReader<R> {
-    /// Reads the header of a capture. Where there is a fault, the source is let go.
+    /// Reads the header of a capture. If it has a fault, the source is dropped.
     pub fn new(source: R) -> Result<PcapReader<R>, PcapFault>
     where
         R: Drop,
@@ -171,8 +172,8 @@ impl<R: Source> PcapReader<R> {
             IfSome (R.state source).left (AnswersHeaderFault fault)) }
         ensures names { IfErr result (λ fault.
             (fault ≢ PcapFault.Write) × (fault ≢ PcapFault.Memory)) }
-        // The source as it was let go: the header in it has this fault, and it is `Read` only where
-        // a read failed.
+        // The source as it was dropped: its header has this fault, which is `Read` only if a read
+        // failed.
         ensures refused { IfErr result (λ fault. (left : R)
             × ReadsHeader (R.state source) (R.state left) (Err fault)) }
         ensures count { IfOk result (λ reader. count_of reader ≡ 0) }
@@ -188,17 +189,17 @@ impl<R: Source> PcapReader<R> {
         })
     }
 
-    /// What the header said.
+    /// The header.
     pub fn header(&self) -> &Header
         ensures { result.now ≡ header_of self.now }
     {
         &self.header
     }
 
-    /// Reads the next capture record. Its frame is all that `into` then holds. At the end there is
-    /// none, and at a fault neither: then `into` is empty. After a fault nothing is read any more,
-    /// and that fault is answered for good. `into` never holds more than 262,144 octets, however
-    /// long the capture is.
+    /// Reads the next capture record. Its frame is then the whole contents of `into`. At the end
+    /// and at a fault, `into` is empty. After a fault nothing more is read, and each call returns
+    /// that fault. `into` never holds more than 262,144 octets, regardless of the length of the
+    /// capture.
     pub fn next<A: Allocator>(&mut self, into: &mut Vec<u8, A>) -> Result<Option<Stamp>, PcapFault>
         ensures reads { lasting_fault self.old ≡ None → ReadsRecord (header_of self.old).big
             (count_of self.old) (vec_capacity into.old) (R.state (source_of self.old))

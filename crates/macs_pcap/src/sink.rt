@@ -1,4 +1,4 @@
-//! Where the octets of a capture go.
+//! Destinations of the octets of a capture.
 
 ghost use Rattle.std.specs.Prelude.{◌≡◌, ◌<◌, length, false, true, IfOk, OnErr, OnOk};
 ghost use Rattle.std.specs.Io.{WritesAtMost};
@@ -11,14 +11,13 @@ use std::io::Write;
 #[derive(Clone, Copy)]
 pub struct WriteFailed;
 
-/// What octets are written to. It reports whether a write or a flush of it ever failed and whether
-/// all that was written is handed on, and may report which octets it took.
+/// A destination of octets. It reports whether a write or a flush of it ever failed and whether all
+/// that was written is flushed, and may report which octets it took.
 pub trait Sink {
-    /// What it reports of itself.
+    /// The state that it reports.
     ghost state: { Self → SinkState };
 
-    /// Writes some octets, from the first on, and answers how many: at least one, where there is
-    /// one.
+    /// Writes some octets, from the first on, and returns how many: at least one, if there is one.
     fn write(&mut self, from: &[u8]) -> Result<usize, WriteFailed>
         ensures bound { WritesAtMost result from.now }
         ensures octets { WriteAppends (state self.old).held (state self.new).held result from.now }
@@ -27,7 +26,7 @@ pub trait Sink {
         ensures failed { OnErr result ((state self.new).failed ≡ true) }
         ensures waits { 0 < length from.now → (state self.new).flushed ≡ false };
 
-    /// Hands on all that was written. A sink that keeps octets back may fail only here.
+    /// Flushes all that was written. A sink that buffers octets may fail only here.
     fn flush(&mut self) -> Result<(), WriteFailed>
         ensures octets { Keeps (state self.old).held (state self.new).held }
         ensures flushed { OnOk result ((state self.new).flushed ≡ true) }
@@ -35,10 +34,11 @@ pub trait Sink {
         ensures failed { OnErr result ((state self.new).failed ≡ true) };
 }
 
-/// A sink over a writer of the standard library. Each of its writes is one write of that writer, so
-/// a file is written through `BufWriter::with_capacity(alloc, 65_536, file)`: then the system is
-/// called once for 65,536 octets and not for each capture record, and its memory is taken once, at
-/// the beginning. What such a writer keeps back may fail late: whoever wants to know flushes.
+/// A sink over a standard-library writer. Each of its writes is one write of that writer, so a file
+/// should be written through `BufWriter::with_capacity(alloc, 65_536, file)`: then there is one
+/// system call per 65,536 octets instead of one per capture record, and memory is allocated only at
+/// the start. A write that such a writer buffers may fail late: a caller that needs to know
+/// flushes.
 #[derive(Drop)]
 pub struct WriterSink<W: Write> {
     writer: W,
@@ -80,8 +80,7 @@ impl<W: Write> Sink for WriterSink<W> {
 impl<W: Write> WriterSink<W> {
     ghost use Rattle.std.specs.Prelude.{◌≡◌, false};
 
-    /// A sink that took what the writer holds, to which no write failed, and which is to be
-    /// flushed.
+    /// A sink that took what the writer holds, to which no write failed, and which must be flushed.
     pub fn new(writer: W) -> WriterSink<W>
         ensures held { (⟦<WriterSink<W> as Sink>⟧.state result).held ≡ W.contents writer }
         ensures failed { (⟦<WriterSink<W> as Sink>⟧.state result).failed ≡ false }

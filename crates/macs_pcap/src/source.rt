@@ -1,4 +1,4 @@
-//! Where the octets of a capture come from.
+//! Sources of the octets of a capture.
 
 ghost use Rattle.std.specs.Prelude.{◌≡◌, true, OnErr, OnOk};
 ghost use Rattle.std.specs.Io.{ReadsAtMost};
@@ -11,14 +11,14 @@ use std::io::Read;
 #[derive(Clone, Copy)]
 pub struct ReadFailed;
 
-/// What octets are read from. It reports whether a read of it ever failed, and may report which
-/// octets it has left.
+/// A source of octets. It reports whether a read of it ever failed, and may report which octets it
+/// has left.
 pub trait Source {
-    /// What it reports of itself.
+    /// The state that it reports.
     ghost state: { Self → SourceState };
 
-    /// Reads some octets into the front of `into` and answers how many; none only at the end, or
-    /// where `into` has no room.
+    /// Reads some octets into the front of `into` and returns how many; none only at the end, or if
+    /// `into` is empty.
     fn read(&mut self, into: &mut [u8]) -> Result<usize, ReadFailed>
         ensures bound { ReadsAtMost result into.new }
         ensures octets { ReadConsumes (state self.old).left (state self.new).left result into.new }
@@ -26,10 +26,10 @@ pub trait Source {
         ensures failed { OnErr result ((state self.new).failed ≡ true) };
 }
 
-/// A source over a reader of the standard library. Each of its reads is one read of that reader, so
-/// a file is read through `BufReader::with_capacity(alloc, 65_536, file)`: then the system is
-/// called once for 65,536 octets and not for each capture record, and its memory is taken once, at
-/// the beginning.
+/// A source over a standard-library reader. Each of its reads is one read of that reader, so a file
+/// should be read through `BufReader::with_capacity(alloc, 65_536, file)`: then there is one system
+/// call per 65,536 octets instead of one per capture record, and memory is allocated only at the
+/// start.
 #[derive(Drop)]
 pub struct ReaderSource<R: Read> {
     reader: R,
@@ -54,7 +54,7 @@ impl<R: Read> Source for ReaderSource<R> {
 impl<R: Read> ReaderSource<R> {
     ghost use Rattle.std.specs.Prelude.{◌≡◌, false};
 
-    /// A source that has left what the reader has, and none of whose reads failed.
+    /// A source that has left what the reader has, none of whose reads has failed.
     pub fn new(reader: R) -> ReaderSource<R>
         ensures left { (⟦<ReaderSource<R> as Source>⟧.state result).left ≡ R.remaining reader }
         ensures failed { (⟦<ReaderSource<R> as Source>⟧.state result).failed ≡ false }

@@ -1,4 +1,4 @@
-//! Captures that are written.
+//! Writing captures.
 
 ghost use Rattle.std.specs.Prelude.{◌≡◌, ◌≤◌, length, Err, None, IfErr, IfOk, IfSome};
 ghost use Rattle.macs_pcap.specs.Header.{header_text, longest};
@@ -20,8 +20,7 @@ pub fn write_header<W: Sink>(sink: &mut W, header: &Header) -> Result<(), PcapFa
     send(sink, &header_octets(header))
 }
 
-/// Writes a capture record whose numbers go out in this order. The frame has at most 262,144
-/// octets.
+/// Writes a capture record whose numbers are in this order. The frame has at most 262,144 octets.
 pub fn write_record<W: Sink>(
     sink: &mut W,
     big: bool,
@@ -36,25 +35,25 @@ pub fn write_record<W: Sink>(
     send(sink, frame)
 }
 
-/// A capture that is written.
+/// A capture that is being written.
 #[derive(Drop)]
 pub struct PcapWriter<W: Sink> {
     sink: W,
     big: bool,
-    /// The fault that was answered and is answered from then on.
+    /// The first fault returned, which every later call returns too.
     fault: Option<PcapFault>,
 }
 
 impl<W: Sink> PcapWriter<W> {
-    /// Writes the header of a capture. Where that fails, its front is written, and the sink is let
-    /// go.
+    /// Writes the header of a capture. If that fails, a prefix of it is written, and the sink is
+    /// dropped.
     pub fn new(sink: W, header: &Header) -> Result<PcapWriter<W>, PcapFault>
     where
         W: Drop,
         ensures header { IfOk result (λ writer. WritesText (W.state sink)
             (W.state (sink_of writer)) (header_text header.now) result) }
         ensures fault { IfErr result (λ fault. fault ≡ PcapFault.Write) }
-        // The sink as it was let go: it has a front of the header, and a write to it failed.
+        // The sink as it was dropped: it has a prefix of the header, and a write to it failed.
         ensures cut { IfErr result (λ fault. (left : W)
             × CutsShort (W.state sink) (W.state left) (header_text header.now) fault) }
         ensures order { IfOk result (λ writer. writes_big writer ≡ header.now.big) }
@@ -69,9 +68,9 @@ impl<W: Sink> PcapWriter<W> {
         })
     }
 
-    /// Writes a capture record. The frame has at most 262,144 octets. Where a write fails, the
-    /// front of the record is written; after a fault nothing is written any more, and that fault is
-    /// answered for good.
+    /// Writes a capture record. The frame has at most 262,144 octets. If a write fails, a prefix of
+    /// the record is written; after a fault nothing more is written, and each call returns that
+    /// fault.
     pub fn put(&mut self, stamp: Stamp, frame: &[u8]) -> Result<(), PcapFault>
         requires { length frame.now ≤ longest }
         ensures writes { writer_fault self.old ≡ None → WritesText (W.state (sink_of self.old))
@@ -92,8 +91,8 @@ impl<W: Sink> PcapWriter<W> {
         answer
     }
 
-    /// Hands on all that was written, so that a write that fails late is reported. After a fault
-    /// nothing is handed on any more, and that fault is answered for good.
+    /// Flushes all that was written, so that a write that fails late is reported. After a fault
+    /// nothing more is flushed, and each call returns that fault.
     pub fn flush(&mut self) -> Result<(), PcapFault>
         ensures flushes { writer_fault self.old ≡ None
             → Flushes (W.state (sink_of self.old)) (W.state (sink_of self.new)) result }

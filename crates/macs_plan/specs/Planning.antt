@@ -30,7 +30,7 @@ abbrev pub own_key : KeyPair → End → Key
 own_key pair Left = pair.left
 own_key pair Right = pair.right
 
--- an end sends under a pair, encrypted whole, from packet number 1 on
+-- an end sends under a pair, with all User Data encrypted, from packet number 1 on
 abbrev pub sends : KeyPair → End → Command
 sends pair end = TxInstall pair.an (own_key pair end) 1 true 0
 
@@ -38,13 +38,13 @@ sends pair end = TxInstall pair.an (own_key pair end) 1 true 0
 abbrev pub receives : Link → KeyPair → End → Command
 receives link pair end = RxInstall (sci_of link (other_end end)) pair.an (own_key pair (other_end end)) 1 0
 
--- at the first keys of an end: it sends and receives under the newest pair
+-- for the first keys of an end: it sends and receives under the newest pair
 abbrev pub first_keys : Link → End → List Command
 first_keys link end =
     sends link.newest end ∷ TxUse link.newest.an ∷ RxAdd (sci_of link (other_end end))
     ∷ receives link link.newest end ∷ []
 
--- then for each new pair: it receives under it too
+-- then for each new pair: it also receives under it
 abbrev pub receive_both : Link → End → List Command
 receive_both link end = receives link link.newest end ∷ []
 
@@ -52,11 +52,11 @@ receive_both link end = receives link link.newest end ∷ []
 abbrev pub start_sending : Link → End → List Command
 start_sending link end = sends link.newest end ∷ TxUse link.newest.an ∷ []
 
--- and the pair before goes
+-- and the previous pair is removed
 abbrev pub remove_earlier : Link → End → KeyPair → List Command
 remove_earlier link end earlier = TxRemove earlier.an ∷ RxRemove (sci_of link (other_end end)) earlier.an ∷ []
 
--- the pair before the newest
+-- the previous pair
 abbrev pub pair_before : Link → Result KeyPair PlanFault
 pair_before link = elim link.before [ None ↦ Err fault.OneKey | Some earlier ↦ Ok earlier ]
 
@@ -67,6 +67,6 @@ planned link end stage.Receive = pair_before link >>= (λ (earlier : KeyPair). O
 planned link end stage.Send = pair_before link >>= (λ (earlier : KeyPair). Ok (start_sending link end))
 planned link end stage.Remove = pair_before link >>= (λ (earlier : KeyPair). Ok (remove_earlier link end earlier))
 
--- and of the link that a file says
+-- the same for the link in a file
 abbrev pub file_planned : Members → End → Stage → Result (List Command) PlanFault
 file_planned members end stage = file_link members >>= (λ (link : Link). planned link end stage)

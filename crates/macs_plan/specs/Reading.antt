@@ -1,4 +1,4 @@
--- The link that a file says, or the file's first fault.
+-- The link in a file, or the file's first fault.
 use Rattle.std.specs.Prelude.{◌+◌, ◌==◌, ◌||◌, ◌&&◌, not, ℕ, nat_lt, codes, if◌then◌else◌, Bool, false, List, [], ◌∷◌}
 use Rattle.std.specs.Prelude.{Option, Some, None, option_and_then, Result, Ok, Err}
 use Rattle.std.specs.Str.{bytes_eq}
@@ -28,22 +28,22 @@ table_at key members = option_and_then as_table (get_member key members)
 abbrev pub items_at : List ℕ → Members → Option Items
 items_at key members = option_and_then as_array (get_member key members)
 
--- the SAK at a key: 32 hex digits, or 64
+-- the SAK at a key: 32 or 64 hex digits
 abbrev pub key_at : List ℕ → Members → Option Key
 key_at key members = option_and_then key_of (text_at key members)
 
 infixl 10 ◌>>=◌
--- the first of two readings, and after it the second
+-- the first of two readings, followed by the second
 abbrev pub ◌>>=◌ : {X Y : Type 0} → Result X PlanFault → (X → Result Y PlanFault) → Result Y PlanFault
 Ok x >>= f = f x
 Err cause >>= f = Err cause
 
--- the value, or else where it should be
+-- the value, or the place where it should have been
 abbrev pub required : {X : Type 0} → Place → ValueName → Option X → Result X PlanFault
 required place name (Some x) = Ok x
 required place name None = Err (fault.Value place name)
 
--- what a table says that has no more than so many keys
+-- the value of a table that has no more than this many keys
 abbrev pub only : {X : Type 0} → Place → ℕ → Members → X → Result X PlanFault
 only place keys members x = if nat_lt keys (count members) then Err (fault.Extra place) else Ok x
 
@@ -55,7 +55,7 @@ end_sci place members = do
   sci ← required place name.Sci (sci_in members)
   only place 1 members sci
 
--- the pair of keys of table `at`, counted from 1
+-- the pair of keys of table `at`, counting from 1
 abbrev pub key_pair : ℕ → Members → Result KeyPair PlanFault
 key_pair at members = do
   an ← required (place.Key at) name.An (an_in members)
@@ -75,14 +75,14 @@ key_pairs at no_items = Ok []
 key_pairs at (item (table members) items) = followed (key_pair at members) (key_pairs (at + 1) items)
 key_pairs at (item other items) = Err fault.Shape
 
--- ---- what is refused of a link
+-- ---- refused links
 
 -- the octets of the keys of these pairs
 abbrev pub keys_of : List KeyPair → List (List ℕ)
 keys_of [] = []
 keys_of (pair ∷ pairs) = octets_of_key pair.left ∷ octets_of_key pair.right ∷ keys_of pairs
 
--- a pair has the association number of the one before it
+-- a pair has the association number of the previous one
 abbrev pub reuses_an : List KeyPair → Bool
 reuses_an [] = false
 reuses_an (pair ∷ []) = false
@@ -94,7 +94,7 @@ newest_link left right earlier [] = Err fault.Shape
 newest_link left right earlier (pair ∷ []) = Ok (record { left = left; right = right; newest = pair; before = earlier })
 newest_link left right earlier (pair ∷ next ∷ pairs) = newest_link left right (Some pair) (next ∷ pairs)
 
--- the link, unless both ends have one SCI, a key is there twice, or a number is in use
+-- the link, unless both ends have the same SCI, a key occurs twice, or a number is in use
 abbrev pub sound_link : List ℕ → List ℕ → List KeyPair → Result Link PlanFault
 sound_link left right pairs =
     if bytes_eq left right then Err fault.SameSci
@@ -104,7 +104,7 @@ sound_link left right pairs =
 
 -- ---- the file
 
--- the link that these tables say
+-- the link in these tables
 abbrev pub tables_link : Members → Members → Items → Result Link PlanFault
 tables_link left right items = do
   left_sci ← end_sci place.Left left
@@ -112,17 +112,17 @@ tables_link left right items = do
   pairs ← key_pairs 1 items
   sound_link left_sci right_sci pairs
 
--- there is a table of keys, and each is a table
+-- there is at least one table of keys, and each item is a table
 abbrev pub has_tables : Items → Bool
 has_tables no_items = false
 has_tables (item first items) = are_tables (item first items)
 
--- the link that a file of three keys says
+-- the link in a file with three keys
 abbrev pub shaped_link : ℕ → Members → Members → Items → Result Link PlanFault
 shaped_link keys left right items = if (keys == 3) && has_tables items then tables_link left right items
     else Err fault.Shape
 
--- the link that a file says: its keys are `left`, `right` and `key`, and no other
+-- the link in a file: its keys are `left`, `right` and `key`, and no others
 abbrev pub file_link : Members → Result Link PlanFault
 file_link members = elim (table_at (codes "left") members) [
   | None ↦ Err fault.Shape

@@ -75,7 +75,7 @@ abbrev pub tables_of : List Command → Items
 tables_of [] = no_items
 tables_of (command ∷ commands) = item (table (table_of command)) (tables_of commands)
 
--- the members of a whole command file, which is for the end of this SCI
+-- the members of a whole command file, which is for the end with this SCI
 abbrev pub file_of : List ℕ → List Command → Members
 file_of sci commands =
     member (codes "command") (array (tables_of commands)) (member (codes "sci") (digits sci) no_members)
@@ -84,31 +84,31 @@ file_of sci commands =
 abbrev pub IsTextOf : Members → List ℕ → Type 0
 IsTextOf members text = IsDocumentText false members text × (parse_document text ≡ Some members)
 
--- a text is the command file of these commands for the end of this SCI: it is written so, and it is read as just these,
--- and as for this end
+-- a text is the command file of these commands for the end with this SCI: it is written from them, and it is read back
+-- as exactly these, and as for this end
 pub record SaysCommands (sci : List ℕ) (commands : List Command) (text : List ℕ) : Type 0 where
   pub written : IsDocumentText false (file_of sci commands) text
   pub read : parse_document text ≡ Some (file_of sci commands)
   pub taken : end_commands (file_of sci commands) ≡ Ok commands
   pub end : end_in (file_of sci commands) ≡ Ok (Some sci)
 
--- a text is the command file of what is planned at an end of a link, for that end
+-- a text is the command file planned at an end of a link, for that end
 abbrev pub PlansLinkText : Link → End → Stage → List ℕ → Type 0
 PlansLinkText link end stage text =
     (commands : List Command) × (planned link end stage ≡ Ok commands) × SaysCommands (sci_of link end) commands text
 
--- and of the link that a file says
+-- the same for the link in a file
 abbrev pub PlansText : Members → End → Stage → List ℕ → Type 0
 PlansText members end stage text =
     (link : Link) × (file_link members ≡ Ok link) × PlansLinkText link end stage text
 
--- the key of an install has its length
+-- the key of an install has a valid length
 abbrev pub HasItsKey : Command → Type 0
 HasItsKey (TxInstall an key start confidential offset) = HasItsLength key
 HasItsKey (RxInstall sci an key start offset) = HasItsLength key
 HasItsKey command = Unit {0}
 
--- ---- how a table is made
+-- ---- building a table
 
 -- the members with a value at a key
 abbrev pub put_member : List ℕ → Data → Members → Members

@@ -1,4 +1,4 @@
-//! The values at the keys of a link's file.
+//! The values at the keys of a link file.
 
 ghost use Rattle.std.specs.Prelude.{◌≡◌, option_map};
 ghost use Rattle.toml.specs.View.{array_view, table_view, view};

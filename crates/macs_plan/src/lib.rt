@@ -1,4 +1,4 @@
-//! A link that is described in one file: the command files of each end, stage by stage.
+//! A link described in one file: the command files of each end, stage by stage.
 #![tactic(auto)]
 
 mod fields;

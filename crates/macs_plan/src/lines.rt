@@ -19,8 +19,8 @@ use macs_secrets::digits_of;
 use std::alloc::{AllocError, Global};
 use toml::{Table, Value};
 
-/// A table with a value at a key more. Where the table or the value could not be made, or there is
-/// no memory, an error.
+/// A table with one more value, at a key. Fails if the table or the value could not be made, or
+/// memory runs out.
 pub(crate) fn with(
     alloc: Global,
     table: Result<Table, AllocError>,
@@ -46,7 +46,7 @@ pub(crate) fn with(
     }
 }
 
-/// A table of a command, with its word alone.
+/// A table of a command that holds only its word.
 fn with_word(alloc: Global, word: &str) -> Result<Table, AllocError>
     ensures { IfOk result (λ t. table_view t ≡ member (codes "do") (string word.now) no_members) }
 {
@@ -246,14 +246,14 @@ fn rx_remove(alloc: Global, sci: Sci, an: An) -> Result<Table, AllocError>
     with(alloc, table, "an", an_value(an))
 }
 
-/// A key has its length.
+/// A key has a valid length.
 fn key_has_its_length(key: &Key)
     ensures { HasItsLength key.now }
 {
     let _octets = key.as_slice();
 }
 
-/// The key of an install has its length.
+/// The key of an install has a valid length.
 fn has_its_key(command: &Command)
     ensures { HasItsKey command.now }
 {

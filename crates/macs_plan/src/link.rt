@@ -12,8 +12,8 @@ pub enum End {
     Right,
 }
 
-/// The keys of an association number: of the frames from the left end, and of those from the right
-/// end. It has no `Debug`, so that no key is printed.
+/// The keys of an association number: for the frames from the left end, and for those from the
+/// right end. It has no `Debug`, so that no key is printed.
 #[derive(Clone, Copy, PartialEq, Eq)]
 pub struct KeyPair {
     pub an: An,
@@ -21,7 +21,7 @@ pub struct KeyPair {
     pub right: Key,
 }
 
-/// The SCIs of the two ends, the newest pair of keys, and the one before it, where there is one.
+/// The SCIs of the two ends, the newest pair of keys, and the previous one, if there is one.
 #[derive(Clone, Copy, PartialEq, Eq)]
 pub struct Link {
     pub left: Sci,

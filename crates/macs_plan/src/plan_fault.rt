@@ -1,13 +1,13 @@
 //! Why nothing is planned.
 
-/// A table of a link's file.
+/// A table of a link file.
 #[derive(Clone, Copy, Debug, PartialEq, Eq)]
 pub enum Place {
     /// `[left]`
     Left,
     /// `[right]`
     Right,
-    /// A table `[[key]]`. They are counted from 1.
+    /// A table `[[key]]`, counting from 1.
     Key { at: usize },
 }
 
@@ -20,28 +20,27 @@ pub enum ValueName {
     Right,
 }
 
-/// The first fault of a link's file. `Shape` comes before all others, then the tables `[left]`,
+/// The first fault of a link file. `Shape` comes before all others, then the tables `[left]`,
 /// `[right]` and each `[[key]]` in order, in a table `Value` and `Extra` in this order, and then
-/// `SameSci`, `SameKey` and `AnInUse`; `OneKey` is looked for when commands are planned.
+/// `SameSci`, `SameKey` and `AnInUse`; `OneKey` is checked when commands are planned.
 #[derive(Clone, Copy, Debug, PartialEq, Eq)]
 pub enum PlanFault {
-    /// The file has another key than `left`, `right` and `key` or not all three, one of the first
-    /// two is no table, or the last is no array of tables or has none.
+    /// The keys of the file are not exactly `left`, `right` and `key`, one of the first two is not
+    /// a table, or the last is not an array of tables or is empty.
     Shape,
-    /// A value is absent, of another kind or out of range: the first such one of its table, in the
+    /// A value is missing, of another type or out of range: the first such one of its table, in the
     /// order `sci`, or `an`, `left`, `right`.
     Value { place: Place, name: ValueName },
     /// A table has another key.
     Extra { place: Place },
-    /// Both ends have one SCI.
+    /// Both ends have the same SCI.
     SameSci,
-    /// A key is there twice: in both directions, or in two pairs.
+    /// A key occurs twice: in both directions, or in two pairs.
     SameKey,
-    /// A pair has the association number of the one before it, which is in use until it is
-    /// replaced.
+    /// A pair has the association number of the previous one, which is in use until it is replaced.
     AnInUse,
-    /// Keys are to be changed, and there is one pair alone.
+    /// Keys should be replaced, and there is only one pair.
     OneKey,
-    /// There is no memory.
+    /// Memory ran out.
     Memory,
 }

@@ -1,4 +1,4 @@
-//! The commands of a stage at one end, and their file.
+//! The commands for a stage at one end, and their file.
 
 ghost use Rattle.std.specs.Prelude.{◌≡◌, ◌≢◌, IfOk, IfErr, Ok, Err, Some, List, string_bytes};
 ghost use Rattle.toml.specs.View.{table_view};
@@ -20,7 +20,7 @@ use std::alloc::Global;
 use toml::Table;
 
 /// What is done at an end, stage by stage: the first keys; then, for each new pair, both ends first
-/// receive under it too, then send under it, and then the pair before goes.
+/// also receive under it, then send under it, and then the previous pair is removed.
 #[derive(Clone, Copy, Debug, PartialEq, Eq)]
 pub enum Stage {
     /// The first keys are installed on both sides.
@@ -63,7 +63,7 @@ fn own_key(pair: &KeyPair, end: End) -> Key
     }
 }
 
-/// The command by which an end may send under a pair.
+/// The command that lets an end send under a pair.
 fn sends(pair: &KeyPair, end: End) -> Command
     ensures { result ≡ sends pair.now end }
 {
@@ -76,7 +76,7 @@ fn sends(pair: &KeyPair, end: End) -> Command
     }
 }
 
-/// The command by which an end receives under a pair what the other end sends.
+/// The command that lets an end receive under a pair what the other end sends.
 fn receives(link: &Link, pair: &KeyPair, end: End) -> Command
     ensures { result ≡ receives link.now pair.now end }
 {
@@ -90,7 +90,7 @@ fn receives(link: &Link, pair: &KeyPair, end: End) -> Command
     }
 }
 
-/// These commands, unless there is no memory for them.
+/// These commands, or `Memory` if there is no memory for them.
 fn listed<const N: usize>(alloc: Global, commands: [Command; N]) -> Result<Vec<Command>, PlanFault>
     ensures commands { IfOk result (λ listed. listed.items ≡ commands.entry) }
     ensures fault { IfErr result (λ fault. fault ≡ Memory) }
@@ -118,7 +118,7 @@ fn first_keys(alloc: Global, link: &Link, end: End) -> Result<Vec<Command>, Plan
     listed(alloc, commands)
 }
 
-/// The command by which an end receives under the newest pair too.
+/// The command that lets an end also receive under the newest pair.
 fn receive_both(alloc: Global, link: &Link, end: End) -> Result<Vec<Command>, PlanFault>
     ensures commands { IfOk result (λ commands. commands.items ≡ receive_both link.now end) }
     ensures fault { IfErr result (λ fault. fault ≡ Memory) }
@@ -127,7 +127,7 @@ fn receive_both(alloc: Global, link: &Link, end: End) -> Result<Vec<Command>, Pl
     listed(alloc, [receives(link, &newest, end)])
 }
 
-/// The commands by which an end sends under the newest pair.
+/// The commands that let an end send under the newest pair.
 fn start_sending(alloc: Global, link: &Link, end: End) -> Result<Vec<Command>, PlanFault>
     ensures commands { IfOk result (λ commands. commands.items ≡ start_sending link.now end) }
     ensures fault { IfErr result (λ fault. fault ≡ Memory) }
@@ -137,7 +137,7 @@ fn start_sending(alloc: Global, link: &Link, end: End) -> Result<Vec<Command>, P
     listed(alloc, commands)
 }
 
-/// The commands that remove the pair before.
+/// The commands that remove the previous pair.
 fn remove_earlier(
     alloc: Global,
     link: &Link,
@@ -158,7 +158,7 @@ fn remove_earlier(
     listed(alloc, commands)
 }
 
-/// The pair before the newest.
+/// The previous pair.
 fn pair_before(link: &Link) -> Result<KeyPair, PlanFault>
     ensures { result ≡ pair_before link.now }
 {
@@ -168,8 +168,8 @@ fn pair_before(link: &Link) -> Result<KeyPair, PlanFault>
     }
 }
 
-/// The commands of a stage at an end, in order. Refused as `OneKey` where keys are to be changed
-/// and the link has one pair alone, or as `Memory`.
+/// The commands for a stage at an end, in order. Fails with `OneKey` if keys should be replaced and
+/// the link has only one pair, or with `Memory`.
 pub fn planned(
     alloc: Global,
     link: &Link,
@@ -203,7 +203,7 @@ pub fn planned(
     }
 }
 
-/// The command file of a stage at an end, as text.
+/// The command file for a stage at an end, as text.
 fn link_plan(alloc: Global, link: &Link, end: End, stage: Stage) -> Result<String, PlanFault>
     ensures text { IfOk result (λ text. PlansLinkText link.now end stage (string_bytes text)) }
     ensures fault { IfErr result (λ fault. fault ≢ Memory
@@ -216,8 +216,8 @@ fn link_plan(alloc: Global, link: &Link, end: End, stage: Stage) -> Result<Strin
     }
 }
 
-/// The command file of a stage at an end of the link that a file says, as text: it names the SCI of
-/// that end. Refused with the file's first fault, as `OneKey`, or as `Memory`.
+/// The command file for a stage at an end of the link in a file, as text: it names the SCI of that
+/// end. Fails with the file's first fault, with `OneKey`, or with `Memory`.
 pub fn plan(alloc: Global, file: &Table, end: End, stage: Stage) -> Result<String, PlanFault>
     ensures text { IfOk result
         (λ text. PlansText (table_view file.now) end stage (string_bytes text)) }

@@ -1,4 +1,4 @@
-//! The link that a file says.
+//! The link in a file.
 
 ghost use Rattle.std.specs.Prelude.{◌≡◌, ◌≢◌, ◌<◌, ◌^◌, length, IfOk, IfErr, Ok, Err};
 ghost use Rattle.toml.specs.View.{items_view, table_view};
@@ -15,11 +15,11 @@ use macs_fields::Sci;
 use std::alloc::Allocator;
 use toml::{Table, Value};
 
-/// The link that a file says. Its keys are `left` and `right`, each a table with the SCI of that
-/// end at `sci`, 16 hex digits, and `key`, an array of tables, one for each pair of keys, the
-/// newest last. Such a table has the association number at `an`, 0 to 3, and the SAKs of the frames
-/// from each end at `left` and `right`, 32 hex digits or 64. Refused with the file's first fault,
-/// or as `Memory`.
+/// Reads the link in a file. Its keys are `left` and `right`, each a table with the SCI of that end
+/// at `sci`, 16 hex digits, and `key`, an array of tables, one for each pair of keys, the newest
+/// last. Such a table has the association number at `an`, 0 to 3, and the SAKs for the frames from
+/// each end at `left` and `right`, 32 or 64 hex digits. Fails with the file's first fault, or with
+/// `Memory`.
 pub fn link_of<A: Allocator>(alloc: A, file: &Table) -> Result<Link, PlanFault>
     ensures link { IfOk result (λ link. file_link (table_view file.now) ≡ Ok link) }
     ensures fault { IfErr result (λ fault. fault ≢ Memory
@@ -40,14 +40,14 @@ pub fn link_of<A: Allocator>(alloc: A, file: &Table) -> Result<Link, PlanFault>
     tables_link(alloc, left, right, pairs)
 }
 
-/// Whether there is a value, and each is a table.
+/// Whether there is at least one value, and each is a table.
 fn has_tables(values: &[Value]) -> bool
     ensures { result ≡ has_tables (items_view values.now) }
 {
     !values.is_empty() && are_tables(values)
 }
 
-/// The link that these tables say.
+/// The link in these tables.
 fn tables_link<A: Allocator>(
     alloc: A,
     left: &Table,
@@ -83,7 +83,7 @@ fn end_sci(place: Place, table: &Table) -> Result<Sci, PlanFault>
     Ok(sci)
 }
 
-/// The pairs of keys of these tables, which are counted from 1.
+/// The pairs of keys of these tables, counting from 1.
 fn key_pairs<A: Allocator>(alloc: A, tables: &[Value]) -> Result<Vec<KeyPair, A>, PlanFault>
     requires { length tables.now < 2 ^ 63 }
     ensures pairs { IfOk result (λ pairs. key_pairs 1 (items_view tables.now) ≡ Ok pairs.items) }
@@ -103,7 +103,7 @@ fn key_pairs<A: Allocator>(alloc: A, tables: &[Value]) -> Result<Vec<KeyPair, A>
     Ok(pairs)
 }
 
-/// The pair of keys of table `at`, counted from 1.
+/// The pair of keys of table `at`, counting from 1.
 fn key_pair(at: usize, table: &Table) -> Result<KeyPair, PlanFault>
     ensures { result ≡ key_pair at (table_view table.now) }
 {

@@ -1,4 +1,4 @@
-//! What is refused of a link that is read.
+//! The checks on a link that is read.
 
 ghost use Rattle.std.specs.Prelude.{◌≡◌, ◌∷◌, ◌||◌, None};
 ghost use Rattle.std.specs.Str.{bytes_eq};
@@ -39,7 +39,8 @@ fn have_key(pairs: &[KeyPair], key: &Key) -> bool
     false
 }
 
-/// Whether the left key of a pair is its right one too, or either is among the keys of later pairs.
+/// Whether the left key of a pair is also its right one, or either is among the keys of later
+/// pairs.
 fn comes_again(pair: &KeyPair, later: &[KeyPair]) -> bool
     ensures { result
         ≡ (is_among (octets_of_key pair.now.right ∷ keys_of later.now) (octets_of_key pair.now.left)
@@ -48,7 +49,7 @@ fn comes_again(pair: &KeyPair, later: &[KeyPair]) -> bool
     are_same(&pair.right, &pair.left) || have_key(later, &pair.left) || have_key(later, &pair.right)
 }
 
-/// Whether no key is there twice.
+/// Whether no key occurs twice.
 fn keys_differ(pairs: &[KeyPair]) -> bool
     ensures { result ≡ are_distinct (keys_of pairs.now) }
 {
@@ -61,7 +62,7 @@ fn keys_differ(pairs: &[KeyPair]) -> bool
     true
 }
 
-/// Whether a pair has the association number of the one before it.
+/// Whether a pair has the association number of the previous one.
 fn reuses_an(pairs: &[KeyPair]) -> bool
     ensures { result ≡ reuses_an pairs.now }
 {

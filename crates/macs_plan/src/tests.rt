@@ -1,4 +1,4 @@
-//! Files of a link written by hand, and what is planned of them.
+//! Link files written by hand, and what is planned from them.
 
 use crate::{End, Place, PlanFault, Stage, ValueName, plan};
 use std::alloc::Global;
@@ -17,7 +17,7 @@ const SECOND: &str = "[[key]]\nan = 1\n\
     left = '000102030405060708090a0b0c0d0e0f101112131415161718191a1b1c1d1e1f'\n\
     right = 'ffeeddccbbaa99887766554433221100'\n";
 
-/// A later pair, again at the first number.
+/// A later pair, which reuses the first number.
 const THIRD: &str = "[[key]]\nan = 0\nleft = '9c0f3b51d7e8426a81b5c6d4e3f20719'\n\
     right = '27d1a84e6b3c95f00e6f7d8c9b1a4352'\n";
 
@@ -42,7 +42,7 @@ fn planned(
     plan(alloc, &table, end, stage)
 }
 
-/// The command file of a stage is this text.
+/// The command file for a stage is this text.
 fn is_planned(
     rt: &impl Abort,
     alloc: Global,
@@ -57,7 +57,7 @@ fn is_planned(
     assert!(rt; text.as_str() == wanted, "{text}");
 }
 
-/// A file is refused as this.
+/// A file is refused with this fault.
 fn is_refused(rt: &impl Abort, alloc: Global, parts: &[&str], stage: Stage, wanted: PlanFault) {
     let fault = planned(rt, alloc, parts, End::Left, stage).err();
     assert!(rt; fault == Some(wanted));

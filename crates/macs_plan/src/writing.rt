@@ -13,8 +13,8 @@ use macs_fields::laws::sci_in_range;
 use std::alloc::{AllocError, Global};
 use toml::{Table, Value};
 
-/// The command file of these commands for the end of this SCI, as text: it is read as just these,
-/// and as for this end. An error where there is no memory.
+/// The command file of these commands for the end with this SCI, as text: it is read back as
+/// exactly these, and as for this end. Fails if memory runs out.
 pub fn command_file(alloc: Global, sci: Sci, commands: &[Command]) -> Result<String, AllocError>
     ensures { IfOk result (λ text. SaysCommands sci commands.now (string_bytes text)) }
 {
@@ -33,7 +33,7 @@ pub fn command_file(alloc: Global, sci: Sci, commands: &[Command]) -> Result<Str
     written(alloc, file_table(alloc, sci, Value::from(tables)))
 }
 
-/// The table of a file that is for the end of this SCI, with this at `command`.
+/// The table of a file for the end with this SCI, with this value at `command`.
 fn file_table(alloc: Global, sci: Sci, commands: Value) -> Result<Table, AllocError>
     ensures { IfOk result (λ t. table_view t
         ≡ member (codes "command") (view commands) (member (codes "sci") (digits sci) no_members)) }
@@ -42,7 +42,7 @@ fn file_table(alloc: Global, sci: Sci, commands: Value) -> Result<Table, AllocEr
     with(alloc, file, "command", Ok(commands))
 }
 
-/// The text of a table, where it could be made.
+/// The text of a table, if it could be made.
 fn written(alloc: Global, file: Result<Table, AllocError>) -> Result<String, AllocError>
     ensures { (members : Members) → IfOk file (λ t. table_view t ≡ members)
         → members_depth members ≤ 80

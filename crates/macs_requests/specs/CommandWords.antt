@@ -21,7 +21,7 @@ command_word_of (RxDrop sci) = words.RxDrop
 command_word_of (RxInstall sci an key start offset) = words.RxInstall
 command_word_of (RxRemove sci an) = words.RxRemove
 
--- the word of a receive command that a text is
+-- the receive command word in a text
 abbrev pub rx_word_read : List ℕ → Option CommandWord
 rx_word_read word =
     if bytes_eq word (codes "rx-add") then Some words.RxAdd
@@ -30,7 +30,7 @@ rx_word_read word =
     else if bytes_eq word (codes "rx-remove") then Some words.RxRemove
     else None
 
--- the word of a transmit or of a receive command that a text is
+-- the transmit or receive command word in a text
 abbrev pub channel_word_read : List ℕ → Option CommandWord
 channel_word_read word =
     if bytes_eq word (codes "tx-install") then Some words.TxInstall
@@ -38,7 +38,7 @@ channel_word_read word =
     else if bytes_eq word (codes "tx-remove") then Some words.TxRemove
     else rx_word_read word
 
--- the word of a command that a text is
+-- the command word in a text
 abbrev pub word_read : List ℕ → Option CommandWord
 word_read word =
     if bytes_eq word (codes "set-validate") then Some words.SetValidate

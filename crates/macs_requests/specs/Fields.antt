@@ -1,4 +1,4 @@
--- The fields of commands, as they are written: one form for each.
+-- The fields of commands, as they are written: each value has one form.
 use Rattle.std.specs.Prelude.{ℕ, if◌then◌else◌, Bool, true, false, List, codes}
 use Rattle.std.specs.Str.{bytes_eq}
 use Rattle.hex.specs.Hex.{encode_lower}
@@ -9,7 +9,7 @@ use Rattle.macs_config.specs.declared.command.SciMode.TheVariants.{Explicit, End
 use Rattle.macs_config.specs.declared.command.Validate.{Validate}
 use Rattle.macs_config.specs.declared.command.Validate.TheVariants.{Strict, Check}
 
--- ---- as they are written
+-- ---- writing
 
 -- what is done with frames that do not verify
 abbrev pub validate_word : Validate → List ℕ
@@ -32,17 +32,17 @@ abbrev pub protection_word : Bool → List ℕ
 protection_word true = codes "confidential"
 protection_word false = codes "integrity"
 
--- a key, in 32 hex digits or 64, of lower case
+-- a key, in 32 or 64 lower-case hex digits
 abbrev pub key_digits : Key → List ℕ
 key_digits key = encode_lower (octets_of_key key)
 
--- ---- as they are read
+-- ---- reading
 
 -- what is done with frames that do not verify: strict, unless the word is that for check
 abbrev pub validate_of : List ℕ → Validate
 validate_of text = if bytes_eq text (codes "check") then Check else Strict
 
--- how transmitted frames name the channel: explicit, unless the word is another's
+-- how transmitted frames name the channel: explicit, unless the word is that of another mode
 abbrev pub sci_mode_of : List ℕ → SciMode
 sci_mode_of text =
     if bytes_eq text (codes "end-station") then EndStation

@@ -13,13 +13,13 @@ use Rattle.macs_requests.specs.Fields.{key_digits, protection_word, replay_word,
 
 -- ---- values
 
--- the key of a command, where it has one, has 16 octets or 32, as its type says
+-- the key of a command, if it has one, has 16 or 32 octets, according to its type
 abbrev pub HasItsKey : Command → Type 0
 HasItsKey (TxInstall an key start confidential offset) = HasItsLength key
 HasItsKey (RxInstall sci an key start offset) = HasItsLength key
 HasItsKey command = Unit {0}
 
--- a command whose fields are in the ranges that their types keep
+-- a command whose fields are in the ranges of their types
 abbrev pub IsTold : Command → Type 0
 IsTold command = IsCommand command × HasItsKey command
 
@@ -38,7 +38,7 @@ word_of (RxDrop sci) = codes "rx-drop"
 word_of (RxInstall sci an key start offset) = codes "rx-install"
 word_of (RxRemove sci an) = codes "rx-remove"
 
--- its fields: numbers in decimal digits, octets in hex digits of lower case
+-- its fields: numbers in decimal, octets in lower-case hex digits
 abbrev pub fields_of : Command → List ℕ
 fields_of (SetValidate validate) = validate_word validate
 fields_of (SetReplay on window) = spaced (replay_word on) (decimal window)
@@ -54,6 +54,6 @@ fields_of (RxInstall sci an key start offset) =
     spaced (encode_lower sci) (spaced (decimal an) (spaced (key_digits key) (spaced (decimal start) (decimal offset))))
 fields_of (RxRemove sci an) = spaced (encode_lower sci) (decimal an)
 
--- the line of a command, without its end
+-- the line of a command, without its line feed
 abbrev pub command_line : Command → List ℕ
 command_line command = spaced (word_of command) (fields_of command)

@@ -1,17 +1,17 @@
-//! Who asks: the clients of a desk.
+//! The clients of a desk.
 
 use crate::inbox::Line;
 use macs_secrets::wipe;
 
-/// A client: the number of its connection, from 1 on. No number is used again, so that an answer to
-/// a client that went away comes to nobody.
+/// A client: the number of its connection, from 1 on. No number is reused, so that an answer to a
+/// client that went away goes to nobody.
 #[derive(Clone, Copy, Debug, Default, PartialEq, Eq)]
 pub struct Client(pub u64);
 
-/// A line, and the client that sent it. The line is overwritten when it is let go.
+/// A line, and the client that sent it. The line is overwritten when it is dropped.
 pub struct Heard {
     pub client: Client,
-    /// Without its end.
+    /// Without its line feed.
     pub line: Line,
 }
 
@@ -25,34 +25,34 @@ impl Drop for Heard {
     }
 }
 
-/// The clients of a desk. No call but `sleep` waits, whatever a client does.
+/// The clients of a desk. No call except `sleep` waits, no matter what a client does.
 pub trait Clients {
     ghost use Rattle.std.specs.Prelude.{◌≡◌, List, [], ◌∷◌, Option, None};
     ghost use Rattle.macs_requests.specs.Talks.{Heard as WasHeard, Looked, Said, Slept};
     ghost use Rattle.macs_requests.specs.Talks.{Talk, with_talk};
 
-    /// What passed between them and a desk, the earliest first, where that is known.
+    /// What passed between them and a desk, earliest first, if known.
     ghost talk: { Self → Option (List Talk) } = { λ _. None };
 
-    /// Takes the next whole line of a client, where there is one. Lines of one client come in the
+    /// Takes the next whole line of a client, if there is one. Lines of one client come in the
     /// order in which it sent them.
     fn hear(&mut self) -> Option<Heard>
         ensures { talk self.new ≡ with_talk (talk self.old) (WasHeard result ∷ []) };
 
     /// Sends a text to a client. Each line that was heard is answered once: by texts, the last of
     /// which ends in the line `end STATUS`. Nothing is sent to a client that went away; one that
-    /// does not take all of a text at once is let go, and nothing more is sent to it. One that
-    /// sends no more is let go after its last answer.
+    /// does not take all of a text at once is dropped, and nothing more is sent to it. One that
+    /// sends no more is dropped after its last answer.
     fn say(&mut self, client: Client, text: &[u8])
         ensures { talk self.new ≡ with_talk (talk self.old) (Said client text.now ∷ []) };
 
-    /// Sleeps until a datagram or a client is there, and for a bounded time. It is called only
-    /// after a quiet turn.
+    /// Sleeps until a datagram arrives or a client sends something, for a bounded time. It is
+    /// called only after a quiet turn.
     fn sleep(&mut self)
         ensures { talk self.new ≡ with_talk (talk self.old) (Slept ∷ []) };
 
-    /// Whether the process was asked to end from outside, as by a SIGTERM that is held back. It may
-    /// be called before each turn, and looks no more than about once a second.
+    /// Whether the process was asked to end from outside, for example by a pending SIGTERM. It may
+    /// be called before each turn, and checks at most about once a second.
     fn is_ended(&mut self) -> bool
         ensures { talk self.new ≡ with_talk (talk self.old) (Looked result ∷ []) };
 }

@@ -3,7 +3,7 @@
 ghost use Rattle.std.specs.Prelude.{◌≡◌};
 ghost use Rattle.macs_requests.specs.CommandWords.{channel_word_read, rx_word_read, word_read};
 
-/// The word of a command that a line begins with.
+/// The word at the start of a command's line.
 #[derive(Clone, Copy, PartialEq, Eq)]
 pub enum CommandWord {
     SetValidate,
@@ -19,7 +19,7 @@ pub enum CommandWord {
 }
 
 impl CommandWord {
-    /// The word of a command that a text is, `None` where it is none.
+    /// The command word in a text, `None` if it is none.
     pub(crate) fn of(word: &str) -> Option<CommandWord>
         ensures { result ≡ word_read word.now }
     {
@@ -34,7 +34,7 @@ impl CommandWord {
         }
     }
 
-    /// The word of a transmit or of a receive command that a text is.
+    /// The transmit or receive command word in a text.
     fn of_channels(word: &str) -> Option<CommandWord>
         ensures { result ≡ channel_word_read word.now }
     {
@@ -49,7 +49,7 @@ impl CommandWord {
         }
     }
 
-    /// The word of a receive command that a text is.
+    /// The receive command word in a text.
     fn of_rx(word: &str) -> Option<CommandWord>
         ensures { result ≡ rx_word_read word.now }
     {

@@ -1,4 +1,4 @@
-//! What a line is taken for: the only command that it can be that of.
+//! The only command whose line a text can be.
 
 ghost use Rattle.std.specs.Prelude.{◌≡◌, ℕ, Bool, List};
 ghost use Rattle.macs_aes.specs.declared.keys.Key.{Key as AnyKey};
@@ -73,7 +73,7 @@ fn rx_remove(text: &str) -> Command
     }
 }
 
-/// The command of this word that fields are taken for.
+/// The command with this word, from its fields.
 fn fields_taken(word: CommandWord, text: &str) -> Command
     ensures { (command : Command) → IsTold command → word ≡ command_word_of command
         → text.now ≡ fields_of command → result ≡ command }
@@ -92,7 +92,7 @@ fn fields_taken(word: CommandWord, text: &str) -> Command
     }
 }
 
-/// The command that a line is taken for. Where it is the line of a command, it is that one.
+/// The command whose line this is, if it is the line of a command; otherwise some command.
 pub(crate) fn taken_for(line: &str) -> Command
     ensures { (command : Command) → IsTold command → line.now ≡ command_line command
         → result ≡ command }

@@ -12,7 +12,7 @@ use std::alloc::{AllocError, Global};
 pub(crate) struct Parts<'a> {
     /// The text up to the blank, or all of it.
     pub word: &'a str,
-    /// What comes after the blank, or nothing.
+    /// What follows the blank, or nothing.
     pub rest: &'a str,
 }
 

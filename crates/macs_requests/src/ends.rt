@@ -7,8 +7,8 @@ use crate::cutting::cut;
 use crate::fields::octet;
 use std::alloc::{AllocError, Global};
 
-/// The last line of an answer, without its end: `end` and the exit status of the program that
-/// asked. It fails only where memory is refused.
+/// The last line of an answer, without its line feed: `end` and the exit status for the program
+/// that asked. Fails only if memory runs out.
 pub fn line_of_end(alloc: Global, status: u8) -> Result<String, AllocError>
     ensures { IfOk result (λ text. string_bytes text ≡ end_line status) }
 {
@@ -16,8 +16,8 @@ pub fn line_of_end(alloc: Global, status: u8) -> Result<String, AllocError>
     Ok(text)
 }
 
-/// The exit status of a line that ends an answer, `None` where it ends none. What was written is
-/// read. It fails only where memory is refused.
+/// The exit status in a line that ends an answer, `None` if it does not. It reads what
+/// `line_of_end` writes. Fails only if memory runs out.
 pub fn end_of_line(alloc: Global, line: &str) -> Result<Option<u8>, AllocError>
     ensures read { (status : ℕ) → status < 2 ^ 8 → line.now ≡ end_line status
         → IfOk result (λ found. found ≡ Some status) }

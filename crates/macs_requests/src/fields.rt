@@ -1,5 +1,5 @@
-//! The fields of a command, each read from its text. A text that is none of a field's is taken for
-//! some value: whoever reads a line compares it with what that value is written as.
+//! The fields of a command, each read from its text. An invalid text is read as some value: whoever
+//! reads a line compares it with the text written for that value.
 
 ghost use Rattle.std.specs.Prelude.{◌≡◌, ◌<◌, ◌^◌, ℕ, List};
 ghost use Rattle.std.specs.Fmt.{decimal};
@@ -14,21 +14,21 @@ use macs_aes::Key;
 use macs_fields::{An, Sci};
 use macs_secrets::{key_of, octets};
 
-/// The number of 32 bits that a text says.
+/// The 32-bit number in a text.
 pub(crate) fn number(text: &str) -> u32
     ensures { (n : ℕ) → n < 2 ^ 32 → text.now ≡ decimal n → result ≡ n }
 {
     text.parse::<u32>().unwrap_or(0)
 }
 
-/// The number of 8 bits that a text says.
+/// The 8-bit number in a text.
 pub(crate) fn octet(text: &str) -> u8
     ensures { (n : ℕ) → n < 2 ^ 8 → text.now ≡ decimal n → result ≡ n }
 {
     text.parse::<u8>().unwrap_or(0)
 }
 
-/// The association number that a text says.
+/// The association number in a text.
 pub(crate) fn an(text: &str) -> An
     ensures { (n : ℕ) → IsAn n → text.now ≡ decimal n → result ≡ n }
 {
@@ -39,7 +39,7 @@ pub(crate) fn an(text: &str) -> An
     }
 }
 
-/// The SCI that a text says.
+/// The SCI in a text.
 pub(crate) fn sci(text: &str) -> Sci
     ensures { (sci : List ℕ) → IsSci sci → text.now ≡ encode_lower sci → result ≡ sci }
 {
@@ -49,7 +49,7 @@ pub(crate) fn sci(text: &str) -> Sci
     }
 }
 
-/// The key that a text says.
+/// The key in a text.
 pub(crate) fn key(text: &str) -> Key
     ensures { (key : AnyKey) → IsKey (octets_of_key key) → HasItsLength key
         → text.now ≡ key_digits key → result ≡ key }

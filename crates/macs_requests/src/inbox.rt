@@ -9,12 +9,12 @@ use macs_secrets::wipe;
 /// The longest line, in octets, with its line feed.
 pub const MAX_LINE: usize = 256;
 
-/// A line without its end.
+/// A line without its line feed.
 pub type Line = ArrayVec<u8, MAX_LINE>;
 
-/// Octets from which no line was taken yet, 256 at most. They may come in any pieces: a line is
-/// taken once its end is there. Where there is neither room nor a whole line, the line is too long.
-/// They are overwritten when they are let go.
+/// Octets that do not form a line yet, at most 256. They may arrive in pieces of any size: a line
+/// is taken once its line feed has arrived. If there is neither room nor a whole line, the line is
+/// too long. They are overwritten when they are dropped.
 pub struct Inbox {
     octets: Line,
 }
@@ -68,7 +68,7 @@ impl Inbox {
     ghost use Rattle.std.specs.Option.{option_map};
     ghost use Rattle.macs_requests.specs.Inboxes.{TakesLine, octets_in};
 
-    /// Before the first octet.
+    /// An empty inbox.
     pub fn new() -> Inbox
         ensures { octets_in result ≡ [] }
     {
@@ -77,14 +77,14 @@ impl Inbox {
         }
     }
 
-    /// For how many octets more there is room.
+    /// How many more octets fit.
     pub fn room(&self) -> usize
         ensures { result ≡ 256 - length (octets_in self.now) }
     {
         MAX_LINE.saturating_sub(self.octets.len())
     }
 
-    /// Takes octets, where there is room for them.
+    /// Adds octets, which must fit.
     pub fn push(&mut self, octets: &[u8])
         requires { length (octets_in self.old) + length octets.now ≤ 256 }
         ensures { octets_in self.new ≡ octets_in self.old ++ octets.now }
@@ -92,7 +92,7 @@ impl Inbox {
         self.octets.try_extend_from_slice(octets).unwrap();
     }
 
-    /// Takes the first whole line, and answers it without its end.
+    /// Takes the first whole line, and returns it without its line feed.
     pub fn next_line(&mut self) -> Option<Line>
         ensures { TakesLine (octets_in self.old) (option_map (λ line. line.items) result)
             (octets_in self.new) }

@@ -4,7 +4,7 @@ ghost use Rattle.std.specs.Prelude.{◌<◌, length};
 ghost use Rattle.macs_requests.specs.Requests.{IsAsked, request_line};
 ghost use Rattle.macs_requests.specs.declared.requests.Request.{Request};
 
-/// The line of a request has less than 256 octets, without its end.
+/// The line of a request has fewer than 256 octets, without its line feed.
 pub fn requests_are_short()
     ensures { (request : Request) → IsAsked request → length (request_line request) < 256 }
 {}

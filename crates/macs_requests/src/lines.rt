@@ -158,7 +158,7 @@ fn fields_of(alloc: Global, command: &Command) -> Result<String, AllocError>
     }
 }
 
-/// The line of a command, without its end: its word and its fields, with a blank before each.
+/// The line of a command, without its line feed: its word and its fields, with a blank before each.
 ///
 /// | word | fields |
 /// |---|---|
@@ -171,8 +171,7 @@ fn fields_of(alloc: Global, command: &Command) -> Result<String, AllocError>
 /// | `rx-install` | SCI, AN, key, start, offset |
 /// | `rx-remove` | SCI, AN |
 ///
-/// Numbers are decimal, keys and SCIs in hex digits of lower case. It fails only where memory is
-/// refused.
+/// Numbers are decimal, keys and SCIs are in lower-case hex digits. Fails only if memory runs out.
 pub fn line_of_command(alloc: Global, command: &Command) -> Result<String, AllocError>
     ensures { IfOk result (λ text. string_bytes text ≡ command_line command.now) }
 {
@@ -180,9 +179,9 @@ pub fn line_of_command(alloc: Global, command: &Command) -> Result<String, Alloc
     spaced(alloc, word_of(command), fields.0.as_str())
 }
 
-/// The command of a line without its end, `None` where it is the line of none. A command has one
-/// line: any other spelling is none. So what was written is read. It fails only where memory is
-/// refused.
+/// The command of a line without its line feed, `None` if it is not the line of a command. A
+/// command has one line: any other spelling is rejected. It reads what `line_of_command` writes.
+/// Fails only if memory runs out.
 pub fn command_of_line(alloc: Global, line: &str) -> Result<Option<Command>, AllocError>
     ensures read { (command : Command) → IsTold command → line.now ≡ command_line command
         → IfOk result (λ found. found ≡ Some command) }

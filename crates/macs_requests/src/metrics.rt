@@ -5,19 +5,19 @@ pub trait Metrics {
     ghost use Rattle.std.specs.Prelude.{◌≡◌, List, [], ◌∷◌, Option, None};
     ghost use Rattle.macs_requests.specs.Talks.{Asked, Note, Put, with_notes};
 
-    /// What was asked of it and written, the earliest first, where that is known.
+    /// The questions asked and the texts written, earliest first, if known.
     ghost notes: { Self → Option (List Note) } = { λ _. None };
 
-    /// Whether the text is to be written now: at most once a second.
+    /// Whether the text should be written now: at most once a second.
     fn is_due(&mut self) -> bool
         ensures { notes self.new ≡ with_notes (notes self.old) (Asked result ∷ []) };
 
-    /// Writes the text, in place of the one before. Where that fails, the one before stays.
+    /// Writes the text in place of the previous one. If that fails, the previous one stays.
     fn put(&mut self, text: &[u8])
         ensures { notes self.new ≡ with_notes (notes self.old) (Put text.now ∷ []) };
 }
 
-/// Nowhere: nothing is ever to be written.
+/// No file of counters: no text is ever due.
 #[derive(Drop)]
 pub struct NoMetrics;
 

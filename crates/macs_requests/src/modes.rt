@@ -16,7 +16,7 @@ pub(crate) fn validate_word(validate: Validate) -> &'static str
     }
 }
 
-/// What is done with frames that do not verify, by its word; any other word is taken for strict.
+/// What is done with frames that do not verify, by its word; any other word is read as strict.
 pub(crate) fn validate_of(word: &str) -> Validate
     ensures { result ≡ validate_of word.now }
 {
@@ -38,7 +38,7 @@ pub(crate) fn sci_mode_word(mode: SciMode) -> &'static str
     }
 }
 
-/// How frames name the channel, by its word; any other word is taken for explicit.
+/// How frames name the channel, by its word; any other word is read as explicit.
 pub(crate) fn sci_mode_of(word: &str) -> SciMode
     ensures { result ≡ sci_mode_of word.now }
 {

@@ -1,4 +1,4 @@
-//! What a client asks for.
+//! Requests of a client.
 
 ghost use Rattle.std.specs.Prelude.{◌≡◌, Some, IfOk, IfSome, string_bytes};
 ghost use Rattle.macs_requests.specs.Requests.{IsAsked, own_request, plain_request, request_line};
@@ -10,28 +10,28 @@ use macs_config::Command;
 use macs_secrets::SecretText;
 use std::alloc::{AllocError, Global};
 
-/// What a client asks for, in one line.
+/// A request of a client, one line.
 #[derive(Clone, Copy, PartialEq, Eq)]
 pub enum Request {
     /// `show`: the configuration and the numbers, as they are now.
     Show,
-    /// `counters`: what the endpoint and its wires counted.
+    /// `counters`: the counters of the endpoint and its wires.
     Counters,
     /// `keys`: which keys are installed, by their identifiers.
     Keys,
-    /// `traffic`: what the frames carried under each association number, and when the last one came
-    /// that verified.
+    /// `traffic`: what the frames carried under each association number, and when the last one
+    /// arrived that verified.
     Traffic,
     /// `about`: which program runs the relay, and since when.
     About,
-    /// `stop`: that the relay ends.
+    /// `stop`: the relay should end.
     Stop,
-    /// A command, which is to be applied.
+    /// A command to apply.
     Apply(Command),
 }
 
-/// The line of a request, without its end: a word alone, or the line of a command. It fails only
-/// where memory is refused.
+/// The line of a request, without its line feed: a word, or the line of a command. Fails only if
+/// memory runs out.
 pub fn line_of_request(alloc: Global, request: &Request) -> Result<String, AllocError>
     ensures { IfOk result (λ text. string_bytes text ≡ request_line request.now) }
 {
@@ -46,7 +46,7 @@ pub fn line_of_request(alloc: Global, request: &Request) -> Result<String, Alloc
     }
 }
 
-/// The request that a word alone names, `None` where it names none.
+/// The request that consists of this word, `None` if there is none.
 fn plain_request(line: &str) -> Option<Request>
     ensures { result ≡ plain_request line.now }
 {
@@ -61,7 +61,7 @@ fn plain_request(line: &str) -> Option<Request>
     }
 }
 
-/// The same of the words on the program and its keys.
+/// The same for the words about the program and its keys.
 fn own_request(line: &str) -> Option<Request>
     ensures { result ≡ own_request line.now }
 {
@@ -76,7 +76,7 @@ fn own_request(line: &str) -> Option<Request>
     }
 }
 
-/// The request that a line is taken for. Where it is the line of a request, it is that one.
+/// The request whose line this is, if it is the line of a request; otherwise some request.
 fn request_taken(line: &str) -> Request
     ensures { (request : Request) → IsAsked request → line.now ≡ request_line request
         → result ≡ request }
@@ -87,9 +87,9 @@ fn request_taken(line: &str) -> Request
     }
 }
 
-/// The request of a line without its end, `None` where it is the line of none. A request has one
-/// line: any other spelling is none. So what was written is read. It fails only where memory is
-/// refused.
+/// The request of a line without its line feed, `None` if it is not the line of a request. A
+/// request has one line: any other spelling is rejected. It reads what `line_of_request` writes.
+/// Fails only if memory runs out.
 pub fn request_of_line(alloc: Global, line: &str) -> Result<Option<Request>, AllocError>
     ensures read { (request : Request) → IsAsked request → line.now ≡ request_line request
         → IfOk result (λ found. found ≡ Some request) }

@@ -1,4 +1,4 @@
--- What is printed where help is asked for.
+-- The help texts.
 use Rattle.std.specs.Prelude.{ℕ, List}
 use Rattle.macs_words.specs.declared.help.Subcommand.{Subcommand}
 use Rattle.macs_words.specs.declared.help.Subcommand.TheVariants as subcommand
@@ -8,7 +8,7 @@ use Rattle.macs_words.specs.declared.help_texts.TheConstants.{ABOUT, APPLY, ASK,
 use Rattle.macs_words.specs.declared.help_texts.TheConstants.{KEY, OPEN, PLAN, PROTECT, RELAY, SHOW, VALIDATE}
 use Rattle.macs_words.specs.declared.help_texts.TheConstants.{VERSION}
 
--- what is printed on a subcommand
+-- the help text of a subcommand
 abbrev pub subcommand_text : Subcommand → List ℕ
 subcommand_text subcommand.Open = OPEN.now
 subcommand_text subcommand.Format = FORMAT.now
@@ -25,7 +25,7 @@ subcommand_text subcommand.Plan = PLAN.now
 subcommand_text subcommand.Examine = EXAMINE.now
 subcommand_text subcommand.About = ABOUT.now
 
--- what is printed for a topic, in whole lines
+-- the text for a topic, in whole lines
 abbrev pub topic_text : Topic → List ℕ
 topic_text Help = HELP.now
 topic_text (HelpOn which) = subcommand_text which

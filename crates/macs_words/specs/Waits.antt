@@ -5,6 +5,6 @@ use Rattle.std.specs.Prelude.{◌<◌, ◌≤◌, ℕ}
 abbrev pub IsWaitLimit : ℕ → Type 0
 IsWaitLimit milliseconds = (0 < milliseconds) × (milliseconds ≤ 60000)
 
--- 1 to 1,073,741,823 octets: twice as many, which is what Linux keeps, are a number of 31 bits
+-- 1 to 1,073,741,823 octets: twice as many, which is what Linux buffers, fits in 31 bits
 abbrev pub IsRoom : ℕ → Type 0
 IsRoom octets = (0 < octets) × (octets ≤ 1073741823)

@@ -32,49 +32,49 @@ use Rattle.macs_words.specs.declared.help.Topic.TheVariants.{Help, HelpOn, Versi
 use Rattle.macs_words.specs.declared.help.Subcommand.{Subcommand}
 use Rattle.macs_words.specs.declared.help.Subcommand.TheVariants as subcommand
 
--- what borrowed words say
+-- the texts of borrowed words
 abbrev pub texts : List (Bor Text) → List Text
 texts = map (λ word. word.now)
 
 -- ---- the words that are known
 
--- a value that has to be given
+-- a required value
 abbrev pub value_rule : Text → Rule
 value_rule name = record (new_rule name) { action = Some Set; required = true }
 
--- a number that has to be given: 0 to 2^32 - 1, in decimal digits
+-- a required number: 0 to 2^32 - 1, in decimal
 abbrev pub number_rule : Text → Rule
 number_rule name = record (value_rule name) { parser = Some (vp.Unsigned 0 (2 ^ 32 - 1)) }
 
--- an option of this name that need not be given: a text
+-- an optional text with this name
 abbrev pub option_rule : Text → Rule
 option_rule name = record (new_rule name) { long = Some name; action = Some Set }
 
--- an option of this name that need not be given: a number of 0 to 2^64 - 1, in decimal digits
+-- an optional number with this name: 0 to 2^64 - 1, in decimal
 abbrev pub count_rule : Text → Rule
 count_rule name = record (option_rule name) { parser = Some (vp.Unsigned 0 (2 ^ 64 - 1)) }
 
--- an option of this name that need not be given: milliseconds, 1 to 60,000, in decimal digits
+-- an optional time with this name: milliseconds, 1 to 60,000, in decimal
 abbrev pub wait_rule : Text → Rule
 wait_rule name = record (option_rule name) { parser = Some (vp.Unsigned 1 60000) }
 
--- an option of this name that need not be given: octets of a buffer, 1 to 1,073,741,823, in decimal digits
+-- an optional buffer size with this name: octets, 1 to 1,073,741,823, in decimal
 abbrev pub room_rule : Text → Rule
 room_rule name = record (option_rule name) { parser = Some (vp.Unsigned 1 1073741823) }
 
--- a value that may be left out
+-- an optional last value
 abbrev pub last_rule : Text → Rule
 last_rule name = record (new_rule name) { action = Some Set }
 
--- an option of this name without a value
+-- an option with this name and no value
 abbrev pub flag_rule : Text → Rule
 flag_rule name = record (new_rule name) { long = Some name; action = Some SetTrue }
 
--- a subcommand with the values that it takes, in their order
+-- a subcommand with its values, in order
 abbrev pub subcommand_with : Text → List Rule → Shape
 subcommand_with name rules = record (new_shape name) { rules = rules }
 
--- the subcommands that have no frames but that of `open`, each with its values; `open` has none
+-- the subcommands without frames, plus `open`, each with its values; `open` has none
 abbrev pub first_subcommands : List Shape
 first_subcommands =
     subcommand_with (codes "open") []
@@ -85,7 +85,7 @@ first_subcommands =
     ∷ subcommand_with (codes "show") (value_rule (codes "DISK") ∷ [])
     ∷ []
 
--- those that take frames through an endpoint
+-- those that pass frames through an endpoint
 abbrev pub frame_subcommands : List Shape
 frame_subcommands =
     subcommand_with (codes "protect")
@@ -117,7 +117,7 @@ lone_subcommands =
     ∷ subcommand_with (codes "about") []
     ∷ []
 
--- the words begin after the program's name, and no flag and no subcommand of the library's asks for help or the version
+-- the words begin after the program's name, and the library's own help and version flags are disabled
 abbrev pub bare_app : App
 bare_app = on_top (λ s. record s {
   no_binary_name = true;
@@ -130,44 +130,44 @@ bare_app = on_top (λ s. record s {
 abbrev pub app_with : List Shape → App
 app_with shapes = record { top = record bare_app.top { is_leaf = false }; subs = shapes }
 
--- the words that the program knows
+-- the words that the program accepts
 abbrev pub macsecd : App
 macsecd = app_with (first_subcommands ++ frame_subcommands ++ ask_subcommand ∷ lone_subcommands)
 
 -- ---- actions
 
--- the value of this name is this text
+-- the value with this name is this text
 abbrev pub HasText : List Row → Text → Text → Type 0
 HasText values name text = first_of name values ≡ Some text
 
--- the value of this name is this number in decimal digits, which a plus may lead
+-- the value with this name is this number in decimal digits, optionally with a leading plus
 abbrev pub HasNumber : List Row → Text → ℕ → Type 0
 HasNumber values name number =
     (text : Text) × (first_of name values ≡ Some text)
     × IsNumeral 10 (without_leading_plus text) × (number ≡ digits_value 10 (without_leading_plus text))
 
--- the value of this name is this text, where it is given
+-- the value with this name is this text, if it is given
 abbrev pub MayHaveText : List Row → Text → Option (Bor Text) → Type 0
 MayHaveText values name text = option_map (λ t. t.now) text ≡ first_of name values
 
--- the value of this name is this number in decimal digits, where it is given
+-- the value with this name is this number in decimal digits, if it is given
 abbrev pub MayHaveNumber : List Row → Text → Option ℕ → Type 0
 MayHaveNumber values name None = first_of name values ≡ None
 MayHaveNumber values name (Some number) = HasNumber values name number
 
--- How a relay takes its turns: so many, and no wait is given; or it waits so long at most, 1 to 60,000 ms, and takes so
--- many where they are given
+-- How a relay takes its turns: a number of turns is given, and no wait; or a maximum wait is given, 1 to 60,000 ms, and
+-- maybe a number of turns
 abbrev pub HasPace : List Row → Pace → Type 0
 HasPace values (Sleepless turns) = HasNumber values (codes "turns") turns × (first_of (codes "wait") values ≡ None)
 HasPace values (Waiting limit turns) =
     HasNumber values (codes "wait") limit.0 × IsWaitLimit limit.0 × MayHaveNumber values (codes "turns") turns
 
--- the value of this name is this many octets, 1 to 1,073,741,823, where it is given
+-- the value with this name is this many octets, 1 to 1,073,741,823, if it is given
 abbrev pub MayHaveRoom : List Row → Text → Option ℕ → Type 0
 MayHaveRoom values name None = first_of name values ≡ None
 MayHaveRoom values name (Some octets) = HasNumber values name octets × IsRoom octets
 
--- the word of a question that is asked by a word alone
+-- the word of a question that consists of one word
 abbrev pub plain_word : Question → Option Text
 plain_word question.Show = Some (codes "show")
 plain_word question.Counters = Some (codes "counters")
@@ -177,7 +177,7 @@ plain_word question.About = Some (codes "about")
 plain_word question.Stop = Some (codes "stop")
 plain_word (question.Apply file) = None
 
--- the words of `ask` ask this: a word alone, or `apply` and the file
+-- the words of `ask` ask this question: one word, or `apply` and the file
 abbrev pub HasQuestion : List Row → Question → Type 0
 HasQuestion values (question.Apply file) = HasText values (codes "WORD") (codes "apply")
     × HasText values (codes "FILE") file.now
@@ -205,12 +205,12 @@ stage_word plan_stage.Receive = codes "receive"
 stage_word plan_stage.Send = codes "send"
 stage_word plan_stage.Remove = codes "remove"
 
--- the words of `plan` say this end and this stage
+-- the words of `plan` name this end and this stage
 abbrev pub HasPlan : List Row → PlanEnd → PlanStage → Type 0
 HasPlan values end stage = HasText values (codes "END") (end_word end)
     × HasText values (codes "STAGE") (stage_word stage)
 
--- the option without a value is used
+-- whether the option without a value is given
 abbrev pub IsFlagged : List Row → Text → Bool → Type 0
 IsFlagged values name is = (is ≡ true) ↔ HasText values name (codes "true")
 
@@ -251,49 +251,49 @@ Names (Some found) (Examine disk is_json) = (found.0 ≡ codes "examine") × Has
     × IsFlagged found.1 (codes "json") is_json
 Names (Some found) About = found.0 ≡ codes "about"
 
--- a relay of which neither the turns nor a wait is given: it names no action
+-- a relay with neither turns nor a wait: it names no action
 abbrev pub LacksPace : Option (Text × List Row) → Type 0
 LacksPace None = ⊥
 LacksPace (Some found) =
     (found.0 ≡ codes "relay") × (first_of (codes "turns") found.1 ≡ None) × (first_of (codes "wait") found.1 ≡ None)
 
--- an `ask` whose words ask nothing that a relay is asked: it names no action
+-- an `ask` whose words are not a question for a relay: it names no action
 abbrev pub LacksQuestion : Option (Text × List Row) → Type 0
 LacksQuestion None = ⊥
 LacksQuestion (Some found) = (found.0 ≡ codes "ask") × ((asked : Question) → ¬ HasQuestion found.1 asked)
 
--- an `ask` that wants JSON, and asks nothing whose answer is a report: it names no action
+-- an `ask` for JSON whose question is not answered with a report: it names no action
 abbrev pub LacksReport : Option (Text × List Row) → Type 0
 LacksReport None = ⊥
 LacksReport (Some found) = (found.0 ≡ codes "ask") × HasText found.1 (codes "json") (codes "true")
     × ((asked : Question) → HasQuestion found.1 asked → is_report asked ≡ false)
 
--- a `plan` whose words say no end or no stage: it names no action
+-- a `plan` whose words name no end or no stage: it names no action
 abbrev pub LacksPlan : Option (Text × List Row) → Type 0
 LacksPlan None = ⊥
 LacksPlan (Some found) =
     (found.0 ≡ codes "plan") × ((end : PlanEnd) (stage : PlanStage) → ¬ HasPlan found.1 end stage)
 
--- words that clap takes and that name no action
+-- words that clap accepts and that name no action
 abbrev pub NamesNothing : Option (Text × List Row) → Type 0
 NamesNothing found = LacksPace found ⊎ LacksQuestion found ⊎ LacksReport found ⊎ LacksPlan found
 
--- the words are none that are taken: clap refuses them, or they name no action
+-- the words are not accepted: clap refuses them, or they name no action
 abbrev pub AreRefused : List Text → Type 0
 AreRefused words = (takes macsecd words ≢ true) ⊎ NamesNothing (subcommand_of macsecd words)
 
--- the turns have 64 bits
+-- the number of turns fits in 64 bits
 abbrev pub FitsPace : Pace → Type 0
 FitsPace (Sleepless turns) = turns < 2 ^ 64
 FitsPace (Waiting limit turns) = IfSome turns (λ count. count < 2 ^ 64)
 
--- the numbers of the action, if it has any, have so many bits
+-- the numbers of the action, if it has any, fit in their types
 abbrev pub FitsNumbers : Action → Type 0
 FitsNumbers (Format disk sci tx_block rx_block block is_over) = (tx_block < 2 ^ 32) × (rx_block < 2 ^ 32)
 FitsNumbers (Relay disk controlled common running) = FitsPace running.pace
 FitsNumbers action = ⊤
 
--- no action whose numbers have so many bits is named
+-- no action is named whose numbers fit in their types
 abbrev pub NamesNoAction : Option (Text × List Row) → Type 0
 NamesNoAction found = (action : Action) → Names found action → ¬ FitsNumbers action
 
@@ -302,12 +302,12 @@ pub record IsClapCommand (command : Command) (app : App) : Type 0 where
   pub app_is : app_of command ≡ app
   pub local : (fields_of command).has_globals ≡ false
 
--- want of memory is one, and every other refusal is wrong usage
+-- out of memory is one fault, and every other refusal is wrong usage
 abbrev pub IsFaultOf : Error → UsageFault → Type 0
 IsFaultOf error Memory = kind_of error ≡ OutOfMemory
 IsFaultOf error (Usage cause) = kind_of error ≢ OutOfMemory
 
--- the cause, where the fault has one, is without control characters
+-- the cause, if the fault has one, has no control characters
 abbrev pub HasPrintableCause : UsageFault → Type 0
 HasPrintableCause (Usage cause) = IsPrintable (string_bytes cause)
 HasPrintableCause Memory = ⊤
@@ -318,7 +318,7 @@ HasPrintableCause Memory = ⊤
 abbrev pub IsHelpFlag : Text → Type 0
 IsHelpFlag word = (word ≡ codes "--help") ⊎ (word ≡ codes "-h")
 
--- the word that asks which program it is
+-- the word that asks for the version
 abbrev pub IsVersionFlag : Text → Type 0
 IsVersionFlag word = word ≡ codes "--version"
 
@@ -339,8 +339,8 @@ name_of subcommand.Plan = codes "plan"
 name_of subcommand.Examine = codes "examine"
 name_of subcommand.About = codes "about"
 
--- The words ask for the topic: a help flag alone, the name of a subcommand and a help flag after it, or the version
--- flag alone
+-- The words ask for the topic: only a help flag, the name of a subcommand followed by a help flag, or only the version
+-- flag
 abbrev pub AsksFor : List Text → Topic → Type 0
 AsksFor (word ∷ []) Help = IsHelpFlag word
 AsksFor (name ∷ word ∷ []) (HelpOn which) = (name ≡ name_of which) × IsHelpFlag word

@@ -1,4 +1,4 @@
-//! The arguments that subcommands take, of one kind each.
+//! The arguments of subcommands, one function per kind.
 
 ghost use Rattle.std.specs.Prelude.{◌≡◌, false};
 ghost use Rattle.clap.specs.Words.{rule_of};
@@ -9,7 +9,7 @@ use clap::builder::ValueParser;
 use clap::{Arg, ArgAction};
 use std::alloc::Global;
 
-/// A value that has to be given.
+/// A required value.
 pub fn value<'a>(alloc: Global, name: &'a str) -> Arg<'a>
     ensures rule { rule_of result ≡ value_rule name.entry.now }
     ensures local { result.global ≡ false }
@@ -17,16 +17,16 @@ pub fn value<'a>(alloc: Global, name: &'a str) -> Arg<'a>
     Arg::new(alloc, name).required(true).action(ArgAction::Set)
 }
 
-/// A number of 32 bits that has to be given.
+/// A required 32-bit number.
 pub fn number<'a>(alloc: Global, name: &'a str) -> Arg<'a>
     ensures rule { rule_of result ≡ number_rule name.entry.now }
     ensures local { result.global ≡ false }
 {
-    // `value_parser!(u32)` would take `-0` too, and read it as 0.
+    // `value_parser!(u32)` would also accept `-0`, and read it as 0.
     value(alloc, name).value_parser(ValueParser::unsigned(0, 4_294_967_295))
 }
 
-/// A value that may be given after its name.
+/// An optional value after its name.
 pub fn option<'a>(alloc: Global, name: &'a str) -> Arg<'a>
     ensures rule { rule_of result ≡ option_rule name.entry.now }
     ensures local { result.global ≡ false }
@@ -42,7 +42,7 @@ pub fn flag<'a>(alloc: Global, name: &'a str) -> Arg<'a>
     Arg::new(alloc, name).long(name).action(ArgAction::SetTrue)
 }
 
-/// A number of 64 bits that may be given after its name.
+/// An optional 64-bit number after its name.
 pub fn count<'a>(alloc: Global, name: &'a str) -> Arg<'a>
     ensures rule { rule_of result ≡ count_rule name.entry.now }
     ensures local { result.global ≡ false }
@@ -50,7 +50,7 @@ pub fn count<'a>(alloc: Global, name: &'a str) -> Arg<'a>
     option(alloc, name).value_parser(ValueParser::unsigned(0, u64::MAX))
 }
 
-/// Milliseconds, 1 to 60,000, that may be given after their name.
+/// Optional milliseconds, 1 to 60,000, after their name.
 pub fn wait<'a>(alloc: Global, name: &'a str) -> Arg<'a>
     ensures rule { rule_of result ≡ wait_rule name.entry.now }
     ensures local { result.global ≡ false }
@@ -58,7 +58,7 @@ pub fn wait<'a>(alloc: Global, name: &'a str) -> Arg<'a>
     option(alloc, name).value_parser(ValueParser::unsigned(1, 60_000))
 }
 
-/// Octets of a buffer, 1 to 1,073,741,823, that may be given after their name.
+/// An optional buffer size in octets, 1 to 1,073,741,823, after its name.
 pub fn room<'a>(alloc: Global, name: &'a str) -> Arg<'a>
     ensures rule { rule_of result ≡ room_rule name.entry.now }
     ensures local { result.global ≡ false }
@@ -66,7 +66,7 @@ pub fn room<'a>(alloc: Global, name: &'a str) -> Arg<'a>
     option(alloc, name).value_parser(ValueParser::unsigned(1, 1_073_741_823))
 }
 
-/// A value that may be left out, as the last one.
+/// An optional last value.
 pub fn last<'a>(alloc: Global, name: &'a str) -> Arg<'a>
     ensures rule { rule_of result ≡ last_rule name.entry.now }
     ensures local { result.global ≡ false }

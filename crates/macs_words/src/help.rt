@@ -27,14 +27,14 @@ pub enum Subcommand {
     About,
 }
 
-/// What is asked for in place of an action.
+/// What is requested instead of an action.
 #[derive(Clone, Copy)]
 pub enum Topic {
-    /// What the program does: `--help` or `-h` alone.
+    /// What the program does: only `--help` or `-h`.
     Help,
-    /// What a subcommand does, and what its values are: `--help` or `-h` after its name.
+    /// What a subcommand does, and its values: `--help` or `-h` after its name.
     HelpOn(Subcommand),
-    /// Which program it is: `--version` alone.
+    /// The version: only `--version`.
     Version,
 }
 
@@ -43,7 +43,7 @@ impl Subcommand {
     ghost use Rattle.macs_words.specs.Help.{subcommand_text};
     ghost use Rattle.macs_words.specs.Words.{name_of};
 
-    /// The subcommand of this name.
+    /// The subcommand with this name.
     fn named(name: &str) -> Option<Subcommand>
         ensures { (which : Subcommand) → (result ≡ Some which) ↔ (name.now ≡ name_of which) }
     {
@@ -66,7 +66,7 @@ impl Subcommand {
         }
     }
 
-    /// What is printed on it, of whole lines.
+    /// Its help text, in whole lines.
     fn text(self) -> &'static str
         ensures { result.now ≡ subcommand_text self }
     {
@@ -93,7 +93,7 @@ impl Topic {
     ghost use Rattle.std.specs.Prelude.{◌≡◌};
     ghost use Rattle.macs_words.specs.Help.{topic_text};
 
-    /// The text that is printed, of whole lines.
+    /// The text that is printed, in whole lines.
     pub fn text(self) -> &'static str
         ensures { result.now ≡ topic_text self }
     {
@@ -117,7 +117,7 @@ fn is_version_flag(word: &str) -> bool
     word == "--version"
 }
 
-/// What the words ask for in place of an action, if they do.
+/// What the words request instead of an action, if anything.
 pub fn topic_of(words: &[&str]) -> Option<Topic>
     ensures { (topic : Topic) → (result ≡ Some topic) ↔ AsksFor (texts words.now) topic }
 {

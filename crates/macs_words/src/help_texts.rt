@@ -1,4 +1,4 @@
-//! The texts that are printed where help is asked for.
+//! The help texts.
 
 pub const HELP: &str = "usage: macsecd [SUBCOMMAND VALUES..]
 

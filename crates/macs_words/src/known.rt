@@ -1,4 +1,4 @@
-//! The words that the program knows.
+//! The words that the program accepts.
 
 ghost use Rattle.std.specs.Prelude.{◌≡◌, ◌++◌, ◌∷◌, IfOk, []};
 ghost use Rattle.clap.specs.Words.{App, app_of, with_subcommand};
@@ -12,8 +12,8 @@ use crate::subcommand_words::{
 use clap::Command;
 use std::alloc::{AllocError, Global};
 
-/// The words before any subcommand: they begin after the program's name, and nothing of the
-/// library's own asks for help or the version.
+/// The words before any subcommand: they begin after the program's name, and the library's own help
+/// and version flags are disabled.
 fn bare_words<'a>(alloc: Global) -> Command<'a>
     ensures { app_of result ≡ bare_app }
 {
@@ -24,7 +24,7 @@ fn bare_words<'a>(alloc: Global) -> Command<'a>
         .disable_version_flag(true)
 }
 
-/// These words with one subcommand more.
+/// These words with one more subcommand.
 fn with_subcommand<'a>(
     words: Result<Command<'a>, AllocError>,
     subcommand: Command<'a>,
@@ -36,7 +36,7 @@ fn with_subcommand<'a>(
     words?.subcommand(subcommand)
 }
 
-/// The same, where there was memory for its own words.
+/// The same, if the subcommand's words could be allocated.
 fn with_words<'a>(
     words: Result<Command<'a>, AllocError>,
     subcommand: Result<Command<'a>, AllocError>,
@@ -48,7 +48,7 @@ fn with_words<'a>(
     with_subcommand(words, subcommand?)
 }
 
-/// The words of the subcommands that have no frames but that of `open`.
+/// The words of the subcommands without frames, plus `open`.
 fn first_words<'a>(alloc: Global) -> Result<Command<'a>, AllocError>
     ensures { IfOk result (λ command. app_of command ≡ app_with first_subcommands) }
 {
@@ -58,7 +58,7 @@ fn first_words<'a>(alloc: Global) -> Result<Command<'a>, AllocError>
     with_words(words, show_words(alloc))
 }
 
-/// These, and the words of the subcommands that take frames through an endpoint or ask a running
+/// These, and the words of the subcommands that pass frames through an endpoint or ask a running
 /// relay.
 fn endpoint_words<'a>(alloc: Global) -> Result<Command<'a>, AllocError>
     ensures { IfOk result (λ command. app_of command
@@ -70,7 +70,7 @@ fn endpoint_words<'a>(alloc: Global) -> Result<Command<'a>, AllocError>
     with_words(words, ask_words(alloc))
 }
 
-/// The words that the program knows.
+/// The words that the program accepts.
 pub fn known_words<'a>(alloc: Global) -> Result<Command<'a>, AllocError>
     ensures { IfOk result (λ command. app_of command ≡ macsecd) }
 {

@@ -1,4 +1,4 @@
-//! The words of the program: what they ask for, read by `clap`, and the help.
+//! The words of the program: the action that they request, parsed by `clap`, and the help.
 #![tactic(auto)]
 
 mod action;

@@ -7,15 +7,15 @@ pub struct Milliseconds(pub u16);
 /// How a relay takes its turns.
 #[derive(Clone, Copy)]
 pub enum Pace {
-    /// So many turns, one right after the other: `--turns n` alone.
+    /// This many turns, one right after the other: `--turns n` alone.
     Sleepless {
         turns: u64,
     },
-    /// A turn that brought nothing is followed by a sleep, until a datagram is there: `--wait MS`.
+    /// After a turn that brought nothing the relay sleeps until a datagram arrives: `--wait MS`.
     Waiting {
-        /// How long a sleep is at most: 1 to 60,000 ms.
+        /// The longest sleep: 1 to 60,000 ms.
         limit: Milliseconds,
-        /// How many turns there are, where `--turns n` is given too.
+        /// How many turns there are, if `--turns n` is given too.
         turns: Option<u64>,
     },
 }
@@ -24,11 +24,11 @@ pub enum Pace {
 #[derive(Clone, Copy)]
 pub struct Running<'a> {
     pub pace: Pace,
-    /// How many octets of datagrams that wait the system is asked to keep for each wire, 1 to
-    /// 1,073,741,823, where it is asked: `--buffer OCTETS`.
+    /// How many octets of waiting datagrams the system is asked to buffer for each wire, 1 to
+    /// 1,073,741,823, if it is asked: `--buffer OCTETS`.
     pub buffer: Option<u32>,
-    /// The file of the control socket, where there is one: `--control PATH`.
+    /// The file of the control socket, if there is one: `--control PATH`.
     pub control: Option<&'a str>,
-    /// The file that the counters are written to, where there is one: `--metrics FILE`.
+    /// The file that the counters are written to, if there is one: `--metrics FILE`.
     pub metrics: Option<&'a str>,
 }

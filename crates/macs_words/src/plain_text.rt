@@ -1,4 +1,4 @@
-//! Text as it may reach a terminal: without control characters.
+//! Text that may be sent to a terminal: without control characters.
 
 ghost use Rattle.std.specs.Prelude.{◌≡◌, map, IfOk, string_bytes};
 ghost use Rattle.std.specs.Str.{chars};
@@ -17,12 +17,12 @@ fn printable_char(character: char) -> char
     }
 }
 
-/// The text with `?` in the place of each control character. It fails for want of memory alone.
+/// The text with `?` for each control character. Fails only if memory runs out.
 pub fn printable(alloc: Global, text: &str) -> Result<String, AllocError>
     // Each character is kept or replaced.
     ensures each { IfOk result
         (λ shown. chars (string_bytes shown) ≡ map printable_char (chars text.now)) }
-    // None is left that a terminal obeys.
+    // No control character is left.
     ensures printable { IfOk result (λ shown. IsPrintable (string_bytes shown)) }
 {
     text.chars()

@@ -1,9 +1,9 @@
-//! Which end of a link is planned for, and for which stage of its keys.
+//! The end of a link to plan for, and the stage of its keys.
 
 ghost use Rattle.std.specs.Prelude.{◌≡◌, ◌↔◌, Some};
 ghost use Rattle.macs_words.specs.Words.{end_word, stage_word};
 
-/// Which end of a link is planned for.
+/// The end of a link to plan for.
 #[derive(Clone, Copy)]
 pub enum PlanEnd {
     /// `left`
@@ -12,20 +12,20 @@ pub enum PlanEnd {
     Right,
 }
 
-/// Which stage of its keys is planned.
+/// The stage of its keys to plan.
 #[derive(Clone, Copy)]
 pub enum PlanStage {
     /// It sends and receives under the newest keys, as a new endpoint: `first`.
     First,
-    /// It receives under the newest keys too: `receive`.
+    /// It also receives under the newest keys: `receive`.
     Receive,
     /// It sends under them: `send`.
     Send,
-    /// The keys before them go: `remove`.
+    /// The previous keys are removed: `remove`.
     Remove,
 }
 
-/// The end of this name.
+/// The end with this name.
 pub fn end_of(word: &str) -> Option<PlanEnd>
     ensures { (end : PlanEnd) → (result ≡ Some end) ↔ (word.now ≡ end_word end) }
 {
@@ -36,7 +36,7 @@ pub fn end_of(word: &str) -> Option<PlanEnd>
     }
 }
 
-/// The stage of this name.
+/// The stage with this name.
 pub fn stage_of(word: &str) -> Option<PlanStage>
     ensures { (stage : PlanStage) → (result ≡ Some stage) ↔ (word.now ≡ stage_word stage) }
 {

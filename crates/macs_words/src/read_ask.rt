@@ -9,7 +9,7 @@ use crate::action::{Action, Question};
 use crate::read_values::{is_flagged, text_in};
 use clap::ArgMatches;
 
-/// The question that a word alone asks, but for `apply`.
+/// The question that consists of this word, except `apply`.
 fn plain_question<'a>(word: &str) -> Option<Question<'a>>
     ensures { (question : Question)
         → (result ≡ Some question) ↔ (Some word.now ≡ plain_word question) }
@@ -25,7 +25,7 @@ fn plain_question<'a>(word: &str) -> Option<Question<'a>>
     }
 }
 
-/// The question of `ask`: `None` where its words ask none.
+/// The question of `ask`: `None` if its words are not a question.
 fn question_in<'a>(values: &ArgMatches<'a>) -> Option<Question<'a>>
     ensures read { IfSome result (HasQuestion (rows_of (found_of values.now))) }
     ensures found { (question : Question) → HasQuestion (rows_of (found_of values.now)) question
@@ -53,7 +53,7 @@ fn is_report(question: Question) -> bool
     }
 }
 
-/// `ask` with its values: `None` also where JSON is wanted of what is no report.
+/// `ask` with its values: `None` also if JSON is requested for an answer that is not a report.
 pub fn ask_in<'a>(values: &ArgMatches<'a>) -> Option<Action<'a>>
     ensures read { IfSome result
         (λ action. Names (Some (codes "ask", rows_of (found_of values.now))) action) }

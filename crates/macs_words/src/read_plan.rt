@@ -11,7 +11,7 @@ use crate::plan_words::{PlanEnd, PlanStage, end_of, stage_of};
 use crate::read_values::text_in;
 use clap::ArgMatches;
 
-/// The end of `plan`: `None` where its word is none.
+/// The end of `plan`: `None` if its word is invalid.
 fn end_in(values: &ArgMatches) -> Option<PlanEnd>
     ensures read { IfSome result
         (λ end. HasText (rows_of (found_of values.now)) (codes "END") (end_word end)) }
@@ -23,7 +23,7 @@ fn end_in(values: &ArgMatches) -> Option<PlanEnd>
     end_of(word)
 }
 
-/// The stage of `plan`: `None` where its word is none.
+/// The stage of `plan`: `None` if its word is invalid.
 fn stage_in(values: &ArgMatches) -> Option<PlanStage>
     ensures read { IfSome result
         (λ stage. HasText (rows_of (found_of values.now)) (codes "STAGE") (stage_word stage)) }

@@ -24,7 +24,7 @@ fn ends_in<'a>(values: &ArgMatches<'a>, own: &str, peer: &str) -> Option<WireEnd
     Some(WireEnds { own, peer })
 }
 
-/// How `relay` takes its turns: `None` where neither `turns` nor `wait` is given.
+/// How `relay` takes its turns: `None` if neither `turns` nor `wait` is given.
 fn pace_in(values: &ArgMatches) -> Option<Pace>
     ensures read { IfSome result (HasPace (rows_of (found_of values.now))) }
     ensures found { (pace : Pace) → HasPace (rows_of (found_of values.now)) pace → FitsPace pace

@@ -1,4 +1,4 @@
-//! Subcommands with their values, but for `relay`, `ask` and `plan`.
+//! Subcommands with their values, except `relay`, `ask` and `plan`.
 
 ghost use Rattle.std.specs.Prelude.{IfSome, IsSome, Some, codes};
 ghost use Rattle.clap.specs.Words.{found_of, rows_of};

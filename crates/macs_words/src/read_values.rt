@@ -1,4 +1,4 @@
-//! What a value among the words is.
+//! The values among the words.
 
 ghost use Rattle.std.specs.Prelude.{◌≡◌, ◌↔◌, ◌<◌, ◌^◌, ℕ, Option, IfSome, IsSome, IsTrue, codes};
 ghost use Rattle.std.specs.Prelude.{option_map};
@@ -17,7 +17,7 @@ pub fn text_in<'a>(values: &ArgMatches<'a>, name: &str) -> Option<&'a str>
     values.get_str(name)
 }
 
-/// The number that a value is in decimal digits.
+/// The number in a value, in decimal digits.
 pub fn number_in(values: &ArgMatches, name: &str) -> Option<u32>
     ensures read { IfSome result (HasNumber (rows_of (found_of values.now)) name.now) }
     ensures found { (number : ℕ) → HasNumber (rows_of (found_of values.now)) name.now number
@@ -26,7 +26,7 @@ pub fn number_in(values: &ArgMatches, name: &str) -> Option<u32>
     text_in(values, name)?.parse().ok()
 }
 
-/// The number of 64 bits that a value is in decimal digits.
+/// The 64-bit number in a value, in decimal digits.
 pub fn count_in(values: &ArgMatches, name: &str) -> Option<u64>
     ensures read { IfSome result (HasNumber (rows_of (found_of values.now)) name.now) }
     ensures found { (number : ℕ) → HasNumber (rows_of (found_of values.now)) name.now number
@@ -35,7 +35,7 @@ pub fn count_in(values: &ArgMatches, name: &str) -> Option<u64>
     text_in(values, name)?.parse().ok()
 }
 
-/// The number of 64 bits that a value is in decimal digits, where it is given.
+/// The 64-bit number in a value, in decimal digits, if it is given.
 pub fn optional_count_in(values: &ArgMatches, name: &str) -> Option<Option<u64>>
     ensures read { IfSome result (MayHaveNumber (rows_of (found_of values.now)) name.now) }
     ensures found { (number : Option ℕ)
@@ -51,7 +51,7 @@ pub fn optional_count_in(values: &ArgMatches, name: &str) -> Option<Option<u64>>
     }
 }
 
-/// The milliseconds, 1 to 60,000, that a value is in decimal digits.
+/// The milliseconds in a value, 1 to 60,000, in decimal digits.
 pub fn wait_in(values: &ArgMatches, name: &str) -> Option<Milliseconds>
     ensures read { IfSome result (λ limit.
         HasNumber (rows_of (found_of values.now)) name.now limit.0 × IsWaitLimit limit.0) }
@@ -65,7 +65,7 @@ pub fn wait_in(values: &ArgMatches, name: &str) -> Option<Milliseconds>
     Some(Milliseconds(milliseconds))
 }
 
-/// The octets of a buffer, 1 to 1,073,741,823, that a value is in decimal digits.
+/// The buffer size in a value, 1 to 1,073,741,823 octets, in decimal digits.
 fn room_in(values: &ArgMatches, name: &str) -> Option<u32>
     ensures read { IfSome result
         (λ octets. HasNumber (rows_of (found_of values.now)) name.now octets × IsRoom octets) }
@@ -79,7 +79,7 @@ fn room_in(values: &ArgMatches, name: &str) -> Option<u32>
     Some(octets)
 }
 
-/// The same, where it is given.
+/// The same, if it is given.
 pub fn optional_room_in(values: &ArgMatches, name: &str) -> Option<Option<u32>>
     ensures read { IfSome result (MayHaveRoom (rows_of (found_of values.now)) name.now) }
     ensures found { (room : Option ℕ) → MayHaveRoom (rows_of (found_of values.now)) name.now room

@@ -13,7 +13,7 @@ use crate::read_subcommands::{
 };
 use clap::ArgMatches;
 
-/// The action of a subcommand that needs no frames and no running relay, with its values.
+/// The action of a subcommand that needs neither frames nor a running relay, with its values.
 fn lone_in<'a>(name: &str, values: &ArgMatches<'a>) -> Option<Action<'a>>
     requires others { (name.now ≢ codes "open") × (name.now ≢ codes "format")
         × (name.now ≢ codes "apply")
@@ -35,7 +35,7 @@ fn lone_in<'a>(name: &str, values: &ArgMatches<'a>) -> Option<Action<'a>>
     }
 }
 
-/// The action of a subcommand but `open`, `format`, `apply` and `show`, with its values.
+/// The action of a subcommand other than `open`, `format`, `apply` and `show`, with its values.
 fn frames_in<'a>(name: &str, values: &ArgMatches<'a>) -> Option<Action<'a>>
     requires others { (name.now ≢ codes "open") × (name.now ≢ codes "format")
         × (name.now ≢ codes "apply") × (name.now ≢ codes "show") }
@@ -53,7 +53,7 @@ fn frames_in<'a>(name: &str, values: &ArgMatches<'a>) -> Option<Action<'a>>
     }
 }
 
-/// The action of the subcommand that was used with its values, `open` where there was none.
+/// The action of the subcommand that was used with its values, `open` if there was none.
 pub fn action_in<'a>(matches: &ArgMatches<'a>) -> Option<Action<'a>>
     ensures read { IfSome result (Names (subcommand_rows_of matches.now)) }
     ensures found { (action : Action) → Names (subcommand_rows_of matches.now) action

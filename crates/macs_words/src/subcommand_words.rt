@@ -10,7 +10,7 @@ use crate::arguments::{count, flag, last, number, option, room, value, wait};
 use clap::{Arg, Command};
 use std::alloc::{AllocError, Global};
 
-/// These words with one value more.
+/// These words with one more value.
 fn with_value<'a>(
     words: Result<Command<'a>, AllocError>,
     value: Arg<'a>,
@@ -22,7 +22,7 @@ fn with_value<'a>(
     words?.arg(value)
 }
 
-/// The same with a value that has to be given.
+/// The same with a required value.
 fn with_required<'a>(
     words: Result<Command<'a>, AllocError>,
     alloc: Global,
@@ -35,7 +35,7 @@ fn with_required<'a>(
     with_value(words, value(alloc, name))
 }
 
-/// The words of a subcommand over a file, which is its first value.
+/// The words of a subcommand for a file, which is its first value.
 pub fn file_words<'a>(
     alloc: Global,
     name: &'a str,
@@ -87,7 +87,7 @@ pub fn show_words<'a>(alloc: Global) -> Result<Command<'a>, AllocError>
     file_words(alloc, "show", "DISK")
 }
 
-/// The words of a subcommand over a disk and two captures.
+/// The words of a subcommand for a disk and two captures.
 pub fn capture_words<'a>(alloc: Global, name: &'a str) -> Result<Command<'a>, AllocError>
     ensures { IfOk result
         (λ command. IsClapCommand command (with_rule (with_rule (with_rule (with_rule
@@ -110,7 +110,7 @@ pub fn validate_words<'a>(alloc: Global) -> Result<Command<'a>, AllocError>
     with_value(capture_words(alloc, "validate"), flag(alloc, "each"))
 }
 
-/// The words of `relay` that are values, and how it takes its turns.
+/// The values of `relay`, and the options for its turns.
 fn wire_words<'a>(alloc: Global) -> Result<Command<'a>, AllocError>
     ensures { IfOk result
         (λ command. IsClapCommand command (with_rule (with_rule (with_rule (with_rule (with_rule

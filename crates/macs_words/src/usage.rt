@@ -15,8 +15,8 @@ use clap::ArgMatches;
 use clap::error::ErrorKind;
 use std::alloc::{AllocError, Global};
 
-/// What an error says before it explains usage: the reason, and its tips. Usage comes last, and a
-/// word that the reason repeats may have lines like it.
+/// The part of an error before the usage: the reason, and its tips. Usage comes last, and a word
+/// that the reason repeats may contain similar lines.
 fn said_of(text: &str) -> &str {
     match text.rsplit_once("\n\nUsage:") {
         Some((said, _)) => said,
@@ -24,8 +24,8 @@ fn said_of(text: &str) -> &str {
     }
 }
 
-/// The same without the tip to pass a word as a value, since most often no further value is taken.
-/// Where it comes, it is the only tip.
+/// The same without the tip to pass a word as a value, since most often no further value is
+/// accepted. If that tip is present, it is the only one.
 fn useful_in(said: &str) -> &str {
     match said.rsplit_once("\n\n  tip: to pass '") {
         Some((reason, _)) => reason,
@@ -33,15 +33,15 @@ fn useful_in(said: &str) -> &str {
     }
 }
 
-/// The reason and the tips that an error gives, in one line: what is missing and each tip have
-/// lines of their own there, and an empty line comes before the first tip.
+/// The reason and the tips of an error, in one line: in the error, what is missing and each tip
+/// have lines of their own, and an empty line precedes the first tip.
 fn line_of(alloc: Global, text: &str) -> Result<String, AllocError> {
     let tipped = useful_in(said_of(text)).replace(alloc, "\n\n ", "")?;
     tipped.as_str().replace(alloc, "\n ", "")
 }
 
-/// The reason and the tips that an error gives, in one line. They repeat the words, so control
-/// characters are replaced.
+/// The reason and the tips of an error, in one line. They repeat the words, so control characters
+/// are replaced.
 fn cause_of(alloc: Global, error: &clap::Error) -> Result<String, AllocError>
     ensures { IfOk result (λ cause. IsPrintable (string_bytes cause)) }
 {
@@ -50,7 +50,7 @@ fn cause_of(alloc: Global, error: &clap::Error) -> Result<String, AllocError>
     printable(alloc, line.strip_prefix("error: ").unwrap_or(line.as_str()))
 }
 
-/// The fault that an error of the library is.
+/// The fault for an error of the library.
 fn usage_fault_of(alloc: Global, error: &clap::Error) -> Result<UsageFault, AllocError>
     ensures kind { IfOk result (IsFaultOf error.now) }
     ensures printable { IfOk result HasPrintableCause }
@@ -61,9 +61,9 @@ fn usage_fault_of(alloc: Global, error: &clap::Error) -> Result<UsageFault, Allo
     }
 }
 
-/// What is said where the words of a subcommand name no action: of `ask` what it may be asked, or
-/// which answers are JSON where that is wanted, of `plan` its ends and stages, and of a relay that
-/// has neither `--turns` nor `--wait`, as clap says it, that one is missing.
+/// The message if the words of a subcommand name no action: for `ask` the possible questions, or
+/// the answers available as JSON if that is requested, for `plan` its ends and stages, and for a
+/// relay with neither `--turns` nor `--wait` that one is missing, worded as by clap.
 fn missing_cause(alloc: Global, matches: &ArgMatches) -> Result<String, AllocError>
     ensures { IfOk result (λ cause. IsPrintable (string_bytes cause)) }
 {
@@ -89,7 +89,7 @@ fn missing_cause(alloc: Global, matches: &ArgMatches) -> Result<String, AllocErr
     }
 }
 
-/// The action that was read. Refused as `Usage` where the words name none, then as `Memory` where
+/// The action that was read. Fails with `Usage` if the words name none, then with `Memory` if
 /// memory runs out.
 fn action_read<'a>(alloc: Global, matches: &ArgMatches<'a>) -> Result<Action<'a>, UsageFault>
     ensures read { IfOk result (Names (subcommand_rows_of matches.now)) }
@@ -102,19 +102,19 @@ fn action_read<'a>(alloc: Global, matches: &ArgMatches<'a>) -> Result<Action<'a>
     }
 }
 
-/// The action that the words name, without the program's own name among them. Refused as `Usage`
-/// where clap refuses the words, or where they name a relay with neither `--turns` nor `--wait`,
-/// ask a relay nothing that it is asked, ask for JSON of what is no report, or plan for no end or
-/// no stage; else as `Memory` where there is no memory.
+/// The action that the words name, which do not include the program's own name. Fails with `Usage`
+/// if clap refuses the words, or if they name a relay with neither `--turns` nor `--wait`, ask a
+/// relay an unknown question, request JSON for an answer that is not a report, or plan for no valid
+/// end or stage; else with `Memory` if memory runs out.
 pub fn action_of<'a>(alloc: Global, words: &'a [&'a str]) -> Result<Action<'a>, UsageFault>
-    // What is answered is what clap reads.
+    // The action is what clap reads.
     ensures read { IfOk result (Names (subcommand_of macsecd (texts words.now))) }
-    // What clap takes is refused for memory alone, but for a relay with neither turns nor a wait,
-    // a question that is none or has no report as its answer where JSON is wanted, and an end or a
-    // stage that is none.
+    // Words that clap accepts are refused only if memory runs out, except for a relay with neither
+    // turns nor a wait, an `ask` with an unknown question or with JSON for an answer that is not a
+    // report, and an invalid end or stage.
     ensures taken { takes macsecd (texts words.now) ≡ true → IfErr result (λ fault.
         (fault ≡ UsageFault.Memory) ⊎ NamesNothing (subcommand_of macsecd (texts words.now))) }
-    // What is answered is nothing that clap refuses.
+    // No words that clap refuses give an action.
     ensures refused { OnOk result (fault_of macsecd (texts words.now) ≡ []) }
     // The cause of a refusal has no control character.
     ensures printable { IfErr result HasPrintableCause }
