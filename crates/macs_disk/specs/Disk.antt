@@ -1,10 +1,10 @@
--- A disk through time, and what one call of it does.
+-- A disk over time, and the effect of one call.
 use Rattle.std.specs.Prelude.{◌≡◌, ◌≤◌, ◌+◌, ◌⊎◌, ℕ, Bool, true, false, List, Result, IsErr, OnOk, OnErr}
 use Rattle.macs_disk.specs.States.{IsSector, Image, DiskState, IsImage, settled_state, state_after_write}
 use Rattle.macs_disk.specs.States.{state_after_sync}
 
--- a disk through time. `past k` is its state at moment k, for each k up to the clock. A worn disk
--- fails each call. Whether it is honest says whether its calls do what is said of an honest disk.
+-- a disk over time. `past k` is its state at moment k, for each k up to the clock. On a worn disk each call fails.
+-- Whether it is honest decides whether its calls do what the model of an honest disk says.
 pub record Disk : Type 0 where
   pub sectors : ℕ
   pub past : ℕ → DiskState
@@ -25,12 +25,12 @@ IsHonest disk = disk.honest ≡ true
 abbrev pub MayLeave : Disk → Image → Type 0
 MayLeave disk image = IsImage (now disk) image
 
--- a power loss at some moment since `since` might have left this image
+-- a power loss at some moment from `since` on might have left this image
 abbrev pub LeftSince : Disk → ℕ → Image → Type 0
 LeftSince disk since image = (k : ℕ) × (since ≤ k) × (k ≤ disk.clock) × IsImage (disk.past k) image
 
--- a disk that a power loss left with this image. It is no call: the counts stay. Its past starts
--- over: at each moment it is settled with this image.
+-- a disk left with this image by a power loss. This is not a call: the counts stay. Its past starts over: at each
+-- moment it is settled with this image.
 abbrev pub disk_after_loss : Disk → Image → Disk
 disk_after_loss disk image =
     record {
@@ -42,8 +42,8 @@ disk_after_loss disk image =
       worn = disk.worn;
     }
 
--- calls led from old to new: the clock goes on, what was past stays, failures are only added, a worn
--- disk stays worn, and the sectors and honesty stay
+-- calls led from old to new: the clock advances, the past stays, failures are only added, a worn disk stays worn, and
+-- the sectors and honesty stay
 pub record Works (old new : Disk) : Type 0 where
   pub later : old.clock ≤ new.clock
   pub past : (k : ℕ) → k ≤ old.clock → new.past k ≡ old.past k
@@ -52,19 +52,19 @@ pub record Works (old new : Disk) : Type 0 where
   pub sectors : new.sectors ≡ old.sectors
   pub honest : new.honest ≡ old.honest
 
--- one failure was counted and no more, or the disk is worn, so that one may have failed uncounted
+-- exactly one failure was counted, or the disk is worn, so that one may have failed uncounted
 abbrev pub FailsOnce : Disk → Disk → Type 0
 FailsOnce old new = (new.failures ≡ old.failures + 1) ⊎ (new.worn ≡ true)
 
--- calls, and a result that reports whether one of them failed: Ok where none did, Err where exactly one did
+-- calls, and a result that reports whether one of them failed: Ok if none did, Err if exactly one did
 pub record IsWork {T E : Type 0} (old new : Disk) (result : Result T E) : Type 0 where
   pub works : Works old new
   pub ok : OnOk result (new.failures ≡ old.failures)
   pub err : OnErr result (FailsOnce old new)
 
--- what each call does on every disk, honest or not: a moment passes, and a failure is counted exactly
--- where one is answered. A worn disk fails the call and its state stays; its clock and its failures
--- stay as well, or both rise by one (those of a fuse, which counts the calls that it fails itself).
+-- what each call does on every disk, honest or not: a moment passes, and a failure is counted if and only if one is
+-- returned. On a worn disk the call fails and the state stays; the clock and the failures stay as well, or both
+-- increase by one (those of a fuse, which counts the calls that it fails itself).
 pub record IsDeviceCall {T E : Type 0} (old new : Disk) (result : Result T E) : Type 0 where
   pub work : IsWork old new result
   pub at_most_one : new.clock ≤ old.clock + 1
@@ -79,12 +79,12 @@ pub record Reads {T E : Type 0} (old new : DiskState) (at : ℕ) (into : List �
   pub same : new ≡ old
   pub ok : OnOk result (into ≡ old.seen at)
 
--- what a write does on an honest disk: where it fails nothing was written, or some 512 octets were
+-- what a write does on an honest disk: if it fails nothing was written, or some 512 octets were
 pub record Writes {T E : Type 0} (old new : DiskState) (at : ℕ) (octets : List ℕ) (result : Result T E) : Type 0 where
   pub ok : OnOk result (new ≡ state_after_write old at octets)
   pub err : OnErr result ((new ≡ old) ⊎ ((other : List ℕ) × IsSector other × (new ≡ state_after_write old at other)))
 
--- what a sync does on an honest disk: where it fails nothing is durable that was not
+-- what a sync does on an honest disk: if it fails nothing becomes durable
 pub record Syncs {T E : Type 0} (old new : DiskState) (result : Result T E) : Type 0 where
   pub ok : OnOk result (new ≡ state_after_sync old)
   pub err : OnErr result (new ≡ old)

@@ -1,5 +1,5 @@
--- What the disks of this crate hand to the trait: that they are sound, and worn no sooner than their clock is full. It
--- is here and not among the proofs, since what a ghost item cites of its own crate is in its specs.
+-- What the disks of this crate prove for the trait: that they are sound, and not worn before their clock is full. This
+-- is here and not among the proofs, since a ghost item can only cite the specs of its own crate.
 use Rattle.std.proofs.Common.{◌≡◌, ◌≤◌, ◌+◌, ◌-◌, ◌^◌, ◌==◌, inl, inr, ℕ, min, max, Bool, true, false, List, refl, ap}
 use Rattle.std.proofs.Common.{arith, subst, sym}
 use Rattle.std.proofs.lemmas.Bool.{cases_eq}
@@ -10,20 +10,20 @@ use Rattle.macs_disk.specs.Fuses.{FuseValue, disk_of_fuse, fused_disk}
 use Rattle.macs_disk.specs.CallLists.{IsSoundMemory, state_at, sectors_in}
 use Rattle.macs_disk.specs.declared.call_list.Entry.{Entry}
 
--- ---- a disk behind a fuse
+-- ---- a disk with a fuse
 
--- a disk behind a fuse is now in the state of the disk itself
+-- a disk with a fuse is now in the state of the inner disk
 pub fused-now : (disk : Disk) (at missed added : ℕ) → at ≤ disk.clock → now (fused_disk disk at missed added) ≡ now disk
 fused-now disk at missed added le =
     let same : min (disk.clock + missed) (max at (disk.clock + missed - missed)) ≡ disk.clock = omega (arith, le) in
     ap disk.past same
 
--- which is as sound
+-- and it is as sound
 pub fused-sound : (disk : Disk) (at missed added : ℕ) → at ≤ disk.clock → IsSound (now disk)
     → IsSound (now (fused_disk disk at missed added))
 fused-sound disk at missed added le sound = subst IsSound (sym (fused-now disk at missed added le)) sound
 
--- a disk behind a fuse is worn no sooner than one of the two counts is full
+-- a disk with a fuse is not worn before one of the two counts is full
 pub fused-wear : (disk : Disk) (at missed added : ℕ) → (disk.worn ≡ true → 2 ^ 64 - 1 ≤ disk.clock)
     → (fused_disk disk at missed added).worn ≡ true
     → 2 ^ 64 - 1 ≤ (fused_disk disk at missed added).clock
@@ -38,7 +38,7 @@ fused-wear disk at missed added inner is = elim (cases_eq missed (2 ^ 64 - 1)) [
       let fresh : (fused_disk disk at missed added).worn ≡ false = rw (worn, no) refl in
       cc)
 
--- what a fuse is
+-- the value of a fuse is sound
 pub fuse-sound : {D : Type 0} (disk : D → Disk) (fuse : FuseValue D) → IsSound (now (disk fuse.inner))
     → IsSound (now (disk_of_fuse disk fuse))
 fuse-sound disk fuse = fused-sound (disk fuse.inner) (min (disk fuse.when).clock (disk fuse.inner).clock) fuse.missed
@@ -59,7 +59,7 @@ full-clock clock is = elim (cases_eq clock (2 ^ 64 - 1)) [
   | inr other ↦ absurd (let no : (clock == 2 ^ 64 - 1) ≡ false = grind (arith, nat_tests) in cc)
 ]
 
--- what is kept of a disk in memory gives a sound state
+-- what an in-memory disk keeps gives a sound state
 pub kept-sound : (first seen durable : List (List ℕ)) (pending : List Bool) (calls : List Entry) (clock : ℕ)
     → IsSoundMemory first seen durable pending calls clock
     → IsSound (state_at (settled_state (sectors_in first)) calls clock)
@@ -72,6 +72,6 @@ kept-sound first seen durable pending calls clock kept =
 
 -- ---- a disk in a file
 
--- what claims no honesty owes nothing that is said of honest disks
+-- a disk that does not claim honesty has no obligations of an honest one
 pub no-claim : {P : Type 0} → false ≡ true → P
 no-claim honest = absurd cc

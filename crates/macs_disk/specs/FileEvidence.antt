@@ -1,5 +1,5 @@
--- That a disk in a file that behaves is sound. It is here and not among the proofs, since what a ghost item cites of
--- its own crate is in its specs.
+-- A disk in a file that behaves is sound. This is here and not among the proofs, since a ghost item can only cite the
+-- specs of its own crate.
 use Rattle.std.proofs.Common.{◌≡◌, ◌≤◌, ◌<◌, ◌+◌, ◌*◌, ◌/◌, ◌^◌, ◌==◌, ◌&&◌, ◌||◌, inl, inr, ℕ, zero, suc, Bool, true}
 use Rattle.std.proofs.Common.{false, List, ◌∷◌, length, get_or, refl, arith, subst, sym}
 use Rattle.std.proofs.lemmas.Bool.{cases_eq, cases_lt, and_parts}
@@ -33,7 +33,7 @@ values-sector f at small = record {
   ];
 }
 
--- values that agree at each place
+-- functions that agree on a range
 same_first : (f g : ℕ → ℕ) (at n : ℕ) → ((i : ℕ) → i < suc n → f (at + i) ≡ g (at + i)) → f at ≡ g at
 same_first f g at n same = let zero_more : at + 0 ≡ at = omega arith in
     subst (λ (p : ℕ). f p ≡ g p) zero_more (same 0 (omega arith))
@@ -50,7 +50,7 @@ values-same f g at zero same = refl
 values-same f g at (suc n) same =
     λ j. same_first f g at n same j ∷ values-same f g (at + 1) n (same_rest f g at n same) j
 
--- a sector is at the front of a block of the device, and is no longer than that
+-- a sector is at the start of a device block, and is no longer than the block
 pub record StandsAt (block number place : ℕ) : Type 0 where
   pub front : place ≡ block * number
   pub long : 512 ≤ block
@@ -80,7 +80,7 @@ stands-at Packed block i suited = subst (λ (b : ℕ). StandsAt b (512 * i / b) 
     (record { front = omega arith; long = omega arith })
 stands-at Spaced block i suited = on_either block i (block == 512) refl suited
 
--- the sectors of a sound file
+-- the sectors of a sound file are sound
 pub state-sound : (layout : Layout) (file : FileState) → suits layout file.block ≡ true → IsSoundFile file
     → IsSound (state_in_file layout file)
 unfolding state_in_file
@@ -98,7 +98,7 @@ state-sound layout file suited sound = record {
   durable = λ i. values-sector file.durable (place layout i) sound.durable;
 }
 
--- what an honest disk's file is
+-- what holds of the file of an honest disk
 pub record KeepsDisk (layout : Layout) (file : FileState) : Type 0 where
   pub behaves : Behaves file
   pub sure : IsSure file

@@ -1,31 +1,31 @@
--- A file at one moment, and what each call of a file that behaves does to it. A file behaves as one of a kernel's does
+-- A file at one moment, and what each call of a file that behaves does to it. A file behaves as one of a kernel does
 -- that keeps its promises: octets are written to a cache and read from there; a sync makes them durable on the device.
--- Once a sync has failed, the cache may show octets that the device does not have, and no later sync makes that good:
--- the kernel takes their pages to be written. So a file in doubt is read and no more, and what is read of it is copied
--- into a new file.
+-- Once a sync has failed, the cache may show octets that the device does not have, and no later sync repairs that,
+-- because the kernel considers their pages written. So a file in doubt is only read, and the octets that are read are
+-- copied into a new file.
 use Rattle.std.specs.Prelude.{◌≡◌, ◌≤◌, ◌<◌, ◌+◌, ◌-◌, ◌*◌, ◌^◌, ◌&&◌, ◌||◌, ℕ, if◌then◌else◌, max, nat_le, nat_lt}
 use Rattle.std.specs.Prelude.{Bool, true, false, List, [], ◌∷◌, length, map, take, get_or, Result, IfOk, OnOk, OnErr}
 use Rattle.std.specs.List.{range_with_len}
 
--- a file at one moment, by the places of its octets and by the numbers of the device's blocks
+-- a file at one moment; octets are indexed by place, device blocks by number
 pub record FileState : Type 0 where
-  -- its calls do what is said here
+  -- its calls do what this module says
   pub behaves : Bool
-  -- how many octets the device writes at a time: a power loss in a write of one may spoil its whole block
+  -- how many octets the device writes at a time: a power loss during a write may spoil the whole block
   pub block : ℕ
-  -- how many octets the file has, and whether a power loss leaves so many
+  -- how many octets the file has, and whether that length survives a power loss
   pub size : ℕ
   pub is_size_durable : Bool
   -- what the cache shows, which reads give: zeros after the end
   pub seen : ℕ → ℕ
   -- what the device durably has
   pub durable : ℕ → ℕ
-  -- the blocks that were written since the last sync that succeeded before any failed, and whether there are none
+  -- the blocks written since the last sync that succeeded before any failed, and whether there are none
   pub pending : ℕ → Bool
   pub is_clean : Bool
   -- no sync of it has failed
   pub is_sure : Bool
-  -- this open of the file has claimed it: no other that asks for a claim has it
+  -- this open of the file has claimed it: no other open that asks for a claim has it
   pub is_claimed : Bool
 
 -- the file behaves
@@ -40,7 +40,7 @@ IsSure file = file.is_sure ≡ true
 abbrev pub IsClaimed : FileState → Type 0
 IsClaimed file = file.is_claimed ≡ true
 
--- a file of which nothing is known
+-- a file about which nothing is known
 abbrev pub unknown_file : FileState
 unknown_file =
     record {
@@ -56,8 +56,8 @@ unknown_file =
       is_claimed = false;
     }
 
--- a block has octets, octets are below 256, nothing is pending in a clean file, and a file shows what is
--- durable where nothing is pending, and zeros after its end
+-- blocks are not empty, octets are below 256, nothing is pending in a clean file, and a file shows what is durable
+-- where nothing is pending, and zeros after its end
 pub record IsSoundFile (file : FileState) : Type 0 where
   pub wide : 0 < file.block
   pub seen : (p : ℕ) → file.seen p < 2 ^ 8
@@ -67,30 +67,30 @@ pub record IsSoundFile (file : FileState) : Type 0 where
       → file.seen (file.block * n + k) ≡ file.durable (file.block * n + k)
   pub ended : (p : ℕ) → file.size ≤ p → file.seen p ≡ 0
 
--- a power loss may leave these octets: the durable ones in a block that is not pending, and any others elsewhere. Where
--- the size is not durable nothing is said of what it leaves.
+-- a power loss may leave these octets: the durable ones in a block that is not pending, and any others elsewhere. If
+-- the size is not durable, nothing is promised about what it leaves.
 pub record IsFileImage (file : FileState) (image : ℕ → ℕ) : Type 0 where
   pub kept : (n k : ℕ) → file.pending n ≡ false → k < file.block
       → image (file.block * n + k) ≡ file.durable (file.block * n + k)
   pub octets : (p : ℕ) → image p < 2 ^ 8
 
--- f, but these values from one place on
+-- f, with these values from one place on
 abbrev pub put_from : {X : Type 0} → (ℕ → X) → ℕ → List X → ℕ → X
 put_from f at xs p = if nat_le at p then get_or xs (p - at) (f p) else f p
 
--- so many values of f from one place on
+-- this many values of f from one place on
 unfoldable pub values_from : (ℕ → ℕ) → ℕ → ℕ → List ℕ
 values_from f at count = map f (range_with_len at count)
 
--- the file shows zeros from octet `from` up to before `to`
+-- the file shows zeros from octet `from` to before octet `to`
 abbrev pub HasZeros : FileState → ℕ → ℕ → Type 0
 HasZeros file from to = (i : ℕ) → from ≤ i → i < to → file.seen i ≡ 0
 
--- block n, of so many octets, has one of the octets from `from` up to before `to`
+-- block n, with this block size, has one of the octets from `from` to before `to`
 abbrev pub has_some : ℕ → ℕ → ℕ → ℕ → Bool
 has_some block from to n = nat_lt (block * n) to && nat_lt from (block * n + block)
 
--- the file after these octets were written from one place on. Where that made it longer its size is not durable.
+-- the file after these octets were written from one place on. If that extended it, its size is not durable.
 abbrev pub file_after_write : FileState → ℕ → List ℕ → FileState
 file_after_write file at [] = file
 file_after_write file at (x ∷ xs) =
@@ -107,7 +107,7 @@ file_after_write file at (x ∷ xs) =
       is_claimed = file.is_claimed;
     }
 
--- the file with these octets durable, and its size
+-- the file with these octets and its size durable
 abbrev pub file_synced : FileState → (ℕ → ℕ) → FileState
 file_synced file octets =
     record {
@@ -127,7 +127,7 @@ file_synced file octets =
 abbrev pub file_after_sync : FileState → FileState
 file_after_sync file = file_synced file file.seen
 
--- the file after a sync that failed: no octet of it is durable that was not, and what it shows is in doubt
+-- the file after a failed sync: no octet of it has become durable, and what it shows is in doubt
 abbrev pub file_in_doubt : FileState → FileState
 file_in_doubt file = record file { is_sure = false }
 
@@ -135,7 +135,7 @@ file_in_doubt file = record file { is_sure = false }
 abbrev pub file_claimed : FileState → FileState
 file_claimed file = record file { is_claimed = true }
 
--- the file cut to nothing. Until a sync a power loss may leave any octets of it, and some other size.
+-- the file truncated to zero length. Until a sync a power loss may leave any octets of it, and some other size.
 abbrev pub file_cut : FileState → FileState
 file_cut file = record file { size = 0; is_size_durable = false; seen = λ _. 0; pending = λ _. true; is_clean = false }
 
@@ -143,56 +143,56 @@ file_cut file = record file { size = 0; is_size_durable = false; seen = λ _. 0;
 abbrev pub AreOctets : List ℕ → Type 0
 AreOctets octets = (i : ℕ) → get_or octets i 0 < 2 ^ 8
 
--- what a claim does: where it fails nothing is changed
+-- what a claim does: if it fails nothing is changed
 pub record ClaimsFile {T E : Type 0} (old new : FileState) (result : Result T E) : Type 0 where
   pub ok : OnOk result (new ≡ file_claimed old)
   pub err : OnErr result (new ≡ old)
 
--- What a read does: it changes nothing, and gives the octets from its place on, as many as it answers. Of a kernel's
--- file in doubt a page may change, once, from what was written to what is durable, when the kernel lets it go: what
--- this says of such a file is said of who reads each octet once.
+-- What a read does: it changes nothing, and returns the octets from its place on, as many as it says. In a kernel's
+-- file in doubt a page may change, once, from what was written to what is durable, when the kernel evicts it: for such
+-- a file this describes a reader that reads each octet once.
 pub record ReadsFile {E : Type 0} (old new : FileState) (at : ℕ) (into : List ℕ) (result : Result ℕ E) : Type 0 where
   pub same : new ≡ old
   pub octets : IfOk result (λ count. take count into ≡ values_from old.seen at count)
 
--- some octets were written from a place on, no more than so many
+-- some octets were written from a place on, at most this many
 abbrev pub WritesSome : FileState → FileState → ℕ → ℕ → Type 0
 WritesSome old new at most = (other : List ℕ) × (length other ≤ most) × AreOctets other
     × (new ≡ file_after_write old at other)
 
--- what a write does: it writes the first of the octets at its place, as many as it answers. Where it fails it wrote
--- some octets there, maybe none. Of a file in doubt it is only known that it stays in doubt.
+-- what a write does: it writes the first octets at its place, as many as it says. If it fails it wrote some octets
+-- there, maybe none. Of a file in doubt it is only known that it stays in doubt.
 pub record WritesFile {E : Type 0} (old new : FileState) (at : ℕ) (octets : List ℕ) (result : Result ℕ E) : Type 0 where
   pub ok : IsSure old → IfOk result (λ count. new ≡ file_after_write old at (take count octets))
   pub err : IsSure old → OnErr result (WritesSome old new at (length octets))
   pub doubt : old.is_sure ≡ false → new.is_sure ≡ false
 
--- what a write of all of these octets does: where it fails it wrote some octets there, no more than so many, maybe none
+-- what a write of all of these octets does: if it fails it wrote some octets there, at most this many, maybe none
 pub record WritesAll {T E : Type 0} (old new : FileState) (at : ℕ) (octets : List ℕ)
     (result : Result T E) : Type 0 where
   pub ok : IsSure old → OnOk result (new ≡ file_after_write old at octets)
   pub err : IsSure old → OnErr result (WritesSome old new at (length octets))
   pub doubt : old.is_sure ≡ false → new.is_sure ≡ false
 
--- What a sync does: what a file that is sure shows is durable then, and so is its size. One in doubt stays so, whatever
--- the sync answers. Where it fails nothing is durable that was not, and the file is in doubt.
+-- What a sync does: what a sure file shows is then durable, and so is its size. One in doubt stays so, regardless of
+-- the result. If the sync fails nothing becomes durable, and the file is in doubt.
 pub record SyncsFile {T E : Type 0} (old new : FileState) (result : Result T E) : Type 0 where
   pub ok : IsSure old → OnOk result (new ≡ file_after_sync old)
   pub doubt : old.is_sure ≡ false → new.is_sure ≡ false
   pub err : OnErr result (new ≡ file_in_doubt old)
 
--- a file that was just made: it behaves, and is empty and sure
+-- a newly made file: it behaves, and is empty and sure
 pub record IsEmpty (file : FileState) : Type 0 where
   pub behaves : Behaves file
   pub size : file.size ≡ 0
   pub is_sure : IsSure file
 
--- and one made in the folder of another, on its device
+-- a new file in the folder of another, on the same device
 pub record IsMadeBeside (old new : FileState) : Type 0 where
   pub is_empty : IsEmpty new
   pub block : new.block ≡ old.block
 
--- A file is a copy of another one: it has as many octets and shows what that one shows, all of it is durable, and so is
+-- A file is a copy of another one: it has the same length and shows the same octets, all of it is durable, and so is
 -- its size. What it shows is one of the images that a power loss could leave of the other.
 pub record IsCopy (old new : FileState) : Type 0 where
   pub behaves : Behaves new
@@ -205,8 +205,8 @@ pub record IsCopy (old new : FileState) : Type 0 where
   pub is_clean : new.is_clean ≡ true
   pub is_sure : IsSure new
 
--- a power loss leaves nothing new of the file: no image that it could not leave before, and the same size where that
--- was durable
+-- a power loss leaves nothing new of the file: no image that it could not leave before, and the same size if that was
+-- durable
 pub record HasNothingNew (old new : FileState) : Type 0 where
   pub block : new.block ≡ old.block
   pub size : old.is_size_durable ≡ true → (new.size ≡ old.size) × (new.is_size_durable ≡ true)

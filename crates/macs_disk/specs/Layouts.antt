@@ -1,4 +1,4 @@
--- How the sectors of a disk lie in its file, and how that is found.
+-- The layout of a disk's sectors in its file, and how it is found.
 use Rattle.std.specs.Prelude.{◌+◌, ◌*◌, ◌/◌, ◌==◌, ◌&&◌, ◌||◌, ◌++◌, ◌∷◌, [], ℕ, if◌then◌else◌, Bool, List, nat_eq}
 use Rattle.std.specs.Prelude.{nat_le, replicate}
 use Rattle.std.specs.List.{starts_with}
@@ -27,18 +27,19 @@ spaced_mark = 0x4d ∷ 0x53 ∷ 0x45 ∷ 0x43 ∷ 0x34 ∷ 0x30 ∷ 0x39 ∷ 0x3
 abbrev pub mark : List ℕ
 mark = spaced_mark ++ replicate 504 0
 
--- a sector marks a spaced file where it begins with the mark, whatever else it holds
+-- a sector marks a spaced file if it begins with the mark, regardless of the rest
 abbrev pub is_marked : List ℕ → Bool
 is_marked octets = starts_with nat_eq octets spaced_mark
 
--- the layout of a file, by what it shows: it is spaced where the block after the sectors of one begins with the mark
+-- the layout of a file, from its contents: it is spaced if the block after the sectors of a spaced file begins with the
+-- mark
 unfoldable pub layout_in : FileState → Layout
 layout_in file =
     if nat_le (place Spaced spaced_sectors + 512) file.size
     && is_marked (values_from file.seen (place Spaced spaced_sectors) 512)
     then Spaced else Packed
 
--- how many sectors a file of so many octets has
+-- how many sectors a file of this many octets has
 abbrev pub sectors_in : Layout → ℕ → ℕ
 sectors_in Packed size = size / 512
 sectors_in Spaced size = spaced_sectors

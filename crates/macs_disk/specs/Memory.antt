@@ -1,14 +1,14 @@
--- A disk in memory, as its callers see it.
+-- An in-memory disk, as its callers see it.
 use Rattle.std.specs.Prelude.{ℕ, true, false, List, Option, Some, None, unwrap_or}
 use Rattle.macs_disk.specs.States.{Image, put_sector, settled_state, zero_sector}
 use Rattle.macs_disk.specs.Disk.{Disk, now, disk_after_loss}
 
--- a disk in memory: the disk, and what was chosen that a power loss leaves in its sectors
+-- an in-memory disk: the disk, and the choices of what a power loss leaves in its sectors
 pub record Memory : Type 0 where
   pub disk : Disk
   pub chosen : ℕ → Option (List ℕ)
 
--- so many sectors of zeros
+-- a disk of this many sectors of zeros
 abbrev pub blank_memory : ℕ → Memory
 blank_memory sectors =
     record {
@@ -24,11 +24,11 @@ blank_memory sectors =
       chosen = λ _. None;
     }
 
--- the disk after this was chosen for a sector
+-- the disk after this choice for a sector
 abbrev pub memory_with_choice : Memory → ℕ → List ℕ → Memory
 memory_with_choice memory at octets = record { disk = memory.disk; chosen = put_sector memory.chosen at (Some octets) }
 
--- what a power loss leaves now: the choices, and the last writes where none was made
+-- what a power loss leaves now: the choices, and the last writes where there is no choice
 abbrev pub image_left : Memory → Image
 image_left memory i = unwrap_or (memory.chosen i) ((now memory.disk).seen i)
 

@@ -17,8 +17,8 @@ pub record DiskState : Type 0 where
   pub durable : Image
   pub pending : ℕ → Bool
 
--- a power loss at that moment may leave this image: the durable octets of each sector that is not
--- pending, and any 512 octets in each that is, each for itself
+-- a power loss at that moment may leave this image: the durable octets of each sector that is not pending, and any 512
+-- octets in each that is, independently
 pub record IsImage (state : DiskState) (image : Image) : Type 0 where
   pub kept : (i : ℕ) → state.pending i ≡ false → image i ≡ state.durable i
   pub whole : (i : ℕ) → state.pending i ≡ true → IsSector (image i)
@@ -29,7 +29,7 @@ pub record IsSound (state : DiskState) : Type 0 where
   pub seen : (i : ℕ) → IsSector (state.seen i)
   pub durable : (i : ℕ) → IsSector (state.durable i)
 
--- f, but x at one place
+-- f, with x at one place
 abbrev pub put_sector : {X : Type 0} → (ℕ → X) → ℕ → X → ℕ → X
 put_sector f at x i = if i == at then x else f i
 

@@ -1,4 +1,4 @@
-//! The list that a disk in memory keeps of its calls.
+//! The list of calls that an in-memory disk keeps.
 
 ghost use Rattle.std.specs.Prelude.{◌≡◌, ◌<◌, ◌≤◌, ◌+◌, ◌-◌, ◌^◌, [], ◌∷◌, ◌++◌, OnErr, OnOk};
 ghost use Rattle.std.specs.List.{All};
@@ -10,7 +10,7 @@ use std::alloc::Allocator;
 /// A call that changed the disk.
 #[derive(Clone, Copy)]
 pub(crate) enum Call {
-    /// These octets were written to the sector of this number.
+    /// These octets were written to the sector with this number.
     Write(u64, [u8; 512]),
     /// Every sector was made durable.
     Sync,
@@ -23,7 +23,7 @@ pub(crate) struct Entry {
     pub(crate) call: Call,
 }
 
-/// The clock of a disk, its failures, and those of its calls that changed it.
+/// The clock of a disk, its failures, and the calls that changed it.
 #[derive(Drop)]
 pub(crate) struct CallList<A: Allocator> {
     pub(crate) clock: u64,
@@ -44,7 +44,7 @@ impl<A: Allocator> CallList<A> {
         }
     }
 
-    /// Lets a moment pass, unless the disk is worn.
+    /// Advances the clock, unless the disk is worn.
     pub(crate) fn pass(&mut self) -> Result<(), DeviceFault>
         ensures ok { OnOk result
             ((self.old.clock < 2 ^ 64 - 1) × (self.new.clock ≡ self.old.clock + 1)) }
@@ -61,8 +61,7 @@ impl<A: Allocator> CallList<A> {
         Ok(())
     }
 
-    /// Lets a moment pass and keeps the call that led to it. Where there is no memory for that, it
-    /// counts a failure.
+    /// Advances the clock and keeps the call. If there is no memory for it, counts a failure.
     pub(crate) fn keep(&mut self, call: Call) -> Result<(), DeviceFault>
         ensures ok { OnOk result
             ((self.old.clock < 2 ^ 64 - 1) × (self.new.clock ≡ self.old.clock + 1)) }

@@ -22,16 +22,16 @@ const PART: usize = 16_384;
 /// A file that this program has claimed, of whole sectors. It is read and not changed: the disk is
 /// in a copy of it.
 ///
-/// It may be looked at before it is copied. What it shows may not be what the device has, after a
-/// sync that failed.
+/// It may be examined before it is copied. After a failed sync it may show octets that the device
+/// does not have.
 #[derive(Drop)]
 pub struct ClaimedFile<F = File> {
-    /// The file. It is to be read alone.
+    /// The file. It must only be read.
     pub file: F,
     octets: u64,
 }
 
-/// Claims a file, and answers how many octets it has, where they are whole sectors.
+/// Claims a file, and returns how many octets it has, if they are whole sectors.
 fn measure<F: DiskFile>(file: &mut F) -> Result<u64, FileFault>
     ensures steady { (F.file file.new).behaves ≡ (F.file file.old).behaves }
     ensures claimed { Behaves (F.file file.old)
@@ -52,8 +52,8 @@ fn measure<F: DiskFile>(file: &mut F) -> Result<u64, FileFault>
     Ok(octets)
 }
 
-/// Copies some of the octets from octet `at` on, no more than so many, and answers how many: none
-/// where the read was interrupted.
+/// Copies some of the octets from octet `at` on, at most `most`, and returns how many: none if the
+/// read was interrupted.
 fn copy_some<F: DiskFile>(from: &mut F, into: &mut F, at: u64, most: u64) -> Result<u64, FileFault>
     requires { at + most < 2 ^ 64 }
     ensures few { IfOk result (λ count. count ≤ most) }
@@ -83,7 +83,7 @@ fn copy_some<F: DiskFile>(from: &mut F, into: &mut F, at: u64, most: u64) -> Res
     }
 }
 
-/// Copies the first so many octets of a file into an empty one. Each is read once.
+/// Copies the first `octets` octets of a file into an empty one. Each is read once.
 fn copy_octets<F: DiskFile>(from: &mut F, into: &mut F, octets: u64) -> Result<(), FileFault>
     ensures steady { (F.file into.new).behaves ≡ (F.file into.old).behaves }
     ensures same { Behaves (F.file from.old) → F.file from.new ≡ F.file from.old }
@@ -108,9 +108,9 @@ impl<F: DiskFile> ClaimedFile<F> {
     ghost use Rattle.macs_disk.specs.FileDisks.{IsMeasured, IsSettled, file_before};
     ghost use Rattle.macs_disk.specs.FileDisks.{file_beside, octets_measured};
 
-    /// Claims a file that is open to read and write, and measures it: in this order, and the first
-    /// of these that cannot be done says the fault, or `Length` where it is not whole sectors. No
-    /// octet is changed.
+    /// Claims a file that is open for reading and writing, and measures it, in this order. Fails
+    /// with the fault of the first of these that fails, or with `Length` if it is not whole
+    /// sectors. No octet is changed.
     pub fn of(mut file: F) -> Result<Self, FileFault>
         ensures steady { IfOk result (λ it.
             (F.file it.file).behaves ≡ (F.file file).behaves) }
@@ -126,7 +126,7 @@ impl<F: DiskFile> ClaimedFile<F> {
         Ok(ClaimedFile { file, octets })
     }
 
-    /// How many sectors of 512 octets the file has, if each is counted.
+    /// How many sectors of 512 octets the file has, counting each.
     pub fn sectors(&self) -> u64
         ensures count { result ≡ octets_measured self.now / 512 }
         ensures fits { 512 * result < 2 ^ 64 }
@@ -134,9 +134,9 @@ impl<F: DiskFile> ClaimedFile<F> {
         self.octets / SECTOR_OCTETS
     }
 
-    /// Copies the file into one that was just made, and syncs that. It fails as `Device` where this
-    /// one cannot be read, or the copy not be synced; as `Open`, or `Memory`, where the copy cannot
-    /// be written. This one stays as it is, and claimed.
+    /// Copies the file into a newly made one, and syncs that. Fails with `Device` if this file
+    /// cannot be read, or the copy cannot be synced; with `Open`, or `Memory`, if the copy cannot
+    /// be written. This file is unchanged, and stays claimed.
     pub fn copy_into(&mut self, mut into: F) -> Result<SettledFile<F>, FileFault>
         ensures given { IfOk result (λ it. file_before it ≡ self.old.file) }
         ensures made { IfOk result (λ it. file_beside it ≡ into) }
@@ -144,7 +144,7 @@ impl<F: DiskFile> ClaimedFile<F> {
             → IsMadeBeside (F.file self.old.file) (F.file into) → IfOk result (IsSettled F.file) }
         ensures steady { IfOk result (λ it. (F.file it.file).behaves ≡ (F.file into).behaves) }
         ensures err { IfErr result (λ fault. fault ≢ FileFault.Length) }
-        // Each fault has its own cause, by the calls that failed of both files.
+        // Each fault has its own cause, by the calls of both files that failed.
         ensures refused { IfErr result (λ fault. (left : F)
             × CopyFails (F.failures self.old.file) (F.failures self.new.file)
             (F.failures into) (F.failures left) fault) }

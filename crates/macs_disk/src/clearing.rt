@@ -1,4 +1,4 @@
-//! How an empty file is made that of a new disk: its mark is written, and zeros.
+//! How an empty file becomes that of a new disk: its mark and zeros are written.
 
 ghost use Rattle.std.specs.Prelude.{◌≡◌, ◌≢◌, IfErr, OnOk};
 ghost use Rattle.macs_disk.specs.FileFailures.{OnlyInterrupted, WriteFails};
@@ -24,7 +24,7 @@ fn put_mark<F: DiskFile>(file: &mut F) -> Result<(), FileFault>
     Ok(())
 }
 
-/// Sees to it that an empty file is found to be of this layout. That of a packed disk has no mark.
+/// Marks an empty file as having this layout. A packed file has no mark.
 fn mark_as<F: DiskFile>(file: &mut F, layout: Layout) -> Result<(), FileFault>
     ensures steady { (F.file file.new).behaves ≡ (F.file file.old).behaves }
     ensures marked { IsEmpty (F.file file.old)
@@ -39,8 +39,7 @@ fn mark_as<F: DiskFile>(file: &mut F, layout: Layout) -> Result<(), FileFault>
     }
 }
 
-/// Writes the mark of a layout into an empty file, and zeros in the place of the 1,028 sectors,
-/// durably.
+/// Writes the mark of a layout into an empty file, and zeros for the 1,028 sectors, durably.
 pub(crate) fn clear<F: DiskFile>(file: &mut F, layout: Layout) -> Result<(), FileFault>
     ensures steady { (F.file file.new).behaves ≡ (F.file file.old).behaves }
     ensures cleared { IsEmpty (F.file file.old)

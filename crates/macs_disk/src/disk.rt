@@ -11,22 +11,23 @@ pub struct DeviceFault;
 /// A disk of sectors of 512 octets, numbered from 0.
 ///
 /// A sector that was written since the last sync that succeeded is pending. A power loss may leave
-/// any 512 octets in each pending sector, each for itself, and changes no other. It may come at any
-/// moment, between two calls or inside one: each call of `read`, `write` and `sync` makes the clock
-/// go on by one, and the disk's meaning keeps its state at each moment up to the clock.
+/// any 512 octets in each pending sector, independently, and changes no other. It may come at any
+/// moment, between two calls or inside one: each call of `read`, `write` and `sync` advances the
+/// clock by one, and the disk's meaning keeps its state at each moment up to the clock.
 ///
-/// Each call of `read`, `write` and `sync` counts a failure exactly where it answers `DeviceFault`.
-/// A disk whose counts are full is worn: it fails each call, and nothing on it changes. What else
-/// is said here is said of an honest disk; whether a disk is honest never changes.
+/// Each call of `read`, `write` and `sync` counts a failure if and only if it returns
+/// `DeviceFault`. A disk whose counts are full is worn: each call of it fails, and nothing on it
+/// changes. Everything else said here applies to an honest disk; whether a disk is honest never
+/// changes.
 pub trait SectorDisk {
-    /// What the disk is, through time.
+    /// The disk over time.
     ghost disk: { Self → Disk };
 
-    /// How many sectors the disk has. That never changes.
+    /// How many sectors the disk has. This never changes.
     fn sectors(&self) -> u64
         ensures { result ≡ (disk self.now).sectors };
 
-    /// Reads sector `at`, which gives the octets that were last written there. Whether it fails or
+    /// Reads sector `at`, returning the octets that were last written there. Whether it fails or
     /// not, it changes nothing on the disk.
     fn read(&mut self, at: u64, into: &mut [u8; 512]) -> Result<(), DeviceFault>
         requires { at < (disk self.old).sectors }
@@ -34,16 +35,16 @@ pub trait SectorDisk {
         ensures effect { IsHonest (disk self.new)
             → Reads (now (disk self.old)) (now (disk self.new)) at into.new result };
 
-    /// Writes sector `at`, which is pending from then on. A write that fails leaves the disk as it
-    /// was, or its sector pending with some 512 octets that reads give from then on.
+    /// Writes sector `at`, which is pending from then on. A write that fails leaves the disk
+    /// unchanged, or its sector pending with some 512 octets that later reads give.
     fn write(&mut self, at: u64, from: &[u8; 512]) -> Result<(), DeviceFault>
         requires { at < (disk self.old).sectors }
         ensures call { IsDeviceCall (disk self.old) (disk self.new) result }
         ensures effect { IsHonest (disk self.new)
             → Writes (now (disk self.old)) (now (disk self.new)) at from.now result };
 
-    /// Makes every sector durable as reads give it: nothing is pending then. A sync that fails
-    /// changes nothing, and all that was pending still is.
+    /// Makes every sector durable with the octets that reads give: nothing is pending then. A sync
+    /// that fails changes nothing, and all that was pending still is.
     fn sync(&mut self) -> Result<(), DeviceFault>
         ensures call { IsDeviceCall (disk self.old) (disk self.new) result }
         ensures effect { IsHonest (disk self.new)

@@ -1,4 +1,4 @@
-//! What a disk in a file asks of the file.
+//! What a disk in a file needs from the file.
 
 ghost use Rattle.std.specs.Prelude.{◌≡◌, ◌≤◌, List, Option, None, length, IfErr, IfOk};
 ghost use Rattle.std.specs.IoError.{error_kind};
@@ -15,26 +15,26 @@ use std::io;
 use std::os::fd::AsRawFd;
 use std::os::unix::fs::FileExt;
 
-/// What lseek(2) looks for: data, or a hole. It moves the position of the file, which nothing here
-/// uses.
+/// The whence values of lseek(2) for data and for a hole. A seek moves the position of the file,
+/// which nothing here uses.
 const SEEK_DATA: i32 = 3;
 
 const SEEK_HOLE: i32 = 4;
 
-/// An open file, as a disk uses it. Tests put files in its place whose calls fail.
+/// An open file, as a disk uses it. Tests replace it with files whose calls fail.
 ///
-/// What is said here is said of a file that behaves. Whether a file behaves never changes. That is
-/// not claimed of a file of the operating system, and nothing is known of one.
+/// What is said here applies to a file that behaves. Whether a file behaves never changes. That is
+/// not claimed of a file of the operating system, and nothing is known about one.
 pub trait DiskFile: Drop {
-    /// What the file is at this moment: what its cache shows, what the device has, what a power
-    /// loss may leave.
+    /// The file at this moment: what its cache shows, what the device has, what a power loss may
+    /// leave.
     ghost file: { Self → FileState } = { λ _. unknown_file };
 
-    /// Which of its calls failed so far, in their order, where that is known.
+    /// Which of its calls have failed so far, in order, if known.
     ghost failures: { Self → Option (List FailedCall) } = { λ _. None };
 
-    /// Claims the file until it is closed. An error where another open of the file has claimed it.
-    /// The claim is advisory: it stops only those who ask for one.
+    /// Claims the file until it is closed. Fails if another open of the file has claimed it. The
+    /// claim is advisory: it stops only those that ask for one.
     fn claim(&mut self) -> io::Result<()>
         ensures steady { (file self.new).behaves ≡ (file self.old).behaves }
         ensures effect { Behaves (file self.old)
@@ -50,8 +50,8 @@ pub trait DiskFile: Drop {
         ensures failure { NotesFailure (failures self.old) (failures self.new) Measures
             error_kind result };
 
-    /// Reads octets from octet `at` on, maybe fewer than there is room for. It answers how many:
-    /// none where the file has none there.
+    /// Reads octets from octet `at` on, maybe fewer than fit. Returns how many: none if the file
+    /// has none there.
     fn read_at(&mut self, at: u64, into: &mut [u8]) -> io::Result<usize>
         ensures bound { IfOk result (λ count. count ≤ length into.new) }
         ensures steady { (file self.new).behaves ≡ (file self.old).behaves }
@@ -60,8 +60,8 @@ pub trait DiskFile: Drop {
         ensures failure { NotesFailure (failures self.old) (failures self.new) Reads
             error_kind result };
 
-    /// Up to before which octet, from octet `at` on, the file has zeros alone, as far as that is
-    /// known without a read: where a hole of it ends, and `u64::MAX` in the last one.
+    /// The octet before which, from octet `at` on, the file is known to have only zeros, without a
+    /// read: the end of a hole, and `u64::MAX` in the last one.
     fn zeros_end(&mut self, at: u64) -> u64
         ensures after { at ≤ result }
         ensures steady { (file self.new).behaves ≡ (file self.old).behaves }
@@ -72,8 +72,8 @@ pub trait DiskFile: Drop {
         at
     }
 
-    /// Writes octets from octet `at` on, maybe fewer than are given. It answers how many. Where the
-    /// file ends before, it is made longer. A write that is interrupted wrote none.
+    /// Writes octets from octet `at` on, maybe fewer than given. Returns how many. If the file ends
+    /// before, it is extended. An interrupted write wrote none.
     fn write_at(&mut self, at: u64, from: &[u8]) -> io::Result<usize>
         ensures bound { IfOk result (λ count. count ≤ length from.now) }
         ensures steady { (file self.new).behaves ≡ (file self.old).behaves }
@@ -85,7 +85,7 @@ pub trait DiskFile: Drop {
         ensures failure { NotesFailure (failures self.old) (failures self.new) Writes
             error_kind result };
 
-    /// Makes the file's octets durable on the device, and how many it has.
+    /// Makes the file's octets and its length durable on the device.
     fn sync(&mut self) -> io::Result<()>
         ensures steady { (file self.new).behaves ≡ (file self.old).behaves }
         ensures effect { Behaves (file self.old)
@@ -121,7 +121,7 @@ impl DiskFile for File {
         if data >= 0 {
             return at.max(data.cast_unsigned());
         }
-        // No data comes after it, or the system cannot say: then it knows of no hole either.
+        // No data follows, or the system cannot tell: then it knows of no hole either.
         if lseek(self.as_raw_fd(), from, SEEK_HOLE) == from {
             return u64::MAX;
         }
@@ -132,8 +132,8 @@ impl DiskFile for File {
         FileExt::write_at(self, from, at)
     }
 
-    /// fdatasync: the octets, and of what is kept about the file its size and all else that a read
-    /// of them needs. Its times are no part of a disk.
+    /// fdatasync: the octets, and of the metadata the size and all else that is needed to read
+    /// them. Its times are not part of a disk.
     fn sync(&mut self) -> io::Result<()> {
         self.sync_data()
     }

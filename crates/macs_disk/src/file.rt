@@ -13,32 +13,32 @@ use std::fs::File;
 use std::io;
 use std::snapshot::Snapshot;
 
-/// A disk in a file of whole sectors, which lie in it as its layout says.
+/// A disk in a file of whole sectors, placed according to its layout.
 ///
-/// It is an honest disk where its file behaves, has no other user, and lies on a device whose
-/// blocks suit the layout. That is not claimed of a file of the operating system: whether reads
-/// give what was written, and what a power loss leaves, is up to the system and the device. One
-/// disk at a time is to use a file, since what another program does to the file goes unseen.
+/// It is an honest disk if its file behaves, has no other user, and lies on a device whose blocks
+/// suit the layout. That is not claimed of a file of the operating system: whether reads give what
+/// was written, and what a power loss leaves, is up to the system and the device. Only one disk at
+/// a time may use a file, since what another program does to the file goes unnoticed.
 ///
-/// A read or a write that moves fewer octets goes on to the sector's end, and an interrupted one is
-/// tried again. Every other error of the file is a `DeviceFault`; so is a read of a sector that the
-/// file no longer has. What a failed read leaves in `into` is no sector.
+/// A read or a write that moves fewer octets is continued to the sector's end, and an interrupted
+/// one is retried. Every other error of the file is a `DeviceFault`; so is a read of a sector that
+/// the file no longer has. What a failed read leaves in `into` is not a sector.
 ///
-/// After a sync that failed a file may show octets that the device does not have, and later syncs
-/// may leave them out. So a disk one of whose calls failed fails each later call, and the next
-/// opening makes the file anew.
+/// After a failed sync a file may show octets that the device does not have, and later syncs may
+/// skip them. So once a call of a disk has failed, each later call fails, and the next opening
+/// makes the file anew.
 #[derive(Drop)]
 pub struct FileDisk<F = File> {
     file: F,
-    /// The file whose octets the disk began with, as it was claimed. It takes no memory: proofs
-    /// alone read it.
+    /// The file whose octets the disk started with, as it was claimed. It takes no memory: only
+    /// proofs read it.
     given: Snapshot<F>,
-    /// The file of the disk as it was made. Proofs alone read it.
+    /// The file of the disk as it was made. Only proofs read it.
     made: Snapshot<F>,
-    /// The file as the disk shows it at this moment: as it is, until a sync has failed. Proofs
-    /// alone read it.
+    /// The file as the disk shows it at this moment: its current state, until a sync has failed.
+    /// Only proofs read it.
     shown: Snapshot<F>,
-    /// The same at each moment before this one. Proofs alone read it.
+    /// The same at each moment before this one. Only proofs read it.
     past: Log<Snapshot<F>>,
     layout: Layout,
     sectors: u64,
@@ -56,8 +56,8 @@ impl<F: DiskFile> FileDisk<F> {
     ghost use Rattle.macs_disk.specs.FileDisks.{IsFresh, IsRefused, disk_in_file};
     ghost use Rattle.macs_disk.specs.Files.{Behaves, SyncsFile};
 
-    /// A disk in a file that is durable and has its sectors, with the file that it began with and
-    /// itself as it was made.
+    /// A disk in a file that is durable and has the disk's sectors, with the original file and its
+    /// own initial state.
     pub(crate) fn new(
         file: F,
         given: Snapshot<F>,
@@ -92,8 +92,8 @@ impl<F: DiskFile> FileDisk<F> {
         }
     }
 
-    /// Lets a moment pass, and lets a call go on to the file. It does not where the disk is worn,
-    /// and is a failure, and counted, where an earlier call failed.
+    /// Advances the clock, and lets a call reach the file. It does not if the disk is worn; if an
+    /// earlier call failed it is a failure, and counted.
     fn begin(&mut self) -> Result<(), DeviceFault>
         ensures ok { OnOk result
             ((self.old.clock < 2 ^ 64 - 1) × (self.new.clock ≡ self.old.clock + 1)) }
@@ -121,8 +121,8 @@ impl<F: DiskFile> FileDisk<F> {
         Ok(())
     }
 
-    /// What the file answered, as the disk answers it: an error is a failure and counted, and the
-    /// last that the file is asked for.
+    /// The disk's answer for the file's answer: an error is counted as a failure, and no later call
+    /// reaches the file.
     fn count(&mut self, answer: io::Result<()>) -> Result<(), DeviceFault>
         requires { self.old.failures < self.old.clock }
         ensures alike { IsErr result ↔ IsErr answer }
@@ -146,8 +146,8 @@ impl<F: DiskFile> FileDisk<F> {
         }
     }
 
-    // Syncs the file, and shows it as it is then. An error is a failure and counted, and the last
-    // that the file is asked for.
+    // Syncs the file, and shows its new state. An error is counted as a failure, and no later call
+    // reaches the file.
     fn sync_file(&mut self) -> Result<(), DeviceFault>
         requires { self.old.failures < self.old.clock }
         ensures steady { (F.file self.new.file).behaves ≡ (F.file self.old.file).behaves }
@@ -231,8 +231,9 @@ impl<F: DiskFile> SectorDisk for FileDisk<F> {
         ensures stopped { OnErr result
             ((is_stopped self.new ≡ true) ⊎ ((disk_in_file F.file self.new).worn ≡ true)) }
         ensures left { IsLeftAsShown F.file self.old → IsLeftAsShown F.file self.new }
-        // A write of sector 8,224 of a packed disk goes to the place of the mark, and may have the
-        // layout found as another one. A journal has no such sector, and no spaced disk has.
+        // A write of sector 8,224 of a packed disk overwrites the place of the mark, and may cause
+        // the file to be found with the other layout. Neither a journal nor a spaced disk has such
+        // a sector.
         ensures again { place (layout_of self.old) at ≢ mark_place
             → IsFoundAgain F.file self.old → IsFoundAgain F.file self.new }
     {
@@ -242,8 +243,8 @@ impl<F: DiskFile> SectorDisk for FileDisk<F> {
         self.count(answer)
     }
 
-    /// The first call of a disk, where it is a sync, leaves the file alone: opening synced it.
-    /// Where a sync fails, the file is in doubt, and neither synced nor written any more.
+    /// If the first call of a disk is a sync, it leaves the file alone: opening synced it. If a
+    /// sync fails, the file is in doubt, and is neither synced nor written any more.
     fn sync(&mut self) -> Result<(), DeviceFault>
         ensures call { IsDeviceCall (disk_in_file F.file self.old)
             (disk_in_file F.file self.new) result }

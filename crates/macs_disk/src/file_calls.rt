@@ -1,4 +1,4 @@
-//! Whole moves of octets to and from a file.
+//! Reads and writes of whole ranges of a file.
 
 ghost use Rattle.std.specs.Prelude.{◌≡◌, ◌<◌, ◌≤◌, ◌+◌, ◌-◌, ◌^◌, length, replicate, IfErr, OnOk};
 ghost use Rattle.std.specs.IoError.{error_kind};
@@ -42,8 +42,8 @@ fn read_whole<F: DiskFile>(file: &mut F, from: u64, into: &mut [u8; 512]) -> io:
     Err(io::Error::from(io::ErrorKind::TimedOut))
 }
 
-/// Reads the 512 octets from octet `from` on. It is `UnexpectedEof` where the file ends before. An
-/// interrupted read is tried again.
+/// Reads the 512 octets from octet `from` on. Fails with `UnexpectedEof` if the file ends before.
+/// An interrupted read is retried.
 pub fn read_exact_at<F: DiskFile>(file: &mut F, from: u64, into: &mut [u8; 512]) -> io::Result<()>
     ensures steady { (F.file file.new).behaves ≡ (F.file file.old).behaves }
     ensures same { Behaves (F.file file.old) → F.file file.new ≡ F.file file.old }
@@ -87,7 +87,7 @@ pub(crate) fn write_all<F: DiskFile>(file: &mut F, at: u64, from: &[u8]) -> io::
     Err(io::Error::from(io::ErrorKind::TimedOut))
 }
 
-/// Reads the sector of this number.
+/// Reads the sector with this number.
 pub(crate) fn read_sector<F: DiskFile>(
     file: &mut F,
     layout: Layout,
@@ -106,7 +106,7 @@ pub(crate) fn read_sector<F: DiskFile>(
     read_whole(file, layout.place(at), into)
 }
 
-/// Writes zeros from octet `from` up to before octet `to`, so that the file system makes room for
+/// Writes zeros from octet `from` to before octet `to`, so that the file system allocates space for
 /// them.
 pub(crate) fn write_zeros<F: DiskFile>(file: &mut F, from: u64, to: u64) -> io::Result<()>
     requires { to < 2 ^ 64 }

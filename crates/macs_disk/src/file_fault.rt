@@ -10,23 +10,23 @@ ghost use Rattle.macs_disk.specs.declared.file_fault.FileFault.TheVariants.{Memo
 use crate::disk::DeviceFault;
 use std::io;
 
-/// Why there is no disk in a file. It is opened, claimed and measured, and its name is checked.
-/// Then a new file is made beside it, its octets are copied there and synced, and the copy is made
-/// longer, and synced, where that is asked for. At last the copy takes the name, and the folder is
-/// synced. The first of these that cannot be done says the fault, in this order.
+/// Why there is no disk in a file. The file is opened, claimed and measured, and its name is
+/// checked. Then a new file is made beside it, the octets are copied there and synced, and the copy
+/// is extended, and synced, if requested. Finally the copy takes the name, and the folder is
+/// synced. The fault is that of the first step that fails, in this order.
 #[derive(Clone, Copy, Debug, PartialEq, Eq)]
 pub enum FileFault {
-    /// The file cannot be opened to read and write, another open of it has claimed it, or it cannot
-    /// be measured. It has a second name, or is mounted by itself. No new file can be made beside
-    /// it, written, made longer or given its name durably. A spaced file is never made longer, and
-    /// no file is made one of 2^54 sectors or more.
+    /// The file cannot be opened for reading and writing, another open of it has claimed it, or it
+    /// cannot be measured. It has a second name, or is a mount point. No new file can be made
+    /// beside it, written, extended or given its name durably. A spaced file is never extended, and
+    /// no file is extended to 2^54 sectors or more.
     Open,
-    /// The file is not a whole number of sectors of 512 octets. It is left as it is.
+    /// The file is not a whole number of sectors of 512 octets. It is left unchanged.
     Length,
-    /// The file cannot be read, its copy cannot be synced, or the mark of that cannot be read.
+    /// The file cannot be read, its copy cannot be synced, or the mark of the copy cannot be read.
     Device,
-    /// The operating system had no memory for one of the calls that are `Open` else, or there was
-    /// none for the name of the new file.
+    /// The operating system had no memory for one of the calls whose failure is otherwise `Open`,
+    /// or there was none for the name of the new file.
     Memory,
 }
 

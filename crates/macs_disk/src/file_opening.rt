@@ -17,14 +17,14 @@ use std::path::AsPath;
 use std::rt::Files;
 use std::snapshot::Snapshot;
 
-/// How a file is opened: to read and write it. What it holds stays.
+/// How a file is opened for reading and writing. Its contents are kept.
 fn how_to_open(is_made: bool) -> OpenOptions
     ensures keeps { result.truncate ≡ false }
     ensures made { result.create ≡ is_made }
     ensures both { (result.read ≡ true) × (result.write ≡ true) × (result.append ≡ false) }
 {
     let mut options = OpenOptions::new();
-    // Nothing is known of the options after this, so that the others are set after it.
+    // Nothing is known about the options after this, so the others are set after it.
     options.mode(OWNER_ALONE);
     options
         .read(true)
@@ -35,8 +35,8 @@ fn how_to_open(is_made: bool) -> OpenOptions
     options
 }
 
-/// Opens the file at `path` to read and write it. Where there is none it is made, for its owner
-/// alone. What it holds stays.
+/// Opens the file at `path` for reading and writing. If there is none it is created, for its owner
+/// only. Its contents are kept.
 pub fn make_file<R: Files, P: AsPath>(rt: &R, path: P) -> io::Result<R::File> {
     how_to_open(true).open(rt, path)
 }
@@ -49,10 +49,10 @@ impl<F: DiskFile> FileDisk<F> {
     ghost use Rattle.macs_disk.specs.FileDisks.{disk_in_file, file_given};
     ghost use Rattle.macs_disk.specs.FileDisks.{file_left, file_made, layout_of};
 
-    /// A disk of at least so many sectors in the file at `path`. Where there is no file it is made,
-    /// for its owner alone. The file is made anew as by `open`, lengthened with zeros where it has
-    /// fewer sectors. A longer one stays as long as it is, and no octet of a file is lost. A file
-    /// that was made stays where a later step is a fault.
+    /// A disk of at least `sectors` sectors in the file at `path`. If there is no file it is
+    /// created, for its owner only. The file is made anew as by `open`, and extended with zeros if
+    /// it has fewer sectors. A longer one keeps its length, and no octet of a file is lost. A
+    /// created file stays if a later step fails.
     pub fn create<R: Files<File = F>, A: Allocator + Copy>(
         rt: &R,
         alloc: A,
@@ -73,14 +73,14 @@ impl<F: DiskFile> FileDisk<F> {
         FileDisk::renewed(rt, alloc, path, file, sectors)
     }
 
-    /// A disk of all sectors of the file at `path`. Where there is no file none is made, and that
-    /// is `Open`.
+    /// A disk of all sectors of the file at `path`. If there is no file none is created, and the
+    /// fault is `Open`.
     ///
-    /// The file is made anew, so that all that the disk has is durable, whatever an earlier run
-    /// left of the file in the system's memory, and whoever else holds it there. It is claimed and
-    /// copied to NAME.new, which is synced and takes its name; the folder is synced. `Open` where
-    /// that cannot be done: the folder may not be written, the file has a second name, or is
-    /// mounted by itself. At each moment the name is that of a whole file with these octets.
+    /// The file is made anew, so that all that the disk has is durable, no matter what an earlier
+    /// run left of the file in the system's memory, and who else holds it there. It is claimed and
+    /// copied to NAME.new, which is synced and takes its name; the folder is synced. Fails with
+    /// `Open` if that cannot be done: the folder may not be written, the file has a second name, or
+    /// is a mount point. At each moment the name is that of a whole file with these octets.
     pub fn open<R: Files<File = F>, A: Allocator + Copy>(
         rt: &R,
         alloc: A,
@@ -99,7 +99,7 @@ impl<F: DiskFile> FileDisk<F> {
         FileDisk::renewed(rt, alloc, path, file, 0)
     }
 
-    /// A disk of at least so many sectors in the file at `path`, which was opened, made anew.
+    /// A disk of at least `sectors` sectors in the opened file at `path`, which is made anew.
     fn renewed<R: Files<File = F>, A: Allocator + Copy>(
         rt: &R,
         alloc: A,
@@ -133,8 +133,7 @@ impl<F: DiskFile> FileDisk<F> {
         }
     }
 
-    /// A disk of at least so many sectors in a copy of a claimed file, which is made in a file that
-    /// is new and empty.
+    /// A disk of at least `sectors` sectors in a copy of a claimed file, made in a new, empty file.
     pub fn over(old: &mut ClaimedFile<F>, new: F, sectors: u64) -> Result<Self, FileFault>
         ensures least { IfOk result (λ it. sectors ≤ (disk_in_file F.file it).sectors) }
         ensures given { IfOk result (λ it. file_given it ≡ old.old.file) }
@@ -154,8 +153,8 @@ impl<F: DiskFile> FileDisk<F> {
         old.copy_into(new)?.into_disk(sectors)
     }
 
-    /// A new disk of this layout in a file that is new and empty: its 1,028 sectors are zeros,
-    /// which are written and synced, so that the file system has room for them.
+    /// A new disk with this layout in a new, empty file: its 1,028 sectors are zeros, which are
+    /// written and synced, so that the file system has space for them.
     pub fn blank(mut file: F, layout: Layout) -> Result<FileDisk<F>, FileFault>
         ensures given { IfOk result (λ it. file_given it ≡ file) }
         ensures layout { IfOk result (λ it. layout_of it ≡ layout) }
@@ -164,7 +163,7 @@ impl<F: DiskFile> FileDisk<F> {
         ensures left { IfOk result (IsLeftAsShown F.file) }
         ensures again { IsEmpty (F.file file) → IfOk result (IsFoundAgain F.file) }
         ensures fresh { IfOk result (λ it. IsFresh (disk_in_file F.file it)) }
-        // Each fault has its own cause, by the calls that failed of the file that was let go.
+        // Each fault has its own cause, by the failed calls of the file that was dropped.
         ensures refused { IfErr result (λ fault. (left : F)
             × WriteFails (F.failures file) (F.failures left) fault) }
     {

@@ -17,18 +17,18 @@ use std::snapshot::Snapshot;
 /// Which calls a fuse fails once it has passed on those that were left.
 #[derive(Clone, Copy)]
 pub(crate) enum Blow {
-    /// Each.
+    /// Each call.
     EachCall,
-    /// The next one alone. Where it is a write, these octets are written in its place.
+    /// Only the next call. If it is a write, these octets are written in its place.
     OneCall([u8; 512]),
     /// None: it has failed its one call.
     NoCall,
 }
 
-/// A disk in front of another: it passes some calls on, and then fails each, or one. A call that it
-/// fails does not reach the disk behind it, but for a write that `once` fails. A failed call that
-/// did not reach the disk behind is counted as missed and as added; a failed write that this disk
-/// took is added alone.
+/// A disk around another: it passes some calls on, and then fails each, or one. A call that it
+/// fails does not reach the inner disk, except for a write that `once` fails. A failed call that
+/// did not reach the inner disk is counted as missed and as added; a failed write that the inner
+/// disk took is only added.
 #[derive(Drop)]
 pub struct Fuse<D: SectorDisk> {
     disk: D,
@@ -58,7 +58,7 @@ impl<D: SectorDisk> Model for Fuse<D> {
 
 impl<D: SectorDisk> Fuse<D> {
     /// A fuse that passes `left` calls of `read`, `write` and `sync` on to the disk, and then fails
-    /// each.
+    /// each call.
     pub fn new(disk: D, left: u64) -> Self
         ensures { result ≡ record {
           inner = disk;
@@ -73,7 +73,7 @@ impl<D: SectorDisk> Fuse<D> {
     }
 
     /// A fuse that passes `left` calls of `read`, `write` and `sync` on to the disk, fails the next
-    /// one, and passes all later ones on. Where the one that it fails is a write, it writes `fill`
+    /// one, and passes all later ones on. If the one that it fails is a write, it writes `fill`
     /// into that sector of the disk; a read or a sync that it fails changes nothing there.
     pub fn once(disk: D, left: u64, fill: [u8; 512]) -> Self
         ensures { result ≡ record {
@@ -110,7 +110,7 @@ impl<D: SectorDisk> Fuse<D> {
         }
     }
 
-    /// The disk behind the fuse, as it is.
+    /// The inner disk.
     pub fn into_inner(self) -> D
         ensures { result ≡ self.inner }
     {
@@ -118,7 +118,7 @@ impl<D: SectorDisk> Fuse<D> {
         disk
     }
 
-    // Takes a call that is to be passed on, or counts one that the disk behind misses.
+    // Accounts for a call that will be passed on, or counts one that the inner disk misses.
     fn pass(&mut self) -> Result<(), DeviceFault>
         ensures counted { IsCounted D.disk self.old }
         ensures ok { OnOk result
@@ -145,7 +145,7 @@ impl<D: SectorDisk> Fuse<D> {
         Err(DeviceFault)
     }
 
-    // The octets that the next call is to write if it is a write, where it is the one that fails.
+    // The octets that the next call will write if it is a write, if it is the one that fails.
     fn fill(&self) -> Option<[u8; 512]>
         ensures some { IfSome result
             (λ fill. (self.now.left ≡ 0) × (self.now.blow ≡ OneCall fill)) }

@@ -1,5 +1,5 @@
 //! Laws of the definitions, for the layers above: what a power loss may leave after one call and
-//! after several, and how the promises of calls that follow one another are put together.
+//! after several, and how the promises of consecutive calls combine.
 
 ghost use Rattle.std.specs.Prelude.{◌≡◌, ◌≢◌, ◌≤◌, ◌+◌, ◌⊎◌, ℕ, false, true, List, Result, IsErr};
 ghost use Rattle.std.specs.Prelude.{IsOk};
@@ -29,11 +29,11 @@ use std::fs::File;
 
 /// A property of what a power loss leaves.
 pub trait Property {
-    /// Holds of the images that have it.
+    /// Holds of the images that have the property.
     ghost holds: { Image → Type 0 };
 }
 
-/// Where nothing is pending, a power loss leaves what reads give and nothing else.
+/// If nothing is pending, a power loss leaves what reads give and nothing else.
 pub fn one_image_without_pending()
     ensures { (state : DiskState) (image : Image) → IsSound state
         → ((i : ℕ) → state.pending i ≡ false)
@@ -53,7 +53,7 @@ pub fn a_sync_leaves_nothing_new()
         → IsImage state image }
 {}
 
-/// What a power loss may leave after a write, it could leave before, but for the sector that was
+/// What a power loss may leave after a write, it could leave before, except in the sector that was
 /// written.
 pub fn a_write_leaves_one_sector()
     ensures { (state : DiskState) (at : ℕ) (octets : List ℕ) (image : Image) → IsSound state
@@ -61,9 +61,9 @@ pub fn a_write_leaves_one_sector()
         → (before : Image) × IsImage state before × ((i : ℕ) → i ≢ at → image i ≡ before i) }
 {}
 
-/// What a call counts. Before the disk is worn the clock goes on by one, and a failure is counted
-/// exactly where it is answered. On a worn disk the call fails, the state stays, and so do both
-/// counts, or both rise by one.
+/// What a call counts. Before the disk is worn the clock advances by one, and a failure is counted
+/// if and only if it is returned. On a worn disk the call fails, the state stays, and both counts
+/// stay or both increase by one.
 pub fn calls_are_counted<T, E>()
     ensures clock { (old new : Disk) (result : Result T E) → IsDeviceCall old new result
         → old.worn ≡ false → new.clock ≡ old.clock + 1 }
@@ -79,14 +79,14 @@ pub fn calls_are_counted<T, E>()
         ⊎ ((new.clock ≡ old.clock + 1) × (new.failures ≡ old.failures + 1)) }
 {}
 
-/// A read, done or failed, leaves nothing new.
+/// A read, successful or failed, leaves nothing new.
 pub fn a_read_call_leaves_nothing_new<T, E>()
     ensures { (old new : Disk) (at : ℕ) (into : List ℕ) (result : Result T E)
         → IsDeviceCall old new result
         → Reads (now old) (now new) at into result → LeavesNothingNew old new }
 {}
 
-/// A sync, done or failed, leaves nothing new, and a failed one changes nothing.
+/// A sync, successful or failed, leaves nothing new, and a failed one changes nothing.
 pub fn a_sync_call_leaves_nothing_new<T, E>()
     ensures nothing_new { (old new : Disk) (result : Result T E) → IsSound (now old)
         → IsDeviceCall old new result
@@ -95,8 +95,9 @@ pub fn a_sync_call_leaves_nothing_new<T, E>()
         → IsErr result → new ≡ old }
 {}
 
-/// A write, done or failed, leaves only images that have a property, where each that could be left
-/// before it has the property, and each that a write of some 512 octets to that sector leaves.
+/// A write, successful or failed, leaves only images with a property, if each image that could be
+/// left before it has the property, and so does each that is left after a write of some 512 octets
+/// to that sector.
 pub fn a_write_call_leaves<P: Property, T, E>()
     ensures { (old new : Disk) (at : ℕ) (octets : List ℕ) (result : Result T E) → IsSector octets
         → IsDeviceCall old new result → Writes (now old) (now new) at octets result
@@ -106,20 +107,20 @@ pub fn a_write_call_leaves<P: Property, T, E>()
         → Leaves old new P.holds }
 {}
 
-/// No call is work, and works that follow one another are.
+/// No call at all is work, and consecutive work is work.
 pub fn works_on()
     ensures none { (disk : Disk) → Works disk disk }
     ensures more { (old mid new : Disk) → Works old mid → Works mid new → Works old new }
 {}
 
-/// Work without a fault, and then more.
+/// Work without a fault, followed by more.
 pub fn work_goes_on<T, E>()
     ensures { (old mid new : Disk) (result : Result T E) → Works old mid
         → mid.failures ≡ old.failures
         → IsWork mid new result → IsWork old new result }
 {}
 
-/// One fault stays one, where no call fails after it and none failed before.
+/// One fault stays one, if no call fails after it and none failed before.
 pub fn one_fault_stays()
     ensures after { (old mid new : Disk) → FailsOnce old mid → Works mid new
         → new.failures ≡ mid.failures
@@ -143,20 +144,20 @@ pub fn leaves_none<P: Property>()
         → Leaves disk disk P.holds }
 {}
 
-/// A call more: what it adds is what a power loss may leave after it.
+/// One more call: it adds what a power loss may leave after it.
 pub fn leaves_call<P: Property, T, E>()
     ensures { (old mid new : Disk) (result : Result T E) → Leaves old mid P.holds
         → IsDeviceCall mid new result
         → ((image : Image) → MayLeave new image → P.holds image) → Leaves old new P.holds }
 {}
 
-/// Runs one after the other.
+/// Consecutive runs.
 pub fn leaves_more<P: Property>()
     ensures { (old mid new : Disk) → Leaves old mid P.holds → Leaves mid new P.holds
         → Leaves old new P.holds }
 {}
 
-/// Runs of two properties, one after the other, where a third follows from either.
+/// Consecutive runs with two properties, each of which implies a third.
 pub fn leaves_join<P: Property, Q: Property, R: Property>()
     ensures { (old mid new : Disk) → Leaves old mid P.holds → Leaves mid new Q.holds
         → ((image : Image) → P.holds image → R.holds image)
@@ -164,7 +165,7 @@ pub fn leaves_join<P: Property, Q: Property, R: Property>()
         → Leaves old new R.holds }
 {}
 
-/// A run has what follows from what it has.
+/// A run also has any weaker property.
 pub fn leaves_weaker<P: Property, Q: Property>()
     ensures { (old new : Disk) → ((image : Image) → P.holds image → Q.holds image)
         → Leaves old new P.holds → Leaves old new Q.holds }
@@ -176,26 +177,26 @@ pub fn leaves_now<P: Property>()
         → (image : Image) → MayLeave new image → P.holds image }
 {}
 
-/// Runs that leave nothing new, one after the other.
+/// Consecutive runs that leave nothing new.
 pub fn nothing_new_twice()
     ensures { (old mid new : Disk) → LeavesNothingNew old mid → LeavesNothingNew mid new
         → LeavesNothingNew old new }
 {}
 
-/// A disk in memory is an honest disk.
+/// An in-memory disk is an honest disk.
 pub fn memory_is_honest<A: Allocator>()
     ensures { (it : MemDisk A) → IsHonest (disk_of it) }
 {}
 
-/// A fuse in front of an honest disk is an honest disk.
+/// A fuse around an honest disk is an honest disk.
 pub fn fuses_are_honest<D: SectorDisk>()
     ensures { (fuse : FuseValue D) → IsHonest (D.disk fuse.inner)
         → IsHonest (disk_of_fuse D.disk fuse) }
 {}
 
-/// A disk that was opened in a file which behaves is an honest disk, where the blocks of the device
+/// A disk that was opened in a file which behaves is an honest disk, if the blocks of the device
 /// suit the layout. At its first moment a power loss leaves nothing that it might not have left of
-/// the file, but for zeros that made the file longer.
+/// the file, except for zeros that extended the file.
 pub fn files_that_behave_are_honest()
     ensures { (file : FileState) (least : ℕ) (layout : Layout) (disk : Disk)
         → IsOpened file least layout disk
@@ -209,7 +210,7 @@ pub fn a_file_leaves_what_its_disk_may()
         → IsImage (state_in_file layout file) (image_in_file layout image) }
 {}
 
-/// What a power loss may leave of a file when some octets of a sector are written, it may leave of
+/// What a power loss may leave of a file while some octets of a sector are written, it may leave of
 /// the disk after the write.
 pub fn inside_a_write_a_file_leaves_what_its_disk_may()
     ensures { (layout : Layout) (old mid : FileState) (at : ℕ) (octets : List ℕ) (image : ℕ → ℕ)
@@ -219,7 +220,7 @@ pub fn inside_a_write_a_file_leaves_what_its_disk_may()
         (image_in_file layout image) }
 {}
 
-/// What a power loss may leave of a file after a sync that failed, it could leave before.
+/// What a power loss may leave of a file after a failed sync, it could leave before.
 pub fn a_failed_sync_of_a_file_leaves_nothing_new()
     ensures { (file : FileState) (image : ℕ → ℕ) → IsFileImage (file_in_doubt file) image
         → IsFileImage file image }
@@ -234,8 +235,8 @@ pub fn a_file_is_left_as_its_disk<F: DiskFile>()
         → MayLeave (disk_in_file F.file it) image }
 {}
 
-/// A disk is found again as it was, of its layout and with its sectors: in its file as it was left,
-/// or as a power loss left that, or after openings that failed.
+/// A disk is found again with its layout and its sectors: in its file as it was left, or as a power
+/// loss left it, or after openings that failed.
 pub fn files_are_found_again()
     ensures copied { (layout : Layout) (sectors : ℕ) (old new copy : FileState)
         → IsFoundAs layout sectors old
@@ -247,8 +248,8 @@ pub fn files_are_found_again()
         → (again ≡ layout) × (disk.sectors ≡ sectors) }
 {}
 
-/// What leaves nothing new of a file: no call, calls one after the other of which each leaves
-/// nothing new, a sync that failed, and a power loss.
+/// What leaves nothing new of a file: no call, consecutive calls each of which leaves nothing new,
+/// a failed sync, and a power loss.
 pub fn nothing_new_of_a_file()
     ensures none { (file : FileState) → HasNothingNew file file }
     ensures more { (old mid new : FileState) → HasNothingNew old mid → HasNothingNew mid new

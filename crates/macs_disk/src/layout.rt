@@ -1,4 +1,4 @@
-//! How the sectors of a disk lie in its file.
+//! The layout of a disk's sectors in its file.
 
 ghost use Rattle.std.specs.Prelude.{◌≡◌, ◌<◌, ◌^◌};
 ghost use Rattle.macs_disk.specs.Layouts.{is_marked, mark, place, sectors_in};
@@ -15,18 +15,19 @@ pub(crate) const SPACED_SECTORS: u64 = 1_028;
 /// Where the mark of a spaced file is: in the block after its last sector.
 pub(crate) const MARK_PLACE: u64 = BLOCK_OCTETS * SPACED_SECTORS;
 
-/// What the mark of a spaced file begins with.
+/// The first octets of the mark of a spaced file.
 const MARK: &[u8] = b"MSEC4096";
 
-/// How the sectors of a disk lie in its file.
+/// The layout of a disk's sectors in its file.
 #[derive(Clone, Copy, Debug, PartialEq, Eq)]
 pub enum Layout {
-    /// One after the other: sector `at` is the 512 octets from octet `512 * at` on. A power loss
-    /// must spoil no octet outside the sector that is being written.
+    /// Consecutive: sector `at` is the 512 octets from octet `512 * at` on. A power loss must not
+    /// spoil any octet outside the sector that is being written.
     Packed,
-    /// Each at the front of a block of its own: sector `at` is the 512 octets from octet `4096 *
-    /// at` on. A power loss may spoil the whole block that is being written. A disk of this layout
-    /// has 1,028 sectors, and the block after them has the mark by which the layout is found.
+    /// Each at the start of a block of its own: sector `at` is the 512 octets from octet
+    /// `4096 * at` on. A power loss may spoil the whole block that is being written. A disk with
+    /// this layout has 1,028 sectors, and the block after them has the mark by which the layout is
+    /// found.
     Spaced,
 }
 
@@ -42,7 +43,7 @@ impl Layout {
         }
     }
 
-    /// How many sectors a disk has in a file of so many octets.
+    /// How many sectors a disk has in a file of `octets` octets.
     pub(crate) fn sectors_in(self, octets: u64) -> u64
         ensures { result ≡ sectors_in self octets }
     {
@@ -62,7 +63,7 @@ pub fn spaced_mark() -> [u8; 512]
     sector
 }
 
-/// Whether a sector marks a spaced file: it begins with `MSEC4096`, whatever else it holds.
+/// Whether a sector marks a spaced file: it begins with `MSEC4096`, regardless of the rest.
 pub(crate) fn is_mark(sector: &[u8; 512]) -> bool
     ensures { result ≡ is_marked sector.now }
 {

@@ -5,7 +5,7 @@ ghost use Rattle.std.specs.Borrow.{ftrue};
 
 use std::marker::{Model, PhantomData};
 
-/// A clause reads what was noted as `items`, the earliest first.
+/// In contracts the logged values are `items`, earliest first.
 #[derive(Drop)]
 pub(crate) struct Log<T> {
     of: PhantomData<T>,
@@ -17,7 +17,7 @@ impl<T> Model for Log<T> {
 }
 
 impl<T> Log<T> {
-    /// Nothing was noted yet.
+    /// An empty log.
     pub(crate) fn new() -> Log<T>
         ensures { result.items ≡ [] }
     {

@@ -1,4 +1,4 @@
-//! A disk in memory, on which a power loss can be staged.
+//! An in-memory disk, on which a power loss can be staged.
 
 ghost use Rattle.std.specs.Prelude.{◌≡◌, ◌<◌, ℕ, false, length, IfOk, replicate, slice_index_or};
 ghost use Rattle.std.specs.Prelude.{unwrap_or, None};
@@ -11,15 +11,15 @@ use crate::call_list::{Call, CallList};
 use crate::disk::{DeviceFault, SectorDisk};
 use std::alloc::{AllocError, Allocator, Global};
 
-/// The most sectors of a disk in memory.
+/// The maximum number of sectors of an in-memory disk.
 const MOST_SECTORS: u64 = 65_536;
 
-/// Why there is no disk in memory, in the order in which the causes are looked for.
+/// Why an in-memory disk cannot be made, in the order in which the causes are checked.
 #[derive(Clone, Copy, Debug, PartialEq, Eq)]
 pub enum MemFault {
     /// The number of sectors is not 1 to 65,536.
     Size,
-    /// There is no memory for so many.
+    /// There is no memory for this many.
     Memory,
 }
 
@@ -31,9 +31,9 @@ impl From<AllocError> for MemFault {
     }
 }
 
-/// A disk in memory. It keeps a list of its writes and syncs since it was made or since its last
-/// power loss, so that its state at each moment is known. A call of the device fails where the list
-/// cannot grow, which a read does not ask for, and where the disk is worn.
+/// An in-memory disk. It keeps a list of its writes and syncs since it was made or since its last
+/// power loss, so that its state at each moment is known. A device call fails if the list cannot
+/// grow, which reads do not need, and if the disk is worn.
 #[derive(Drop)]
 pub struct MemDisk<A: Allocator = Global> {
     calls: CallList<A>,
@@ -47,8 +47,9 @@ pub struct MemDisk<A: Allocator = Global> {
     ghost chosen: { AreChosen seen.items pending.items choices.items },
 }
 
-/// Makes every sector durable as reads give it: nothing is pending, and no choice is left. The
-/// pending sectors alone are copied, since all others are durable as reads give them.
+/// Makes every sector durable with the octets that reads give: nothing is pending, and no choice is
+/// left. Only the pending sectors are copied, since all others are already durable with these
+/// octets.
 fn make_durable<A: Allocator>(
     seen: &[[u8; 512]],
     durable: &mut Vec<[u8; 512], A>,
@@ -77,7 +78,7 @@ fn make_durable<A: Allocator>(
     }
 }
 
-/// Each sector as it is chosen, or else as it was.
+/// Replaces each sector that has a choice by it.
 fn choose<A: Allocator>(sectors: &mut Vec<[u8; 512], A>, choices: &[Option<[u8; 512]>])
     requires { length choices.now ≡ length sectors.old.items }
     ensures length { length sectors.new.items ≡ length sectors.old.items }
@@ -92,7 +93,7 @@ fn choose<A: Allocator>(sectors: &mut Vec<[u8; 512], A>, choices: &[Option<[u8; 
     }
 }
 
-/// So many sectors of zeros.
+/// `count` sectors of zeros.
 fn zeros<A: Allocator>(alloc: A, count: usize) -> Result<Vec<[u8; 512], A>, AllocError>
     ensures { IfOk result (λ sectors. sectors.items ≡ replicate count zero_sector) }
 {
@@ -103,7 +104,7 @@ fn zeros<A: Allocator>(alloc: A, count: usize) -> Result<Vec<[u8; 512], A>, Allo
     Ok(sectors)
 }
 
-/// No choice, for so many sectors.
+/// No choice, for `count` sectors.
 fn nones<A: Allocator>(alloc: A, count: usize) -> Result<Vec<Option<[u8; 512]>, A>, AllocError>
     ensures { IfOk result (λ choices. choices.items ≡ replicate count None) }
 {
@@ -182,7 +183,7 @@ impl<A: Allocator + Copy> MemDisk<A> {
     ghost use Rattle.macs_disk.specs.Memory.{blank_memory};
     ghost use Rattle.macs_disk.specs.MemDisks.{memory_of};
 
-    /// A disk of so many sectors of 512 zeros, all of them durable.
+    /// A disk of `sectors` sectors of 512 zeros, all of them durable.
     pub fn new(alloc: A, sectors: u64) -> Result<MemDisk<A>, MemFault>
         ensures size { IsErrOf result MemFault.Size ↔ ((sectors ≡ 0) ⊎ (65536 < sectors)) }
         ensures ok { IfOk result (λ it. memory_of it ≡ blank_memory sectors) }
@@ -208,8 +209,8 @@ impl<A: Allocator> MemDisk<A> {
     ghost use Rattle.macs_disk.specs.Memory.{memory_after_loss, memory_with_choice};
     ghost use Rattle.macs_disk.specs.MemDisks.{disk_of, memory_of};
 
-    /// Whether sector `at` is pending: written, and since then neither a sync that succeeded nor a
-    /// power loss. This is no call of the device.
+    /// Whether sector `at` is pending: written, with neither a successful sync nor a power loss
+    /// since. This is not a device call.
     pub fn is_pending(&self, at: u64) -> bool
         requires { at < (disk_of self.now).sectors }
         ensures { result ≡ (now (disk_of self.now)).pending at }
@@ -217,7 +218,7 @@ impl<A: Allocator> MemDisk<A> {
         self.pending[at as usize]
     }
 
-    /// Reads the durable octets of sector `at`. This is no call of the device.
+    /// Reads the durable octets of sector `at`. This is not a device call.
     pub fn durable(&self, at: u64, into: &mut [u8; 512])
         requires { at < (disk_of self.now).sectors }
         ensures { into.new ≡ (now (disk_of self.now)).durable at }
@@ -225,9 +226,9 @@ impl<A: Allocator> MemDisk<A> {
         *into = self.durable[at as usize];
     }
 
-    /// Chooses what a power loss leaves in sector `at`. The answer is false, and nothing changes,
-    /// unless that sector is pending. The choice holds, over later writes to the sector too, until
-    /// a sync succeeds or a power loss comes.
+    /// Chooses what a power loss leaves in sector `at`. Returns false, and changes nothing, unless
+    /// that sector is pending. The choice holds, over later writes to the sector too, until a sync
+    /// succeeds or a power loss comes.
     pub fn tear(&mut self, at: u64, octets: &[u8; 512]) -> bool
         requires { at < (disk_of self.old).sectors }
         ensures result { result ≡ (now (disk_of self.old)).pending at }
@@ -242,10 +243,10 @@ impl<A: Allocator> MemDisk<A> {
         true
     }
 
-    /// A power loss: in each pending sector the octets that were chosen, or the last write where
-    /// none were, become durable, and they are what reads give from then on. Nothing is pending
-    /// then. It is no call of the device: clock and failures stay as they are. The list is emptied,
-    /// so that at each moment up to the clock the disk's state is now this one.
+    /// Stages a power loss: in each pending sector the chosen octets, or the last write if none
+    /// were chosen, become durable, and reads give them from then on. Nothing is pending then. This
+    /// is not a device call: clock and failures are unchanged. The list is emptied, so that the
+    /// disk's state at each moment up to the clock is now this one.
     pub fn crash(&mut self)
         ensures crashed { memory_of self.new ≡ memory_after_loss (memory_of self.old) }
         ensures image { MayLeave (disk_of self.old) (now (disk_of self.new)).seen }

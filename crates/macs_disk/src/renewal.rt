@@ -1,4 +1,4 @@
-//! How a file is put in place of another one under its name.
+//! How a file is replaced by another one under its name.
 
 use crate::disk_file::DiskFile;
 use std::alloc::{AllocError, Allocator};
@@ -8,27 +8,27 @@ use std::path::{Path, PathBuf};
 use std::rt::Files;
 use std::{fs, io};
 
-/// A new file is for its owner alone to read and write, since a disk holds keys.
+/// Only its owner may read and write a new file, since a disk holds keys.
 pub(crate) const OWNER_ALONE: u32 = 0o600;
 
-/// The bits of a file's mode that say who may do what with it.
+/// The permission bits of a file's mode.
 const MODE_BITS: u32 = 0o7777;
 
-/// The name of a file that is to be replaced by a new one, NAME.new, in the same folder.
+/// The name of a file that will be replaced by a new one, NAME.new, in the same folder.
 ///
-/// Only who has claimed the file under the name touches NAME.new, and renames it. The name is that
-/// of a whole file at each moment: of the old one, or of the new one.
+/// Only the program that has claimed the file with this name touches NAME.new, and renames it. At
+/// each moment the name is that of a whole file: the old one, or the new one.
 #[derive(Drop)]
 pub struct Renewal<A: Allocator> {
-    /// The file's path, without links in it.
+    /// The file's path, with links resolved.
     place: PathBuf<A>,
     /// The path of the new file.
     new: String<A>,
-    /// Which file that is, once it was made.
+    /// The identity of the new file, once it was made.
     made: Option<Identity>,
 }
 
-/// Which file of the system a file is.
+/// The identity of a file of the system.
 #[derive(Clone, Copy, Debug, PartialEq, Eq)]
 struct Identity {
     device: u64,
@@ -36,7 +36,7 @@ struct Identity {
 }
 
 impl Identity {
-    /// That of a file of which this is known.
+    /// The identity of the file with this metadata.
     fn of(about: &Metadata) -> Identity {
         Identity {
             device: about.dev(),
@@ -45,12 +45,12 @@ impl Identity {
     }
 }
 
-/// An error where something does not serve.
+/// The error if a condition is not met.
 fn refused() -> io::Error {
     io::Error::from(io::ErrorKind::InvalidInput)
 }
 
-/// How a new file is made: there is none of its name, and no link is followed.
+/// How a new file is made: no file has its name, and no link is followed.
 fn how_to_make() -> OpenOptions {
     let mut options = OpenOptions::new();
     options.mode(OWNER_ALONE);
@@ -58,7 +58,7 @@ fn how_to_make() -> OpenOptions {
     options
 }
 
-/// The folder of a path, by its text alone.
+/// The folder of a path, from its text alone.
 fn folder_of(path: &str) -> &str {
     match Path::new(path).parent() {
         Some(folder) if !folder.as_str().is_empty() => folder.as_str(),
@@ -66,7 +66,7 @@ fn folder_of(path: &str) -> &str {
     }
 }
 
-/// Gives a file the owner, the group and the mode of another one, where they differ.
+/// Gives a file the owner, the group and the mode of another one, if they differ.
 fn make_alike<R: Files>(rt: &R, file: &R::File, path: &str, like: &Metadata) -> io::Result<()> {
     let about = file.metadata()?;
     if about.uid() != like.uid() || about.gid() != like.gid() {
@@ -78,7 +78,7 @@ fn make_alike<R: Files>(rt: &R, file: &R::File, path: &str, like: &Metadata) -> 
     Ok(())
 }
 
-/// Removes what a run that was cut short left under a name.
+/// Removes what an interrupted run left under a name.
 fn remove_left_over<R: Files>(rt: &R, path: &str) -> io::Result<()> {
     match rt.remove_file(path) {
         Err(error) if error.kind() != io::ErrorKind::NotFound => Err(error),
@@ -87,7 +87,7 @@ fn remove_left_over<R: Files>(rt: &R, path: &str) -> io::Result<()> {
 }
 
 impl<A: Allocator> Renewal<A> {
-    /// The name of the file at `path`, which has to be there.
+    /// The name of the file at `path`, which must exist.
     pub fn of<R: Files>(rt: &R, alloc: A, path: &str) -> io::Result<Renewal<A>>
     where
         A: Copy,
@@ -103,13 +103,13 @@ impl<A: Allocator> Renewal<A> {
         })
     }
 
-    /// The file's path, without links in it.
+    /// The file's path, with links resolved.
     pub fn path(&self) -> &str {
         self.place.as_str()
     }
 
-    /// Answers what is known of a file that was claimed. An error where the name is not that of
-    /// this file any more, or the file has further names, or is no regular one.
+    /// Returns the metadata of a claimed file. Fails if the name is no longer that of this file, or
+    /// the file has other names, or is not a regular file.
     pub fn check<R: Files>(&self, rt: &R, file: &R::File) -> io::Result<Metadata> {
         let about = file.metadata()?;
         if !self.names(rt, Identity::of(&about))? || !about.is_file() || about.nlink() != 1 {
@@ -124,8 +124,8 @@ impl<A: Allocator> Renewal<A> {
         Ok(Identity::of(&about) == file)
     }
 
-    /// Makes the new file, empty and claimed, with the owner and the mode of the old one. What has
-    /// its name already is removed.
+    /// Makes the new file, empty and claimed, with the owner and the mode of the old one. Any file
+    /// that already has its name is removed.
     pub fn make<R: Files>(&mut self, rt: &R, like: &Metadata) -> io::Result<R::File>
     where
         R::File: DiskFile,
@@ -145,8 +145,8 @@ impl<A: Allocator> Renewal<A> {
         }
     }
 
-    /// Claims the new file, gives it the owner and the mode of the old one, and answers which file
-    /// it is.
+    /// Claims the new file, gives it the owner and the mode of the old one, and returns its
+    /// identity.
     fn prepare<R: Files>(&self, rt: &R, file: &mut R::File, like: &Metadata) -> io::Result<Identity>
     where
         R::File: DiskFile,
@@ -156,8 +156,8 @@ impl<A: Allocator> Renewal<A> {
         Ok(Identity::of(&file.metadata()?))
     }
 
-    /// Gives the new file, all of which is durable, the name, and answers the folder. An error where
-    /// that fails: both files then have the names that they had.
+    /// Renames the new file, all of which is durable, over the old one, and returns the folder. If
+    /// that fails, both files keep their names.
     fn take_name<R: Files>(&self, rt: &R) -> io::Result<R::File> {
         let place = self.place.as_str();
         let folder = fs::open(rt, folder_of(place))?;
@@ -165,10 +165,10 @@ impl<A: Allocator> Renewal<A> {
         Ok(folder)
     }
 
-    /// Gives the new file, all of which is durable, the name, and makes that durable.
+    /// Renames the new file, all of which is durable, over the old one, and makes that durable.
     ///
-    /// An error where the name is not given: it is then that of the old file, and the new one is
-    /// removed. An error too where the folder is not synced, or the name is not that of the new file
+    /// Fails if it cannot be renamed: the name is then that of the old file, and the new one is
+    /// removed. Also fails if the folder cannot be synced, or the name is not that of the new file
     /// after that: the name is then left as it is.
     pub fn put<R: Files>(&self, rt: &R) -> io::Result<()> {
         let folder = match self.take_name(rt) {
@@ -185,7 +185,7 @@ impl<A: Allocator> Renewal<A> {
         }
     }
 
-    /// Removes the new file, which did not get the name.
+    /// Removes the new file, which was not renamed.
     pub fn give_up<R: Files>(&self, rt: &R) {
         let _ = rt.remove_file(self.new.as_str());
     }

@@ -1,4 +1,4 @@
-//! A copy of a file that is made fit for a disk.
+//! A copy of a file that is being prepared for a disk.
 
 ghost use Rattle.std.specs.Prelude.{◌≡◌, ◌≢◌, ◌<◌, ◌≤◌, ◌⊎◌, ◌*◌, ◌^◌, IfErr, IfOk, OnErr, OnOk};
 ghost use Rattle.macs_disk.specs.FileFailures.{ExtendFails, MoveFails, OnlyInterrupted, Reads};
@@ -17,7 +17,7 @@ use crate::layout::{Layout, MARK_PLACE, SECTOR_OCTETS, SPACED_SECTORS, is_mark};
 use std::fs::File;
 use std::snapshot::Snapshot;
 
-/// The octets of so many sectors are too many for a file: the system counts them below 2^63.
+/// A number of sectors too large for a file: the system's lengths are below 2^63 octets.
 const TOO_MANY_SECTORS: u64 = 1 << 54;
 
 /// A copy of a file, which has whole sectors and shows what the device has. Nothing of it is
@@ -25,21 +25,21 @@ const TOO_MANY_SECTORS: u64 = 1 << 54;
 #[derive(Drop)]
 pub struct SettledFile<F = File> {
     pub(crate) file: F,
-    /// The file that was copied, as it was claimed. It takes no memory: proofs alone read it.
+    /// The original file, as it was claimed. It takes no memory: only proofs read it.
     given: Snapshot<F>,
-    /// The copy as it was made. Proofs alone read it.
+    /// The copy as it was made. Only proofs read it.
     made: Snapshot<F>,
     octets: u64,
 }
 
-/// How the sectors of a disk lie in its file, and how many there are.
+/// The layout of a disk's sectors in its file, and how many there are.
 #[derive(Drop)]
 struct Extent {
     layout: Layout,
     sectors: u64,
 }
 
-/// Finds the layout of a settled file of so many octets.
+/// Finds the layout of a settled file of `octets` octets.
 fn find_layout<F: DiskFile>(file: &mut F, octets: u64) -> Result<Layout, DeviceFault>
     ensures steady { (F.file file.new).behaves ≡ (F.file file.old).behaves }
     ensures same { Behaves (F.file file.old) → F.file file.new ≡ F.file file.old }
@@ -64,7 +64,7 @@ fn find_layout<F: DiskFile>(file: &mut F, octets: u64) -> Result<Layout, DeviceF
     Ok(Layout::Packed)
 }
 
-/// Makes a packed file of so many octets one of so many sectors, with zeros, durably.
+/// Extends a packed file of `octets` octets to `sectors` sectors, with zeros, durably.
 fn lengthen<F: DiskFile>(file: &mut F, octets: u64, sectors: u64) -> Result<(), FileFault>
     requires { octets ≤ 512 * sectors }
     ensures steady { (F.file file.new).behaves ≡ (F.file file.old).behaves }
@@ -84,8 +84,8 @@ fn lengthen<F: DiskFile>(file: &mut F, octets: u64, sectors: u64) -> Result<(), 
     Ok(())
 }
 
-/// Finds the layout of a settled file of so many octets, and sees to it that it has at least so
-/// many sectors.
+/// Finds the layout of a settled file of `octets` octets, and ensures that it has at least `least`
+/// sectors.
 fn prepare<F: DiskFile>(file: &mut F, octets: u64, least: u64) -> Result<Extent, FileFault>
     ensures steady { (F.file file.new).behaves ≡ (F.file file.old).behaves }
     ensures fits { IfOk result (λ extent. place extent.layout extent.sectors < 2 ^ 64) }
@@ -121,7 +121,7 @@ impl<F: DiskFile> SettledFile<F> {
     ghost use Rattle.macs_disk.specs.FileDisks.{disk_in_file, file_before, file_beside};
     ghost use Rattle.macs_disk.specs.FileDisks.{file_given, file_made, layout_of, octets_of};
 
-    /// A copy of a file, of so many octets.
+    /// A copy of a file, of `octets` octets.
     pub(crate) fn new(file: F, given: Snapshot<F>, made: Snapshot<F>, octets: u64) -> Self
         ensures file { result.file ≡ file }
         ensures given { file_before result ≡ given.value }
@@ -136,8 +136,8 @@ impl<F: DiskFile> SettledFile<F> {
         }
     }
 
-    /// A disk of at least so many sectors in the copy. One of fewer is lengthened with zeros, which
-    /// are synced, unless it is spaced, which is `Open`. A longer one stays as it is.
+    /// A disk of at least `least` sectors in the copy. A copy with fewer is extended with zeros,
+    /// which are synced, unless it is spaced, which is `Open`. A longer one keeps its length.
     pub fn into_disk(mut self, least: u64) -> Result<FileDisk<F>, FileFault>
         ensures least { IfOk result (λ it. least ≤ (disk_in_file F.file it).sectors) }
         ensures given { IfOk result (λ it. file_given it ≡ file_before self) }
@@ -151,7 +151,7 @@ impl<F: DiskFile> SettledFile<F> {
             → IfOk result (IsFoundAgain F.file) }
         ensures fresh { IfOk result (λ it. IsFresh (disk_in_file F.file it)) }
         ensures err { IfErr result (λ fault. fault ≢ FileFault.Length) }
-        // Each fault has its own cause, by the calls that failed of the file that was let go.
+        // Each fault has its own cause, by the failed calls of the file that was dropped.
         ensures refused { IfErr result (λ fault. (left : F)
             × ExtendFails (F.failures self.file) (F.failures left) fault) }
     {

@@ -1,4 +1,4 @@
--- What one step of the work that there is does.
+-- What one step of the pending work does.
 use Rattle.std.specs.Prelude.{◌≡◌, ◌≤◌, ◌+◌, ℕ, Option, Some, None, Result, Ok, Err}
 use Rattle.macs_config.specs.declared.command.Command.{Command}
 use Rattle.macs_disk.specs.Disk.{Disk}
@@ -21,28 +21,28 @@ use Rattle.macs_endpoint.specs.declared.turn.Turn.TheVariants as turn
 
 -- ---- turns
 
--- a piece of work: to raise a ceiling, or to keep the first command that waits
+-- a piece of work: to raise a ceiling, or to keep the first pending command
 pub data Piece : Type 0 where
   ToRaise : Raise → Piece
   ToKeep : Waiting → Piece
 
--- which one begins where a ceiling is needed and a command waits
+-- which one begins if a ceiling is needed and a command is pending
 abbrev pub piece_by_turn : Turn → Raise → Waiting → Piece
 piece_by_turn turn.Reservation raise first = ToRaise raise
 piece_by_turn turn.Command raise first = ToKeep first
 
--- which one begins, if any: where there is but one of the two, that one
+-- which one begins, if any: if there is only one of the two, that one
 abbrev pub piece_among : Turn → Option Raise → Option Waiting → Option Piece
 piece_among whose None None = None
 piece_among whose (Some raise) None = Some (ToRaise raise)
 piece_among whose None (Some first) = Some (ToKeep first)
 piece_among whose (Some raise) (Some first) = Some (piece_by_turn whose raise first)
 
--- and which one does in an endpoint
+-- which one begins in an endpoint
 abbrev pub next_piece : {D : Type 0} → EndpointValue D → Option Piece
 next_piece e = piece_among e.turn (raise_in e) (first_waiting e.waiting)
 
--- whose turn it is after a step: a reservation that is done, or that the journal has no room for, leaves it to a
+-- whose turn it is after a step: a reservation that is done, or that the journal has no room for, passes the turn to a
 -- command; a command that is done, refused or not, to a reservation
 abbrev pub turn_after_step : Turn → Result Progress StepFault → Turn
 turn_after_step whose (Ok Reserved) = turn.Command
@@ -50,12 +50,12 @@ turn_after_step whose (Ok (Done ticket result)) = turn.Reservation
 turn_after_step whose (Err step.GenerationsSpent) = turn.Command
 turn_after_step whose result = whose
 
--- and after a refill that finished the reservation under way
+-- whose turn it is after a refill that finished the reservation under way
 abbrev pub turn_after_refill : Turn → Option Raise → Turn
 turn_after_refill whose None = whose
 turn_after_refill whose (Some raise) = turn.Command
 
--- and after any call. A command that does not wait uses a turn as one that does.
+-- whose turn it is after any call. A command that does not wait uses a turn just like one that waits.
 abbrev pub turn_after : {D : Type 0} → EndpointValue D → Call → Reply → Turn
 turn_after e (Commands command) (Ran (Err ran.Stopped)) = e.turn
 turn_after e (Commands command) (Ran (Err ran.Busy)) = e.turn
@@ -68,9 +68,9 @@ turn_after e call reply = e.turn
 
 -- ---- a step
 
--- A step of an endpoint that runs and has no work under way: it is idle where there is no piece of work, and else that
--- piece begins, with its first device call, or is refused before. Whether that call succeeds or fails, a command is
--- under way then, and a reservation leaves none under way.
+-- A step of an endpoint that is running and has no work under way: it is idle if there is no piece of work; otherwise
+-- that piece begins, with its first device call, or is refused before it. Whether that call succeeds or fails, a
+-- command is under way then, and a reservation leaves none under way.
 abbrev pub BeginsWith : {D : Type 0} → EndpointValue D → Option Piece → Result Progress StepFault
     → EndpointValue D → Type 0
 BeginsWith old None (Ok Idle) new = new ≡ old
@@ -85,8 +85,8 @@ BeginsWith old (Some (ToKeep first)) (Ok (Done ticket (Err ran.GenerationsSpent)
 BeginsWith old (Some (ToKeep first)) (Err step.Disk) new = new.in_hand ≡ Some first.command
 BeginsWith old piece result new = ⊥
 
--- A step of an endpoint with work under way: the next device call of that work, which goes on, with fewer calls left,
--- or is done with the last. Where the call fails a command under way stays so.
+-- A step of an endpoint with work under way: the next device call of that work, which continues, with fewer calls left,
+-- or is done with the last. If the call fails a command under way stays so.
 abbrev pub GoesOn : {D : Type 0} → EndpointValue D → Result Progress StepFault → EndpointValue D → Type 0
 GoesOn old (Ok Worked) new =
     (new.reserving ≡ old.reserving) × (new.in_hand ≡ old.in_hand) × (¬ IsIdle new.store)
@@ -98,15 +98,15 @@ GoesOn old (Ok (Done ticket (Ok done))) new = ((command : Command) × (old.in_ha
 GoesOn old (Err step.Disk) new = new.in_hand ≡ old.in_hand
 GoesOn old result new = ⊥
 
--- how far the clock of the disk goes on in a step with this answer: by one where the work went on or was done, and else
--- by one at most
+-- how far the clock of the disk advances in a step with this answer: by one if the work continued or was done,
+-- otherwise by at most one
 abbrev pub ClockAfter : ℕ → Result Progress StepFault → ℕ → Type 0
 ClockAfter old (Ok Worked) new = new ≡ old + 1
 ClockAfter old (Ok Reserved) new = new ≡ old + 1
 ClockAfter old (Ok (Done ticket (Ok done))) new = new ≡ old + 1
 ClockAfter old result new = new ≤ old + 1
 
--- what a step of an endpoint that runs does
+-- what a step of a running endpoint does
 pub record AdvancesAs {D : Type 0} (disk_of : D → Disk) (old : EndpointValue D) (result : Result Progress StepFault)
     (new : EndpointValue D) : Type 0 where
   pub begins : IsIdle old.store → BeginsWith old (next_piece old) result new

@@ -19,9 +19,9 @@ use Rattle.macs_endpoint.specs.declared.fault.CommandFault.TheVariants as ran
 use Rattle.macs_endpoint.specs.declared.fault.RefillFault.TheVariants as refill
 use Rattle.macs_endpoint.specs.declared.fault.StepFault.TheVariants as step
 
--- ---- what a call is given
+-- ---- the arguments of a call
 
--- a command and the octets of a frame are in the ranges that their types keep
+-- a command and the octets of a frame are in the ranges of their types
 abbrev pub IsInRange : Call → Type 0
 IsInRange (Commands command) = IsCommand command
 IsInRange Refills = Unit {0}
@@ -32,12 +32,12 @@ IsInRange (Receives frame) = All (λ octet. octet < 2 ^ 8) frame
 
 -- ---- on every disk
 
--- what a step of an endpoint that runs does, where the call is one
+-- what a step of a running endpoint does, if the call is a step
 abbrev pub AdvancesIn : {D : Type 0} → (D → Disk) → EndpointValue D → Call → Reply → EndpointValue D → Type 0
 AdvancesIn disk_of old Advances (Advanced result) new = is_stopped old ≡ false → AdvancesAs disk_of old result new
 AdvancesIn disk_of old call reply new = Unit {0}
 
--- no work is under way after a command or a refill that went to its end, or that the journal has no room for
+-- no work is under way after a command or a refill that ran to its end, or that the journal has no room for
 abbrev pub Rests : {D : Type 0} → Call → Reply → EndpointValue D → Type 0
 Rests (Commands command) (Ran (Ok done)) new = IsIdle new.store
 Rests (Commands command) (Ran (Err ran.GenerationsSpent)) new = IsIdle new.store
@@ -45,9 +45,9 @@ Rests Refills (Refilled (Ok done)) new = IsIdle new.store
 Rests Refills (Refilled (Err refill.GenerationsSpent)) new = IsIdle new.store
 Rests call reply new = Unit {0}
 
--- What a caller sees of one call: what it is given is in range; it is a step of the machine; what becomes of
--- configuration and ceilings; where the answers come that a step leaves to the endpoint; which calls make no device
--- call; after which no work is under way; what a step of its work does, and whose turn it is after; what is counted.
+-- What a caller sees of one call: its arguments are in range; it is a step of the machine; the new configuration and
+-- ceilings; when the answers occur that a step leaves to the endpoint; which calls make no device call; after which no
+-- work is under way; what a step of its work does, and whose turn it is afterwards; what is counted.
 pub record CallBehaves {D : Type 0} (disk_of : D → Disk) (old : EndpointValue D) (call : Call) (reply : Reply)
     (new : EndpointValue D) : Type 0 where
   pub in_range : IsInRange call
@@ -65,7 +65,7 @@ pub record CallBehaves {D : Type 0} (disk_of : D → Disk) (old : EndpointValue 
   pub channel_counters : rxsc.channel_counters_of new.rx
       ≡ channel_counters_after (state_of old no_logs) call reply (rxsc.channel_counters_of old.rx)
 
--- one device call between these failed, and no other, exactly where this is answered as Disk
+-- exactly one device call between these failed, if and only if the answer is Disk
 abbrev pub Fails : Disk → Disk → Reply → Type 0
 Fails old new (Ran (Err ran.Disk)) = FailsOnce old new
 Fails old new (Refilled (Err refill.Disk)) = FailsOnce old new
@@ -88,9 +88,9 @@ pub record Survives {D : Type 0} (disk_of : D → Disk) (old : EndpointValue D) 
       (FitsCall (disk_in disk_of old).sectors (state_of old logs) call (state_of new after))
   pub backed : IsBacked disk_of new
 
--- ---- the whole
+-- ---- all of it
 
--- one call, whatever happened before it
+-- one call, regardless of what happened before it
 pub record IsCall {D : Type 0} (disk_of : D → Disk) (old : EndpointValue D) (call : Call) (reply : Reply)
     (new : EndpointValue D) : Type 0 where
   pub behaves : CallBehaves disk_of old call reply new

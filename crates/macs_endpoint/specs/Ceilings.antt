@@ -20,8 +20,7 @@ use Rattle.macs_endpoint.specs.declared.progress.Step.TheVariants.{Reserved}
 
 -- ---- reservations
 
--- which ceiling is raised: that of a transmit association, or that of a receive association for the number that was
--- seen
+-- which ceiling is raised: that of a transmit association, or that of a receive association for the number seen
 pub data Raise : Type 0 where
   RaiseTx : (an : ℕ) → Raise
   RaiseRx : Need → Raise
@@ -31,7 +30,7 @@ abbrev pub standing_with_raise : Standing → Raise → Standing
 standing_with_raise s (RaiseTx an) = standing_with_tx_raised s an
 standing_with_raise s (RaiseRx need) = standing_with_rx_raised s need.sci need.an need.pn
 
--- the association of a ceiling exists, and the ceiling is below the one that it is raised to
+-- the association of a ceiling exists, and the ceiling is lower than its new value
 abbrev pub Rises : Standing → Raise → Type 0
 Rises s (RaiseTx an) = IsSome (s.ceilings.tx an) × IfSome (s.ceilings.tx an) (λ old. old < 2 ^ 32)
 Rises s (RaiseRx need) =
@@ -44,20 +43,20 @@ either_raise (Some an) need = Some (RaiseTx an)
 either_raise None (Some need) = Some (RaiseRx need)
 either_raise None None = None
 
--- the ceiling that is to be raised first: that of the encoding association, then those of receive associations by
--- ascending SCI and AN
+-- the ceiling to raise first: that of the encoding association, then those of receive associations by ascending SCI and
+-- AN
 abbrev pub first_raise : Standing → TxSide → RxSide → Option Raise
 first_raise s tx_side rx_side = either_raise
     (tx.need_of tx_side s.ceilings.tx s.identity.tx_block)
     (rx.first_need_of rx_side s.ceilings.rx s.identity.rx_block)
 
--- these ceilings were raised one after the other, each the first that was needed then
+-- these ceilings were raised one after the other, each the first that was needed at the time
 abbrev pub Raises : TxSide → RxSide → Standing → List Raise → Standing → Type 0
 Raises tx_side rx_side old [] new = new ≡ old
 Raises tx_side rx_side old (raise ∷ raises) new =
     (first_raise old tx_side rx_side ≡ Some raise) × Raises tx_side rx_side (standing_with_raise old raise) raises new
 
--- some ceilings were raised, and this one is to be raised next, if any is
+-- some ceilings were raised, and this one must be raised next, if any
 pub record IsRefilled (tx_side : TxSide) (rx_side : RxSide) (old new : Standing) (next : Option Raise) : Type 0 where
   pub raises : List Raise
   pub raised : Raises tx_side rx_side old raises new
@@ -65,26 +64,26 @@ pub record IsRefilled (tx_side : TxSide) (rx_side : RxSide) (old new : Standing)
 
 -- ---- calls
 
--- the standing once a reservation that is under way is done, if one is
+-- the standing once the reservation under way, if any, is done
 abbrev pub standing_with_reserved : Standing → Option Raise → Standing
 standing_with_reserved s None = s
 standing_with_reserved s (Some raise) = standing_with_raise s raise
 
--- the standing after a command that was made durable, if one was
+-- the standing after a command that was made durable, if any
 abbrev pub StandsAfter : Option Command → Standing → Standing → Type 0
 StandsAfter None old new = new ≡ old
 StandsAfter (Some command) old new = accept old command ≡ Ok new
 
--- the standing after a command with this answer: a reservation under way is done first, unless the command is refused
--- before
+-- the standing after a command with this answer: a reservation under way is finished first, unless the command is
+-- refused before
 abbrev pub StandsRan : Standing → Option Raise → Command → Result (Unit {0}) CommandFault → Standing → Type 0
 StandsRan old reserving command (Ok done) new = accept (standing_with_reserved old reserving) command ≡ Ok new
 StandsRan old reserving command (Err ran.GenerationsSpent) new = new ≡ standing_with_reserved old reserving
 StandsRan old reserving command (Err ran.Disk) new = (new ≡ old) ⊎ (new ≡ standing_with_reserved old reserving)
 StandsRan old reserving command (Err fault) new = new ≡ old
 
--- the standing after a refill with this answer: a reservation under way is done first; then every need is served, or
--- one is left that was not; or nothing changed
+-- the standing after a refill with this answer: a reservation under way is finished first; then every need is served,
+-- or one is left unserved; or nothing changed
 abbrev pub StandsRefilled : TxSide → RxSide → Standing → Option Raise → Result (Unit {0}) RefillFault
     → Standing → Type 0
 StandsRefilled tx_side rx_side old reserving (Ok done) new =
@@ -103,7 +102,7 @@ StandsAdvanced old reserving made (Ok Reserved) new = (raise : Raise) × (reserv
     × (new ≡ standing_with_raise old raise)
 StandsAdvanced old reserving made result new = StandsAfter made old new
 
--- the standing, its ceilings included, after a call of an endpoint in this state with this reservation under way
+-- the standing, including its ceilings, after a call of an endpoint in this state with this reservation under way
 abbrev pub CeilingsAfter : State → Standing → Option Raise → Call → Reply → Standing → Type 0
 CeilingsAfter s old reserving (Commands command) (Ran result) new = StandsRan old reserving command result new
 CeilingsAfter s old reserving Refills (Refilled result) new =

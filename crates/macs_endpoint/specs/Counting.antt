@@ -15,7 +15,7 @@ use Rattle.macs_endpoint.specs.State.{Call, Protected, Protects, Received, Recei
 use Rattle.macs_endpoint.specs.State.{tx_side}
 use Rattle.macs_endpoint.specs.declared.fault.ProtectFault.TheVariants.{Tx}
 
--- the transmit counters after a call of an endpoint in this state: answers of `protect` are counted, but Stopped
+-- the transmit counters after a call of an endpoint in this state: answers of `protect` are counted, except Stopped
 abbrev pub tx_counters_after : State → Call → Reply → TxCounters → TxCounters
 tx_counters_after s (Protects plain) (Protected (Ok pn) out) c =
     counters_after_answer (next_tag (tx_side s)) plain (Ok pn) c
@@ -23,26 +23,26 @@ tx_counters_after s (Protects plain) (Protected (Err (Tx fault)) out) c =
     counters_after_answer (next_tag (tx_side s)) plain (Err fault) c
 tx_counters_after s call reply c = c
 
--- the receive counters after an answer: those of `receive` are counted, but Stopped
+-- the receive counters after an answer: those of `receive` are counted, except Stopped
 abbrev pub rx_counters_after : Reply → RxCounters → RxCounters
 rx_counters_after (Received (Ok verdict) out) c = counters_after_verdict verdict c
 rx_counters_after reply c = c
 
--- the counters of channels after a command: a new channel begins to count, and a channel that goes takes its counts
--- along
+-- the counters of channels after a command: a new channel starts with new counters, and those of a removed channel are
+-- removed with it
 abbrev pub channel_counters_after_command : Command → (List ℕ → Option ChannelCounters) → List ℕ
     → Option ChannelCounters
 channel_counters_after_command (RxAdd sci) table = put_at table sci (Some no_channel_counts)
 channel_counters_after_command (RxDrop sci) table = put_at table sci None
 channel_counters_after_command command table = table
 
--- the counters of channels after a command that was made durable, if one was
+-- the counters of channels after a command that was made durable, if any
 abbrev pub channel_counters_after_made : Option Command → (List ℕ → Option ChannelCounters) → List ℕ
     → Option ChannelCounters
 channel_counters_after_made None table = table
 channel_counters_after_made (Some command) table = channel_counters_after_command command table
 
--- what channels count after a call of an endpoint in this state
+-- the counters of channels after a call of an endpoint in this state
 abbrev pub channel_counters_after : State → Call → Reply → (List ℕ → Option ChannelCounters) → List ℕ
     → Option ChannelCounters
 channel_counters_after s (Receives frame) (Received (Ok verdict) out) table =

@@ -10,13 +10,13 @@ use Rattle.macs_endpoint.specs.declared.fault.RefillFault.TheVariants.{Disk, Gen
 use Rattle.macs_endpoint.specs.declared.fault.StepFault.{StepFault}
 use Rattle.macs_endpoint.specs.declared.fault.StepFault.TheVariants as step
 
--- the fault of a refill for that of a reservation, which is Stopped, GenerationsSpent or Disk and no other
+-- the fault of a refill for that of a reservation, which is only Stopped, GenerationsSpent or Disk
 abbrev pub refill_fault_of : JournalFault → RefillFault
 refill_fault_of journal.Stopped = Stopped
 refill_fault_of journal.GenerationsSpent = GenerationsSpent
 refill_fault_of fault = Disk
 
--- the fault of a refill that has the name of a step's
+-- the fault of a refill with the name of a step's
 abbrev pub refill_fault_named : StepFault → RefillFault
 refill_fault_named step.Stopped = Stopped
 refill_fault_named step.GenerationsSpent = GenerationsSpent

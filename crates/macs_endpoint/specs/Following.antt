@@ -18,7 +18,8 @@ is_of_rx (RxInstall sci an key start offset) = true
 is_of_rx (RxRemove sci an) = true
 is_of_rx command = false
 
--- the channels become those of the standing after a command; its associations begin or end, and nothing is counted
+-- the channels become those of the standing after a command; the associations that it installs or removes begin or end,
+-- and nothing is counted
 pub record Follows (command : Command) (after : Standing) (old_tx : Tx) (old_rx : rxsc.RxValue) (tx : Tx)
     (rx : rxsc.RxValue) : Type 0 where
   pub channels : AreChannels tx rx after

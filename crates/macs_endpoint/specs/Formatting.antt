@@ -1,4 +1,4 @@
--- A disk while it is formatted, and what a format promises.
+-- A disk while it is being formatted, and what formatting promises.
 use Rattle.std.specs.Prelude.{◌⊎◌, ℕ, Result, Ok, Err, OnOk}
 use Rattle.macs_config.specs.Config.{this_edition}
 use Rattle.macs_config.specs.Identity.{Identity}
@@ -18,15 +18,15 @@ pub record IsFormattedAs (sectors : ℕ) (identity : Identity) (image : Image) :
   pub stands : StandingIs this_edition sectors image (Ok (new_standing this_edition identity))
   pub format : HasFormat image Two
 
--- an image that the disk could leave before, or one of no journal, or one of a new endpoint of this identity
+-- an image that the disk could leave before, or one without a journal, or one of a new endpoint with this identity
 abbrev pub FormatLeaves : Disk → Identity → Image → Type 0
 FormatLeaves old identity image =
     MayLeave old image
     ⊎ (StandingIs this_edition old.sectors image (Err NotFormatted) ⊎ IsFormattedAs old.sectors identity image)
 
--- A disk that had no journal is made that of a new endpoint of this identity. On an honest disk a power loss on the way
--- leaves what it could leave before, no journal, or the new endpoint; once it is done a power loss leaves the new
--- endpoint alone.
+-- A disk without a journal becomes that of a new endpoint with this identity. On an honest disk a power loss on the way
+-- leaves what it could leave before, no journal, or the new endpoint; once it is done a power loss leaves only the new
+-- endpoint.
 pub record IsFormat {D : Type 0} (disk_of : D → Disk) (old : D) (identity : Identity)
     (result : Result (Unit {0}) JournalFault) (new : D) : Type 0 where
   pub device : IsFormatOf disk_of old result new

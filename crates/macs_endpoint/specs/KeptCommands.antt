@@ -14,12 +14,12 @@ use Rattle.macs_endpoint.specs.declared.fault.CommandFault.{CommandFault}
 use Rattle.macs_endpoint.specs.declared.fault.CommandFault.TheVariants as ran
 use Rattle.macs_endpoint.specs.declared.queue.Waiting.{Waiting}
 
--- how many device calls a command that does not wait takes, at most: those that are left of a reservation under way,
--- and then its own
+-- the maximum number of device calls of a command that does not wait: those left of a reservation under way, and then
+-- its own
 abbrev pub most_in_command : {D : Type 0} → EndpointValue D → ℕ
 most_in_command e = calls_left e.store + most_with_change (slots_then e.store) (reserved_in e)
 
--- A command is kept, by one change after a reservation under way, or not. Where no change is kept any more the
+-- A command is kept, by one change after a reservation under way, or not. If no more change can be kept, the
 -- reservation's calls are all.
 pub record KeepsCommand {D : Type 0} (disk_of : D → Disk) (old : EndpointValue D) (command : Command)
     (result : Result (Unit {0}) CommandFault) (new : EndpointValue D) : Type 0 where
@@ -31,7 +31,7 @@ pub record KeepsCommand {D : Type 0} (disk_of : D → Disk) (old : EndpointValue
   pub spent : IsErrOf result ran.GenerationsSpent
       → (disk_in disk_of new).clock ≤ (disk_in disk_of old).clock + calls_left old.store
 
--- The first command that waits is started, and no device call is made; or the store refuses it, and nothing changes.
+-- The first pending command is started, and no device call is made; or the store refuses it, and nothing changes.
 pub record StartsFirst {D : Type 0} (disk_of : D → Disk) (old : EndpointValue D) (first : Waiting)
     (result : Result (Unit {0}) CommitFault) (new : EndpointValue D) : Type 0 where
   pub starts : StartsCommit disk_of old.store first.command result new.store

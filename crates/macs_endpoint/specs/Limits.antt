@@ -1,4 +1,4 @@
--- Where the answers that a step leaves to the endpoint come, and which calls make no device call.
+-- When the answers occur that a step leaves to the endpoint, and which calls make no device call.
 use Rattle.std.specs.Prelude.{◌≡◌, ◌⊎◌, true, false, None, Ok, Err}
 use Rattle.macs_txsc.specs.Transmit.{is_at_ceiling, next_outgoing}
 use Rattle.macs_txsc.specs.declared.fault.TxFault.TheVariants.{NoNumber}
@@ -17,8 +17,8 @@ use Rattle.macs_endpoint.specs.declared.fault.RefillFault.TheVariants as refill
 use Rattle.macs_endpoint.specs.declared.fault.StepFault.TheVariants as step
 use Rattle.macs_endpoint.specs.declared.progress.Step.TheVariants.{Done}
 
--- GenerationsSpent only where all slots of the current area are used and its generation is the last, NoNumber only
--- where the next number is the ceiling, HeldBack only where a number is not below it
+-- GenerationsSpent only if all slots of the current area are used and its generation is the last, NoNumber only if the
+-- next number is the ceiling, HeldBack only if a number is not below it
 abbrev pub IsLimited : {D : Type 0} → EndpointValue D → Call → Reply → EndpointValue D → Type 0
 IsLimited old (Commands command) (Ran (Err ran.GenerationsSpent)) new = IsSpent new.store
 IsLimited old Refills (Refilled (Err refill.GenerationsSpent)) new = IsSpent new.store
@@ -29,10 +29,10 @@ IsLimited old (Receives frame) (Received (Ok HeldBack) out) new =
     × (is_below ((standing_in old.store).ceilings.rx a.sci a.an) a.pn ≡ false)
 IsLimited old call reply new = Unit {0}
 
--- This program refuses no command for the length of its key. Frames, commands that are to wait, work that is refused
--- before it begins and a stopped endpoint leave the store as it was, and with it the disk and its clock. Where no work
--- is under way so do a command that is answered GenerationsSpent, and a refill where no ceiling is needed or no change
--- is kept any more.
+-- This program refuses no command for the length of its key. Frames, submitted commands, work that is refused before it
+-- begins and a stopped endpoint leave the store unchanged, and with it the disk and its clock. If no work is under way
+-- so do a command that is answered with GenerationsSpent, and a refill if no ceiling is needed or no more change can be
+-- kept.
 abbrev pub IsStill : {D : Type 0} → EndpointValue D → Call → Reply → EndpointValue D → Type 0
 IsStill old (Commands command) (Ran (Err (ran.Refused refusal))) new = new.store ≡ old.store
 IsStill old (Commands command) (Ran (Err ran.Busy)) new = new.store ≡ old.store

@@ -8,7 +8,7 @@ use Rattle.macs_endpoint.specs.Restart.{Fits, state_during}
 use Rattle.macs_endpoint.specs.State.{Call, Reply, no_logs}
 use Rattle.macs_endpoint.specs.Step.{Exchange}
 
--- a call with its answer, and the endpoint after it
+-- a call with its answer, and the endpoint afterwards
 pub record Transition (D : Type 0) : Type 0 where
   pub call : Call
   pub reply : Reply
@@ -24,7 +24,7 @@ Lives disk_of old [] new = new ≡ old
 Lives disk_of old (turn ∷ turns) new =
     IsSoundEndpoint old × IsCall disk_of old turn.call turn.reply turn.after × Lives disk_of turn.after turns new
 
--- some calls lead from old to new: what its owner needs to go on
+-- some calls lead from old to new: what the endpoint's owner needs to continue
 abbrev pub LivesOn : {D : Type 0} → (D → Disk) → EndpointValue D → EndpointValue D → Type 0
 LivesOn {D} disk_of old new = (turns : List (Transition D)) × Lives disk_of old turns new
 
@@ -35,8 +35,8 @@ FitsLife sectors e (turn ∷ turns) image =
     Fits (state_of e no_logs).edition sectors image (state_during (state_of e no_logs) turn.call)
     ⊎ FitsLife sectors turn.after turns image
 
--- Since each of these calls was answered, on a disk that is `final` at last, a power loss at any moment leaves an image
--- that fits the state after it or a later one, with at most one command under way
+-- After each of these calls was answered, on a disk that is finally `final`, a power loss at any moment leaves an image
+-- that fits the state after the call or a later one, with at most one command under way
 abbrev pub LeavesLife : {D : Type 0} → (D → Disk) → Disk → EndpointValue D → List (Transition D) → Type 0
 LeavesLife disk_of final e [] =
     (image : Image) → LeftSince final (disk_in disk_of e).clock image → FitsLife final.sectors e [] image

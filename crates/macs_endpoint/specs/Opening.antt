@@ -1,4 +1,4 @@
--- What the opening of a disk promises: the endpoint that begins there, or why it is refused.
+-- What opening a disk promises: the endpoint that begins there, or why it is refused.
 use Rattle.std.specs.Prelude.{◌≡◌, ◌⊎◌, [], None, Result, Ok, Err}
 use Rattle.std.specs.Option.{option_map}
 use Rattle.macs_config.specs.Config.{this_edition}
@@ -23,21 +23,21 @@ use Rattle.macs_endpoint.specs.State.{Logs, State}
 use Rattle.macs_endpoint.specs.declared.turn.Turn.TheVariants.{Reservation}
 use Rattle.macs_endpoint.specs.Value.{EndpointValue, IsAtRest, IsBacked, IsSoundEndpoint, disk_in, state_of}
 
--- a transmit channel is new: it has the SCI of this identity and no association, and nothing is counted
+-- a transmit channel is new: it has the SCI of this identity and no association, and its counters are 0
 pub record IsNewTx (identity : Identity) (tx : Tx) : Type 0 where
   pub side : txsc.tx_side_of tx ≡ transmit.new_tx_side identity.sci
   pub ceilings : txsc.ceilings_of tx ≡ (λ an. None)
   pub counters : txsc.counters_of tx ≡ transmit.no_counts
 
--- the receive channels are new: there is none, and nothing is counted
+-- the receive channels are new: there is none, and the counters are 0
 pub record IsNewRx (rx : rxsc.RxValue) : Type 0 where
   pub side : rxsc.rx_side_of rx ≡ new_rx_side
   pub ceilings : rxsc.ceilings_of rx ≡ (λ sci an. None)
   pub counters : rxsc.counters_of rx ≡ counting.no_counts
   pub channel_counters : rxsc.channel_counters_of rx ≡ (λ sci. None)
 
--- A sound endpoint begins with what is in a store: its packet numbers begin at their ceilings, nothing is under way or
--- waits, the first turn is a reservation's, and nothing is counted.
+-- A sound endpoint begins with the contents of a store: its packet numbers begin at their ceilings, nothing is under
+-- way or pending, the first turn is a reservation's, and nothing has been counted.
 pub record Begins {D : Type 0} (store : StoreValue D) (e : EndpointValue D) : Type 0 where
   pub from : e.store ≡ store
   pub sound : IsSoundEndpoint e
@@ -51,7 +51,7 @@ pub record Begins {D : Type 0} (store : StoreValue D) (e : EndpointValue D) : Ty
   pub rx_counters : rxsc.counters_of e.rx ≡ counting.no_counts
   pub channel_counters : rxsc.channel_counters_of e.rx ≡ new_channel_counters (standing_in store).config.channels
 
--- what comes of an opened store, or of a refusal, which stays as it was
+-- the result for an opened store, or for a refusal, which is unchanged
 abbrev pub BeginsOpened : {D : Type 0} → Result (StoreValue D) (RecoverRefused D)
     → Result (EndpointValue D) (RecoverRefused D) → Type 0
 BeginsOpened (Ok store) (Ok e) = Begins store e
@@ -59,8 +59,8 @@ BeginsOpened (Ok store) (Err left) = ⊥
 BeginsOpened (Err refused) (Ok e) = ⊥
 BeginsOpened (Err refused) (Err left) = left ≡ refused
 
--- A disk is opened to this endpoint. It is in the state of one that begins with what is in its store, after whatever
--- logs, no work is under way, and nothing is counted. On an honest disk the disk stood for that, and holds it.
+-- A disk is opened as this endpoint. Its state is that of one that begins with the contents of its store, after any
+-- logs, no work is under way, and nothing has been counted. On an honest disk the disk represented that, and holds it.
 pub record Opens {D : Type 0} (disk_of : D → Disk) (disk : D) (e : EndpointValue D) : Type 0 where
   pub device : OpensDisk (disk_of disk) (disk_in disk_of e) (standing_in e.store)
   pub state : (logs : Logs) → state_of e logs ≡ opened_state (standing_in e.store) logs
@@ -73,9 +73,9 @@ pub record Opens {D : Type 0} (disk_of : D → Disk) (disk : D) (e : EndpointVal
   pub rx_counters : rxsc.counters_of e.rx ≡ counting.no_counts
   pub channel_counters : rxsc.channel_counters_of e.rx ≡ new_channel_counters (standing_in e.store).config.channels
 
--- A disk is refused for what is on it, or for a device call that failed. Where each image that a power loss could leave
--- of an honest disk fits a state, only a failed device call remains, and a journal of format one in the last
--- generation.
+-- A disk is refused because of what is on it, or because a device call failed. If each image that a power loss could
+-- leave of an honest disk fits a state, the only remaining causes are a failed device call, and a journal of format one
+-- in the last generation.
 pub record RefusesOpening {D : Type 0} (disk_of : D → Disk) (disk left : D) (fault : JournalFault) : Type 0 where
   pub refused : RefusesDisk disk_of disk left fault
   pub opens : IsHonest (disk_of left) → ((image : Image) → MayLeave (disk_of disk) image

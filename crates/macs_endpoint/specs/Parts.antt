@@ -1,4 +1,4 @@
--- An endpoint in memory, by the fields of its program.
+-- An endpoint in memory, given by the fields of the program's type.
 use Rattle.std.specs.Prelude.{Option}
 use Rattle.std.specs.Option.{option_map}
 use Rattle.macs_config.specs.declared.command.Command.{Command}
@@ -10,7 +10,7 @@ use Rattle.macs_endpoint.specs.declared.channels.Channels.{Channels}
 use Rattle.macs_endpoint.specs.declared.refilling.Raise.{Raise}
 use Rattle.macs_endpoint.specs.declared.turn.Turn.{Turn}
 
--- what an endpoint keeps that is made of these parts
+-- the value of an endpoint made of these parts
 abbrev pub endpoint_of : {D : Type 0} → StoreValue D → Channels → Option Command → Option Raise → QueueValue → Turn
     → EndpointValue D
 endpoint_of store channels in_hand reserving queue turn = record {

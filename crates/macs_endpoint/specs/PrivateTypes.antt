@@ -1,4 +1,4 @@
--- What private types of the program mean.
+-- The meaning of the program's private types.
 use Rattle.macs_endpoint.specs.Advancing.{Piece, ToKeep, ToRaise}
 use Rattle.macs_endpoint.specs.Ceilings as ceilings
 use Rattle.macs_endpoint.specs.declared.refilling.Raise.{Raise}
@@ -6,7 +6,7 @@ use Rattle.macs_endpoint.specs.declared.refilling.Raise.TheVariants.{Rx, Tx}
 use Rattle.macs_endpoint.specs.declared.stepping.Piece as declared
 use Rattle.macs_endpoint.specs.declared.stepping.Piece.TheVariants as variant
 
--- a ceiling that is to be raised
+-- a ceiling to raise
 abbrev pub raise_of : Raise → ceilings.Raise
 raise_of (Tx an) = ceilings.RaiseTx an
 raise_of (Rx need) = ceilings.RaiseRx (record { sci = need.sci; an = need.an; pn = need.pn })

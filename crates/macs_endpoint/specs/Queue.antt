@@ -1,4 +1,4 @@
--- Commands that wait, and the tickets that name them.
+-- Pending commands, and the tickets that identify them.
 use Rattle.std.specs.Prelude.{◌≡◌, ◌<◌, ◌≤◌, ◌+◌, ◌-◌, ◌^◌, ◌++◌, ℕ, List, [], ◌∷◌, length, Option, Some, None, Result}
 use Rattle.std.specs.Prelude.{Ok, Err}
 use Rattle.std.specs.Option.{option_map}
@@ -7,7 +7,7 @@ use Rattle.macs_endpoint.specs.declared.fault.SubmitFault.{SubmitFault}
 use Rattle.macs_endpoint.specs.declared.fault.SubmitFault.TheVariants.{QueueFull, Stopped, TicketsSpent}
 use Rattle.macs_endpoint.specs.declared.queue.Waiting.{Waiting}
 
--- how many commands may wait, the one under way included
+-- how many commands may be pending, including the one under way
 abbrev pub queue_length : ℕ
 queue_length = 16
 
@@ -15,12 +15,12 @@ queue_length = 16
 abbrev pub last_ticket : ℕ
 last_ticket = 2 ^ 64 - 1
 
--- the commands that wait, the first in front, and how many tickets were given
+-- the pending commands, in order, and how many tickets were given
 pub record QueueValue : Type 0 where
   pub waiting : List Waiting
   pub given : ℕ
 
--- the command that is the first to wait, with its ticket
+-- the first pending command, with its ticket
 abbrev pub first_waiting : List Waiting → Option Waiting
 first_waiting [] = None
 first_waiting (first ∷ rest) = Some first
@@ -29,12 +29,12 @@ first_waiting (first ∷ rest) = Some first
 abbrev pub first_command : List Waiting → Option Command
 first_command waiting = option_map (λ (first : Waiting). first.command) (first_waiting waiting)
 
--- these commands, and one more under this ticket
+-- these commands, followed by one more with this ticket
 abbrev pub with_waiting : List Waiting → ℕ → Command → List Waiting
 with_waiting waiting ticket command = let last : Waiting = record { ticket = ticket; command = command } in
     waiting ++ last ∷ []
 
--- a command is to wait, and its ticket is answered: unless as many wait as may, or no ticket is left
+-- a command is queued and its ticket returned, unless the queue is full or no ticket is left
 abbrev pub Queues : QueueValue → Command → Result ℕ SubmitFault → QueueValue → Type 0
 Queues old command (Ok ticket) new =
     (length old.waiting < queue_length) × (old.given < last_ticket) × (ticket ≡ old.given + 1)

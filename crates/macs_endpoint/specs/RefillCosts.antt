@@ -13,20 +13,20 @@ use Rattle.macs_endpoint.specs.declared.fault.RefillFault.TheVariants as refill
 
 -- ---- ceilings that are raised one after another
 
--- how many slots are used after them, where so many were used and this was the standing
+-- how many slots are used after them, given how many were used before and the standing
 abbrev pub slots_in_raises : ℕ → Standing → List Raise → ℕ
 slots_in_raises used s [] = used
 slots_in_raises used s (raise ∷ raises) =
     slots_in_raises (slots_with_change used s) (standing_with_raise s raise) raises
 
--- and in which generation they are, where those before were in this one
+-- the generation after them, given the one before
 abbrev pub generation_in_raises : ℕ → ℕ → Standing → List Raise → ℕ
 generation_in_raises used number s [] = number
 generation_in_raises used number s (raise ∷ raises) =
     generation_in_raises (slots_with_change used s) (generation_with_change used number)
     (standing_with_raise s raise) raises
 
--- how many device calls they take, at most
+-- the maximum number of device calls they take
 abbrev pub most_in_raises : ℕ → Standing → List Raise → ℕ
 most_in_raises used s [] = 0
 most_in_raises used s (raise ∷ raises) =
@@ -34,7 +34,7 @@ most_in_raises used s (raise ∷ raises) =
 
 -- ---- after a reservation under way
 
--- the standing once the reservation under way is done, if one is
+-- the standing once the reservation under way, if any, is done
 abbrev pub reserved_in : {D : Type 0} → EndpointValue D → Standing
 reserved_in e = standing_with_reserved (standing_in e.store) e.reserving
 
@@ -43,12 +43,12 @@ abbrev pub RaisesBehind : {D : Type 0} → EndpointValue D → List Raise → St
 RaisesBehind e raises new =
     Raises (tx_side (state_of e no_logs)) (rx_side (state_of e no_logs)) (reserved_in e) raises new
 
--- how many device calls are left of the reservation, with those of these ceilings after it, at most
+-- the maximum number of device calls left of the reservation, plus those of these ceilings after it
 abbrev pub most_behind : {D : Type 0} → EndpointValue D → List Raise → ℕ
 most_behind e raises = calls_left e.store + most_in_raises (slots_then e.store) (reserved_in e) raises
 
--- The reservation under way was finished and these ceilings were raised, by one change each, with the device calls of
--- these changes at most. Where there was nothing under way and nothing was raised the store is as it was.
+-- The reservation under way was finished and these ceilings were raised, by one change each, within the maximum number
+-- of device calls of these changes. If nothing was under way and nothing was raised the store is unchanged.
 pub record HasRaised {D : Type 0} (disk_of : D → Disk) (old : EndpointValue D) (raises : List Raise)
     (new : StoreValue D) : Type 0 where
   pub raised : RaisesBehind old raises (standing_in new)
@@ -58,7 +58,7 @@ pub record HasRaised {D : Type 0} (disk_of : D → Disk) (old : EndpointValue D)
   pub most : (disk_in disk_of new).clock ≤ (disk_in disk_of old.store).clock + most_behind old raises
   pub still : IsIdle old.store → raises ≡ [] → new ≡ old.store
 
--- A device call of the reservation under way failed. That reservation is not made: the standing is as it was.
+-- A device call of the reservation under way failed. That reservation is not made: the standing is unchanged.
 pub record FailsInHand {D : Type 0} (disk_of : D → Disk) (old : EndpointValue D) (new : StoreValue D) : Type 0 where
   pub raise : Raise
   pub reserving : old.reserving ≡ Some raise
@@ -75,7 +75,7 @@ pub record FailsBehind {D : Type 0} (disk_of : D → Disk) (old : EndpointValue 
 
 -- ---- a refill
 
--- what a refill with this answer took, by the store that it left
+-- the cost of a refill with this answer, given the store afterwards
 abbrev pub Spends : {D : Type 0} → (D → Disk) → EndpointValue D → Result (Unit {0}) RefillFault → StoreValue D → Type 0
 Spends disk_of old (Ok done) new = (raises : List Raise) × HasRaised disk_of old raises new
 Spends disk_of old (Err refill.GenerationsSpent) new = (raises : List Raise) × HasRaised disk_of old raises new

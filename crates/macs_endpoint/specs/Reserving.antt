@@ -1,4 +1,4 @@
--- Reservations of packet numbers, whichever are made.
+-- Reservations of packet numbers.
 use Rattle.std.specs.Prelude.{◌≡◌, ◌⊎◌, ◌↔◌, ◌≤◌, ◌+◌, Some, None, Result, Ok, Err, IsErrOf, OnErr, OnOk}
 use Rattle.macs_disk.specs.Disk.{Disk, IsHonest, Works}
 use Rattle.macs_disk.specs.Runs.{Leaves}
@@ -25,15 +25,15 @@ use Rattle.macs_endpoint.specs.declared.fault.RefillFault.TheVariants as refill
 abbrev pub FitsState : State → Disk → Image → Type 0
 FitsState s disk image = Fits s.edition disk.sectors image s
 
--- reservations leave the state, which has no ceilings, as it was, unless a device call failed
+-- reservations leave the state, which has no ceilings, unchanged, unless a device call failed
 abbrev pub ReserveStep : State → Result (Unit {0}) RefillFault → State → Type 0
 ReserveStep old (Ok done) new = new ≡ old
 ReserveStep old (Err refill.GenerationsSpent) new = new ≡ old
 ReserveStep old (Err refill.Disk) new = new ≡ state_after_fault old
 ReserveStep old (Err fault) new = ⊥
 
--- Whatever is raised: the step that it is, that no work is under way then, what it does with the disk, and what a power
--- loss leaves at any moment since it began
+-- For any ceilings raised: the step that it is, that no work is under way afterwards, what it does with the disk, and
+-- what a power loss leaves at any moment since it began
 pub record Reserves {D : Type 0} (disk_of : D → Disk) (old : EndpointValue D) (result : Result (Unit {0}) RefillFault)
     (new : EndpointValue D) : Type 0 where
   pub step : (logs : Logs) → ReserveStep (state_of old logs) result (state_of new logs)
@@ -48,8 +48,8 @@ pub record Reserves {D : Type 0} (disk_of : D → Disk) (old : EndpointValue D) 
   pub rx_counters : rxsc.counters_of new.rx ≡ rxsc.counters_of old.rx
   pub channel_counters : rxsc.channel_counters_of new.rx ≡ rxsc.channel_counters_of old.rx
 
--- This ceiling is raised by one change, or stays. Refused as GenerationsSpent exactly where no change is kept any more,
--- and nothing changes.
+-- This ceiling is raised by one change, or stays. Fails with GenerationsSpent if and only if no more change can be
+-- kept, and nothing changes.
 pub record Raised {D : Type 0} (disk_of : D → Disk) (old : EndpointValue D) (raise : Raise)
     (result : Result (Unit {0}) RefillFault) (new : EndpointValue D) : Type 0 where
   pub reserves : Reserves disk_of old result new
@@ -61,7 +61,7 @@ pub record Raised {D : Type 0} (disk_of : D → Disk) (old : EndpointValue D) (r
   pub generation : OnOk result (generation new.store ≡ generation_after old.store)
   pub most : (disk_in disk_of new).clock ≤ (disk_in disk_of old).clock + most_calls old.store
 
--- the ceiling that is being raised is raised, if one is
+-- the ceiling that is being raised is raised, if any
 pub record ReservationEnds {D : Type 0} (disk_of : D → Disk) (old : EndpointValue D)
     (result : Result (Unit {0}) RefillFault) (new : EndpointValue D) : Type 0 where
   pub reserves : Reserves disk_of old result new
@@ -74,8 +74,8 @@ pub record ReservationEnds {D : Type 0} (disk_of : D → Disk) (old : EndpointVa
   pub generation : OnOk result (generation new.store ≡ generation_then old.store)
   pub most : (disk_in disk_of new).clock ≤ (disk_in disk_of old).clock + calls_left old.store
 
--- Every ceiling that is needed is raised, or one is left. Where no work is under way, and none is needed or no change
--- is kept any more, the store stays as it is.
+-- Every ceiling that is needed is raised, or one is left. If no work is under way, and none is needed or no more change
+-- can be kept, the store is unchanged.
 pub record ReservesAll {D : Type 0} (disk_of : D → Disk) (old : EndpointValue D)
     (result : Result (Unit {0}) RefillFault) (new : EndpointValue D) : Type 0 where
   pub reserves : Reserves disk_of old result new
@@ -84,7 +84,7 @@ pub record ReservesAll {D : Type 0} (disk_of : D → Disk) (old : EndpointValue 
   pub still : IsIdle old.store → (raise_in old ≡ None) ⊎ IsSpent old.store → new.store ≡ old.store
   pub spends : Spends disk_of old result new.store
 
--- The raise of this ceiling is started, and no device call is made; or no change is kept any more, and nothing changes.
+-- The raise of this ceiling is started, and no device call is made; or no more change can be kept, and nothing changes.
 pub record StartsRaise {D : Type 0} (disk_of : D → Disk) (old : EndpointValue D) (raise : Raise)
     (result : Result (Unit {0}) JournalFault) (new : EndpointValue D) : Type 0 where
   pub refused : OnErr result (IsErrOf result journal.GenerationsSpent × (new ≡ old) × IsSpent old.store)

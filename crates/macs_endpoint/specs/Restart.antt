@@ -15,19 +15,19 @@ use Rattle.macs_endpoint.specs.declared.queue.Waiting.{Waiting}
 
 -- ---- numbers rise
 
--- A transmit number rises by at most a block and a half, and at most to 2^32, one more than the last packet number;
--- where there is none, there is none
+-- A transmit number rises by at most a block and a half, and at most to 2^32, one more than the last packet number; if
+-- there is none before, there is none afterwards
 abbrev pub TxRises : ℕ → Option ℕ → Option ℕ → Type 0
 TxRises block None found = found ≡ None
 TxRises block (Some next) found =
     (later : ℕ) × (found ≡ Some later) × (next ≤ later) × (later ≤ next + (block + block / 2)) × (later ≤ 2 ^ 32)
 
--- how far receive numbers may rise: to a block beyond the greatest number that was seen
+-- how far receive numbers may rise: to a block beyond the greatest number seen
 abbrev pub rx_limit : ℕ → ℕ → Option ℕ → ℕ
 rx_limit block next None = next
 rx_limit block next (Some seen) = max next (min (seen + block) (2 ^ 32))
 
--- next and lowest become one number, and nothing was seen
+-- next and lowest become one number, and no number has been seen
 abbrev pub RxRises : ℕ → Option Numbers → Option Numbers → Type 0
 RxRises block None found = found ≡ None
 RxRises block (Some numbers) found =
@@ -36,9 +36,9 @@ RxRises block (Some numbers) found =
 
 -- ---- a restart
 
--- The same configuration and logs, with numbers that rose, nothing under way or waiting and no ticket given, in a
--- program of no smaller edition. Where an opening is spoken of, the logs are the same by themselves; they count where
--- restarts are put together.
+-- The same configuration and logs, with numbers that rose, nothing under way or pending and no ticket given, in a
+-- program with no smaller edition. For a single opening the logs are trivially the same; they matter when restarts are
+-- combined.
 pub record Resumes (old new : State) : Type 0 where
   pub edition : IsUpTo old.edition new.edition
   pub identity : new.identity ≡ old.identity
@@ -56,9 +56,9 @@ abbrev pub Restart : State → State → Type 0
 Restart old new = Resumes old new
     ⊎ ((command : Command) × (mid : State) × (old.in_hand ≡ Some command) × Makes old command mid × Resumes mid new)
 
--- ---- what an image stands for
+-- ---- the meaning of an image
 
--- an endpoint that opened a disk which stands for this
+-- an endpoint that opened a disk with this standing
 abbrev pub opened_state : Standing → Logs → State
 opened_state found logs = record {
   edition = found.edition;
@@ -73,28 +73,28 @@ opened_state found logs = record {
   tickets = 0;
 }
 
--- opening a disk of so many sectors with this image in a program of an edition is a restart of the state
+-- opening a disk of this many sectors with this image in a program of an edition is a restart of the state
 pub record Fits (edition : Edition) (sectors : ℕ) (image : Image) (s : State) : Type 0 where
   pub found : Standing
   pub is_found : StandingIs edition sectors image (Ok found)
   pub restart : Restart s (opened_state found s.logs)
 
--- the state with a command under way where work on it may begin: the endpoint runs, and accepts it
+-- the state with a command under way if work on it may begin: the endpoint is running, and accepts it
 abbrev pub state_taking : State → Command → State
 state_taking s command = if not s.stopped && is_ok (apply s.edition s.identity s.config command)
     then state_with_in_hand s command else s
 
--- a command that does not wait is taken where none waits
+-- a command that does not wait is taken if none is pending
 abbrev pub state_taking_alone : State → Command → List Waiting → State
 state_taking_alone s command [] = state_taking s command
 state_taking_alone s command (first ∷ rest) = s
 
--- the first command that waits is taken where none is under way
+-- the first pending command is taken if none is under way
 abbrev pub state_taking_first : State → Option Command → List Waiting → State
 state_taking_first s None (first ∷ rest) = state_taking s first.command
 state_taking_first s in_hand waiting = s
 
--- the state while a call is under way: a command is under way where work on it may have begun
+-- the state during a call: a command is under way if work on it may have begun
 abbrev pub state_during : State → Call → State
 state_during s (Commands command) = state_taking_alone s command s.waiting
 state_during s Advances = state_taking_first s s.in_hand s.waiting

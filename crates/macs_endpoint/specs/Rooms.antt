@@ -11,7 +11,7 @@ use Rattle.macs_endpoint.specs.State.{Protected, Reply, command_made, no_logs}
 
 -- ---- transmission
 
--- so many numbers are left below the ceiling of an association, or all that there are
+-- this many numbers are left below the ceiling of an association, or all that exist
 pub record HasRoom {D : Type 0} (e : EndpointValue D) (an count : ℕ) : Type 0 where
   pub next : ℕ
   pub ceiling : ℕ
@@ -23,7 +23,7 @@ pub record HasRoom {D : Type 0} (e : EndpointValue D) (an count : ℕ) : Type 0 
 abbrev pub IsEncodingAn : {D : Type 0} → EndpointValue D → ℕ → Type 0
 IsEncodingAn e an = ((standing_in e.store).config.encoding ≡ Some an) × IsSome ((state_of e no_logs).next an)
 
--- a command, if there is one, neither removes the transmit association at this AN nor installs another there
+-- a command, if there is one, neither removes the transmit association at this AN nor installs another one there
 abbrev pub SparesTx : ℕ → Option Command → Type 0
 SparesTx an (Some (TxInstall installed key start confidential offset)) = installed ≢ an
 SparesTx an (Some (TxRemove removed)) = removed ≢ an
@@ -35,12 +35,12 @@ TxStays an e [] = Unit {0}
 TxStays an e (turn ∷ turns) = SparesTx an (command_made (state_of e no_logs) turn.call turn.reply)
     × TxStays an turn.after turns
 
--- 1 where the encoding association is at this AN and a frame went out, else 0
+-- 1 if the encoding association is at this AN and a frame was sent, else 0
 abbrev pub frames_in_reply : Option ℕ → ℕ → Reply → ℕ
 frames_in_reply (Some encoding) an (Protected (Ok pn) out) = if encoding == an then 1 else 0
 frames_in_reply encoding an reply = 0
 
--- how many frames went out under the transmit association at this AN
+-- how many frames were sent under the transmit association at this AN
 abbrev pub frames_sent : {D : Type 0} → ℕ → EndpointValue D → List (Transition D) → ℕ
 frames_sent an e [] = 0
 frames_sent an e (turn ∷ turns) =
@@ -54,14 +54,15 @@ pub record IsBelow {D : Type 0} (e : EndpointValue D) (sci : List ℕ) (an pn : 
   pub is_ceiling : (standing_in e.store).ceilings.rx sci an ≡ Some ceiling
   pub below : pn < ceiling
 
--- a command, if there is one, neither removes the receive association of this SCI and AN nor installs another there
+-- a command, if there is one, neither removes the receive association with this SCI and AN nor installs another one
+-- there
 abbrev pub SparesRx : List ℕ → ℕ → Option Command → Type 0
 SparesRx sci an (Some (RxDrop dropped)) = dropped ≢ sci
 SparesRx sci an (Some (RxInstall channel installed key start offset)) = (channel ≢ sci) ⊎ (installed ≢ an)
 SparesRx sci an (Some (RxRemove channel removed)) = (channel ≢ sci) ⊎ (removed ≢ an)
 SparesRx sci an command = Unit {0}
 
--- no command that these calls made durable removes or replaces the receive association of this SCI and AN
+-- no command that these calls made durable removes or replaces the receive association with this SCI and AN
 abbrev pub RxStays : {D : Type 0} → List ℕ → ℕ → EndpointValue D → List (Transition D) → Type 0
 RxStays sci an e [] = Unit {0}
 RxStays sci an e (turn ∷ turns) = SparesRx sci an (command_made (state_of e no_logs) turn.call turn.reply)

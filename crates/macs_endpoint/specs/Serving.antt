@@ -19,14 +19,14 @@ use Rattle.macs_endpoint.specs.declared.fault.RefillFault.TheVariants as refill
 use Rattle.macs_endpoint.specs.declared.fault.StepFault.TheVariants as step
 use Rattle.macs_endpoint.specs.declared.fault.SubmitFault.TheVariants as submit
 
--- the call that an event asks for
+-- the call for an event
 abbrev pub call_of : Event → Call
 call_of (event.Operator command) = Submits command
 call_of (event.Controlled frame) = Protects frame.items
 call_of (event.Common frame) = Receives frame.items
 call_of event.Work = Advances
 
--- what an answer says
+-- the reply in an answer
 abbrev pub reply_of : Answer → Reply
 reply_of (answer.Submitted result) = Submitted result
 reply_of (answer.Protected result out) = Protected result out.items
@@ -35,7 +35,7 @@ reply_of (answer.Stepped result) = Advanced result
 reply_of (answer.Ran result) = Ran result
 reply_of (answer.Refilled result) = Refilled result
 
--- an answer says that a device call failed, in its call or before
+-- an answer reports that a device call failed, in its call or before
 abbrev pub is_halt : Reply → Bool
 is_halt (Submitted (Err submit.Stopped)) = true
 is_halt (Advanced (Err step.Stopped)) = true
@@ -48,28 +48,28 @@ is_halt (Protected (Err protect.Stopped) out) = true
 is_halt (Received (Err stopped) out) = true
 is_halt reply = false
 
--- the next of the events that are left, if any is
+-- the next of the events that are left, if any
 abbrev pub Takes : List Event → Option Event → List Event → Type 0
 Takes old None new = (old ≡ []) × (new ≡ [])
 Takes old (Some event) new = old ≡ event ∷ new
 
--- Halted is the end exactly where the last answer says that a device call failed, and no answer before it says so
+-- the end is Halted if and only if the last answer reports that a device call failed, and no answer before it does
 abbrev pub EndsAs : List Reply → ServeEnd → Type 0
 EndsAs [] Halted = ⊥
 EndsAs [] end = Unit {0}
 EndsAs (reply ∷ []) Halted = is_halt reply ≡ true
 EndsAs (reply ∷ replies) end = (is_halt reply ≡ false) × EndsAs replies end
 
--- what a source reports of the events that it has left, if it reports them, and a sink of the answers that it took
+-- the events that a source has left, and the answers that a sink took, if they report them
 pub record Told : Type 0 where
   pub source_tells : Bool
   pub left : List Event
   pub sink_tells : Bool
   pub took : List Answer
 
--- What was served in at most so many turns, with what source and sink report before and after: the calls link the
--- earlier endpoint to the later one, their answers are a run of the machine, and a power loss at any moment leaves what
--- fits one of their states. Ended comes only with a turn left, in which the source had no further event.
+-- What was served in a maximum number of turns, with what source and sink report before and after: the calls lead from
+-- the earlier endpoint to the later one, their answers are a run of the machine, and a power loss at any moment leaves
+-- an image that fits one of their states. Ended comes only with a turn left, in which the source had no further event.
 pub record IsServed {D : Type 0} (disk_of : D → Disk) (most : ℕ) (old : EndpointValue D) (before : Told)
     (end : ServeEnd) (new : EndpointValue D) (after : Told) : Type 0 where
   pub turns : List (Transition D)

@@ -1,4 +1,4 @@
--- What an endpoint is at a moment, what it is asked, and what it answers.
+-- An endpoint at a moment, its calls, and its answers.
 use Rattle.std.specs.Prelude.{◌≡◌, ℕ, Bool, true, List, [], ◌∷◌, Option, Some, None, Result, Ok, IsOk}
 use Rattle.macs_config.specs.Apply.{apply}
 use Rattle.macs_config.specs.Config.{Config, Edition}
@@ -21,7 +21,7 @@ use Rattle.macs_endpoint.specs.declared.queue.Waiting.{Waiting}
 
 -- ---- what happened, over all lives
 
--- a frame went out under this key with this packet number
+-- a frame was sent under this key with this packet number
 pub record Use : Type 0 where
   pub key : List ℕ
   pub pn : ℕ
@@ -33,21 +33,21 @@ pub record Delivery : Type 0 where
   pub pn : ℕ
   pub kind : Kind
 
--- the newest first
+-- newest first
 pub record Logs : Type 0 where
   pub used : List Use
   pub given : List Delivery
 
--- no frame went out, and none was delivered
+-- no frame was sent, and none was delivered
 abbrev pub no_logs : Logs
 no_logs = record { used = []; given = [] }
 
 -- ---- a moment
 
--- The edition of the program; next packet numbers of transmit associations by their numbers, numbers of receive
--- associations by SCI and number; the command whose call or whose work on the disk began and did not end, which after a
--- device fault stays; the submitted commands that wait, the one under way first where it is one of them; and how many
--- tickets were given
+-- The edition of the program; next packet numbers of transmit associations by number, numbers of receive associations
+-- by SCI and number; the command whose call or whose work on the disk began and did not end, which stays after a device
+-- fault; the submitted commands that are pending, the one under way first if it is one of them; and how many tickets
+-- were given
 pub record State : Type 0 where
   pub edition : Edition
   pub identity : Identity
@@ -92,7 +92,7 @@ rx_side s = rx_side_with s.config s.numbers
 abbrev pub state_with_in_hand : State → Command → State
 state_with_in_hand s command = record s { in_hand = Some command }
 
--- the state after a device call failed: the disk is to be opened again
+-- the state after a device call failed: the disk must be opened again
 abbrev pub state_after_fault : State → State
 state_after_fault s = record s { stopped = true }
 
@@ -100,14 +100,14 @@ state_after_fault s = record s { stopped = true }
 abbrev pub Accepts : State → Command → Type 0
 Accepts s command = IsOk (apply s.edition s.identity s.config command)
 
--- no submitted command waits
+-- no submitted command is pending
 abbrev pub NoneWait : State → Type 0
 NoneWait s = s.waiting ≡ []
 
 -- ---- calls
 
--- what is asked: a command, a refill of the ceilings, a command that may wait, one device call of the work that there
--- is, or a frame from the controlled or the common port
+-- a command, a refill of the ceilings, a submitted command, one device call of the pending work, or a frame from the
+-- controlled or the common port
 pub data Call : Type 0 where
   Commands : Command → Call
   Refills : Call
@@ -116,8 +116,8 @@ pub data Call : Type 0 where
   Protects : (plain : List ℕ) → Call
   Receives : (frame : List ℕ) → Call
 
--- What is answered, with what is in `out` then. The last two are answers of an edition without long keys: a command,
--- and the first that waited, was refused for the length of its key.
+-- The answer, with the resulting contents of `out`. The last two are answers of an edition without long keys: a
+-- command, or the first pending one, was refused for the length of its key.
 pub data Reply : Type 0 where
   Ran : Result (Unit {0}) CommandFault → Reply
   Refilled : Result (Unit {0}) RefillFault → Reply
@@ -128,7 +128,7 @@ pub data Reply : Type 0 where
   RefusedLong : Reply
   AdvancedLong : (ticket : ℕ) → Reply
 
--- the command that this call of an endpoint in this state made durable, if it was one: it takes effect now
+-- the command that this call of an endpoint in this state made durable, if any: it takes effect now
 abbrev pub command_made : State → Call → Reply → Option Command
 command_made s (Commands command) (Ran (Ok done)) = Some command
 command_made s Advances (Advanced (Ok (Done ticket (Ok done)))) = first_command s.waiting

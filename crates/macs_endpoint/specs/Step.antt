@@ -1,4 +1,4 @@
--- One life of an endpoint, a call at a time (IEEE Std 802.1AE-2018, clause 10).
+-- One life of an endpoint, call by call (IEEE Std 802.1AE-2018, clause 10).
 use Rattle.std.specs.Prelude.{◌≡◌, ◌⊎◌, ◌<◌, ◌≤◌, ◌+◌, ℕ, true, false, List, [], ◌∷◌, ◌++◌, length, Option, Some, None}
 use Rattle.std.specs.Prelude.{Result, Ok, Err}
 use Rattle.std.specs.Option.{option_map}
@@ -44,8 +44,8 @@ next_after (TxInstall an key start confidential offset) next = put next an (Some
 next_after (TxRemove an) next = put next an None
 next_after command next = next
 
--- the same of receive associations; and a new window raises the lowest acceptable number of each that is further below
--- next than the window
+-- the same for receive associations; and a new window raises the lowest acceptable number of each association where it
+-- is further below next than the window
 abbrev pub numbers_after : Command → (List ℕ → ℕ → Option Numbers) → List ℕ → ℕ → Option Numbers
 numbers_after (SetReplay on window) numbers = λ sci an. option_map (numbers_under_window window) (numbers sci an)
 numbers_after (RxDrop sci) numbers = put_at numbers sci (λ an. None)
@@ -53,7 +53,7 @@ numbers_after (RxInstall sci an key start offset) numbers = put_numbers numbers 
 numbers_after (RxRemove sci an) numbers = put_numbers numbers sci an None
 numbers_after command numbers = numbers
 
--- the state after a command that made this configuration
+-- the state after a command that led to this configuration
 abbrev pub state_after_command : State → Command → Config → State
 state_after_command s command config = record s {
   config = config;
@@ -68,7 +68,7 @@ Makes old command new = (config : Config) × (apply old.edition old.identity old
     × (new ≡ state_after_command old command config)
 
 -- A command takes effect, or nothing changes, or a device call failed and the command is under way. While a submitted
--- command waits, under way or not, no other is taken.
+-- command is pending, under way or not, no other is taken.
 abbrev pub CommandStep : State → Command → Result (Unit {0}) CommandFault → State → Type 0
 CommandStep old command (Ok done) new = NoneWait old × Makes old command new
 CommandStep old command (Err ran.Busy) new = (¬ NoneWait old) × (new ≡ old)
@@ -79,21 +79,21 @@ CommandStep old command (Err ran.Disk) new = NoneWait old × Accepts old command
     × (new ≡ state_after_fault (state_with_in_hand old command))
 CommandStep old command (Err ran.Stopped) new = ⊥
 
--- an edition that does not take the key of a command refuses it for that, and nothing changes
+-- an edition that does not accept the key of a command refuses it for that, and nothing changes
 abbrev pub RefusesLong : State → Command → State → Type 0
 RefusesLong old command new = NoneWait old × (apply old.edition old.identity old.config command ≡ Err LongKey)
     × (new ≡ old)
 
--- ---- commands that wait
+-- ---- pending commands
 
--- the state with a command more that waits, under the next ticket
+-- the state with one more pending command, with the next ticket
 abbrev pub state_with_waiting : State → Command → State
 state_with_waiting s command = record s {
   waiting = with_waiting s.waiting (s.tickets + 1) command;
   tickets = s.tickets + 1;
 }
 
--- A command is to wait, and its ticket is answered: unless as many wait as may, or no ticket is left.
+-- A command is queued and its ticket returned, unless the queue is full or no ticket is left.
 abbrev pub SubmitStep : State → Command → Result ℕ SubmitFault → State → Type 0
 SubmitStep old command (Ok ticket) new =
     (length old.waiting < queue_length) × (old.tickets < last_ticket) × (ticket ≡ old.tickets + 1)
@@ -103,17 +103,17 @@ SubmitStep old command (Err submit.TicketsSpent) new = (length old.waiting < que
     × (new ≡ old)
 SubmitStep old command (Err submit.Stopped) new = ⊥
 
--- the first waiting command is started: it is accepted, and nothing was under way
+-- the first pending command is started: it is accepted, and nothing was under way
 abbrev pub TakesUp : State → State → Type 0
 TakesUp old new = (first : Waiting) × (rest : List Waiting) × (old.waiting ≡ first ∷ rest) × (old.in_hand ≡ None)
     × Accepts old first.command × (new ≡ state_with_in_hand old first.command)
 
--- the state without the first waiting command, which is not under way any more
+-- the state without the first pending command, which is no longer under way
 abbrev pub state_without_first : State → List Waiting → State
 state_without_first s rest = record s { waiting = rest; in_hand = None }
 
--- The first waiting command is done with. One that is under way took effect; one that is not took effect, or was
--- refused, or the journal cannot start over for it.
+-- The first pending command is completed. One that is under way took effect; one that is not took effect, or was
+-- refused, or the journal cannot be rewritten for it.
 abbrev pub Ends : State → Waiting → List Waiting → Result (Unit {0}) CommandFault → State → Type 0
 Ends old first rest (Ok done) new = Makes (state_without_first old rest) first.command new
 Ends old first rest (Err (ran.Refused refusal)) new =
@@ -123,8 +123,8 @@ Ends old first rest (Err ran.GenerationsSpent) new = (old.in_hand ≡ None) × A
     × (new ≡ state_without_first old rest)
 Ends old first rest (Err fault) new = ⊥
 
--- One device call of the work that there is, or none. Nothing changes but what is under way, unless the first waiting
--- command is done with.
+-- One device call of the pending work, or none. Nothing changes except what is under way, unless the first pending
+-- command is completed.
 abbrev pub AdvanceStep : State → Result Progress StepFault → State → Type 0
 AdvanceStep old (Ok Idle) new = new ≡ old
 AdvanceStep old (Ok Worked) new = (new ≡ old) ⊎ TakesUp old new
@@ -137,13 +137,13 @@ AdvanceStep old (Err step.Disk) new = (new ≡ state_after_fault old)
     ⊎ ((mid : State) × TakesUp old mid × (new ≡ state_after_fault mid))
 AdvanceStep old (Err step.Stopped) new = ⊥
 
--- the first waiting command, which is not under way, is refused for the length of its key
+-- the first pending command, which is not under way, is refused for the length of its key
 abbrev pub RefusesFirst : State → Waiting → List Waiting → State → Type 0
 RefusesFirst old first rest new =
     (old.in_hand ≡ None) × (apply old.edition old.identity old.config first.command ≡ Err LongKey)
     × (new ≡ state_without_first old rest)
 
--- a step of an edition that does not take the key of the first waiting command
+-- a step of an edition that does not accept the key of the first pending command
 abbrev pub AdvancesLong : State → ℕ → State → Type 0
 AdvancesLong old ticket new =
     (first : Waiting) × (rest : List Waiting) × (old.waiting ≡ first ∷ rest) × (ticket ≡ first.ticket)
@@ -151,8 +151,8 @@ AdvancesLong old ticket new =
 
 -- ---- work on the disk
 
--- A refill leaves the state, which has no ceilings, as it was, unless a device call failed. While a submitted command
--- waits there is none.
+-- A refill leaves the state, which has no ceilings, unchanged, unless a device call failed. While a submitted command
+-- is pending there is none.
 abbrev pub RefillStep : State → Result (Unit {0}) RefillFault → State → Type 0
 RefillStep old (Ok done) new = NoneWait old × (new ≡ old)
 RefillStep old (Err refill.Busy) new = (¬ NoneWait old) × (new ≡ old)
@@ -162,14 +162,14 @@ RefillStep old (Err refill.Stopped) new = ⊥
 
 -- ---- frames
 
--- the state after a frame went out
+-- the state after a frame was sent
 abbrev pub state_after_frame : State → Outgoing → State
 state_after_frame s o = record s {
   next = put s.next o.an (Some (o.pn + 1));
   logs = record s.logs { used = record { key = o.sa.key; pn = o.pn } ∷ s.logs.used };
 }
 
--- The first fault that holds; else there may be no number, or the frame goes out.
+-- The first fault that applies; otherwise there may be no number, or the frame is sent.
 abbrev pub ProtectStep : State → List ℕ → Result ℕ ProtectFault → List ℕ → State → Type 0
 ProtectStep old plain (Ok pn) out new =
     (first (tx_faults (tx_side old) plain) ≡ None)
@@ -195,7 +195,7 @@ state_after_delivery s a = record s {
   };
 }
 
--- a frame that verified may be held back where its number is not below the next one, or is delivered
+-- a frame that verified may be held back if its number is not below the next one, or is delivered
 abbrev pub ArriveStep : State → Arrival → Verdict → List ℕ → State → Type 0
 ArriveStep old a verdict out new =
     ((verdict ≡ HeldBack) × (a.numbers.next ≤ a.pn) × (out ≡ []) × (new ≡ state_after_hold old a))
@@ -238,7 +238,7 @@ IsStopped (Protects plain) (Protected (Err protect.Stopped) out) = out ≡ []
 IsStopped (Receives frame) (Received (Err stopped) out) = out ≡ []
 IsStopped call reply = ⊥
 
--- A call is made: a stopped endpoint answers Stopped and stays as it is, any other one runs the call.
+-- A call is made: a stopped endpoint answers Stopped and is unchanged, any other one runs the call.
 abbrev pub Step : State → Call → Reply → State → Type 0
 Step old call reply new =
     ((old.stopped ≡ true) × IsStopped call reply × (new ≡ old))

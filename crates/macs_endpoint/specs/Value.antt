@@ -24,9 +24,9 @@ use Rattle.macs_endpoint.specs.State.{Logs, State, rx_side_with, tx_side_with}
 use Rattle.macs_endpoint.specs.declared.queue.Waiting.{Waiting}
 use Rattle.macs_endpoint.specs.declared.turn.Turn.{Turn}
 
--- What an endpoint keeps: its store, its channels, the command whose call or whose work on the disk began and did not
--- end, the ceiling whose work did, the commands that wait, how many tickets were given, and whose turn it is where a
--- ceiling is needed and a command waits
+-- An endpoint: its store, its channels, the command whose call or whose work on the disk began and did not end, the
+-- ceiling that is being raised, the pending commands, how many tickets were given, and whose turn it is if a ceiling is
+-- needed and a command is pending
 pub record EndpointValue (D : Type 0) : Type 0 where
   pub store : StoreValue D
   pub tx : Tx
@@ -41,7 +41,7 @@ pub record EndpointValue (D : Type 0) : Type 0 where
 abbrev pub device_in : {D : Type 0} → EndpointValue D → D
 device_in e = store.device_in e.store
 
--- the disk that its device is, where `disk_of` says what a device is
+-- its disk, where `disk_of` gives the disk of a device
 abbrev pub disk_in : {D : Type 0} → (D → Disk) → EndpointValue D → Disk
 disk_in disk_of e = store.disk_in disk_of e.store
 
@@ -66,7 +66,7 @@ state_of e logs = record {
 
 -- ---- what holds of it in memory
 
--- a next transmit number is at least 1, its ceiling not below it, and at most a block and a half above it
+-- a next transmit number is at least 1, and its ceiling is at least that number, and at most a block and a half greater
 abbrev pub IsTxWithin : ℕ → Option ℕ → Option ℕ → Type 0
 IsTxWithin block (Some next) (Some ceiling) = (1 ≤ next) × (next ≤ ceiling) × (ceiling ≤ next + (block + block / 2))
     × (ceiling ≤ 2 ^ 32)
@@ -80,15 +80,15 @@ IsRxWithin block (Some numbers) (Some ceiling) = (numbers.next ≤ ceiling)
 IsRxWithin block None None = Unit {0}
 IsRxWithin block numbers ceiling = ⊥
 
--- the channels have the configuration and the ceilings of a standing; their packet numbers are left open
+-- the channels have the configuration and the ceilings of a standing; their packet numbers are not restricted
 pub record AreChannels (tx : Tx) (rx : rxsc.RxValue) (s : Standing) : Type 0 where
   pub tx_is : txsc.tx_side_of tx ≡ tx_side_with s.identity s.config (txsc.tx_side_of tx).next
   pub rx_is : rxsc.rx_side_of rx ≡ rx_side_with s.config (rxsc.rx_side_of rx).numbers
   pub tx_ceilings : txsc.ceilings_of tx ≡ s.ceilings.tx
   pub rx_ceilings : rxsc.ceilings_of rx ≡ s.ceilings.rx
 
--- each association has its numbers and a ceiling that is not too far ahead, and a receive channel has four associations
--- at most
+-- each association has its numbers and a ceiling that is not too far ahead, and a receive channel has at most four
+-- associations
 pub record AreWithin (tx : Tx) (rx : rxsc.RxValue) (identity : Identity) : Type 0 where
   pub tx_within : (an : ℕ) → IsTxWithin identity.tx_block ((txsc.tx_side_of tx).next an) (txsc.ceilings_of tx an)
   pub rx_within : (sci : List ℕ) (an : ℕ)
@@ -107,7 +107,7 @@ IsRxRaiseWithin block pn (Some numbers) (Some ceiling) = IsSomeAnd numbers.seen 
     × (ceiling < block_beyond pn block)
 IsRxRaiseWithin block pn numbers ceiling = ⊥
 
--- a ceiling that is being raised is not too far ahead once it is
+-- a ceiling that is being raised will not be too far ahead
 abbrev pub IsRaiseWithin : Tx → rxsc.RxValue → Identity → Raise → Type 0
 IsRaiseWithin tx rx identity (RaiseTx an) =
     IsTxRaiseWithin identity.tx_block ((txsc.tx_side_of tx).next an) (txsc.ceilings_of tx an)
@@ -131,7 +131,7 @@ pub record IsReserving {D : Type 0} (e : EndpointValue D) : Type 0 where
   pub leads : standing_then e.store ≡ Some (standing_with_raise (standing_in e.store) raise)
   pub within : IsRaiseWithin e.tx e.rx (standing_in e.store).identity raise
 
--- the first command that waits is being kept
+-- the first pending command is being kept
 pub record IsKeeping {D : Type 0} (e : EndpointValue D) : Type 0 where
   pub running : is_stopped e ≡ false
   pub busy : ¬ IsIdle e.store
@@ -145,8 +145,8 @@ pub record IsKeeping {D : Type 0} (e : EndpointValue D) : Type 0 where
   pub leads : standing_then e.store ≡ Some after
   pub accepted : accept (standing_in e.store) first.command ≡ Ok after
 
--- The channels are those of the standing, no ceiling is too far ahead, no more commands wait than may, and the work
--- under way is one of these.
+-- The channels are those of the standing, no ceiling is too far ahead, the queue is not overfull, and the work under
+-- way is one of these.
 pub record IsSoundEndpoint {D : Type 0} (e : EndpointValue D) : Type 0 where
   pub identity : IsIdentity (standing_in e.store).identity
   pub channels : AreChannels e.tx e.rx (standing_in e.store)

@@ -1,4 +1,4 @@
--- How long work under way lasts, and what has its turn, through calls.
+-- How long work under way lasts, and whose turn it is, over several calls.
 use Rattle.std.specs.Prelude.{◌≡◌, ◌≢◌, ◌+◌, ℕ, false, List, [], ◌∷◌, None, Ok, Err}
 use Rattle.macs_store.specs.Value.{IsIdle}
 use Rattle.macs_endpoint.specs.Lives.{Transition}
@@ -28,23 +28,23 @@ Lasts e (turn ∷ turns) = (¬ IsIdle e.store) × (is_stopped turn.after ≡ fal
 
 -- ---- turns of reservations
 
--- 1 where a reservation used its turn, made or refused, else 0
+-- 1 if a reservation used its turn, made or refused, else 0
 abbrev pub reservations_in_reply : Reply → ℕ
 reservations_in_reply (Advanced (Ok Reserved)) = 1
 reservations_in_reply (Advanced (Err step.GenerationsSpent)) = 1
 reservations_in_reply reply = 0
 
--- how many of these calls are answered so
+-- how many of these calls have such an answer
 abbrev pub reservations_made : {D : Type 0} → List (Transition D) → ℕ
 reservations_made [] = 0
 reservations_made (turn ∷ turns) = reservations_in_reply turn.reply + reservations_made turns
 
--- an answer does not say that a submitted command is done with
+-- an answer does not report that a submitted command is completed
 abbrev pub IsNotDone : Reply → Type 0
 IsNotDone (Advanced (Ok (Done ticket result))) = ⊥
 IsNotDone reply = Unit {0}
 
--- and none of these answers does
+-- none of these answers does
 abbrev pub NoneDone : {D : Type 0} → List (Transition D) → Type 0
 NoneDone [] = Unit {0}
 NoneDone (turn ∷ turns) = IsNotDone turn.reply × NoneDone turns
@@ -56,24 +56,24 @@ abbrev pub Needs : {D : Type 0} → EndpointValue D → List (Transition D) → 
 Needs e [] = Unit {0}
 Needs e (turn ∷ turns) = (raise_in e ≢ None) × Needs turn.after turns
 
--- an answer does not say that a step raised a ceiling, or that none can be raised
+-- an answer does not report that a step raised a ceiling, or that none can be raised
 abbrev pub IsNotReserved : Reply → Type 0
 IsNotReserved (Advanced (Ok Reserved)) = ⊥
 IsNotReserved (Advanced (Err step.GenerationsSpent)) = ⊥
 IsNotReserved (Refilled (Err refill.GenerationsSpent)) = ⊥
 IsNotReserved reply = Unit {0}
 
--- and none of these answers does
+-- none of these answers does
 abbrev pub NoneReserved : {D : Type 0} → List (Transition D) → Type 0
 NoneReserved [] = Unit {0}
 NoneReserved (turn ∷ turns) = IsNotReserved turn.reply × NoneReserved turns
 
--- 1 where a submitted command is done with, kept or refused, else 0
+-- 1 if a submitted command is completed, kept or refused, else 0
 abbrev pub commands_in_reply : Reply → ℕ
 commands_in_reply (Advanced (Ok (Done ticket result))) = 1
 commands_in_reply reply = 0
 
--- how many of these calls are answered so
+-- how many of these calls have such an answer
 abbrev pub commands_done : {D : Type 0} → List (Transition D) → ℕ
 commands_done [] = 0
 commands_done (turn ∷ turns) = commands_in_reply turn.reply + commands_done turns

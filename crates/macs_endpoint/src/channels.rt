@@ -1,4 +1,4 @@
-//! The channels of an endpoint, as its store has them.
+//! The channels of an endpoint, kept consistent with its store.
 
 ghost use Rattle.std.specs.Prelude.{◌≡◌, ◌≤◌, true, Some, None, Ok, IsSome, IfSome};
 ghost use Rattle.std.specs.Option.{option_map};
@@ -31,7 +31,7 @@ pub(crate) struct Channels {
 }
 
 impl Channels {
-    /// Follows a command that the store keeps, as its check judged it.
+    /// Follows a command that the store keeps, given the verdict of its check.
     pub(crate) fn follow<D: SectorDisk>(&mut self, checked: &Checked, store: &Store<D>)
         requires { (before : Standing) × AreChannels self.old.tx self.old.rx before
             × (accept before checked.now ≡ Ok (standing_in store.now)) }
@@ -41,7 +41,7 @@ impl Channels {
         self.follow_judged(checked.judged(), store);
     }
 
-    /// Follows what was judged of a command that the store keeps.
+    /// Follows the verdict on a command that the store keeps.
     fn follow_judged<D: SectorDisk>(&mut self, judged: &Judged, store: &Store<D>)
         requires { (before : Standing) × AreChannels self.old.tx self.old.rx before
             × (accept before (asked_by judged.now) ≡ Ok (standing_in store.now)) }
@@ -63,7 +63,7 @@ impl Channels {
         }
     }
 
-    /// Follows a command of a receive channel or of an association of one, which the store keeps.
+    /// Follows a command of a receive channel, or of an association of one, which the store keeps.
     fn follow_rx<D: SectorDisk>(&mut self, judged: &Judged, store: &Store<D>)
         requires received { is_of_rx (asked_by judged.now) ≡ true }
         requires kept { (before : Standing) × AreChannels self.old.tx self.old.rx before
@@ -82,7 +82,7 @@ impl Channels {
         }
     }
 
-    /// Raises a ceiling as the store has raised it.
+    /// Raises a ceiling to the value that the store has raised it to.
     pub(crate) fn raise<D: SectorDisk>(&mut self, raise: Raise, store: &Store<D>)
         requires { (before : Standing) × AreChannels self.old.tx self.old.rx before
             × IsRaiseWithin self.old.tx self.old.rx before.identity (raise_of raise)
@@ -109,7 +109,7 @@ impl Channels {
     }
 }
 
-/// Sets how received frames are validated, and the replay window. An unchanged window moves no
+/// Sets how received frames are validated, and the replay window. An unchanged window changes no
 /// number.
 pub(crate) fn set_policy<D: SectorDisk>(rx: &mut Rx, store: &Store<D>)
     ensures side { rxsc.rx_side_of rx.new ≡ record (rxsc.rx_side_of rx.old) {
@@ -130,8 +130,8 @@ pub(crate) fn set_policy<D: SectorDisk>(rx: &mut Rx, store: &Store<D>)
     rx.set_policy(store.config().validate(), replay.on, replay.window);
 }
 
-/// Installs a transmit association that the store has, where there is none. `next` is its next
-/// packet number, 1 to the ceiling.
+/// Installs a transmit association from the store, at an unused number. `next` is its next packet
+/// number, 1 to the ceiling.
 pub(crate) fn install_tx<D: SectorDisk>(tx: &mut Tx, store: &Store<D>, an: An, next: u64)
     requires stands { IsSome ((standing_in store.now).config.tx an) }
     requires empty { (txsc.tx_side_of tx.old).tx an ≡ None }
@@ -159,7 +159,7 @@ pub(crate) fn install_tx<D: SectorDisk>(tx: &mut Tx, store: &Store<D>, an: An, n
     );
 }
 
-/// Installs a receive association that the store has on an existing channel, where there is none.
+/// Installs a receive association from the store on an existing channel, at an unused number.
 /// `next` is its next and lowest acceptable packet number, 1 to the ceiling.
 pub(crate) fn install_rx<D: SectorDisk>(rx: &mut Rx, store: &Store<D>, sci: Sci, an: An, next: u64)
     requires stands { IsSome ((standing_in store.now).config.rx sci an) }

@@ -1,4 +1,4 @@
-//! What an endpoint counted.
+//! The counters of an endpoint.
 
 ghost use Rattle.std.specs.Prelude.{◌≡◌};
 ghost use Rattle.std.specs.Option.{option_map};
@@ -13,8 +13,8 @@ use macs_frame::{An, Sci, Traffic};
 use macs_rxsc::{Rx, Verdict};
 use macs_txsc::{Tx, TxFault};
 
-/// How often each answer was given since the disk was opened, and what frames carried: each number
-/// is 2^64 - 1 at most. Answers that the endpoint is stopped are not counted.
+/// How often each answer was given since the disk was opened, and what frames carried, each up to
+/// 2^64 - 1. The answer that the endpoint is stopped is not counted.
 #[derive(Clone, Copy)]
 pub struct Counters<'a> {
     pub(crate) tx: &'a Tx,
@@ -22,7 +22,7 @@ pub struct Counters<'a> {
 }
 
 impl Counters<'_> {
-    /// How often this fault was answered.
+    /// How often this fault was returned.
     pub fn tx_fault(&self, fault: TxFault) -> u64
         ensures { result ≡ fault_count fault (txsc.counters_of self.now.tx.now) }
     {
@@ -43,16 +43,16 @@ impl Counters<'_> {
         self.tx.traffic(an)
     }
 
-    /// How often a verdict was given; a frame that is held back is not counted.
+    /// How often this verdict was given; a frame that is held back is not counted.
     pub fn verdict(&self, verdict: Verdict) -> u64
         ensures { result ≡ count_of verdict (rxsc.counters_of self.now.rx.now) }
     {
         self.rx.count(verdict)
     }
 
-    /// How often a verdict was given on frames of a channel, since the channel was added or the
-    /// disk was opened. It is 0 for a verdict that is not counted for channels, and `None` where
-    /// the channel does not exist.
+    /// How often this verdict was given on frames of a channel, since the channel was added or the
+    /// disk was opened. 0 for a verdict that is not counted for channels, and `None` if the channel
+    /// does not exist.
     pub fn channel(&self, sci: Sci, verdict: Verdict) -> Option<u64>
         ensures { result
             ≡ option_map (channel_count_of verdict) (rxsc.channel_counters_of self.now.rx.now sci) }
@@ -61,7 +61,7 @@ impl Counters<'_> {
     }
 
     /// What the frames of a channel carried that verified under an association number, since the
-    /// channel was added or the disk was opened. It is `None` where the channel does not exist.
+    /// channel was added or the disk was opened. `None` if the channel does not exist.
     pub fn received(&self, sci: Sci, an: An) -> Option<Traffic>
         ensures { result ≡ option_map (λ (c : ChannelCounters). traffic_under c.traffic an)
             (rxsc.channel_counters_of self.now.rx.now sci) }

@@ -31,20 +31,19 @@ use macs_store::{CommitFault, OpenRefused, Store};
 use macs_txsc::Tx;
 use std::marker::Model;
 
-/// An endpoint of MACsec on a disk of its own. Only packet numbers below ceilings that are durable
-/// are used, or delivered as verified; a command takes effect once it is durable. After a device
-/// fault every call that can answer `Stopped` does so until the disk is opened again; readers go on
-/// to answer.
+/// A MACsec endpoint on a disk of its own. Only packet numbers below durable ceilings are used, or
+/// delivered as verified; a command takes effect once it is durable. After a device fault every
+/// call that can return `Stopped` does so until the disk is opened again; readers still work.
 #[derive(Drop)]
 pub struct Endpoint<D: SectorDisk> {
     pub(crate) store: Store<D>,
-    /// The command whose call or whose work on the disk began and did not end; after a device fault
-    /// it stays.
+    /// The command whose call or whose work on the disk began and did not end; it stays after a
+    /// device fault.
     pub(crate) in_hand: Option<Checked>,
     /// The ceiling that is being raised.
     pub(crate) reserving: Option<Raise>,
     pub(crate) queue: Queue,
-    pub(crate) channels: Channels, // Behind a number: so the compiler moves them by themselves.
+    pub(crate) channels: Channels, // After an integer, so that the compiler moves it separately.
     pub(crate) turn: Turn,
 }
 
@@ -58,13 +57,13 @@ impl<D: SectorDisk> Model for Endpoint<D> {
 }
 
 impl<D: SectorDisk> Endpoint<D> {
-    /// Opens a disk: makes sure of what reads give by one sync, and then only reads, unless its
-    /// journal is of format one: that then starts over in the other area, in format two, and stands
-    /// for the same. The packet numbers of each association begin at its ceiling, and nothing is
-    /// counted. Refused as `TooSmall`, then as `Disk` at the first call that fails, `NotFormatted`
-    /// and `BadJournal`, as `GenerationsSpent` where a journal of format one has generation 2^64 -
-    /// 1, and as `Disk` at the first call that fails while the journal starts over: the next
-    /// opening finds what this one found. The disk is given back.
+    /// Opens a disk: one sync makes durable what reads give; after it, only reads are made, unless
+    /// its journal is of format one: that is then rewritten in the other area, in format two, and
+    /// represents the same configuration and ceilings. The packet numbers of each association begin
+    /// at its ceiling, and nothing has been counted. Fails with `TooSmall`, then with `Disk` at the
+    /// first call that fails, `NotFormatted` and `BadJournal`, with `GenerationsSpent` if a journal
+    /// of format one has generation 2^64 - 1, and with `Disk` at the first call that fails while
+    /// the journal is rewritten: the next opening finds what this one found. The disk is returned.
     #[inline(always)] // Else it has a place of its own for the endpoint, beside its caller's.
     pub fn open(disk: D) -> Result<Endpoint<D>, OpenRefused<D>>
         ensures { IsOpening D.disk disk result }
@@ -72,9 +71,9 @@ impl<D: SectorDisk> Endpoint<D> {
         Endpoint::begun(Store::open(disk))
     }
 
-    /// What comes of an opened store that has nothing under way, or of a refusal: the endpoint that
-    /// begins with what is in the store. It is put together in one place, where each part is moved
-    /// to once.
+    /// The result for an opened store that has nothing under way, or for a refusal: the endpoint
+    /// that begins with the contents of the store. It is built in one place, and each part is moved
+    /// there once.
     #[inline(never)] // What it takes of the stack is not there while the disk is read.
     fn begun(opened: Result<Store<D>, OpenRefused<D>>) -> Result<Endpoint<D>, OpenRefused<D>>
         requires { IfOk opened IsIdle }
@@ -102,13 +101,13 @@ impl<D: SectorDisk> Endpoint<D> {
         })
     }
 
-    /// Keeps a command and follows it. A reservation that is under way is finished first, and no
-    /// other begins. Refused as `Stopped`, then as `Busy` where a submitted command waits: nothing
-    /// changes. Then as `Refused` with the first refusal that holds: nothing changes but whose turn
-    /// it is. Then as `GenerationsSpent`, where all 256 slots are used and the generation is 2^64 -
-    /// 1: nothing changes but whose turn it is, and the ceiling of a reservation that was under
-    /// way. `Disk` at the first device call that fails: the endpoint is stopped, and the next
-    /// opening finds it with the command or without.
+    /// Keeps a command and follows it. A reservation under way is finished first, and no other
+    /// begins. Fails with `Stopped`, then with `Busy` if a submitted command is pending: nothing
+    /// changes. Then with `Refused` and the first refusal that applies: nothing changes except
+    /// whose turn it is. Then with `GenerationsSpent` if all 256 slots are used and the generation
+    /// is 2^64 - 1: nothing changes except whose turn it is, and the ceiling of a reservation that
+    /// was under way. `Disk` at the first device call that fails: the endpoint is stopped, and the
+    /// next opening finds it with the command or without.
     pub fn command(&mut self, command: Command) -> Result<(), CommandFault>
         ensures { KeepsCommand D.disk self.old command result self.new }
     {
@@ -128,8 +127,8 @@ impl<D: SectorDisk> Endpoint<D> {
         }
     }
 
-    /// Finishes a reservation that is under way, and then keeps a command that is accepted, as its
-    /// check judged it: what is reserved changes no configuration. No submitted command waits.
+    /// Finishes a reservation under way, and then keeps an accepted command, with the verdict of
+    /// its check: a reservation changes no configuration. No submitted command is pending.
     fn keep(&mut self, checked: &Checked) -> Result<(), CommandFault>
         requires running { is_stopped self.old ≡ false }
         requires none { self.old.waiting ≡ [] }
@@ -146,8 +145,8 @@ impl<D: SectorDisk> Endpoint<D> {
         self.commit(checked)
     }
 
-    /// Keeps a command that is accepted, as its check judged it, and follows it. No work is under
-    /// way, and no submitted command waits.
+    /// Keeps an accepted command, with the verdict of its check, and follows it. No work is under
+    /// way, and no submitted command is pending.
     fn commit(&mut self, checked: &Checked) -> Result<(), CommandFault>
         requires running { is_stopped self.old ≡ false }
         requires idle { IsIdle self.old.store }
@@ -172,11 +171,11 @@ impl<D: SectorDisk> Endpoint<D> {
         }
     }
 
-    /// Protects a plain frame, writes the frame that goes out on the common side to `out`, and
-    /// answers its packet number, which is then used. Refused as `Stopped`, then as the first fault
-    /// of the transmit channel: below 14 octets, or above 9,216 with SecTAG and ICV, among others;
-    /// then `out` is empty, and no number is used. No device call is made. On `NoNumber` call
-    /// `refill`, or `step` until it goes out, and hand the frame in again.
+    /// Protects a plain frame, writes the frame to send on the common side to `out`, and returns
+    /// its packet number, which is then used. Fails with `Stopped`, then with the first fault of
+    /// the transmit channel: fewer than 14 octets, or more than 9,216 with SecTAG and ICV, among
+    /// others; then `out` is empty, and no number is used. No device call is made. After `NoNumber`
+    /// call `refill`, or call `step` until the frame is sent, and submit the frame again.
     pub fn protect(&mut self, plain: &[u8], out: &mut FrameBuf) -> Result<Pn, ProtectFault>
         ensures call { IsCall D.disk self.old (Protects plain.now)
             (Protected result out.new.items) self.new }
@@ -193,10 +192,10 @@ impl<D: SectorDisk> Endpoint<D> {
         }
     }
 
-    /// The verdict on a frame from the common side, of any number of octets. What is delivered is
-    /// written to `out`, which is empty unless the verdict is `Delivered`. Refused as `Stopped`
-    /// where a device call failed before; then `out` is empty. No device call is made. On
-    /// `HeldBack` call `refill`, or `step` until it is settled, and hand the same frame in again.
+    /// The verdict on a frame from the common side, of any length. What is delivered is written to
+    /// `out`, which is empty unless the verdict is `Delivered`. Fails with `Stopped` if a device
+    /// call failed before; then `out` is empty. No device call is made. After `HeldBack` call
+    /// `refill`, or call `step` until the frame is settled, and submit the same frame again.
     pub fn receive(&mut self, frame: &[u8], out: &mut FrameBuf) -> Result<Verdict, Stopped>
         ensures call { IsCall D.disk self.old (Receives frame.now)
             (Received result out.new.items) self.new }
@@ -210,15 +209,15 @@ impl<D: SectorDisk> Endpoint<D> {
         Ok(self.channels.rx.receive(frame, out))
     }
 
-    /// Whether a device call failed: the disk is to be opened again.
+    /// Whether a device call failed: the disk must be opened again.
     pub fn is_stopped(&self) -> bool
         ensures { result ≡ (state_of self.now no_logs).stopped }
     {
         self.store.is_stopped()
     }
 
-    /// The command under way: its call, or its work, began and did not end. After a device fault it
-    /// stays, and is found or not once the disk is opened again.
+    /// The command under way: its call, or its work, began and did not end. It stays after a device
+    /// fault, and may or may not be found once the disk is opened again.
     pub fn in_hand(&self) -> Option<Command>
         ensures { result ≡ (state_of self.now no_logs).in_hand }
     {
@@ -226,8 +225,8 @@ impl<D: SectorDisk> Endpoint<D> {
         Some(checked.command())
     }
 
-    /// The submitted commands that wait, the first in front, each with its ticket. Where work on
-    /// the disk for a command is under way, that is the first.
+    /// The pending submitted commands, in order, each with its ticket. If work on the disk for one
+    /// of them is under way, it is the first.
     pub fn waiting(&self) -> &[Waiting]
         ensures { result.now ≡ (state_of self.now no_logs).waiting }
     {
@@ -242,14 +241,14 @@ impl<D: SectorDisk> Endpoint<D> {
         self.store.config()
     }
 
-    /// What the disk was formatted with.
+    /// The identity that the disk was formatted with.
     pub fn identity(&self) -> Identity
         ensures { result ≡ (state_of self.now no_logs).identity }
     {
         self.store.identity()
     }
 
-    /// What was counted since the disk was opened.
+    /// The counters since the disk was opened.
     pub fn counters(&self) -> Counters<'_>
         ensures tx { result.tx.now ≡ self.now.tx }
         ensures rx { result.rx.now ≡ self.now.rx }
@@ -260,8 +259,8 @@ impl<D: SectorDisk> Endpoint<D> {
         }
     }
 
-    /// The next packet number of a transmit association, 1 to 2^32, `None` where there is none at
-    /// that number.
+    /// The next packet number of a transmit association, 1 to 2^32, `None` if there is none at that
+    /// number.
     pub fn next_number(&self, an: An) -> Option<u64>
         ensures { result ≡ (state_of self.now no_logs).next an }
     {
@@ -269,7 +268,7 @@ impl<D: SectorDisk> Endpoint<D> {
     }
 
     /// The next and the lowest acceptable packet number of a receive association, 1 to 2^32, the
-    /// lowest not above the next; `None` where there is none.
+    /// lowest at most the next; `None` if there is none.
     pub fn numbers(&self, sci: Sci, an: An) -> Option<RxNumbers>
         ensures { result ≡ option_map (λ (n : Numbers). record { next = n.next; lowest = n.lowest })
             ((state_of self.now no_logs).numbers sci an) }
@@ -277,16 +276,16 @@ impl<D: SectorDisk> Endpoint<D> {
         self.channels.rx.numbers(sci, an)
     }
 
-    /// What holds of every endpoint: its channels are those of what is in its store, no ceiling is
-    /// too far ahead, no more commands wait than may, and the work under way is a reservation or
-    /// the first command that waits.
+    /// What holds of every endpoint: its channels are those in its store, no ceiling is too far
+    /// ahead, the queue is not overfull, and the work under way is a reservation or the first
+    /// pending command.
     pub fn facts(&self)
         ensures { IsSoundEndpoint self.now }
     {
         let _store = &self.store;
     }
 
-    /// The disk, as it is.
+    /// The disk.
     pub fn into_disk(self) -> D
         ensures { result ≡ device_in self }
     {

@@ -1,4 +1,4 @@
-//! What an endpoint is asked, and what it answers.
+//! The events that an endpoint serves, and its answers.
 
 use crate::fault::{CommandFault, ProtectFault, RefillFault, StepFault, Stopped, SubmitFault};
 use crate::progress::Step;
@@ -7,22 +7,22 @@ use macs_config::Command;
 use macs_frame::{FrameBuf, Pn};
 use macs_rxsc::Verdict;
 
-/// What an endpoint is asked.
+/// An event for an endpoint.
 #[derive(Drop)]
 pub enum Event {
-    /// The operator asks for a command, which waits for its turn.
+    /// The operator submits a command, which waits for its turn.
     Operator(Command),
     /// A plain frame comes from the controlled side.
     Controlled(FrameBuf),
     /// A frame comes from the common side.
     Common(FrameBuf),
-    /// There is time for one device call: of a reservation of packet numbers, or of a command that
-    /// waits.
+    /// There is time for one device call: of a reservation of packet numbers, or of a pending
+    /// command.
     Work,
 }
 
-/// What an endpoint answers; with a frame's answer comes what is sent or delivered for it, which is
-/// empty where nothing is.
+/// An answer of an endpoint. The answer to a frame has what is sent or delivered for it, which is
+/// empty if nothing is.
 #[derive(Drop)]
 pub enum Answer {
     /// To `Event::Operator`.
@@ -39,14 +39,14 @@ pub enum Answer {
     Refilled(Result<(), RefillFault>),
 }
 
-/// Why no more events are served.
+/// Why serving ended.
 #[derive(Clone, Copy, Debug, PartialEq, Eq)]
 pub enum ServeEnd {
     /// The source has no further event.
     Ended,
-    /// As many events were served as were asked for.
+    /// The requested number of events was served.
     TurnsSpent,
-    /// A device call failed, now or before: the last answer says so, and the disk is to be opened
+    /// A device call failed, now or before: the last answer reports it, and the disk must be opened
     /// again.
     Halted,
 }

@@ -1,23 +1,23 @@
-//! Why a call of an endpoint is refused.
+//! Why a call of an endpoint fails.
 
 use macs_config::Refusal;
 use macs_journal::JournalFault;
 use macs_store::CommitFault;
 use macs_txsc::TxFault;
 
-/// Why a command is not kept, in the order in which it is looked for.
+/// Why a command is not kept, in the order in which the faults are checked.
 #[derive(Clone, Copy, Debug, PartialEq, Eq)]
 pub enum CommandFault {
-    /// A device call failed before: the disk is to be opened again.
+    /// A device call failed before: the disk must be opened again.
     Stopped,
-    /// A submitted command waits: nothing changes.
+    /// A submitted command is pending: nothing changes.
     Busy,
     /// The command does not fit the configuration.
     Refused(Refusal),
     /// All 256 slots of the journal's current area are used, and its generation is 2^64 - 1: it
-    /// cannot start over.
+    /// cannot be rewritten.
     GenerationsSpent,
-    /// A device call failed: after the next opening the command is found or not.
+    /// A device call failed: the next opening may or may not find the command.
     Disk,
 }
 
@@ -37,40 +37,40 @@ impl From<CommitFault> for CommandFault {
     }
 }
 
-/// Why a command is not taken to wait, in the order in which it is looked for.
+/// Why a command is not queued, in the order in which the faults are checked.
 #[derive(Clone, Copy, Debug, PartialEq, Eq)]
 pub enum SubmitFault {
-    /// A device call failed before: the disk is to be opened again.
+    /// A device call failed before: the disk must be opened again.
     Stopped,
-    /// 16 commands wait, the one under way included.
+    /// 16 commands are pending, including the one under way.
     QueueFull,
     /// 2^64 - 1 tickets were given since the disk was opened.
     TicketsSpent,
 }
 
-/// Why a step is not made, in the order in which it is looked for.
+/// Why a step is not made, in the order in which the faults are checked.
 #[derive(Clone, Copy, Debug, PartialEq, Eq)]
 pub enum StepFault {
-    /// A device call failed before: the disk is to be opened again.
+    /// A device call failed before: the disk must be opened again.
     Stopped,
-    /// A ceiling is to be raised, all 256 slots of the journal's current area are used, and its
-    /// generation is 2^64 - 1: it cannot start over. The next step takes the first command that
-    /// waits, if one does.
+    /// A ceiling must be raised, all 256 slots of the journal's current area are used, and its
+    /// generation is 2^64 - 1: it cannot be rewritten. The next step takes the first pending
+    /// command, if any.
     GenerationsSpent,
     /// The device call failed.
     Disk,
 }
 
-/// Why a reservation of packet numbers is not kept, in the order in which it is looked for. What
-/// was reserved before stays.
+/// Why a reservation of packet numbers is not kept, in the order in which the faults are checked.
+/// Earlier reservations stay.
 #[derive(Clone, Copy, Debug, PartialEq, Eq)]
 pub enum RefillFault {
-    /// A device call failed before: the disk is to be opened again.
+    /// A device call failed before: the disk must be opened again.
     Stopped,
-    /// A submitted command waits: nothing changes.
+    /// A submitted command is pending: nothing changes.
     Busy,
     /// All 256 slots of the journal's current area are used, and its generation is 2^64 - 1: it
-    /// cannot start over. No further ceiling is raised.
+    /// cannot be rewritten. No further ceiling is raised.
     GenerationsSpent,
     /// A device call failed.
     Disk,
@@ -107,15 +107,15 @@ impl From<StepFault> for RefillFault {
     }
 }
 
-/// Why a plain frame does not go out.
+/// Why a plain frame is not sent.
 #[derive(Clone, Copy, Debug, PartialEq, Eq)]
 pub enum ProtectFault {
-    /// A device call failed before: the disk is to be opened again.
+    /// A device call failed before: the disk must be opened again.
     Stopped,
-    /// The transmit channel does not take the frame.
+    /// The transmit channel refuses the frame.
     Tx(TxFault),
 }
 
-/// A device call failed before: the disk is to be opened again.
+/// A device call failed before: the disk must be opened again.
 #[derive(Clone, Copy, Debug, PartialEq, Eq)]
 pub struct Stopped;

@@ -1,4 +1,4 @@
-//! A disk made that of a new endpoint.
+//! Making the disk of a new endpoint.
 
 ghost use Rattle.macs_endpoint.specs.Formatting.{IsFormat};
 
@@ -6,12 +6,12 @@ use macs_config::Identity;
 use macs_disk::SectorDisk;
 use macs_journal::JournalFault;
 
-/// Makes a disk that of a new endpoint: with this identity and the default configuration. Refused
-/// as `TooSmall` below 1,028 sectors, then as `Disk` at the first device call that fails, and as
-/// `AlreadyFormatted` where a head gate reads open after a first sync. `TooSmall` and
-/// `AlreadyFormatted` write nothing; where a head gate reads open, no sector is touched, whatever
-/// is answered. A `format` that `Disk` cut short may be called again, unless it left a head gate
-/// open: then it was done.
+/// Makes a disk that of a new endpoint, with this identity and the default configuration. Fails
+/// with `TooSmall` if there are fewer than 1,028 sectors, then with `Disk` at the first device call
+/// that fails, and with `AlreadyFormatted` if a head gate reads open after a first sync. `TooSmall`
+/// and `AlreadyFormatted` write nothing; if a head gate reads open, no sector is touched,
+/// regardless of the result. A `format` interrupted by `Disk` may be called again, unless it left a
+/// head gate open: then it was complete.
 pub fn format<D: SectorDisk>(disk: &mut D, identity: &Identity) -> Result<(), JournalFault>
     ensures { IsFormat D.disk disk.old identity.now result disk.new }
 {

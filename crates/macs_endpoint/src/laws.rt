@@ -1,4 +1,4 @@
-//! Laws of the definitions, for those above.
+//! Laws of the definitions, for the layers above.
 
 ghost use Rattle.std.specs.Prelude.{◌≡◌, ◌≢◌, ◌<◌, ◌≤◌, ◌⊎◌, ◌+◌, ◌/◌, ◌^◌, ◌-◌, Bool, ℕ, List, []};
 ghost use Rattle.std.specs.Prelude.{Some, Ok, Err};
@@ -27,19 +27,19 @@ ghost use Rattle.macs_endpoint.specs.declared.progress.Step.TheVariants.{Idle, R
 
 use macs_disk::SectorDisk;
 
-/// The packet number of a frame that goes out is 1 to 2^32 - 1.
+/// The packet number of a frame that is sent is 1 to 2^32 - 1.
 pub fn frame_numbers_in_range<D: SectorDisk>()
     ensures { (old new : EndpointValue D) (plain out : List ℕ) (pn : ℕ) → IsSoundEndpoint old
         → IsCall D.disk old (Protects plain) (Protected (Ok pn) out) new
         → (1 ≤ pn) × (pn < 2 ^ 32) }
 {}
 
-/// How many frames go out under an association before `NoNumber` may be answered.
+/// How many frames are sent under an association before `NoNumber` may be returned.
 ///
-/// After `refill` answered Ok, or `step` answered `Idle`, it is one more than half a transmit
-/// block, rounded down, under the association that frames go out under; after the call that made an
-/// install durable, whichever it was, it is a block; or until the numbers end, when `Exhausted`
-/// comes. It is one less for each frame that goes out under the association while it exists.
+/// After `refill` returned Ok, or `step` returned `Idle`, it is one more than half a transmit
+/// block, rounded down, under the encoding association; after the call that made an install
+/// durable, whichever call that was, it is a block; or until the numbers end, when `Exhausted` is
+/// returned. It is one less for each frame that is sent under the association while it exists.
 pub fn frames_before_no_number<D: SectorDisk>()
     ensures refilled { (old new : EndpointValue D) (an : ℕ) → IsSoundEndpoint old
         → IsCall D.disk old Refills (Refilled (Ok tt)) new → IsEncodingAn new an
@@ -63,11 +63,11 @@ pub fn frames_before_no_number<D: SectorDisk>()
 
 /// Which frames are not held back.
 ///
-/// After `refill` answered Ok, or `step` answered `Idle`, these are the frames of an association on
-/// which a frame was seen, whose numbers are not above the greatest seen, or below both `next +
-/// rx_block / 2 + 1` and `seen + rx_block`, as they are then. They are not held back while the
-/// association exists. So a frame that was held back is not held back again once a `refill` after
-/// it answered Ok, or a `step` `Idle`, while its association exists.
+/// After `refill` returned Ok, or `step` returned `Idle`, these are the frames of an association on
+/// which a frame was seen, whose numbers are not above the greatest seen, or below both
+/// `next + rx_block / 2 + 1` and `seen + rx_block`, with the values at that time. They are not held
+/// back while the association exists. So a frame that was held back is not held back again once a
+/// later `refill` returned Ok, or a later `step` returned `Idle`, while its association exists.
 pub fn frames_not_held_back<D: SectorDisk>()
     ensures refilled { (old new : EndpointValue D) (sci : List ℕ) (an next lowest seen pn : ℕ)
         → IsSoundEndpoint new
@@ -110,9 +110,9 @@ pub fn frames_not_held_back<D: SectorDisk>()
 
 /// How many steps a piece of work takes.
 ///
-/// From the step that begins it to the one that ends it, both included, these are 4 at most; or,
-/// where all 256 slots of the journal's current area are used when it begins, 523 and one for each
-/// record of the snapshot. What other calls come between is left open; no device call fails.
+/// From the step that begins it to the one that ends it, both included, there are at most 4; or, if
+/// all 256 slots of the journal's current area are used when it begins, 523 plus one for each
+/// record of the snapshot. Any other calls may come between; no device call fails.
 pub fn work_ends<D: SectorDisk>()
     ensures { (old begun new : EndpointValue D) (turns : List (Transition D)) → IsIdle old.store
         → IsCall D.disk old Advances (Advanced (Ok Worked)) begun → Lives D.disk begun turns new
@@ -120,8 +120,8 @@ pub fn work_ends<D: SectorDisk>()
         → steps_made turns + 1 ≤ most_calls old.store }
 {}
 
-/// What is reserved is what was needed first when the reservation began, though frames may have
-/// come between.
+/// A reservation raises the ceiling that was needed first when it began, though frames may have
+/// come in between.
 pub fn reserved_as_begun<D: SectorDisk>()
     ensures { (old begun last new : EndpointValue D) (turns : List (Transition D)) (raise : Raise)
         → IsIdle old.store → next_piece old ≡ Some (ToRaise raise)
@@ -131,20 +131,20 @@ pub fn reserved_as_begun<D: SectorDisk>()
         → standing_in new.store ≡ standing_with_raise (standing_in old.store) raise }
 {}
 
-/// Between two commands that wait one reservation at most has its turn.
+/// Between two pending commands at most one reservation has its turn.
 ///
-/// While a command waits, under way or not, and none is done with, one step at most is answered
-/// with `Reserved`, or with `GenerationsSpent`, whatever other calls come between.
+/// While a command is pending, under way or not, and none is completed, at most one step returns
+/// `Reserved` or `GenerationsSpent`, no matter which other calls come between.
 pub fn one_reservation_between<D: SectorDisk>()
     ensures { (old new : EndpointValue D) (turns : List (Transition D)) → old.waiting ≢ []
         → Lives D.disk old turns new → NoneDone turns → reservations_made turns ≤ 1 }
 {}
 
-/// While a ceiling is needed one submitted command at most is done with before one is raised.
+/// While a ceiling is needed at most one submitted command is completed before one is raised.
 ///
-/// While some ceiling is needed before each call, and none is answered with `Reserved` or with
-/// `GenerationsSpent` of a `step` or a `refill`, one step at most is answered with `Done`, whatever
-/// other calls come between.
+/// While some ceiling is needed before each call, and no `step` returns `Reserved` and no `step` or
+/// `refill` returns `GenerationsSpent`, at most one step returns `Done`, no matter which other
+/// calls come between.
 pub fn one_command_between<D: SectorDisk>()
     ensures { (old new : EndpointValue D) (turns : List (Transition D)) → Lives D.disk old turns new
         → Needs old turns → NoneReserved turns

@@ -1,5 +1,5 @@
-//! An endpoint of MACsec (IEEE Std 802.1AE-2018): its channels and its store in one object. Packet
-//! numbers are found again above all that were used, wherever power fails.
+//! A MACsec endpoint (IEEE Std 802.1AE-2018): its channels and its store in one object. After a
+//! power loss at any moment, packet numbers resume above all that were used.
 #![tactic(auto)]
 
 mod channels;

@@ -25,8 +25,8 @@ use macs_txsc::Tx;
 pub use macs_store::OpenRefused;
 
 impl Channels {
-    /// Takes up what a store has, where the channels are new. The packet numbers of each
-    /// association begin at its ceiling.
+    /// Restores the channels from a store; they are new. The packet numbers of each association
+    /// begin at its ceiling.
     #[inline(never)]
     pub(crate) fn take_up<D: SectorDisk>(&mut self, store: &Store<D>)
         requires new_tx { IsNewTx (standing_in store.now).identity self.old.tx }
@@ -48,7 +48,7 @@ impl Channels {
     }
 }
 
-/// Takes up the transmit channel that a store has, where it is new.
+/// Restores the transmit channel from a store; it is new.
 fn take_up_tx<D: SectorDisk>(tx: &mut Tx, store: &Store<D>)
     requires { IsNewTx (standing_in store.now).identity tx.old }
     ensures side { txsc.tx_side_of tx.new
@@ -71,7 +71,7 @@ fn take_up_tx<D: SectorDisk>(tx: &mut Tx, store: &Store<D>)
     }
 }
 
-/// Takes up the receive channels that a store has, where there is none.
+/// Restores the receive channels from a store; there is none before.
 fn take_up_rx<D: SectorDisk>(rx: &mut Rx, store: &Store<D>)
     requires { IsNewRx rx.old }
     ensures side { rxsc.rx_side_of rx.new ≡ rx_side_with (standing_in store.now).config
@@ -91,7 +91,7 @@ fn take_up_rx<D: SectorDisk>(rx: &mut Rx, store: &Store<D>)
     }
 }
 
-/// Installs the associations that a store has on a channel that exists and has none.
+/// Installs the associations of the store on an existing channel that has none.
 fn install_channel<D: SectorDisk>(rx: &mut Rx, store: &Store<D>, sci: Sci)
     requires stands { has_channel (rxsc.rx_side_of rx.old) sci ≡ true }
     requires empty { (an : ℕ) → (rxsc.rx_side_of rx.old).rx sci an ≡ None }

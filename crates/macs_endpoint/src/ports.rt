@@ -1,4 +1,4 @@
-//! Where events come from, and where answers go.
+//! Sources of events, and sinks of answers.
 
 ghost use Rattle.std.specs.Prelude.{◌≡◌, Bool, List, [], ◌∷◌, ◌++◌, true};
 ghost use Rattle.macs_endpoint.specs.Serving.{Takes};
@@ -12,10 +12,10 @@ pub trait EventSource {
     /// Whether it reports which events it has left.
     ghost tells: { Self → Bool };
 
-    /// The events that it has left, where it reports them.
+    /// The events that it has left, if it reports them.
     ghost left: { Self → List Event };
 
-    /// The next event, `None` where there is no further one.
+    /// The next event, `None` if there are no more.
     fn next_event(&mut self) -> Option<Event>
         ensures taken { tells self.old ≡ true → Takes (left self.old) result (left self.new) }
         ensures telling { tells self.new ≡ tells self.old };
@@ -26,7 +26,7 @@ pub trait AnswerSink {
     /// Whether it reports which answers it took.
     ghost tells: { Self → Bool };
 
-    /// The answers that it took, where it reports them.
+    /// The answers that it took, if it reports them.
     ghost took: { Self → List Answer };
 
     /// Takes an answer.

@@ -8,10 +8,10 @@ use arrayvec::ArrayVec;
 use macs_config::{Command, Validate};
 use std::marker::Model;
 
-/// How many commands may wait, the one under way included.
+/// How many commands may be pending, including the one under way.
 pub const QUEUE: usize = 16;
 
-/// What names a submitted command: tickets count from 1 in each life, and none is given twice.
+/// Identifies a submitted command: tickets count from 1 in each life, and none is given twice.
 #[derive(Clone, Copy, Debug, PartialEq, Eq)]
 pub struct Ticket(u64);
 
@@ -37,7 +37,7 @@ impl Ticket {
     }
 }
 
-/// A command that waits, and its ticket.
+/// A pending command, and its ticket.
 #[derive(Clone, Copy)]
 pub struct Waiting {
     pub ticket: Ticket,
@@ -48,7 +48,7 @@ impl Default for Waiting {
     ghost use Rattle.macs_config.specs.declared.command.Command.TheVariants.{SetValidate};
     ghost use Rattle.macs_config.specs.declared.command.Validate.TheVariants.{Strict};
 
-    /// The first setting of a new configuration, under no ticket that is given.
+    /// The first setting of a new configuration, with a ticket that is never given.
     fn default() -> Waiting
         ensures { result ≡ record { ticket = 0; command = SetValidate Strict } }
     {
@@ -59,7 +59,7 @@ impl Default for Waiting {
     }
 }
 
-/// The commands that wait, the first in front, and how many tickets were given.
+/// The pending commands, in order, and how many tickets were given.
 #[derive(Drop)]
 pub(crate) struct Queue {
     waiting: ArrayVec<Waiting, QUEUE>,
@@ -78,7 +78,7 @@ impl Model for Queue {
 }
 
 impl Queue {
-    /// No command waits, and no ticket was given.
+    /// No command is pending, and no ticket was given.
     pub(crate) fn new() -> Queue
         ensures waiting { result.waiting ≡ [] }
         ensures given { result.given ≡ 0 }
@@ -89,28 +89,28 @@ impl Queue {
         }
     }
 
-    /// Whether no command waits.
+    /// Whether no command is pending.
     pub(crate) fn is_empty(&self) -> bool
         ensures { IsTrue result ↔ (self.now.waiting ≡ []) }
     {
         self.waiting.is_empty()
     }
 
-    /// The commands that wait, the first in front.
+    /// The pending commands, in order.
     pub(crate) fn as_slice(&self) -> &[Waiting]
         ensures { result.now ≡ self.now.waiting }
     {
         self.waiting.as_slice()
     }
 
-    /// The command that is the first to wait, `None` where none waits.
+    /// The first pending command, `None` if there is none.
     pub(crate) fn first(&self) -> Option<Waiting>
         ensures { result ≡ first_waiting self.now.waiting }
     {
         self.waiting.as_slice().first().copied()
     }
 
-    /// Puts a command at the end and answers its ticket. Refused as `QueueFull`, then as
+    /// Adds a command at the end and returns its ticket. Fails with `QueueFull`, then with
     /// `TicketsSpent`.
     pub(crate) fn push(&mut self, command: Command) -> Result<Ticket, SubmitFault>
         ensures { Queues self.old command result self.new }
@@ -127,7 +127,7 @@ impl Queue {
         Ok(ticket)
     }
 
-    /// Takes the first command away. A command waits.
+    /// Removes the first command. The queue is not empty.
     pub(crate) fn pop(&mut self) -> Waiting
         requires { 1 ≤ length self.old.waiting }
         ensures waiting { self.old.waiting ≡ result ∷ self.new.waiting }

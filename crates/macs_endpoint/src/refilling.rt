@@ -23,7 +23,7 @@ use macs_journal::JournalFault;
 use macs_rxsc::RxNeed;
 use macs_store::Store;
 
-/// A ceiling that is to be raised: that of a transmit association, or of a receive association.
+/// A ceiling to raise: that of a transmit association, or of a receive association.
 #[derive(Clone, Copy)]
 pub enum Raise {
     Tx(An),
@@ -31,14 +31,13 @@ pub enum Raise {
 }
 
 impl<D: SectorDisk> Endpoint<D> {
-    /// Finishes a reservation that is under way, and then makes every reservation of packet numbers
-    /// that is needed: that of the transmit association that frames go out under, then those of
-    /// receive associations by ascending SCI and number. Refused as `Stopped`, then as `Busy` where
-    /// a submitted command waits; these change nothing. Then as `GenerationsSpent`, where a ceiling
-    /// is needed, all 256 slots are used and the generation is 2^64 - 1; and as `Disk` at the first
-    /// device call that fails. What was reserved before a fault stays. A reservation takes one slot
-    /// of the journal and four device calls at most, and a compaction more where all slots are
-    /// used.
+    /// Finishes a reservation under way, and then makes every reservation of packet numbers that is
+    /// needed: that of the encoding association, then those of receive associations by ascending
+    /// SCI and number. Fails with `Stopped`, then with `Busy` if a submitted command is pending;
+    /// these change nothing. Then with `GenerationsSpent` if a ceiling is needed, all 256 slots are
+    /// used and the generation is 2^64 - 1; and with `Disk` at the first device call that fails.
+    /// Reservations made before a fault stay. A reservation takes one slot of the journal and at
+    /// most four device calls, plus a compaction if all slots are used.
     pub fn refill(&mut self) -> Result<(), RefillFault>
         ensures call { IsCall D.disk self.old Refills (Refilled result) self.new }
         ensures spends { Spends D.disk self.old result self.new.store }
@@ -55,8 +54,8 @@ impl<D: SectorDisk> Endpoint<D> {
         result
     }
 
-    /// Whose turn it is after a refill: a command's where a reservation is under way, and else
-    /// whose it was before.
+    /// Whose turn it is after a refill: a command's if a reservation is under way, otherwise
+    /// unchanged.
     fn turn_after_refill(&self) -> Turn
         ensures { result ≡ turn_after_refill self.now.turn self.now.reserving }
     {
@@ -66,7 +65,7 @@ impl<D: SectorDisk> Endpoint<D> {
         }
     }
 
-    /// Finishes a reservation that is under way, and then makes every reservation that is needed.
+    /// Finishes a reservation under way, and then makes every reservation that is needed.
     fn finish_and_reserve(&mut self) -> Result<(), RefillFault>
         requires running { is_stopped self.old ≡ false }
         requires work { IsAtRest self.old ⊎ IsReserving self.old }
@@ -89,7 +88,7 @@ impl<D: SectorDisk> Endpoint<D> {
         Ok(())
     }
 
-    /// The ceiling that is to be raised first, if any is.
+    /// The ceiling to raise first, if any.
     pub(crate) fn first_raise(&self) -> Option<Raise>
         ensures { option_map raise_of result ≡ raise_in self.now }
     {
@@ -100,7 +99,7 @@ impl<D: SectorDisk> Endpoint<D> {
         Some(Raise::Rx(need))
     }
 
-    /// Raises the ceiling that is to be raised first.
+    /// Raises the ceiling that must be raised first.
     fn raise(&mut self, raise: Raise) -> Result<(), RefillFault>
         requires running { is_stopped self.old ≡ false }
         requires idle { IsIdle self.old.store }
@@ -111,8 +110,8 @@ impl<D: SectorDisk> Endpoint<D> {
         self.finish_reservation()
     }
 
-    /// Starts to raise the ceiling that is to be raised first, and makes no device call. No work is
-    /// under way. Refused as `GenerationsSpent`, which changes nothing.
+    /// Starts to raise the ceiling that must be raised first, and makes no device call. No work is
+    /// under way. Fails with `GenerationsSpent`, which changes nothing.
     pub(crate) fn start_raise(&mut self, raise: Raise) -> Result<(), JournalFault>
         requires running { is_stopped self.old ≡ false }
         requires idle { IsIdle self.old.store }
@@ -124,8 +123,8 @@ impl<D: SectorDisk> Endpoint<D> {
         Ok(())
     }
 
-    /// Finishes a reservation that is under way. Refused as `Disk` at the first device call that
-    /// fails; the next opening finds it or not.
+    /// Finishes a reservation under way. Fails with `Disk` at the first device call that fails; the
+    /// next opening finds it or not.
     pub(crate) fn finish_reservation(&mut self) -> Result<(), RefillFault>
         requires running { is_stopped self.old ≡ false }
         requires work { IsAtRest self.old ⊎ IsReserving self.old }
@@ -140,7 +139,7 @@ impl<D: SectorDisk> Endpoint<D> {
     }
 }
 
-/// Has a store start to raise a ceiling. No work is under way. Refused as the store refuses it.
+/// Makes a store start to raise a ceiling. No work is under way. Fails as the store does.
 fn start_ceiling<D: SectorDisk>(store: &mut Store<D>, raise: &Raise) -> Result<(), JournalFault>
     requires idle { IsIdle store.old }
     requires rises { Rises (standing_in store.old) (raise_of raise.now) }

@@ -1,4 +1,4 @@
-//! Events served, one after another.
+//! Serving events, one after another.
 
 ghost use Rattle.std.specs.Prelude.{◌≡◌};
 ghost use Rattle.macs_endpoint.specs.Calls.{IsCall};
@@ -13,7 +13,7 @@ use macs_disk::SectorDisk;
 use macs_frame::FrameBuf;
 
 impl Answer {
-    /// Whether it says that a device call failed, now or before.
+    /// Whether it reports that a device call failed, now or before.
     fn is_halt(&self) -> bool
         ensures { result ≡ is_halt (reply_of self.now) }
     {
@@ -30,10 +30,10 @@ impl Answer {
 }
 
 impl<D: SectorDisk> Endpoint<D> {
-    /// Takes up to `turns` events from a source and gives each answer to a sink. Ends as `Halted`
-    /// at once after the first answer that says that a device call failed, on the last turn too, as
-    /// `Ended` where the source has no further event, and else as `TurnsSpent`. Without turns the
-    /// source is asked nothing.
+    /// Takes up to `turns` events from a source and gives each answer to a sink. Ends with `Halted`
+    /// at once after the first answer that reports that a device call failed, even on the last
+    /// turn, with `Ended` if the source has no further event, and otherwise with `TurnsSpent`. With
+    /// 0 turns the source is not asked.
     pub fn serve<S: EventSource, K: AnswerSink>(
         &mut self,
         source: &mut S,
@@ -73,7 +73,7 @@ impl<D: SectorDisk> Endpoint<D> {
         ServeEnd::TurnsSpent
     }
 
-    /// Makes the call that an event asks for.
+    /// Makes the call for an event.
     fn answer(&mut self, event: Event) -> Answer
         ensures { IsCall D.disk self.old (call_of event) (reply_of result) self.new }
     {

@@ -26,15 +26,15 @@ use macs_store::{CommitFault, JournalStep};
 pub enum Piece {
     /// To raise a ceiling.
     Raise(Raise),
-    /// To keep the first command that waits.
+    /// To keep the first pending command.
     Keep(Waiting),
 }
 
 impl<D: SectorDisk> Endpoint<D> {
-    /// Takes a command that is to be kept when its turn comes, and answers the ticket by which
-    /// `step` reports what became of it. Whether it fits the configuration is judged then. Refused
-    /// as `Stopped`, then as `QueueFull` where 16 commands wait, then as `TicketsSpent` where 2^64
-    /// - 1 tickets were given; these change nothing. No device call is made.
+    /// Queues a command that will be kept when its turn comes, and returns the ticket with which
+    /// `step` reports its result. Whether it fits the configuration is checked then. Fails with
+    /// `Stopped`, then with `QueueFull` if 16 commands are pending, then with `TicketsSpent` if
+    /// 2^64 - 1 tickets were given; these change nothing. No device call is made.
     pub fn submit(&mut self, command: Command) -> Result<Ticket, SubmitFault>
         ensures call { IsCall D.disk self.old (Submits command) (Submitted result) self.new }
     {
@@ -45,13 +45,13 @@ impl<D: SectorDisk> Endpoint<D> {
         self.queue.push(command)
     }
 
-    /// Makes one device call of the work that there is, or none where there is none. Work under way
-    /// goes on; else the reservation that is needed first begins, or the first command that waits,
-    /// by turns where there are both, of which the first after an opening is the reservation's.
-    /// What is reserved or commanded takes effect with the last device call of its work. Refused as
-    /// `Stopped`; as `GenerationsSpent`, where a reservation has its turn and the journal cannot
-    /// start over; and as `Disk` where the call fails: the endpoint is stopped, and the next
-    /// opening finds what was under way or not.
+    /// Makes one device call of the pending work, or none if there is no work. Work under way
+    /// continues; otherwise the reservation that is needed first begins, or the first pending
+    /// command, in turns if there are both, starting with the reservation after an opening. A
+    /// reservation or a command takes effect with the last device call of its work. Fails with
+    /// `Stopped`; with `GenerationsSpent` if a reservation has its turn and the journal cannot be
+    /// rewritten; and with `Disk` if the call fails: the endpoint is stopped, and the next opening
+    /// finds what was under way or not.
     pub fn step(&mut self) -> Result<Step, StepFault>
         ensures call { IsCall D.disk self.old Advances (Advanced result) self.new }
     {
@@ -68,7 +68,7 @@ impl<D: SectorDisk> Endpoint<D> {
         }
     }
 
-    /// Begins the piece of work that is next, if any is. No work is under way.
+    /// Begins the next piece of work, if any. No work is under way.
     fn begin(&mut self) -> Result<Step, StepFault>
         requires running { is_stopped self.old ≡ false }
         requires idle { IsIdle self.old.store }
@@ -81,8 +81,7 @@ impl<D: SectorDisk> Endpoint<D> {
         }
     }
 
-    /// The piece of work that is next: that whose turn it is where there are both, and else the one
-    /// that there is.
+    /// The next piece of work: that whose turn it is if there are both, otherwise the only one.
     fn next_piece(&self) -> Option<Piece>
         ensures { option_map piece_of result ≡ next_piece self.now }
     {
@@ -111,8 +110,8 @@ impl<D: SectorDisk> Endpoint<D> {
         self.go_on_reserving()
     }
 
-    /// Starts the first command that waits and makes its first device call, or reports why it is
-    /// not kept.
+    /// Starts the first pending command and makes its first device call, or reports why it is not
+    /// kept.
     fn begin_command(&mut self, first: Waiting) -> Result<Step, StepFault>
         requires running { is_stopped self.old ≡ false }
         requires idle { IsIdle self.old.store }
@@ -128,8 +127,7 @@ impl<D: SectorDisk> Endpoint<D> {
         self.go_on_keeping()
     }
 
-    /// Starts the first command that waits, and makes no device call. Refused as the store refuses
-    /// it.
+    /// Starts the first pending command, and makes no device call. Fails as the store does.
     fn start_first(&mut self, first: Waiting) -> Result<(), CommitFault>
         requires running { is_stopped self.old ≡ false }
         requires idle { IsIdle self.old.store }

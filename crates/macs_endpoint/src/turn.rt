@@ -1,10 +1,10 @@
-//! Whose turn it is where a ceiling is needed and a command waits.
+//! Whose turn it is if a ceiling is needed and a command is pending.
 
-/// Which kind of work begins next where there is work of both kinds.
+/// Which kind of work begins next if there is work of both kinds.
 #[derive(Clone, Copy)]
 pub enum Turn {
     /// A reservation of packet numbers.
     Reservation,
-    /// The first command that waits.
+    /// The first pending command.
     Command,
 }

@@ -1,4 +1,4 @@
--- What the opening of a disk promises: the device calls that it makes, why it is refused, and what is recovered.
+-- What opening a disk promises: the device calls that it makes, why it fails, and what is recovered.
 use Rattle.std.specs.Prelude.{ℕ, ◌≡◌, ◌≢◌, ◌<◌, ◌≤◌, ◌↔◌, List, length, take, false, Result, Ok, Err}
 use Rattle.macs_config.specs.Identity.{Identity}
 use Rattle.macs_disk.specs.Disk.{Disk, IsHonest, Works, now}
@@ -17,13 +17,13 @@ use Rattle.macs_journal.specs.declared.recovery.FoundJournal.{FoundJournal}
 use Rattle.macs_journal.specs.declared.recovery.RecoverRefused.{RecoverRefused}
 use Rattle.macs_journal.specs.declared.recovery.Recovered.{Recovered}
 
--- what is there after the first call stays to the end
+-- the state after the first call stays to the end
 abbrev pub StandsFromFirst : Disk → Disk → Type 0
 StandsFromFirst old new = (k : ℕ) → old.clock < k → k ≤ new.clock → new.past k ≡ now new
 
--- The device calls of an opening that is not refused: the disk is large enough, and no call failed. On an honest disk
--- the first call is a sync, and those after it only read: what reads give is durable from then on, and no power loss on
--- the way left anything that it could not leave before.
+-- The device calls of an opening that succeeds: the disk is large enough, and no call failed. On an honest disk the
+-- first call is a sync, and those after it only read: what reads give is durable from then on, and no power loss on the
+-- way left anything that it could not leave before.
 pub record IsOpened (old new : Disk) : Type 0 where
   pub large : least_sectors ≤ old.sectors
   pub works : Works old new
@@ -32,10 +32,10 @@ pub record IsOpened (old new : Disk) : Type 0 where
   pub from_first : IsHonest new → StandsFromFirst old new
   pub any_moment : IsHonest new → LeavesNothingNew old new
 
--- An opening that is refused, and gives the disk back. TooSmall is answered exactly for a disk that is too small, and
--- then no call is made; Disk exactly where a device call failed. On an honest disk every other fault is what `Found`
--- says, nothing is written, the calls after the first change nothing, and no power loss on the way left anything that
--- it could not leave before.
+-- An opening that fails, and returns the disk. The fault is TooSmall if and only if the disk is too small, and then no
+-- call is made; Disk if and only if a device call failed. On an honest disk every other fault is as `Found` says,
+-- nothing is written, the calls after the first change nothing, and no power loss on the way left anything that it
+-- could not leave before.
 pub record IsRefused {D : Type 0} (disk_of : D → Disk) (Found : JournalFault → Type 0) (disk left : D)
     (fault : JournalFault) : Type 0 where
   pub name : IsRecoverName fault
@@ -48,9 +48,9 @@ pub record IsRefused {D : Type 0} (disk_of : D → Disk) (Found : JournalFault �
   pub from_first : IsHonest (disk_of left) → StandsFromFirst (disk_of disk) (disk_of left)
   pub any_moment : IsHonest (disk_of left) → LeavesNothingNew (disk_of disk) (disk_of left)
 
--- A journal is recovered, and these are its records. It runs and has nothing under way, its head has this format,
--- identity and count, and its records fill the slots that are used, those of the snapshot first. On an honest disk this
--- is what the disk stood for, and the journal holds it.
+-- A journal is recovered, and these are its records. It is running and has nothing under way, its head has this format,
+-- identity and count, and its records fill the used slots, those of the snapshot first. On an honest disk this is the
+-- meaning of the disk, and the journal holds it.
 pub record Recovers {D : Type 0} (disk_of : D → Disk) (disk : D) (journal : JournalValue D) (format : Format)
     (identity : Identity) (count : ℕ)
     (records : List Record) : Type 0 where
@@ -66,12 +66,12 @@ pub record Recovers {D : Type 0} (disk_of : D → Disk) (disk : D) (journal : Jo
       → JournalIs (disk_of disk).sectors (now (disk_of disk)).seen (Ok (content_of journal records))
   pub holds : IsHonest (disk_in disk_of journal) → HoldsContent disk_of journal (content_of journal records)
 
--- what a disk is refused for: it is the disk of no journal
+-- why a disk is refused: it is not the disk of a journal
 abbrev pub IsNoJournal : {D : Type 0} → (D → Disk) → D → JournalFault → Type 0
 IsNoJournal disk_of disk fault = JournalIs (disk_of disk).sectors (now (disk_of disk)).seen (Err fault)
 
--- The journal of a disk is recovered with the first records of a room, or refused for what is on the disk, or for a
--- device call that failed.
+-- The journal of a disk is recovered into the front of a buffer, or refused because of what is on the disk, or because
+-- a device call failed.
 abbrev pub IsRecoveryInto : {D : Type 0} → (D → Disk) → D → Result (FoundJournal D) (RecoverRefused D) → List Record
     → Type 0
 IsRecoveryInto disk_of disk (Ok found) room =

@@ -1,4 +1,4 @@
--- An area rewritten: its gates closed, its bodies written, and its head opened.
+-- A rewritten area: its gates closed, its bodies written, and its head opened.
 use Rattle.std.specs.Prelude.{◌≡◌, ◌≢◌, ◌<◌, ◌≤◌, ◌⊎◌, ◌+◌, ℕ, false, List, slice_get, Some}
 use Rattle.macs_disk.specs.States.{DiskState, Image, IsImage}
 use Rattle.macs_record.specs.Decoding.{IsSectorOf}
@@ -9,11 +9,11 @@ use Rattle.macs_journal.specs.Found.{IsGateOpen}
 
 -- ---- gates closed
 
--- the sector is none of the gates of an area, from one up to another, that read open
+-- the sector is not a gate of an area, in this range, that reads open
 abbrev pub IsNoOpenGate : Image → (area from until i : ℕ) → Type 0
 IsNoOpenGate seen area from until i = (k : ℕ) → from ≤ k → k < until → IsGateOpen seen area k → i ≢ gate area k
 
--- of these gates of an area, each that read open before is closed
+-- each gate of an area in this range that read open before is closed
 abbrev pub AreClosed : (old new : Image) → (area from until : ℕ) → Type 0
 AreClosed old new area from until = (k : ℕ) → from ≤ k → k < until → IsGateOpen old area k
     → new (gate area k) ≡ closed_gate
@@ -29,7 +29,7 @@ abbrev pub AreBodies : Image → ℕ → List Record → Type 0
 AreBodies seen area records = (j : ℕ) (r : Record) → slice_get records j ≡ Some r
     → IsSectorOf r (seen (slot_body area j))
 
--- the sector is none of the bodies of an area's first slots
+-- the sector is not the body of one of an area's first slots
 abbrev pub IsNoBody : (area count i : ℕ) → Type 0
 IsNoBody area count i = (j : ℕ) → j < count → i ≢ slot_body area j
 
@@ -40,14 +40,14 @@ pub record IsSettled (s : DiskState) : Type 0 where
   pub clean : (i : ℕ) → s.pending i ≡ false
   pub fresh : (i : ℕ) → s.seen i ≡ s.durable i
 
--- what may be left while a head gate is opened: what could be left before, or what reads gave but for the gate
+-- what may be left while a head gate is being opened: what could be left before, or what reads gave except for the gate
 abbrev pub IsOldOrOpening : DiskState → ℕ → Image → Type 0
 IsOldOrOpening old area image = IsImage old image ⊎ ((i : ℕ) → i ≢ gate area 0 → image i ≡ old.seen i)
 
--- ---- the whole
+-- ---- all of it
 
--- what an area that starts over has in its gates: that of its head is open, and those of slots that read open are
--- closed, each as it is written
+-- the gates of a rewritten area: that of its head is open, and those of slots that read open are closed, each exactly
+-- as it was written
 pub record HasNewGates (old new : Image) (area : ℕ) : Type 0 where
   pub head : new (gate area 0) ≡ open_gate
   pub slot : (slot : ℕ) → slot < slots → IsGateOpen old area (slot + 1) → new (gate area (slot + 1)) ≡ closed_gate

@@ -1,4 +1,4 @@
--- A compaction cut at its device calls: what is before each of them, and what each does.
+-- A compaction cut at its device calls: the state before each of them, and what each does.
 use Rattle.std.specs.Prelude.{◌≡◌, ◌≢◌, ◌==◌, ◌<◌, ◌≤◌, ◌⊎◌, ◌+◌, ◌*◌, ◌-◌, ℕ, if◌then◌else◌, Bool, true, false, List}
 use Rattle.std.specs.Prelude.{length, slice_get, Option, Some, None, Result}
 use Rattle.macs_disk.specs.Disk.{Disk, MayLeave, Reads, Syncs, Works, Writes, now}
@@ -17,17 +17,17 @@ use Rattle.macs_journal.specs.declared.compact_stage.CompactStage.{CompactStage}
 use Rattle.macs_journal.specs.declared.compact_stage.CompactStage.TheVariants.{ReadGate, CloseGate, GatesSync, HeadBody}
 use Rattle.macs_journal.specs.declared.compact_stage.CompactStage.TheVariants.{Body, BodiesSync, HeadGate, HeadSync}
 
--- ---- the calls in their order
+-- ---- the calls in order
 
--- the call for a gate, or that after the gates where there is none
+-- the call for a gate, or after the last gate the next call
 abbrev pub gate_from : ℕ → CompactStage
 gate_from k = if k == gates then GatesSync else ReadGate k
 
--- the call for the body of a slot, or that after the bodies where there is none
+-- the call for the body of a slot, or after the last body the next call
 abbrev pub body_from : (count slot : ℕ) → CompactStage
 body_from count slot = if slot == count then BodiesSync else Body slot
 
--- the call after one, by how many records there are, and whether the gate that was read is open
+-- the call after this one, given how many records there are, and whether the gate that was read is open
 abbrev pub next_stage : ℕ → CompactStage → Bool → Option CompactStage
 next_stage count (ReadGate k) true = Some (CloseGate k)
 next_stage count (ReadGate k) false = Some (gate_from (k + 1))
@@ -39,19 +39,19 @@ next_stage count BodiesSync is_open = Some HeadGate
 next_stage count HeadGate is_open = Some HeadSync
 next_stage count HeadSync is_open = None
 
--- the gate or the slot of a call is there
+-- the gate or the slot of a call exists
 abbrev pub IsCompactStage : ℕ → CompactStage → Type 0
 IsCompactStage count (ReadGate k) = k < gates
 IsCompactStage count (CloseGate k) = k < gates
 IsCompactStage count (Body slot) = slot < count
 IsCompactStage count stage = Unit {0}
 
--- the same of the call that is next, if one is
+-- the same for the next call, if any
 abbrev pub IsCompactNext : ℕ → Option CompactStage → Type 0
 IsCompactNext count (Some stage) = IsCompactStage count stage
 IsCompactNext count None = Unit {0}
 
--- how many calls are left at most
+-- the maximum number of calls left
 abbrev pub compact_left : ℕ → CompactStage → ℕ
 compact_left count (ReadGate k) = 2 * (gates - k) + 5 + count
 compact_left count (CloseGate k) = 2 * (gates - k) + 4 + count
@@ -62,7 +62,7 @@ compact_left count BodiesSync = 3
 compact_left count HeadGate = 2
 compact_left count HeadSync = 1
 
--- and how many of those are left, with the call that is next, if one is
+-- the maximum number of calls left, starting with the next call, if any
 abbrev pub compact_left_next : ℕ → Option CompactStage → ℕ
 compact_left_next count (Some stage) = compact_left count stage
 compact_left_next count None = 0
@@ -87,9 +87,9 @@ Does old new area head records BodiesSync read result = Syncs old new result
 Does old new area head records HeadGate read result = Writes old new (gate area 0) open_gate result
 Does old new area head records HeadSync read result = Syncs old new result
 
--- ---- what they did, from `began` on
+-- ---- what they did, since `began`
 
--- the first gates of the area were read, and closed where they read open, with some calls more
+-- the first gates of the area were read, and closed if they read open, and then some more calls were made
 pub record AreGatesClosed (began d : Disk) (area k more : ℕ) : Type 0 where
   pub works : Works began d
   pub calls : (opened : ℕ) → HasOpenGates (now began).seen area k opened → d.clock ≡ began.clock + (k + opened + more)
@@ -105,7 +105,7 @@ pub record IsCleared (began d : Disk) (area : ℕ) : Type 0 where
   pub shut : IsShut (now d).seen area
   pub spared : (i : ℕ) → IsNoOpenGate (now began).seen area 0 gates i → IsSpared began d i
 
--- and then the bodies of the head and of the first slots were written
+-- then the bodies of the head and of the first slots were written
 pub record AreBodiesWritten (began d : Disk) (area : ℕ) (head : Head) (records : List Record) (count : ℕ) : Type 0 where
   pub mid : Disk
   pub cleared : IsCleared began mid area
@@ -115,7 +115,7 @@ pub record AreBodiesWritten (began d : Disk) (area : ℕ) (head : Head) (records
   pub bodies : (slot : ℕ) → slot < count → IsBodyOf records slot ((now d).seen (slot_body area slot))
   pub others : (i : ℕ) → i ≢ head_body area → IsNoBody area count i → IsSpared mid d i
 
--- all of them were written, and from there on no sector was written but the head gate, after a sync
+-- all of them were written, and after that, and a sync, no sector was written except the head gate
 pub record IsOpening (began d : Disk) (area : ℕ) (head : Head) (records : List Record) : Type 0 where
   pub full : Disk
   pub filled : AreBodiesWritten began full area head records (length records)
@@ -124,7 +124,7 @@ pub record IsOpening (began d : Disk) (area : ℕ) (head : Head) (records : List
       → MayLeave full image
   pub others : (i : ℕ) → i ≢ gate area 0 → IsSpared full d i
 
--- the sync was made
+-- the sync succeeded
 pub record AreBodiesDurable (began d : Disk) (area : ℕ) (head : Head) (records : List Record) : Type 0 where
   pub opening : IsOpening began d area head records
   pub calls : d.clock ≡ opening.full.clock + 1
@@ -138,7 +138,7 @@ pub record IsHeadOpened (began d : Disk) (area : ℕ) (head : Head) (records : L
   pub opened : (now d).seen (gate area 0) ≡ open_gate
   pub images : (image : Image) → IsImage (now d) image → IsOldOrOpening (now opening.full) area image
 
--- and is durable
+-- it is durable
 pub record IsRewritten (began d : Disk) (area : ℕ) (head : Head) (records : List Record) : Type 0 where
   pub opening : IsOpening began d area head records
   pub calls : d.clock ≡ opening.full.clock + 3
@@ -161,7 +161,7 @@ abbrev pub AtNextStage : (began d : Disk) → ℕ → Head → List Record → O
 AtNextStage began d area head records (Some stage) = AtStage began d area head records stage
 AtNextStage began d area head records None = IsRewritten began d area head records
 
--- ---- whatever a call answered
+-- ---- regardless of a call's answer
 
 -- gates of the area that read open may have been written
 pub record IsClearing (began d : Disk) (area : ℕ) : Type 0 where

@@ -28,35 +28,35 @@ use Rattle.macs_journal.specs.declared.work.JournalStep.TheVariants.{Finished, G
 use Rattle.macs_journal.specs.declared.work.Work.{Work}
 use Rattle.macs_journal.specs.declared.work.Work.TheVariants.{Append, Compact}
 
--- ---- what is to be done
+-- ---- tasks
 
--- to append a record, or to start over with these
+-- to append a record, or to rewrite the journal with these
 pub data Task : Type 0 where
   Appends : Record → Task
   Renews : List Record → Task
 
--- what the work asks for
+-- the task that the work requests
 abbrev pub task_of : Work → Task
 task_of (Append r) = Appends r
 task_of (Compact records) = Renews records.items
 
--- the content that it makes of a content
+-- the content that it makes from a content
 abbrev pub after_task : Task → Content → Content
 after_task (Appends r) before = content_with_record before r
 after_task (Renews records) before = compacted before records
 
--- the area is not full, or there is a record to start over with
+-- the area is not full, or there is at least one record to rewrite the journal with
 abbrev pub FitsWork : Place → Work → Type 0
 FitsWork place (Append r) = place.free < slots
 FitsWork place (Compact records) = 1 ≤ length records.items
 
--- the journal is to start over, and its generation is the last
+-- the journal should be rewritten, and its generation is the last
 abbrev pub IsSpent : {D : Type 0} → JournalValue D → Task → Type 0
 IsSpent j (Appends r) = ⊥
 IsSpent j (Renews records) = generation j ≡ last_generation
 
--- the work that it starts: the sector of the record, or the head of the next generation; how many calls are left says
--- which comes first
+-- the work that it starts: the sector of the record, or the head of the next generation; the number of calls left
+-- determines which call is next
 abbrev pub IsTaskInHand : {D : Type 0} → JournalValue D → Task → Hand → Type 0
 IsTaskInHand j task hand.Empty = ⊥
 IsTaskInHand j (Appends r) (hand.Append work) = IsSectorOf r work.sector
@@ -64,13 +64,13 @@ IsTaskInHand j (Appends r) (hand.Compact work) = ⊥
 IsTaskInHand j (Renews records) (hand.Append work) = ⊥
 IsTaskInHand j (Renews records) (hand.Compact work) = next_head j.place.head (length records) ≡ work.head
 
--- how many device calls it takes, at most
+-- the maximum number of device calls it takes
 abbrev pub calls_of : Task → ℕ
 calls_of (Appends r) = 4
 calls_of (Renews records) = 519 + length records
 
--- A task is started, and no device call is made. Stopped exactly where a device call failed before; GenerationsSpent
--- exactly where the journal is to start over and its generation is the last; nothing changes then.
+-- A task is started, and no device call is made. Fails with Stopped if and only if a device call failed before; with
+-- GenerationsSpent if and only if the journal should be rewritten and its generation is the last; nothing changes then.
 pub record Starts {D : Type 0} (disk_of : D → disk.Disk) (old : JournalValue D) (task : Task)
     (result : Result (Unit {0}) JournalFault) (new : JournalValue D) : Type 0 where
   pub stopped : IsErrOf result Stopped ↔ (is_stopped old ≡ true)
@@ -93,7 +93,7 @@ IsSameTask (hand.Append work) (hand.Append later) = later.sector ≡ work.sector
 IsSameTask (hand.Compact work) (hand.Compact later) = later.head ≡ work.head
 IsSameTask old new = ⊥
 
--- where the journal goes on once its work is done
+-- where the journal continues once its work is done
 abbrev pub place_then : Place → Hand → Place
 place_then place hand.Empty = place
 place_then place (hand.Append work) = record place { free = place.free + 1 }
@@ -114,7 +114,7 @@ abbrev pub IsCompactHand : Hand → Type 0
 IsCompactHand (hand.Compact work) = Unit {0}
 IsCompactHand other = ⊥
 
--- where nothing is left under way the work is finished
+-- the work is finished if nothing is left under way
 abbrev pub step_of : Hand → JournalStep
 step_of hand.Empty = Finished
 step_of (hand.Append work) = Going
@@ -142,8 +142,8 @@ pub record AdvancesAppend {D : Type 0} (disk_of : D → disk.Disk) (old : Journa
   pub next : OnOk result (IsHonest (disk_in disk_of new) → (before after : Content)
       → IsHolding (disk_in disk_of old) old.place old.hand before after
       → ComesTo (disk_in disk_of new) new.place new.hand before after)
-  -- once it is done the gate is as it is written; whatever the call answered, all sectors but the body and the gate are
-  -- left alone
+  -- once it is done the gate holds exactly what was written; regardless of the call's answer, all sectors except the
+  -- body and the gate are not touched
   pub opened : OnOk result (IsIdle new → IsHonest (disk_in disk_of new) → (before after : Content)
       → IsHolding (disk_in disk_of old) old.place old.hand before after
       → (now (disk_in disk_of new)).seen (gate old.place.area (old.place.free + 1)) ≡ open_gate)
@@ -151,7 +151,7 @@ pub record AdvancesAppend {D : Type 0} (disk_of : D → disk.Disk) (old : Journa
       → i ≢ gate old.place.area (old.place.free + 1)
       → IsSpared (disk_in disk_of old) (disk_in disk_of new) i
 
--- One device call of the work under way, with the records that are lent to it.
+-- One device call of the work under way, with the records passed to it.
 pub record Advances {D : Type 0} (disk_of : D → disk.Disk) (old : JournalValue D) (snapshot : List Record)
     (result : Result (Unit {0}) JournalFault) (new : JournalValue D) : Type 0 where
   pub names : OnErr result (IsErrOf result Disk)
@@ -177,15 +177,15 @@ pub record Advances {D : Type 0} (disk_of : D → disk.Disk) (old : JournalValue
       → HoldsWith (disk_in disk_of old) old.place old.hand snapshot before after
       → ComesTo (disk_in disk_of new) new.place new.hand before after)
 
--- before the device call that comes next of a compaction under way under this head, or after its last one
+-- before the next device call of a compaction under way with this head, or after its last one
 abbrev pub AtNextCall : (began d : disk.Disk) → ℕ → Head → List Record → Hand → Type 0
 AtNextCall began d area head records hand.Empty = IsRewritten began d area head records
 AtNextCall began d area head records (hand.Append work) = ⊥
 AtNextCall began d area head records (hand.Compact work) = (work.head ≡ head)
     × AtStage began d area head records work.stage
 
--- One device call of the compaction under way, of these records, which goes on from where it is. Whatever the call
--- answers, the compaction is under way; after Ok it is before its next call, or done.
+-- One device call of the compaction under way, of these records, which continues from its current stage. Regardless of
+-- the call's answer, the compaction is under way; after Ok it is before its next call, or done.
 pub record AdvancesCompact {D : Type 0} (disk_of : D → disk.Disk) (old : JournalValue D) (records : List Record)
     (result : Result (Unit {0}) JournalFault) (new : JournalValue D) : Type 0 where
   pub advances : Advances disk_of old records result new
@@ -196,14 +196,14 @@ pub record AdvancesCompact {D : Type 0} (disk_of : D → disk.Disk) (old : Journ
       → AtNextCall began (disk_in disk_of old) (other_area old.place.area) head records old.hand
       → AtNextCall began (disk_in disk_of new) (other_area old.place.area) head records new.hand)
 
--- A step of a journal: one device call of the work under way. Stopped exactly where a device call failed before, else
--- Idle exactly where nothing is under way: then no call is made and nothing changes. Disk exactly where the call
--- failed, which stops the journal and leaves nothing under way. Else the work goes on, the same before and after, or is
--- finished: then the content is the one after it. What is said of contents is said where the work under way makes the
--- one of the other with the records that are lent.
+-- A step of a journal: one device call of the work under way. Stopped if and only if a device call failed before, else
+-- Idle if and only if nothing is under way: then no call is made and nothing changes. Disk if and only if the call
+-- failed, which stops the journal and leaves nothing under way. Otherwise the work continues, the same before and
+-- after, or is finished: then the content is the one after it. The clauses about contents apply if the work under way
+-- makes the one from the other with the records that are passed.
 pub record Steps {D : Type 0} (disk_of : D → disk.Disk) (old : JournalValue D) (snapshot : List Record)
     (result : Result JournalStep JournalFault) (new : JournalValue D) : Type 0 where
-  -- what is answered, and what is left of the journal in memory
+  -- the answer, and the state of the journal in memory
   pub stopped : IsErrOf result Stopped ↔ (is_stopped old ≡ true)
   pub idle : (result ≡ Ok Idle) ↔ ((is_stopped old ≡ false) × IsIdle old)
   pub names : OnErr result (IsErrOf result Stopped ⊎ IsErrOf result Disk)
@@ -215,14 +215,14 @@ pub record Steps {D : Type 0} (disk_of : D → disk.Disk) (old : JournalValue D)
   pub place : (¬ (result ≡ Ok Finished)) → new.place ≡ old.place
   pub task : result ≡ Ok Going → IsSameTask old.hand new.hand
   pub moved : result ≡ Ok Finished → new.place ≡ place_then old.place old.hand
-  -- as many records are to be lent as before
+  -- as many records must be passed as before
   pub lent : (later : List Record) → AreLent old.hand later → AreLent new.hand later
-  -- its device calls: one that answers what the step answers, where work is under way and none failed before
+  -- its device calls: one with the same answer as the step, if work is under way and none failed before
   pub work : IsWorkOf (disk_in disk_of old) (disk_in disk_of new) result
   pub device : is_stopped old ≡ false → (¬ IsIdle old) → IsDeviceCall (disk_in disk_of old) (disk_in disk_of new) result
   pub one : (disk_in disk_of new).clock ≤ (disk_in disk_of old).clock + 1
   pub call : OnOk result ((¬ IsIdle old) → (disk_in disk_of new).clock ≡ (disk_in disk_of old).clock + 1)
-  -- fewer are left, and exactly one less of an append
+  -- fewer are left, and exactly one fewer of an append
   pub left : OnOk result ((¬ IsIdle old) → left_of new.hand + 1 ≤ left_of old.hand)
   pub exact : OnOk result ((¬ IsIdle old) → IsNoCompact old.hand → left_of new.hand + 1 ≡ left_of old.hand)
   -- the content before the work or after it at any moment, and the one after it once it is finished

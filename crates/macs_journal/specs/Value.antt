@@ -1,4 +1,4 @@
--- A journal in memory: what is read of it, and the work that it has under way.
+-- A journal in memory: what can be read of it, and the work that it has under way.
 use Rattle.std.specs.Prelude.{◌≡◌, ◌<◌, ◌≤◌, ℕ, Bool, List, Some, length}
 use Rattle.macs_disk.specs.Disk.{Disk, now}
 use Rattle.macs_record.specs.Decoding.{IsSectorOf}
@@ -24,7 +24,7 @@ pub record JournalValue (D : Type 0) : Type 0 where
 abbrev pub device_in : {D : Type 0} → JournalValue D → D
 device_in j = j.disk
 
--- the disk that its device is, where `disk_of` says what a device is
+-- its disk, where `disk_of` gives the disk of a device
 abbrev pub disk_in : {D : Type 0} → (D → Disk) → JournalValue D → Disk
 disk_in disk_of j = disk_of j.disk
 
@@ -48,7 +48,7 @@ generation j = j.place.head.generation
 abbrev pub IsIdle : {D : Type 0} → JournalValue D → Type 0
 IsIdle j = j.hand ≡ Empty
 
--- these records, in its current area under its head
+-- these records, in its current area with its head
 abbrev pub content_of : {D : Type 0} → JournalValue D → List Record → Content
 content_of j records = record { area = j.place.area; head = j.place.head; records = records }
 
@@ -58,8 +58,8 @@ pub record IsAt (place : Place) (c : Content) : Type 0 where
   pub head : c.head ≡ place.head
   pub free : length c.records ≡ place.free
 
--- At the disk `began`, with the content `before`, the journal began to start over with these records, and its calls led
--- to this disk.
+-- Since the disk `began`, with the content `before`, the journal is being rewritten with these records, and its calls
+-- led to this disk.
 pub record IsCompacting (d : Disk) (work : Compacting) (before after : Content) : Type 0 where
   pub began : Disk
   pub records : List Record
@@ -70,8 +70,8 @@ pub record IsCompacting (d : Disk) (work : Compacting) (before after : Content) 
   pub fits : IsCompactStage (length records) work.stage
   pub at : AtStage began d (other_area before.area) work.head records work.stage
 
--- nothing is under way, or a record that is to be appended to a free slot, or records with which the journal starts
--- over
+-- nothing is under way, or a record that is being appended to a free slot, or records with which the journal is being
+-- rewritten
 abbrev pub HoldsHand : Disk → Hand → Content → Content → Type 0
 HoldsHand d Empty before after = IsReady (now d) before × (after ≡ before)
 HoldsHand d (Append work) before after =
@@ -84,39 +84,39 @@ pub record IsHolding (d : Disk) (place : Place) (hand : Hand) (before after : Co
   pub at : IsAt place before
   pub holds : HoldsHand d hand before after
 
--- where the journal starts over: there are as many records as its new head counts
+-- if the journal is being rewritten: there are as many records as its new head counts
 abbrev pub AreLent : Hand → List Record → Type 0
 AreLent Empty snapshot = Unit {0}
 AreLent (Append work) snapshot = Unit {0}
 AreLent (Compact work) snapshot = length snapshot ≡ work.head.count
 
--- and with these it makes the one content of the other
+-- with these records it makes the one content from the other
 abbrev pub IsMadeOf : Hand → List Record → Content → Content → Type 0
 IsMadeOf Empty snapshot before after = Unit {0}
 IsMadeOf (Append work) snapshot before after = Unit {0}
 IsMadeOf (Compact work) snapshot before after = after ≡ compacted before snapshot
 
--- The disk has the content `before`, and `after` once the work under way is done, with these records where it is to
--- start over.
+-- The disk has the content `before`, and `after` once the work under way is done, with these records if the journal is
+-- being rewritten.
 pub record HoldsWith (d : Disk) (place : Place) (hand : Hand) (snapshot : List Record)
     (before after : Content) : Type 0 where
   pub holds : IsHolding d place hand before after
   pub made : IsMadeOf hand snapshot before after
 
--- after a device call of that work: it goes on, or is done
+-- after a device call of that work: it continues, or is done
 abbrev pub ComesTo : Disk → Place → Hand → Content → Content → Type 0
 ComesTo d place Empty before after = IsHolding d place Empty after after
 ComesTo d place (Append work) before after = IsHolding d place (Append work) before after
 ComesTo d place (Compact work) before after = IsHolding d place (Compact work) before after
 
--- what the work under way asks of the place, and of itself
+-- what the work under way requires of the place, and of itself
 abbrev pub FitsHand : Place → Hand → Type 0
 FitsHand place Empty = Unit {0}
 FitsHand place (Append work) = place.free < slots
 FitsHand place (Compact work) = (1 ≤ work.head.count) × (work.head.count ≤ slots)
     × IsCompactStage work.head.count work.stage
 
--- how many device calls are left, at most
+-- the maximum number of device calls left
 abbrev pub left_of : Hand → ℕ
 left_of Empty = 0
 left_of (Append work) = calls_left (Some work.stage)

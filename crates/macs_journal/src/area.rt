@@ -1,4 +1,4 @@
-//! Where things are on a disk.
+//! The layout of a disk.
 
 ghost use Rattle.std.specs.Prelude.{◌≡◌, ◌<◌, ◌≤◌, ◌+◌, ℕ};
 ghost use Rattle.macs_journal.specs.Areas.{IsArea, gate, gates, head_body, least_sectors};
@@ -6,7 +6,7 @@ ghost use Rattle.macs_journal.specs.Areas.{other_area, slot_body, slots};
 
 use std::marker::Model;
 
-/// How many sectors a disk needs: those after them are never touched.
+/// How many sectors a disk needs: any after them are never touched.
 pub(crate) const LEAST_SECTORS: u64 = 1_028;
 
 /// How many slots an area has.
@@ -55,7 +55,7 @@ impl Area {
         number
     }
 
-    /// The area that this one is not.
+    /// The other area.
     pub(crate) fn other(self) -> Area
         ensures { result ≡ other_area self }
     {

@@ -1,4 +1,4 @@
-//! The bodies of an area written.
+//! Writing the bodies of an area.
 
 ghost use Rattle.std.specs.Prelude.{◌≡◌, ◌≢◌, ◌<◌, ◌≤◌, ◌+◌, ℕ, length, OnOk};
 ghost use Rattle.macs_disk.specs.Disk.{IsHonest, IsWork, now};

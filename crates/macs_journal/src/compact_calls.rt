@@ -14,9 +14,9 @@ use macs_disk::{DeviceFault, SectorDisk};
 use macs_record::laws::{head_in_range, record_in_range};
 use macs_record::{CLOSED_GATE, Head, SECTOR, encode, encode_head, is_open, open_gate};
 
-/// One device call of a compaction of the records of a source into an area under this head, which
-/// counts them: a record is read where its body is written, and at no other call. It answers the
-/// next one, `None` after the last.
+/// One device call of a compaction of the records of a source into an area with this head, which
+/// counts them: a record is read when its body is written, and at no other call. Returns the next
+/// call, `None` after the last.
 pub(crate) fn perform<D: SectorDisk, R: RecordSource>(
     disk: &mut D,
     area: Area,
@@ -46,7 +46,7 @@ pub(crate) fn perform<D: SectorDisk, R: RecordSource>(
     Ok(next)
 }
 
-/// The device call of a stage: a gate that it reads is put into `gate`.
+/// The device call of a stage: the octets of a gate that it reads are put into `gate`.
 fn call<D: SectorDisk, R: RecordSource>(
     disk: &mut D,
     area: Area,
@@ -65,7 +65,7 @@ fn call<D: SectorDisk, R: RecordSource>(
     match stage {
         CompactStage::ReadGate(k) => disk.read(area.gate(k), gate),
         CompactStage::CloseGate(k) => disk.write(area.gate(k), &CLOSED_GATE),
-        // The gates are closed before a body behind them changes.
+        // The gates are closed before a body after them changes.
         CompactStage::GatesSync => disk.sync(),
         CompactStage::HeadBody => {
             head_in_range(head);
@@ -76,9 +76,9 @@ fn call<D: SectorDisk, R: RecordSource>(
             record_in_range(&value);
             disk.write(area.slot_body(slot), &encode(&value))
         }
-        // The bodies and closed gates stand before the head says so.
+        // The bodies and the closed gates are durable before the head is opened.
         CompactStage::BodiesSync => disk.sync(),
         CompactStage::HeadGate => disk.write(area.head_gate(), &open_gate()),
-        CompactStage::HeadSync => disk.sync(), // The head stands before that is answered.
+        CompactStage::HeadSync => disk.sync(), // The head is durable before that is answered.
     }
 }

@@ -1,4 +1,4 @@
-//! The device calls of a compaction, in their order.
+//! The device calls of a compaction, in order.
 
 ghost use Rattle.std.specs.Prelude.{◌≡◌, ◌≤◌};
 ghost use Rattle.macs_journal.specs.Areas.{slots};
@@ -6,17 +6,17 @@ ghost use Rattle.macs_journal.specs.Stages.{IsCompactStage, body_from, gate_from
 
 use crate::area::GATES;
 
-/// The device calls of a compaction, in their order.
+/// The device calls of a compaction, in order.
 #[derive(Clone, Copy)]
 pub enum CompactStage {
-    /// Reads a gate of the area that starts over: gate 0 is that of the head.
+    /// Reads a gate of the area that is rewritten: gate 0 is that of the head.
     ReadGate(u64),
     /// Closes a gate that read open, since an old head there would name old bodies, and an old gate
     /// an old record.
     CloseGate(u64),
     /// Makes the closed gates durable, before a body after them changes.
     GatesSync,
-    /// Writes the body of the head, of the next generation, at which nobody looks while its gate is
+    /// Writes the body of the head, of the next generation, which nobody reads while its gate is
     /// closed.
     HeadBody,
     /// Writes the body of a slot's record.
@@ -30,8 +30,8 @@ pub enum CompactStage {
 }
 
 impl CompactStage {
-    /// The device call after this one, `None` after the last: by whether the gate that was read is
-    /// open, and how many records there are.
+    /// The device call after this one, `None` after the last, given whether the gate that was read
+    /// is open, and how many records there are.
     pub(crate) fn next(self, is_open: bool, count: u64) -> Option<CompactStage>
         requires room { IsCompactStage count self }
         requires few { count ≤ slots }
@@ -56,7 +56,7 @@ impl CompactStage {
     }
 }
 
-/// The call for a gate, or that after the gates where there is none.
+/// The call for a gate, or after the last gate the next call.
 fn gate_from(k: u64) -> CompactStage
     ensures { result ≡ gate_from k }
 {
@@ -67,7 +67,7 @@ fn gate_from(k: u64) -> CompactStage
     }
 }
 
-/// The call for the body of a slot, or that after the bodies where there is none.
+/// The call for the body of a slot, or after the last body the next call.
 fn body_from(slot: u64, count: u64) -> CompactStage
     ensures { result ≡ body_from count slot }
 {

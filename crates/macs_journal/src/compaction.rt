@@ -1,4 +1,4 @@
-//! A journal that starts over in its other area.
+//! Rewriting a journal in its other area.
 
 ghost use Rattle.std.specs.Prelude.{◌≡◌, ◌≤◌, ◌↔◌, None, IfSome, IsTrue, length};
 ghost use Rattle.macs_journal.specs.Areas.{slots};
@@ -15,13 +15,13 @@ use macs_disk::SectorDisk;
 use macs_record::{Format, Head, Record};
 
 impl<D: SectorDisk> Journal<D> {
-    /// Starts over with these records, 1 to 256, in the area that is not current: the gates there
-    /// that read open are closed, that of the head included, and this is made durable; the bodies
-    /// of the records and of a head of the next generation, in format two, are written and made
-    /// durable; the head gate is opened and made durable. Refused as `Stopped`, and as
-    /// `GenerationsSpent`, where nothing is changed; as `Disk` at the first call that fails: then a
-    /// power loss leaves the journal with the earlier records or with these. No work is under way,
-    /// before or after.
+    /// Rewrites the journal with these records, 1 to 256, in the area that is not current: the
+    /// gates there that read open are closed, including that of the head, and this is made durable;
+    /// the bodies of the records and of a head of the next generation, in format two, are written
+    /// and made durable; the head gate is opened and made durable. Fails with `Stopped`, and with
+    /// `GenerationsSpent`, without changing anything; and with `Disk` at the first call that fails:
+    /// then a power loss leaves the journal with the earlier records or with these. No work is
+    /// under way, before or after.
     pub fn compact(&mut self, records: &[Record]) -> Result<(), JournalFault>
         requires idle { IsIdle self.old }
         requires some { (1 ≤ length records.now) × (length records.now ≤ slots) }
@@ -30,8 +30,8 @@ impl<D: SectorDisk> Journal<D> {
         self.compact_from(&records)
     }
 
-    /// Starts over with the records of a source, 1 to 256, as `compact` does with those of a slice:
-    /// each is read once, where its body is written.
+    /// Rewrites the journal with the records of a source, 1 to 256, as `compact` does with those of
+    /// a slice: each is read once, when its body is written.
     pub fn compact_from<R: RecordSource>(&mut self, records: &R) -> Result<(), JournalFault>
         requires idle { IsIdle self.old }
         requires some { (1 ≤ length (R.listed records.now))
@@ -42,8 +42,8 @@ impl<D: SectorDisk> Journal<D> {
         self.finish_compact(records)
     }
 
-    /// Makes the device calls of the compaction under way, of these records, up to its end: what it
-    /// comes to is what a journal with nothing under way comes to that starts over with them.
+    /// Makes the device calls of the compaction under way, of these records, up to its end. The
+    /// result is that of a journal with nothing under way that is compacted with them.
     fn finish_compact<R: RecordSource>(&mut self, records: &R) -> Result<(), JournalFault>
         requires { IsBegun self.old (R.listed records.now) }
         ensures { Compacts D.disk (with_nothing self.old) (R.listed records.now) result self.new }

@@ -1,10 +1,10 @@
-//! Why a journal refuses.
+//! Why a call of a journal fails.
 
-/// Why a call of a journal was refused, in the order in which it is looked for; `GenerationsSpent`
-/// is looked for before any device call.
+/// Why a call of a journal failed, in the order in which the faults are checked; `GenerationsSpent`
+/// is checked before any device call.
 #[derive(Clone, Copy, Debug, PartialEq, Eq)]
 pub enum JournalFault {
-    /// A device call failed before: the journal is to be recovered.
+    /// A device call failed before: the journal must be recovered.
     Stopped,
     /// The disk has fewer than 1,028 sectors.
     TooSmall,
@@ -14,8 +14,8 @@ pub enum JournalFault {
     AlreadyFormatted,
     /// No head gate is open: there is no journal.
     NotFormatted,
-    /// A head gate is open, and what is on the disk is no journal.
+    /// A head gate is open, but the disk does not hold a valid journal.
     BadJournal,
-    /// The generation is 2^64 - 1: the journal cannot start over. Nothing changes.
+    /// The generation is 2^64 - 1: the journal cannot be rewritten. Nothing changes.
     GenerationsSpent,
 }

@@ -1,4 +1,4 @@
-//! A disk made a journal.
+//! Making a journal on a disk.
 
 ghost use Rattle.std.specs.Prelude.{◌≡◌, ◌≤◌, ℕ, false, true, IfOk, OnOk};
 ghost use Rattle.macs_config.specs.Identity.{Identity};
@@ -23,11 +23,11 @@ use macs_config::Identity;
 use macs_disk::{DeviceFault, SectorDisk};
 use macs_record::{Format, Head, Record, SECTOR, is_open};
 
-/// Makes a journal of format two of a disk that has none: its one record is the settings that an
-/// endpoint begins with. Of the first area it writes the bodies of the head and of that record, the
-/// head gate, and the gates of slots where they read open; no other sector is touched. Refused as
-/// `TooSmall`, then as `Disk` at the first call that fails, and as `AlreadyFormatted` where a head
-/// gate reads open after a first sync.
+/// Makes a journal of format two on a disk that has none: its one record holds the initial settings
+/// of an endpoint. In the first area it writes the bodies of the head and of that record, the head
+/// gate, and the gates of slots that read open; no other sector is touched. Fails with `TooSmall`,
+/// then with `Disk` at the first call that fails, and with `AlreadyFormatted` if a head gate reads
+/// open after a first sync.
 pub fn format<D: SectorDisk>(disk: &mut D, identity: &Identity) -> Result<(), JournalFault>
     ensures { IsJournalFormat D.disk disk.old identity.now result disk.new }
 {
@@ -44,7 +44,7 @@ pub fn format<D: SectorDisk>(disk: &mut D, identity: &Identity) -> Result<(), Jo
     }
 }
 
-/// Whether a head gate is open, once a sync made sure of what reads give.
+/// Whether a head gate is open, after a sync that makes durable what reads give.
 fn has_open_head<D: SectorDisk>(disk: &mut D) -> Result<bool, DeviceFault>
     requires size { least_sectors ≤ (D.disk disk.old).sectors }
     ensures work { IsWork (D.disk disk.old) (D.disk disk.new) result }
@@ -90,7 +90,7 @@ fn fill<D: SectorDisk>(disk: &mut D, identity: &Identity) -> Result<(), DeviceFa
     Ok(())
 }
 
-/// The head that a journal begins with.
+/// The head of a new journal.
 fn first_head(identity: &Identity) -> Head
     ensures { result ≡ first_head identity.now }
 {

@@ -1,4 +1,4 @@
-//! Gates of an area closed.
+//! Closing the gates of an area.
 
 ghost use Rattle.std.specs.Prelude.{◌≡◌, ◌≢◌, ◌<◌, ◌≤◌, ◌+◌, ℕ, OnOk};
 ghost use Rattle.macs_disk.specs.Disk.{IsHonest, IsWork, now};
@@ -38,7 +38,7 @@ pub(crate) fn close_gates<D: SectorDisk>(
     Ok(())
 }
 
-/// Closes a gate of an area where it reads open.
+/// Closes a gate of an area if it reads open.
 fn close_gate<D: SectorDisk>(disk: &mut D, area: Area, k: u64) -> Result<(), DeviceFault>
     requires room { k < gates }
     requires size { least_sectors ≤ (D.disk disk.old).sectors }

@@ -1,4 +1,4 @@
-//! A head gate opened.
+//! Opening a head gate.
 
 ghost use Rattle.std.specs.Prelude.{◌≡◌, ◌≢◌, ◌<◌, ◌≤◌, ◌+◌, ℕ, OnOk};
 ghost use Rattle.macs_disk.specs.Disk.{IsHonest, IsWork, MayLeave, now};
@@ -13,7 +13,7 @@ use crate::area::Area;
 use macs_disk::{DeviceFault, SectorDisk};
 use macs_record::open_gate;
 
-/// Makes sure of the bodies and the closed gates of an area, and then opens its head gate.
+/// Makes the bodies and the closed gates of an area durable, and then opens its head gate.
 pub(crate) fn open_head<D: SectorDisk>(disk: &mut D, area: Area) -> Result<(), DeviceFault>
     requires size { least_sectors ≤ (D.disk disk.old).sectors }
     ensures work { IsWork (D.disk disk.old) (D.disk disk.new) result }
@@ -31,7 +31,7 @@ pub(crate) fn open_head<D: SectorDisk>(disk: &mut D, area: Area) -> Result<(), D
     ensures others { IsHonest (D.disk disk.new) → (i : ℕ) → i ≢ gate area 0
         → IsSpared (D.disk disk.old) (D.disk disk.new) i }
 {
-    disk.sync()?; // The bodies and closed gates stand before the head says so.
+    disk.sync()?; // The bodies and closed gates are durable before the head is opened.
     disk.write(area.head_gate(), &open_gate())?;
     disk.sync()?; // The head stands before that is answered.
     Ok(())

@@ -27,8 +27,8 @@ use macs_disk::SectorDisk;
 use macs_record::Record;
 use std::marker::Model;
 
-/// A journal on a disk. After a device fault it answers `Stopped` until the disk is recovered
-/// again.
+/// A journal on a disk. After a device fault each call fails with `Stopped` until the disk is
+/// recovered again.
 #[derive(Drop)]
 pub struct Journal<D: SectorDisk> {
     pub(crate) disk: D,
@@ -77,8 +77,8 @@ impl<D: SectorDisk> Journal<D> {
         self.place.area.number()
     }
 
-    /// The generation of the current area: 1 when the disk is formatted, and one more each time
-    /// that the journal starts over.
+    /// The generation of the current area: 1 when the disk is formatted, and one more each time the
+    /// journal is rewritten.
     pub fn generation(&self) -> u64
         ensures { result ≡ generation self.now }
     {
@@ -93,7 +93,7 @@ impl<D: SectorDisk> Journal<D> {
         free
     }
 
-    /// Whether a device call failed: the disk is to be recovered again.
+    /// Whether a device call failed: the disk must be recovered again.
     pub fn is_stopped(&self) -> bool
         ensures { result ≡ is_stopped self.now }
     {
@@ -112,7 +112,7 @@ impl<D: SectorDisk> Journal<D> {
         }
     }
 
-    /// The disk, as it is.
+    /// The disk.
     pub fn into_disk(self) -> D
         ensures { result ≡ device_in self }
     {
@@ -122,7 +122,7 @@ impl<D: SectorDisk> Journal<D> {
 
     /// Appends a record in four calls of the disk: it is written into the body of the first free
     /// slot, made durable, the slot's gate opened and made durable. No work is under way, and the
-    /// area is not full. Refused as `Stopped`, and as `Disk` at the first call that fails; then a
+    /// area is not full. Fails with `Stopped`, and with `Disk` at the first call that fails; then a
     /// power loss leaves the journal with the record or without it, and no work is under way.
     pub fn append(&mut self, value: &Record) -> Result<(), JournalFault>
         requires idle { IsIdle self.old }

@@ -1,5 +1,5 @@
-//! A journal of records on a disk: after a power loss at any moment a record is always there once
-//! its gate was durably open, and never while that is durably closed.
+//! A journal of records on a disk: after a power loss at any moment a record is always present once
+//! its gate was durably opened, and never while that is durably closed.
 #![tactic(auto)]
 
 mod appending;

@@ -1,4 +1,4 @@
-//! Where the records come from with which a journal starts over.
+//! The source of the records with which a journal is rewritten.
 
 ghost use Rattle.std.specs.Prelude.{◌≡◌, List, length};
 ghost use Rattle.std.specs.List.{slice_get};
@@ -6,7 +6,7 @@ ghost use Rattle.macs_record.specs.declared.record.Record.{Record};
 
 use macs_record::Record;
 
-/// A source of the records with which a journal starts over: it has them by their places, and makes
+/// A source of the records with which a journal is rewritten: it has them by position, and makes
 /// one at a time.
 pub trait RecordSource {
     /// The records, in the order of the slots that they go to.
@@ -16,7 +16,7 @@ pub trait RecordSource {
     fn count(&self) -> usize
         ensures { result ≡ length (listed self.now) };
 
-    /// The record at a place, counted from 0; `None` after the last one.
+    /// The record at a position, counting from 0; `None` after the last one.
     fn at(&self, place: usize) -> Option<Record>
         ensures { result ≡ slice_get (listed self.now) place };
 }

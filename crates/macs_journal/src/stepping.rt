@@ -25,9 +25,9 @@ use macs_record::{Record, encode};
 
 impl<D: SectorDisk> Journal<D> {
     /// Starts work, and makes no call of the disk. None is under way before; for an append the area
-    /// is not full, and a journal starts over with 1 to 256 records. These stay with the caller:
-    /// their number alone is read. Refused as `Stopped` where a device call failed before, then as
-    /// `GenerationsSpent` where the journal is to start over and its generation is 2^64 - 1;
+    /// is not full, and a journal is rewritten with 1 to 256 records. These stay with the caller:
+    /// only their number is read. Fails with `Stopped` if a device call failed before, then with
+    /// `GenerationsSpent` if the journal should be rewritten and its generation is 2^64 - 1;
     /// nothing changes then.
     pub fn start(&mut self, work: &Work) -> Result<(), JournalFault>
         requires idle { IsIdle self.old }
@@ -43,7 +43,7 @@ impl<D: SectorDisk> Journal<D> {
         }
     }
 
-    /// Starts to append this record: `start` for a record that is lent. Refused as `Stopped` alone.
+    /// Starts to append this record: `start` for a borrowed record. Fails only with `Stopped`.
     pub fn start_append(&mut self, value: &Record) -> Result<(), JournalFault>
         requires idle { IsIdle self.old }
         requires room { used_slots self.old < slots }
@@ -60,8 +60,8 @@ impl<D: SectorDisk> Journal<D> {
         Ok(())
     }
 
-    /// Starts a compaction with the records of a source, 1 to 256: `start` for records that are
-    /// lent, with its refusals. How many there are is asked, and no record is read.
+    /// Starts a compaction with the records of a source, 1 to 256: `start` for borrowed records,
+    /// with the same faults. Only the number of records is read.
     pub fn start_compact<R: RecordSource>(&mut self, records: &R) -> Result<(), JournalFault>
         requires idle { IsIdle self.old }
         requires some { (1 ≤ length (R.listed records.now))
@@ -82,8 +82,8 @@ impl<D: SectorDisk> Journal<D> {
         Ok(())
     }
 
-    /// Whether these records may be lent to the next step: where the journal starts over they are
-    /// as many as it was started with.
+    /// Whether these records may be passed to the next step: if the journal is being rewritten
+    /// there are as many as it was started with.
     pub fn may_lend(&self, snapshot: &[Record]) -> bool
         ensures { IsTrue result ↔ AreLent self.now.hand snapshot.now }
     {
@@ -94,12 +94,12 @@ impl<D: SectorDisk> Journal<D> {
         }
     }
 
-    /// Makes the next call of the disk of the work under way, and none where no work is under way.
-    /// Where the journal starts over, `snapshot` has as many records as it was started with
-    /// (`may_lend`). They are to be the same records at each step: else nothing is promised of what
-    /// is on the disk. For other work `snapshot` is not read. Refused as `Stopped` where a device
-    /// call failed before, and as `Disk` where this one fails: then a power loss leaves the journal
-    /// as before the work or as after it, and no work is under way.
+    /// Makes the next call of the disk of the work under way, and none if no work is under way. If
+    /// the journal is being rewritten, `snapshot` has as many records as it was started with
+    /// (`may_lend`). They must be the same records at each step: otherwise nothing is promised
+    /// about what is on the disk. For other work `snapshot` is not read. Fails with `Stopped` if a
+    /// device call failed before, and with `Disk` if this one fails: then a power loss leaves the
+    /// journal as before the work or as after it, and no work is under way.
     pub fn step(&mut self, snapshot: &[Record]) -> Result<JournalStep, JournalFault>
         requires lent { AreLent self.old.hand snapshot.now }
         ensures { Steps D.disk self.old snapshot.now result self.new }
@@ -108,7 +108,7 @@ impl<D: SectorDisk> Journal<D> {
     }
 
     /// Makes the next device call, as `step` does, with the records of a source: one of them is
-    /// read where its body is written, and none at another call.
+    /// read when its body is written, and none at any other call.
     pub fn step_from<R: RecordSource>(&mut self, snapshot: &R) -> Result<JournalStep, JournalFault>
         requires lent { AreLent self.old.hand (R.listed snapshot.now) }
         ensures { Steps D.disk self.old (R.listed snapshot.now) result self.new }
@@ -124,7 +124,7 @@ impl<D: SectorDisk> Journal<D> {
         Ok(progress)
     }
 
-    /// Whether the work under way goes on: where none is under way it is finished.
+    /// Whether the work under way continues: if none is under way it is finished.
     fn progress(&self) -> JournalStep
         ensures { result ≡ step_of self.now.hand }
     {
@@ -174,14 +174,14 @@ impl<D: SectorDisk> Journal<D> {
                 Ok(())
             }
             Err(_) => {
-                self.hand = Hand::Empty; // The next recovery finds the records of before or these.
+                self.hand = Hand::Empty; // The next recovery finds the earlier records or these.
                 self.stopped = true;
                 Err(JournalFault::Disk)
             }
         }
     }
 
-    /// Where the journal goes on once it started over.
+    /// Where the journal continues once it is rewritten.
     fn new_place(&self) -> Place
         ensures { (work : Compacting) → self.now.hand ≡ Compact work
             → result ≡ record {

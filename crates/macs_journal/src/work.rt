@@ -1,18 +1,18 @@
-//! What a journal is to do, and how far it is.
+//! The work of a journal, and its progress.
 
 use crate::slots::Records;
 use macs_record::Record;
 
-/// What a journal is to do.
+/// The work of a journal.
 #[derive(Drop)]
 pub enum Work {
     /// To append a record.
     Append(Record),
-    /// To start over with these records.
+    /// To rewrite the journal with these records.
     Compact(Records),
 }
 
-/// How far a step came.
+/// The progress made by a step.
 #[derive(Clone, Copy, Debug, PartialEq, Eq)]
 pub enum JournalStep {
     /// No work was under way, and no call of the disk was made.

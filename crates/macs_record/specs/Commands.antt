@@ -11,7 +11,7 @@ use Rattle.macs_record.specs.declared.record.Record.{Record}
 use Rattle.macs_record.specs.declared.record.Record.TheVariants.{SetValidate, SetReplay, SetSciMode, TxInstall, TxUse}
 use Rattle.macs_record.specs.declared.record.Record.TheVariants.{TxRemove, RxAdd, RxDrop, RxInstall, RxRemove}
 
--- the record of a command whose start and offset may be
+-- the record of a command whose start and offset are valid
 abbrev pub record_of_accepted : Command → Record
 record_of_accepted (command.SetValidate validate) = SetValidate validate
 record_of_accepted (command.SetReplay on window) = SetReplay (record { on = on; window = window })
@@ -30,11 +30,11 @@ record_of_accepted (command.RxInstall sci an key start offset) =
     RxInstall sci an (record { key = octets_of_key key; offset = offset_or_zero (offset_at offset) }) start
 record_of_accepted (command.RxRemove sci an) = RxRemove sci an
 
--- a command has a record unless its start is 0, or its offset is no choice
+-- a command has a record unless its start is 0 or its offset is invalid
 abbrev pub record_of : Command → Option Record
 record_of asked = if has_wrong_start asked || has_wrong_offset asked then None else Some (record_of_accepted asked)
 
--- the record of a command, by what its check judged
+-- the record of a command, from the verdict of its check
 abbrev pub record_judged : Judged → Record
 record_judged (judged.SetValidate validate) = SetValidate validate
 record_judged (judged.SetReplay on window) = SetReplay (record { on = on; window = window })

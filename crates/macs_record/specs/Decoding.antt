@@ -1,4 +1,4 @@
--- Why a sector is refused as a record.
+-- Why a sector is rejected as a record.
 use Rattle.std.specs.Prelude.{◌≡◌, List, [], ◌∷◌, ℕ}
 use Rattle.macs_record.specs.Sectors.{Begins}
 use Rattle.macs_record.specs.Layout.{IsRecord, front_of, octets_of_kind, sector_of}
@@ -24,12 +24,12 @@ HasFields sector = (r : Record) × IsRecord r × Begins (front_of r) sector
 abbrev pub HasRecord : List ℕ → Type 0
 HasRecord sector = (r : Record) × IsSectorOf r sector
 
--- what each fault says of a sector
+-- when each fault of a sector applies
 abbrev pub RecordFaultHolds : List ℕ → RecordFault → Type 0
 RecordFaultHolds sector fault.Kind = ¬ HasKind sector
 RecordFaultHolds sector fault.Field = ¬ HasFields sector
 RecordFaultHolds sector fault.Rest = ¬ HasRecord sector
 
--- in the order in which they are looked for
+-- in the order in which they are checked
 abbrev pub record_faults : List RecordFault
 record_faults = fault.Kind ∷ fault.Field ∷ fault.Rest ∷ []

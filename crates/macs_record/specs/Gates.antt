@@ -1,4 +1,4 @@
--- Gates: a gate is a sector that says whether the body in front of it counts.
+-- Gates: a gate is a sector that says whether the body before it counts.
 use Rattle.std.specs.Prelude.{List, ℕ, [], ◌∷◌}
 use Rattle.macs_record.specs.Sectors.{Begins, padded_sector}
 
@@ -6,7 +6,7 @@ use Rattle.macs_record.specs.Sectors.{Begins, padded_sector}
 abbrev pub open_mark : List ℕ
 open_mark = 0x4d ∷ 0x53 ∷ 0x45 ∷ 0x43 ∷ 0x4f ∷ 0x50 ∷ 0x45 ∷ 0x4e ∷ []
 
--- a gate is open where its sector begins with the mark, whatever else it holds, and closed elsewhere
+-- a gate is open if its sector begins with the mark, regardless of the rest, and closed otherwise
 abbrev pub IsOpen : List ℕ → Type 0
 IsOpen sector = Begins open_mark sector
 

@@ -8,7 +8,7 @@ use Rattle.macs_record.specs.declared.format.Format.{Format}
 use Rattle.macs_record.specs.declared.format.Format.TheVariants.{One, Two}
 
 -- format: that of the area; generation: 1 when the disk is formatted, one more with each new snapshot; count: how many
--- records the snapshot has; identity: what the disk was formatted with
+-- records the snapshot has; identity: the one given when the disk was formatted
 pub record Head : Type 0 where
   pub format : Format
   pub generation : ℕ

@@ -1,5 +1,5 @@
--- How a record is in its sector: a mark, its kind, its fields in order without gaps, and zeros. Numbers of several
--- octets are big-endian.
+-- The layout of a record in its sector: a mark, its kind, its fields in order without gaps, and zeros. Numbers of
+-- several octets are big-endian.
 use Rattle.std.specs.Prelude.{◌<◌, ◌^◌, ◌++◌, ◌==◌, ℕ, Bool, true, false, if◌then◌else◌, List, [], ◌∷◌, length, Option}
 use Rattle.std.specs.Prelude.{Some, None}
 use Rattle.std.specs.Int.{to_be_bytes, w32, w64}
@@ -64,7 +64,7 @@ replay_octets replay = flag_octet replay.on ∷ to_be_bytes w32 replay.window
 abbrev pub protection_octets : Protection → List ℕ
 protection_octets protection = flag_octet (is_confidential protection) ∷ octets_of (offset_of protection) ∷ []
 
--- how many there are, then one after the other
+-- how many there are, then each in order
 abbrev pub fingerprint_octets : List (List ℕ) → List ℕ
 fingerprint_octets fingerprints = length fingerprints ∷ concat fingerprints
 
@@ -74,7 +74,7 @@ fingerprint_octets fingerprints = length fingerprints ∷ concat fingerprints
 abbrev pub record_mark : List ℕ
 record_mark = 0x4d ∷ 0x52 ∷ 0x45 ∷ 0x43 ∷ []
 
--- the octet that stands for a kind
+-- the octet for a kind
 abbrev pub kind_number : Kind → ℕ
 kind_number kinds.Settings = 1
 kind_number kinds.TxSa = 2
@@ -98,7 +98,7 @@ kind_number kinds.RxSaLong = 19
 kind_number kinds.TxInstallLong = 20
 kind_number kinds.RxInstallLong = 21
 
--- of two kinds the one for keys of 16 octets, or the one for keys of 32
+-- one of two kinds, by the length of the key: 16 or 32 octets
 abbrev pub of_length : KeyLength → Kind → Kind → Kind
 of_length Short short long = short
 of_length Long short long = long
@@ -139,7 +139,7 @@ has_one_field kinds.RxAdd = true
 has_one_field kinds.RxDrop = true
 has_one_field kind = false
 
--- what is after the mark and the kind: the fields in order, without gaps
+-- the octets after the mark and the kind: the fields in order, without gaps
 abbrev pub fields_of : Record → List ℕ
 fields_of (Settings validate replay mode encoding) =
     validate_octet validate ∷ (replay_octets replay ++ (mode_octet mode ∷ encoding_octet encoding ∷ []))

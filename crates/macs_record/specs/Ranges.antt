@@ -13,11 +13,11 @@ IsKeyOf Long key = IsOctets 32 key
 abbrev pub IsStart : ℕ → Type 0
 IsStart start = (0 < start) × (start < 2 ^ 32)
 
--- a bound that packet numbers are below, 1 to 2^32
+-- an exclusive upper bound of packet numbers, 1 to 2^32
 abbrev pub IsCeiling : ℕ → Type 0
 IsCeiling ceiling = (1 ≤ ceiling) × (ceiling ≤ 2 ^ 32)
 
--- the AN that frames go out under, or none
+-- the AN that frames are sent under, or none
 abbrev pub IsEncoding : Option ℕ → Type 0
 IsEncoding None = Unit {0}
 IsEncoding (Some an) = IsAn an

@@ -22,7 +22,7 @@ impl Model for Ceiling {
 }
 
 impl Ceiling {
-    /// `None` for 0, and for a number above 2^32.
+    /// `None` for 0, and for a number greater than 2^32.
     pub fn new(number: u64) -> Option<Ceiling>
         ensures within { IsSome result ↔ IsCeiling number }
         ensures value { IfSome result (λ ceiling. ceiling ≡ number) }

@@ -19,7 +19,7 @@ use crate::reading::Reader;
 use crate::record::{Record, RecordFault};
 use macs_config::{RxSa, TxSa};
 
-/// The record of a sector. Refused as `Kind`, `Field` and `Rest`, the first that holds.
+/// The record of a sector. Fails with the first of `Kind`, `Field` and `Rest` that applies.
 pub fn decode(sector: &[u8; SECTOR]) -> Result<Record, RecordFault>
     ensures exactly { (r : Record) → (result ≡ Ok r) ↔ IsSectorOf r sector.now }
     ensures fault { (fault : RecordFault)
@@ -76,7 +76,7 @@ fn read_fields(kind: Kind, from: &mut Reader<'_>) -> Option<Record>
     }
 }
 
-/// Reads the field of a record of this kind, which has one.
+/// Reads the field of a record of this kind, which has only one.
 fn read_one_field(kind: Kind, from: &mut Reader<'_>) -> Option<Record>
     requires { has_one_field kind ≡ true }
     ensures some { IfSome result
@@ -158,7 +158,7 @@ fn read_tx_use(from: &mut Reader<'_>) -> Option<Record>
     Some(Record::TxUse { an })
 }
 
-/// Reads a transmit association that goes.
+/// Reads a removed transmit association.
 fn read_tx_remove(from: &mut Reader<'_>) -> Option<Record>
     ensures some { IfSome result
         (λ r. IsRecord r × (kind_of r ≡ kinds.TxRemove) × (from.old ≡ fields_of r ++ from.new)) }
@@ -182,7 +182,7 @@ fn read_rx_add(from: &mut Reader<'_>) -> Option<Record>
     Some(Record::RxAdd { sci })
 }
 
-/// Reads a receive channel that goes.
+/// Reads a removed receive channel.
 fn read_rx_drop(from: &mut Reader<'_>) -> Option<Record>
     ensures some { IfSome result
         (λ r. IsRecord r × (kind_of r ≡ kinds.RxDrop) × (from.old ≡ fields_of r ++ from.new)) }
@@ -298,7 +298,7 @@ fn read_rx_install(length: KeyLength, from: &mut Reader<'_>) -> Option<Record>
     Some(Record::RxInstall { sci, an, sa, start })
 }
 
-/// Reads a receive association that goes.
+/// Reads a removed receive association.
 fn read_rx_remove(from: &mut Reader<'_>) -> Option<Record>
     ensures some { IfSome result
         (λ r. IsRecord r × (kind_of r ≡ kinds.RxRemove) × (from.old ≡ fields_of r ++ from.new)) }

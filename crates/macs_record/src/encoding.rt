@@ -11,7 +11,7 @@ use crate::writing::Writer;
 use macs_config::{Fingerprints, Replay, Role, RxSa, SciMode, TxSa, Validate};
 use macs_fields::{An, Pn, Sci};
 
-/// What the sector of a record begins with.
+/// The first octets of the sector of a record.
 pub(crate) const MARK: [u8; 4] = *b"MREC";
 
 /// The sector of a record: the mark `MREC`, its kind (1 octet), its fields in order without gaps,
@@ -127,7 +127,7 @@ fn write_rx_install(sci: Sci, an: An, sa: &RxSa, start: Pn, to: Writer) -> Write
         .offset(sa.offset)
 }
 
-/// Writes a receive association that goes.
+/// Writes a removed receive association.
 fn write_rx_remove(sci: Sci, an: An, to: Writer) -> Writer
     requires room { length to ≤ 5 }
     ensures { result ≡ to ++ fields_of (recorded.RxRemove sci an) }

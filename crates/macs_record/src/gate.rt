@@ -5,13 +5,13 @@ ghost use Rattle.macs_record.specs.Gates.{IsOpen, open_gate};
 
 use crate::SECTOR;
 
-/// What an open gate begins with.
+/// The first octets of an open gate.
 const OPEN: &[u8] = b"MSECOPEN";
 
 /// A closed gate, as it is written.
 pub const CLOSED_GATE: [u8; SECTOR] = [0; SECTOR];
 
-/// Whether a gate is open: its sector begins with `MSECOPEN`, whatever else it holds.
+/// Whether a gate is open: its sector begins with `MSECOPEN`, regardless of the rest.
 pub fn is_open(gate: &[u8; SECTOR]) -> bool
     ensures { IsTrue result ↔ IsOpen gate.now }
 {

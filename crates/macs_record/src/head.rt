@@ -7,11 +7,11 @@ use crate::format::Format;
 use macs_config::Identity;
 use std::marker::Model;
 
-/// The most records that a snapshot has: as many as an area has slots.
+/// The maximum number of records in a snapshot: one for each slot of an area.
 const MAX_COUNT: u32 = 256;
 
 /// The head of an area: its format, its generation, 1 to 2^64 - 1, the number of records in its
-/// snapshot, 1 to 256, and whose journal it is.
+/// snapshot, 1 to 256, and the identity of its journal.
 #[derive(Debug, Clone, Copy, PartialEq, Eq)]
 pub struct Head {
     format: Format,
@@ -87,7 +87,7 @@ impl Head {
         self.count
     }
 
-    /// Whose journal it is.
+    /// The identity of its journal.
     pub fn identity(&self) -> Identity
         ensures { result ≡ self.now.identity }
     {

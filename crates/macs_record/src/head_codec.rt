@@ -15,7 +15,7 @@ use crate::reading::Reader;
 use crate::writing::Writer;
 use macs_config::Identity;
 
-/// What the sector of a head begins with.
+/// The first octets of the sector of a head.
 const MARK: [u8; 8] = *b"MSECHEAD";
 
 /// The sector of a head: the mark `MSECHEAD`, the version (4 octets: 1 for format one, 2 for format
@@ -36,8 +36,8 @@ pub fn encode_head(head: &Head) -> [u8; SECTOR]
         .finish()
 }
 
-/// The head whose sector this is. `None` for another mark, a version that is neither 1 nor 2, a
-/// field out of its range, or an octet after the fields that is not 0.
+/// The head in a sector. `None` for another mark, a version that is neither 1 nor 2, a field out of
+/// its range, or an octet after the fields that is not 0.
 pub fn decode_head(sector: &[u8; SECTOR]) -> Option<Head>
     ensures { (head : Head) → (result ≡ Some head) ↔ IsHeadOf head sector.now }
 {

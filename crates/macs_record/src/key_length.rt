@@ -1,6 +1,6 @@
 //! The two lengths of keys: a record with a key has a kind for each.
 
-/// How long the key of a record is.
+/// The length of a record's key.
 #[derive(Clone, Copy)]
 pub(crate) enum KeyLength {
     /// 16 octets.

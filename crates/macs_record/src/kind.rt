@@ -4,8 +4,8 @@ ghost use Rattle.std.specs.Prelude.{◌≡◌, ◌↔◌, Some};
 ghost use Rattle.macs_record.specs.Layout.{kind_number};
 ghost use Rattle.macs_record.specs.declared.kind.Kind.{Kind};
 
-/// What a record is of, in the order of its number: first what a snapshot has, then the commands,
-/// then raised ceilings, and last the associations and the commands that have a long key.
+/// The kind of a record, in the order of its number: first the records of a snapshot, then the
+/// commands, then raised ceilings, and last the associations and the commands that have a long key.
 #[derive(Clone, Copy)]
 pub enum Kind {
     Settings,
@@ -31,7 +31,7 @@ pub enum Kind {
     RxInstallLong,
 }
 
-/// Every kind once.
+/// Every kind, once.
 const KINDS: [Kind; 21] = [
     Kind::Settings,
     Kind::TxSa,
@@ -57,7 +57,7 @@ const KINDS: [Kind; 21] = [
 ];
 
 impl Kind {
-    /// The number that stands for a kind in a sector, 1 to 21.
+    /// The number of a kind in a sector, 1 to 21.
     pub fn number(self) -> u8
         ensures { result ≡ kind_number self }
     {
@@ -86,7 +86,7 @@ impl Kind {
         }
     }
 
-    /// The kind of a number, `None` where none has it: the inverse of `number`.
+    /// The kind with this number, `None` if there is none: the inverse of `number`.
     pub fn of(number: u8) -> Option<Kind>
         ensures { (kind : Kind) → (result ≡ Some kind) ↔ (kind_number kind ≡ number) }
     {

@@ -1,5 +1,5 @@
-//! Laws of the definitions, for the layers above. Where a law speaks of a value behind a reference,
-//! its body reads the fields: that is how a proof learns their ranges.
+//! Laws of the definitions, for the layers above. If a law is about a value behind a reference, its
+//! body reads the fields: that is how a proof learns their ranges.
 
 ghost use Rattle.std.specs.Prelude.{◌≡◌, ◌<◌, ◌^◌, List, ℕ, length};
 ghost use Rattle.macs_fields.specs.First.{IsFirst};
@@ -61,7 +61,7 @@ pub fn record_in_range(value: &Record)
     }
 }
 
-/// A replay window is of 32 bits.
+/// A replay window has 32 bits.
 fn replay_in_range(replay: Replay)
     ensures { replay.window < 2 ^ 32 }
 {}
@@ -142,7 +142,7 @@ pub fn sector_length()
     ensures { (r : Record) → IsRecord r → length (sector_of r) ≡ 512 }
 {}
 
-/// A sector is that of one record.
+/// A sector holds at most one record.
 pub fn one_record()
     ensures { (a b : Record) → IsRecord a → IsRecord b → sector_of a ≡ sector_of b → a ≡ b }
 {}
@@ -162,13 +162,14 @@ pub fn head_sector_length()
     ensures { (head : Head) → IsHead head → length (head_sector_of head) ≡ 512 }
 {}
 
-/// A sector is that of one head.
+/// A sector holds at most one head.
 pub fn one_head()
     ensures { (a b : Head) (sector : List ℕ) → IsHeadOf a sector → IsHeadOf b sector → a ≡ b }
 {}
 
-/// Why a sector is refused as a record: it begins with no kind, whatever else it holds; else its
-/// fields are not in their ranges, whatever comes after them; else it goes on after them.
+/// Why a sector is rejected as a record: it does not begin with a kind, regardless of the rest; or
+/// its fields are not in their ranges, regardless of what follows; or an octet after them is not
+/// zero.
 pub fn record_refusals()
     ensures kind { (sector : List ℕ) (fault : RecordFault)
         → IsFirst (RecordFaultHolds sector) record_faults fault

@@ -1,4 +1,4 @@
-//! A sector that is read from its start.
+//! A sector being read from its start.
 
 ghost use Rattle.std.specs.Prelude.{◌≡◌, ◌<◌, ◌^◌, ◌↔◌, ◌++◌, ◌∷◌, ℕ, Bool, List, [], IfSome};
 ghost use Rattle.std.specs.Prelude.{IsTrue, Some, Option, length, replicate};
@@ -25,8 +25,8 @@ use macs_fields::laws::octets_in_range;
 use macs_fields::{An, Offset, Pn, Sci};
 use std::marker::Model;
 
-/// The octets that are still to be read. Each field is answered exactly where they begin with it;
-/// after `None` nothing is said of them.
+/// The octets that are still unread. A field is returned if and only if they begin with it; after
+/// `None` nothing is promised about them.
 #[derive(Drop)]
 pub(crate) struct Reader<'a> {
     octets: &'a [u8],
@@ -229,7 +229,7 @@ impl<'a> Reader<'a> {
         Offset::new(self.octet()?)
     }
 
-    /// `None` also for an offset that is not 0 without confidentiality.
+    /// Also `None` for an offset that is not 0 without confidentiality.
     pub(crate) fn protection(&mut self) -> Option<Protection>
         ensures some { IfSome result
             (λ protection. self.old ≡ protection_octets protection ++ self.new) }
@@ -276,7 +276,7 @@ impl<'a> Reader<'a> {
         Some(items)
     }
 
-    /// Whether all that is left is zeros.
+    /// Whether all unread octets are zeros.
     pub(crate) fn is_zero(&self) -> bool
         ensures { IsTrue result ↔ (self.now ≡ replicate (length self.now) 0) }
     {

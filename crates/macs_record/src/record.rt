@@ -1,4 +1,4 @@
-//! What a journal keeps.
+//! The records of a journal.
 
 ghost use Rattle.std.specs.Prelude.{◌≡◌, Some, None};
 ghost use Rattle.macs_config.specs.declared.command.Command.TheVariants.{RxInstall, TxInstall};
@@ -13,8 +13,8 @@ use macs_config::{
 };
 use macs_fields::{An, Offset, Pn, Sci};
 
-/// A record of a journal. Its kinds are of three groups: what a snapshot of a configuration has,
-/// the commands that are not refused for their start or offset, and raised ceilings.
+/// A record of a journal. There are three groups of kinds: the parts of a configuration's snapshot,
+/// the commands that are not refused because of their start or offset, and raised ceilings.
 #[derive(Drop)]
 pub enum Record {
     /// The settings of a snapshot.
@@ -91,7 +91,7 @@ pub enum Record {
     },
 }
 
-/// Why a sector is no record: the first that holds.
+/// Why a sector is not a record: the first fault that applies.
 #[derive(Clone, Copy, Debug, PartialEq, Eq)]
 pub enum RecordFault {
     /// It does not begin with the mark and a kind of record.
@@ -103,8 +103,8 @@ pub enum RecordFault {
 }
 
 impl Record {
-    /// The record of a command, `None` where its start is 0, its offset is not 0, 30 or 50, or
-    /// not 0 without confidentiality.
+    /// The record of a command, `None` if its start is 0, or its offset is not 0, 30 or 50, or not
+    /// 0 without confidentiality.
     pub fn command(command: &Command) -> Option<Record>
         ensures { result ≡ record_of command.now }
     {
@@ -141,7 +141,7 @@ impl Record {
         record_judged(checked.judged())
     }
 
-    /// The same record.
+    /// A copy of the record.
     pub fn copied(&self) -> Record
         ensures { result ≡ self.now }
     {
@@ -239,7 +239,7 @@ impl Record {
     }
 }
 
-/// The record of a command, by what its check judged.
+/// The record of a command, from the verdict of its check.
 fn record_judged(judged: &Judged) -> Record
     ensures { result ≡ record_judged judged.now }
 {
@@ -263,7 +263,7 @@ fn record_judged(judged: &Judged) -> Record
     }
 }
 
-/// The kind of a record with this key: one kind is for short keys, another for long ones.
+/// The kind of a record with this key: there is one for short keys and one for long ones.
 fn by_length(key: KeyOctets, short: Kind, long: Kind) -> Kind
     ensures { result ≡ by_length key short long }
 {

@@ -1,4 +1,4 @@
-//! A sector that is written from its start.
+//! A sector being written from its start.
 
 ghost use Rattle.std.specs.Prelude.{◌≡◌, ◌≤◌, ◌+◌, ◌++◌, ◌∷◌, ℕ, List, [], length};
 ghost use Rattle.std.specs.Int.{to_be_bytes, w32, w64};
@@ -15,10 +15,10 @@ use macs_config::{Fingerprints, Protection, Replay, Role, SciMode, Validate};
 use macs_fields::{An, Offset, Pn, Sci};
 use std::marker::Model;
 
-/// The octet that stands for no association number.
+/// The octet for no association number.
 pub(crate) const NO_AN: u8 = 0xff;
 
-/// The octets that were written so far.
+/// The octets written so far.
 #[derive(Drop)]
 pub(crate) struct Writer {
     octets: ArrayVec<u8, SECTOR>,
@@ -181,7 +181,7 @@ impl Writer {
         writer
     }
 
-    /// The octets, and zeros to the end of the sector.
+    /// The octets, followed by zeros to the end of the sector.
     pub(crate) fn finish(self) -> [u8; SECTOR]
         ensures { result ≡ padded_sector self }
     {

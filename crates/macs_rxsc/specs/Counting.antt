@@ -1,4 +1,4 @@
--- What is counted.
+-- The counters of receive channels.
 use Rattle.std.specs.Prelude.{ℕ, List, Option, Some, None}
 use Rattle.std.specs.Option.{option_map}
 use Rattle.macs_config.specs.Numbers.{one_more}
@@ -13,7 +13,7 @@ use Rattle.macs_rxsc.specs.declared.verdict.Reason.TheVariants.{NotUsingSa, Late
 use Rattle.macs_rxsc.specs.declared.verdict.Verdict.{Verdict}
 use Rattle.macs_rxsc.specs.declared.verdict.Verdict.TheVariants.{Delivered, Discarded, HeldBack}
 
--- how often a verdict was given; a frame that is held back is not counted
+-- how often this verdict was given; a frame that is held back is not counted
 abbrev pub count_of : Verdict → RxCounters → ℕ
 count_of (Delivered Ok) c = c.ok
 count_of (Delivered Delayed) c = c.delayed
@@ -51,7 +51,7 @@ counters_after_verdict (Discarded Late) c = record c { late = one_more c.late }
 counters_after_verdict (Discarded NotValid) c = record c { not_valid = one_more c.not_valid }
 counters_after_verdict HeldBack c = c
 
--- of the verdicts that name a channel, those that are counted for it
+-- the verdicts on frames that name a channel which are counted for it
 abbrev pub channel_count_of : Verdict → ChannelCounters → ℕ
 channel_count_of (Delivered Ok) c = c.ok
 channel_count_of (Delivered Delayed) c = c.delayed
@@ -62,8 +62,8 @@ channel_count_of (Discarded Late) c = c.late
 channel_count_of (Discarded NotValid) c = c.not_valid
 channel_count_of verdict c = 0
 
--- the counters of a channel after one more verdict on a frame that names it, by the frame's SecTAG and what was given:
--- what a frame carried is counted where it verified
+-- the counters of a channel after one more verdict on a frame that names it, given the frame's SecTAG and what was
+-- delivered: what a frame carried is counted if it verified
 abbrev pub channel_counters_after : SecTag → Verdict → List ℕ → ChannelCounters → ChannelCounters
 channel_counters_after tag (Delivered Ok) plain c =
     record c { ok = one_more c.ok; traffic = traffic_after tag plain c.traffic }
@@ -84,7 +84,7 @@ counters_after_verdict_at None tag verdict given table = table
 counters_after_verdict_at (Some sci) tag verdict given table =
     put_at table sci (option_map (channel_counters_after tag verdict given) (table sci))
 
--- each count over all channels at 0
+-- the counters over all channels, all 0
 abbrev pub no_counts : RxCounters
 no_counts = record {
   ok = 0;
@@ -104,7 +104,7 @@ no_counts = record {
   not_valid = 0;
 }
 
--- each count of one channel at 0
+-- the counters of one channel, all 0
 abbrev pub no_channel_counts : ChannelCounters
 no_channel_counts = record {
   ok = 0;

@@ -1,5 +1,5 @@
--- Reception (IEEE Std 802.1AE-2018, 10.6 and 10.7): the verdict on a frame from the common side, and what a frame that
--- verifies does to the packet numbers of its association.
+-- Reception (IEEE Std 802.1AE-2018, 10.6 and 10.7): the verdict on a frame from the common side, and how a frame that
+-- verifies changes the packet numbers of its association.
 use Rattle.std.specs.Prelude.{◌≡◌, ◌≤◌, ◌<◌, ◌⊎◌, ◌^◌, ℕ, ◌+◌, ◌-◌, max, nat_lt, Bool, true, false, ◌||◌, if◌then◌else◌}
 use Rattle.std.specs.Prelude.{List, [], ◌∷◌, ◌++◌, map, Option, Some, None, IsSome, IsSomeAnd}
 use Rattle.std.specs.Option.{option_and_then}
@@ -27,8 +27,8 @@ use Rattle.macs_rxsc.specs.declared.verdict.Reason.TheVariants.{NotUsingSa, Late
 use Rattle.macs_rxsc.specs.declared.verdict.Verdict.{Verdict}
 use Rattle.macs_rxsc.specs.declared.verdict.Verdict.TheVariants.{Delivered, Discarded, HeldBack}
 
--- next: one more than the greatest number delivered as verified, and at first the number that the association began
--- with; lowest: the lowest acceptable number; seen: the greatest number of this life that verified, if any did
+-- next: one more than the greatest number delivered as verified, and initially the association's first number; lowest:
+-- the lowest acceptable number; seen: the greatest number that verified in this life, if any
 pub record Numbers : Type 0 where
   pub next : ℕ
   pub lowest : ℕ
@@ -52,11 +52,11 @@ new_rx_side = record {
   numbers = λ sci an. None;
 }
 
--- a receive channel of that SCI exists
+-- a receive channel with that SCI exists
 abbrev pub has_channel : RxSide → List ℕ → Bool
 has_channel side sci = is_among side.channels sci
 
--- ---- the channel, the association and its numbers that a frame names
+-- ---- the channel, the association and the numbers of a frame
 
 -- the only one of these
 abbrev pub only_one : List (List ℕ) → Option (List ℕ)
@@ -64,8 +64,8 @@ only_one [] = None
 only_one (sci ∷ []) = Some sci
 only_one (sci ∷ other ∷ others) = None
 
--- The SCI that a tag names: the one that is spelled out, the source address with port 00-01, or that of the only
--- channel where it names none (that there be one alone is this profile's own)
+-- The SCI that a tag names: the explicit one, the source address with port 00-01, or that of the only channel if it
+-- names none (that there must be only one is a rule of this profile)
 abbrev pub sci_named : List (List ℕ) → List ℕ → ScName → Option (List ℕ)
 sci_named channels frame (Explicit sci) = named_sci frame (Explicit sci)
 sci_named channels frame EndStation = named_sci frame EndStation
@@ -105,7 +105,7 @@ pub data RxStep : Type 0 where
   BelowLowest : RxStep
   NotVerified : RxStep
 
--- what each step says of a frame
+-- when each step applies to a frame
 abbrev pub RxStepHolds : RxSide → List ℕ → RxStep → Type 0
 RxStepHolds side frame (Tag fault) = TagFaultHolds frame fault
 RxStepHolds side frame NoChannel = channel_of side frame ≡ None
@@ -114,7 +114,7 @@ RxStepHolds side frame BelowLowest =
     (side.replay.on ≡ true) × IsSomeAnd (numbers_of side frame) (λ numbers. (tag_of frame).pn < numbers.lowest)
 RxStepHolds side frame NotVerified = (plain : List ℕ) → ¬ VerifiesAs side frame plain
 
--- in their order
+-- in order
 abbrev pub rx_steps : List RxStep
 rx_steps = map Tag tag_faults ++ NoChannel ∷ NoAssociation ∷ BelowLowest ∷ NotVerified ∷ []
 
@@ -123,12 +123,12 @@ abbrev pub is_strict : Validate → Bool
 is_strict Strict = true
 is_strict Check = false
 
--- discarded where validation is strict or C is set, else delivered
+-- discarded if validation is strict or C is set, else delivered
 abbrev pub verdict_unless_checked : RxSide → List ℕ → Reason → Kind → Verdict
 verdict_unless_checked side frame reason kind =
     if is_strict side.validate || changed (control frame) then Discarded reason else Delivered kind
 
--- the verdict where a step is the first that holds
+-- the verdict if a step is the first that applies
 abbrev pub verdict_at : RxSide → List ℕ → RxStep → Verdict
 verdict_at side frame (Tag IsRunt) = Discarded Runt
 verdict_at side frame (Tag IsOversize) = Discarded Oversize
@@ -140,7 +140,7 @@ verdict_at side frame NoAssociation = verdict_unless_checked side frame NotUsing
 verdict_at side frame BelowLowest = Discarded Late
 verdict_at side frame NotVerified = verdict_unless_checked side frame NotValid Invalid
 
--- what such a verdict gives: an untagged frame whole, others without SecTAG and ICV
+-- what is delivered with such a verdict: an untagged frame whole, others without SecTAG and ICV
 abbrev pub given_at : List ℕ → Verdict → List ℕ
 given_at frame (Delivered Untagged) = frame
 given_at frame (Delivered UnknownSci) = bare_frame frame
@@ -151,7 +151,7 @@ given_at frame (Delivered Delayed) = []
 given_at frame (Discarded reason) = []
 given_at frame HeldBack = []
 
--- ---- the last three steps, which a frame that verified passes to
+-- ---- the last three steps, for a frame that verified
 
 -- a frame that verified: the association that it names with its numbers, its PN, and its plain frame
 pub record Arrival : Type 0 where
@@ -162,7 +162,7 @@ pub record Arrival : Type 0 where
   pub numbers : Numbers
   pub plain : List ℕ
 
--- the first nine steps do not settle the frame, and this is what it is
+-- the first nine steps do not settle the frame, and this is its arrival
 pub record Arrives (side : RxSide) (frame : List ℕ) (a : Arrival) : Type 0 where
   pub unsettled : NoneHolds (RxStepHolds side frame) rx_steps
   pub is_channel : channel_of side frame ≡ Some a.sci
@@ -172,7 +172,7 @@ pub record Arrives (side : RxSide) (frame : List ℕ) (a : Arrival) : Type 0 whe
   pub are_numbers : side.numbers a.sci a.an ≡ Some a.numbers
   pub verified : Verified frame a.sa.key a.sci (octets_of a.sa.offset) a.plain
 
--- how a frame that verified is delivered: Delayed where its number is below lowest, else Ok
+-- how a frame that verified is delivered: Delayed if its number is less than lowest, else Ok
 abbrev pub delivery_kind : Numbers → ℕ → Kind
 delivery_kind numbers pn = if nat_lt pn numbers.lowest then Delayed else Ok
 
@@ -195,7 +195,7 @@ numbers_after_delivery window numbers pn =
 abbrev pub numbers_under_window : ℕ → Numbers → Numbers
 numbers_under_window window numbers = record numbers { lowest = max numbers.lowest (numbers.next - window) }
 
--- the numbers that an association begins with, installed or found at an opening
+-- the initial numbers of an association, installed or found at an opening
 abbrev pub first_numbers : ℕ → Numbers
 first_numbers start = record { next = start; lowest = start; seen = None }
 
@@ -205,13 +205,13 @@ put_numbers table sci an numbers = put_at table sci (put (table sci) an numbers)
 
 -- ---- receiving, where the ceilings are known
 
--- what becomes of a frame: its verdict, the octets that are given out, and the numbers of all associations
+-- the outcome for a frame: its verdict, the octets that are delivered, and the numbers of all associations
 pub record Outcome : Type 0 where
   pub verdict : Verdict
   pub given : List ℕ
   pub numbers : List ℕ → ℕ → Option Numbers
 
--- the outcome of a frame that a step settles: no number moves
+-- the outcome for a frame that a step settles: no number changes
 abbrev pub settled_outcome : RxSide → List ℕ → RxStep → Outcome
 settled_outcome side frame step = record {
   verdict = verdict_at side frame step;
@@ -219,12 +219,13 @@ settled_outcome side frame step = record {
   numbers = side.numbers;
 }
 
--- a number below the ceiling is delivered, and another one held back
+-- a number below the ceiling is delivered, any other held back
 abbrev pub is_below : Option ℕ → ℕ → Bool
 is_below None pn = false
 is_below (Some ceiling) pn = nat_lt pn ceiling
 
--- the outcome of a frame that verified: delivered below the ceiling of its association, else held back
+-- the outcome for a frame that verified: delivered if its number is below the ceiling of its association, else held
+-- back
 abbrev pub arrival_outcome : RxSide → (List ℕ → ℕ → Option ℕ) → Arrival → Outcome
 arrival_outcome side ceilings a =
     if is_below (ceilings a.sci a.an) a.pn
@@ -239,7 +240,7 @@ arrival_outcome side ceilings a =
       numbers = put_numbers side.numbers a.sci a.an (Some (numbers_after_hold a.numbers a.pn));
     }
 
--- the outcome is that of the first of nine steps that holds, or that of the frame's arrival
+-- the outcome is that of the first of nine steps that applies, or that of the frame's arrival
 abbrev pub IsOutcome : RxSide → (List ℕ → ℕ → Option ℕ) → List ℕ → Outcome → Type 0
 IsOutcome side ceilings frame outcome =
     ((step : RxStep) × IsFirst (RxStepHolds side frame) rx_steps step × (outcome ≡ settled_outcome side frame step))
@@ -255,13 +256,13 @@ pub record InOrder (window : ℕ) (numbers : Numbers) (ceiling : ℕ) : Type 0 w
   pub below : numbers.next ≤ ceiling
   pub bounded : ceiling ≤ 2 ^ 32
 
--- an association has numbers and a ceiling in their order, or there is none of the three
+-- an association has numbers and a ceiling in order, or none of the three exists
 abbrev pub IsNumbered : ℕ → Option RxSa → Option Numbers → Option ℕ → Type 0
 IsNumbered window (Some sa) (Some numbers) (Some ceiling) = InOrder window numbers ceiling
 IsNumbered window None None None = Unit {0}
 IsNumbered window sa numbers ceiling = ⊥
 
--- an association exists with numbers and a ceiling in their order, or nothing does
+-- an association exists with numbers and a ceiling in order, or nothing does
 abbrev pub AreOrdered : RxSide → (List ℕ → ℕ → Option ℕ) → List ℕ → ℕ → Type 0
 AreOrdered side ceilings sci an =
     IsNumbered side.replay.window (side.rx sci an) (side.numbers sci an) (ceilings sci an)

@@ -1,4 +1,5 @@
--- Receiving a frame, as the inner calls answer for it: the channel that the frame names, and all channels that exist.
+-- Receiving a frame, as specified for the inner calls: on the channel that the frame names, and on all channels that
+-- exist.
 use Rattle.std.specs.Prelude.{◌≡◌, ℕ, List, Option, Some}
 use Rattle.macs_config.specs.Tables.{put_at}
 use Rattle.macs_config.specs.declared.command.Replay.{Replay}
@@ -10,7 +11,7 @@ use Rattle.macs_rxsc.specs.Value.{ceilings_among, ceilings_in, counters_among, n
 use Rattle.macs_rxsc.specs.declared.channel.Channel.{Channel}
 use Rattle.macs_rxsc.specs.declared.verdict.Verdict.{Verdict}
 
--- a frame that names this channel has this outcome, whatever channels this one is among as it is kept
+-- a frame that names this channel has this outcome, in any list of channels that contains this one
 abbrev pub ChannelReceives : Validate → Replay → Channel → Channel → List ℕ → Verdict → List ℕ → Type 0
 ChannelReceives validate replay old new frame verdict given =
     (side : RxSide) (ceilings : List ℕ → ℕ → Option ℕ) → side.validate ≡ validate → side.replay ≡ replay
@@ -19,8 +20,8 @@ ChannelReceives validate replay old new frame verdict given =
     → IsOutcome side ceilings frame
     (record { verdict = verdict; given = given; numbers = put_at side.numbers old.sci (numbers_in (Some new)) })
 
--- A frame from the common side has this outcome. Of the channels the packet numbers alone change, and the verdict is
--- counted for the one that the frame names.
+-- A frame from the common side has this outcome. Only the packet numbers of channels change, and the verdict is counted
+-- for the channel that the frame names.
 pub record TableReceives (validate : Validate) (replay : Replay) (old new : List Channel) (frame : List ℕ)
     (verdict : Verdict)
     (given : List ℕ) : Type 0 where

@@ -1,4 +1,4 @@
--- Receive channels as they are kept.
+-- Receive channels as they are stored.
 use Rattle.std.specs.Prelude.{ℕ, ◌-◌, max, if◌then◌else◌, List, [], ◌∷◌, map, get_or, Option, Some, None}
 use Rattle.std.specs.Option.{option_and_then, option_map}
 use Rattle.std.specs.Str.{bytes_eq}
@@ -11,14 +11,14 @@ use Rattle.macs_rxsc.specs.declared.channel.Channel.{Channel}
 use Rattle.macs_rxsc.specs.declared.counters.ChannelCounters.{ChannelCounters}
 use Rattle.macs_rxsc.specs.declared.counters.RxCounters.{RxCounters}
 
--- what is kept: how frames are validated, the channels that exist, and what was counted
+-- the stored value: how frames are validated, the channels that exist, and the counters
 pub record RxValue : Type 0 where
   pub validate : Validate
   pub replay : Replay
   pub channels : List Channel
   pub counters : RxCounters
 
--- the channel of an SCI
+-- the channel with an SCI
 abbrev pub channel_at : List Channel → List ℕ → Option Channel
 channel_at [] sci = None
 channel_at (channel ∷ channels) sci = if bytes_eq channel.sci sci then Some channel else channel_at channels sci
@@ -31,11 +31,11 @@ association_in channel an = option_and_then (λ (c : Channel). get_or c.associat
 abbrev pub sa_of : Association → RxSa
 sa_of a = record { key = a.key; offset = a.offset }
 
--- an association's packet numbers, but for the ceiling
+-- an association's packet numbers, without the ceiling
 abbrev pub packet_numbers : Association → Numbers
 packet_numbers a = record { next = a.next; lowest = a.lowest; seen = a.seen }
 
--- the SCIs of channels, in the order in which these are kept
+-- the SCIs of channels, in the stored order
 abbrev pub scis_of : List Channel → List (List ℕ)
 scis_of channels = map (λ (channel : Channel). channel.sci) channels
 
@@ -51,11 +51,11 @@ numbers_in channel an = option_map packet_numbers (association_in channel an)
 abbrev pub ceilings_in : Option Channel → ℕ → Option ℕ
 ceilings_in channel an = option_map (λ (a : Association). a.ceiling) (association_in channel an)
 
--- what a channel counts, if it exists
+-- the counters of a channel, if it exists
 abbrev pub counters_in : Option Channel → Option ChannelCounters
 counters_in channel = option_map (λ (c : Channel). c.counters) channel
 
--- these channels under this validation
+-- these channels with this validation
 abbrev pub rx_side_in : Validate → Replay → List Channel → RxSide
 rx_side_in validate replay channels = record {
   validate = validate;
@@ -69,11 +69,11 @@ rx_side_in validate replay channels = record {
 abbrev pub ceilings_among : List Channel → List ℕ → ℕ → Option ℕ
 ceilings_among channels = λ sci. ceilings_in (channel_at channels sci)
 
--- what each of these channels counts, by SCI
+-- the counters of each of these channels, by SCI
 abbrev pub counters_among : List Channel → List ℕ → Option ChannelCounters
 counters_among channels = λ sci. counters_in (channel_at channels sci)
 
--- what is kept, as receive channels, but for ceilings and counters
+-- the stored receive channels, without ceilings and counters
 abbrev pub rx_side_of : RxValue → RxSide
 rx_side_of r = rx_side_in r.validate r.replay r.channels
 
@@ -85,17 +85,17 @@ ceilings_of r = ceilings_among r.channels
 abbrev pub counters_of : RxValue → RxCounters
 counters_of r = r.counters
 
--- what each channel that exists counts, by SCI
+-- the counters of each channel that exists, by SCI
 abbrev pub channel_counters_of : RxValue → List ℕ → Option ChannelCounters
 channel_counters_of r = counters_among r.channels
 
--- ---- the window changes
+-- ---- a change of the window
 
 -- the lowest acceptable number of an association rises with the window, and never falls
 abbrev pub association_under : ℕ → Association → Association
 association_under window a = record a { lowest = max a.lowest (a.next - window) }
 
--- the same of all associations of a channel
+-- the same for all associations of a channel
 abbrev pub channel_under : ℕ → Channel → Channel
 channel_under window channel =
     record channel { associations = map (option_map (association_under window)) channel.associations }

@@ -20,8 +20,8 @@ use macs_gcm::GcmKey;
 
 /// The packet numbers of a receive association.
 ///
-/// `next` is one more than the greatest number delivered as verified, and at first the number that
-/// the association began with; `lowest` is the lowest acceptable one. Both are 1 to 2^32.
+/// `next` is one more than the greatest number delivered as verified, and initially the
+/// association's first number; `lowest` is the lowest acceptable one. Both are 1 to 2^32.
 #[derive(Clone, Copy, Debug, PartialEq, Eq)]
 pub struct RxNumbers {
     pub next: u64,
@@ -52,7 +52,7 @@ fn greatest(seen: Option<Pn>, pn: Pn) -> Pn
     }
 }
 
-/// The lowest acceptable number of an association rises with the window, where there is one.
+/// Raises the lowest acceptable number of an association with the window, if there is one.
 pub(crate) fn slide_if_any(association: &mut Option<Association>, window: u32)
     ensures { association.new ≡ option_map (association_under window) association.old }
 {
@@ -62,22 +62,22 @@ pub(crate) fn slide_if_any(association: &mut Option<Association>, window: u32)
 }
 
 impl Association {
-    /// The lowest acceptable number rises to the next one less the window, and never falls.
+    /// Raises the lowest acceptable number to the next one minus the window. It never falls.
     pub(crate) fn slide(&mut self, window: u32)
         ensures { self.new ≡ association_under window self.old }
     {
         self.lowest = self.lowest.max(self.next.saturating_sub(u64::from(window)));
     }
 
-    /// Whether replay protection is on, and a packet number is below the lowest acceptable.
+    /// Whether replay protection is on, and a packet number is below the lowest acceptable one.
     fn is_late(&self, replay: Replay, pn: Pn) -> bool
         ensures { result ≡ (replay.on && nat_lt pn self.now.lowest) }
     {
         replay.on && u64::from(pn.get()) < self.lowest
     }
 
-    /// As what a frame that verified is delivered, by its packet number: `None` where that is not
-    /// below the ceiling, and the frame is held back.
+    /// How a frame that verified is delivered, given its packet number: `None` if that is not below
+    /// the ceiling, and the frame is held back.
     fn arrive(&mut self, pn: Pn, window: u32) -> Option<Kind>
         ensures kind { result ≡ (if nat_lt pn self.old.ceiling
             then Some (delivery_kind (packet_numbers self.old) pn) else None) }
@@ -102,7 +102,7 @@ impl Association {
         Some(kind)
     }
 
-    /// What becomes of a frame that names this association of a channel. The parts are a reading of
+    /// The verdict on a frame that names this association of a channel. The parts are a reading of
     /// it, and `out` is empty before.
     pub(crate) fn receive(
         &mut self,

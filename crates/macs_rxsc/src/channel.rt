@@ -20,7 +20,7 @@ use crate::unverified::discard_or_deliver;
 use crate::verdict::{Kind, Reason, Verdict};
 use macs_frame::{ASSOCIATIONS, An, FrameBuf, Parts, Sci};
 
-/// A receive channel: its SCI, its associations by their numbers, and what was counted for it.
+/// A receive channel: its SCI, its associations by number, and its counters.
 #[derive(Default, Drop)]
 pub struct Channel {
     pub sci: Sci,
@@ -29,7 +29,7 @@ pub struct Channel {
 }
 
 impl Channel {
-    /// A channel without associations, for which nothing is counted.
+    /// A channel without associations, whose counters are 0.
     pub(crate) fn new(sci: Sci) -> Channel
         ensures { result ≡ record {
           sci = sci;
@@ -44,7 +44,7 @@ impl Channel {
         }
     }
 
-    /// Puts an association at a number, or takes it away.
+    /// Sets or removes the association at a number.
     pub(crate) fn put(&mut self, an: An, association: Option<Association>)
         ensures sci { self.new.sci ≡ self.old.sci }
         ensures counters { self.new.counters ≡ self.old.counters }
@@ -59,7 +59,7 @@ impl Channel {
         self.associations[an.get() as usize] = association;
     }
 
-    /// Raises the ceiling of an association that exists.
+    /// Raises the ceiling of an existing association.
     pub(crate) fn raise(&mut self, an: An, ceiling: u64)
         ensures sci { self.new.sci ≡ self.old.sci }
         ensures counters { self.new.counters ≡ self.old.counters }
@@ -73,7 +73,7 @@ impl Channel {
         }
     }
 
-    /// The lowest acceptable number of each association rises with the window, and never falls.
+    /// Raises the lowest acceptable number of each association with the window. It never falls.
     pub(crate) fn slide(&mut self, window: u32)
         ensures { self.new ≡ channel_under window self.old }
     {
@@ -82,7 +82,7 @@ impl Channel {
         }
     }
 
-    /// What becomes of a frame that names this channel. The parts are a reading of it, and `out` is
+    /// The verdict on a frame that names this channel. The parts are a reading of it, and `out` is
     /// empty before. The verdict is counted.
     pub(crate) fn receive(
         &mut self,
@@ -106,7 +106,7 @@ impl Channel {
         verdict
     }
 
-    /// What becomes of a frame, as `receive` says; nothing is counted.
+    /// The verdict on a frame, as by `receive`; nothing is counted.
     fn decide(&mut self, policy: Policy, frame: &[u8], parts: &Parts, out: &mut FrameBuf) -> Verdict
         requires read { Tag frame.now parts.now × (¬ IsForKay frame.now) }
         requires empty { out.old.items ≡ [] }
@@ -131,8 +131,7 @@ impl Channel {
         }
     }
 
-    /// The next and the lowest acceptable packet number of an association. It is `None` where there
-    /// is none.
+    /// The next and the lowest acceptable packet number of an association. `None` if there is none.
     pub(crate) fn numbers(&self, an: An) -> Option<RxNumbers>
         ensures { result ≡ option_map (λ (n : Numbers). record { next = n.next; lowest = n.lowest })
             (numbers_in (Some self.now) an) }
@@ -155,7 +154,7 @@ impl Channel {
         association.need(self.sci, an, block)
     }
 
-    /// The need of the first association, by its number, that has one.
+    /// The need of the first association, by number, that has one.
     pub(crate) fn need(&self, block: u32) -> Option<RxNeed>
         ensures { option_map
             (λ (need : RxNeed). record { sci = need.sci; an = need.an; pn = need.pn }) result

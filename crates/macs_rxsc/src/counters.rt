@@ -1,4 +1,4 @@
-//! What is counted.
+//! The counters of receive channels.
 
 ghost use Rattle.std.specs.Prelude.{◌≡◌};
 ghost use Rattle.macs_config.specs.Numbers.{one_more};
@@ -6,14 +6,14 @@ ghost use Rattle.macs_config.specs.Numbers.{one_more};
 use crate::verdict::{Kind, Reason, Verdict};
 use macs_frame::{ChannelTraffic, SecTag};
 
-/// One more, up to 2^64 - 1.
+/// Adds one, up to 2^64 - 1.
 fn count_one(counter: &mut u64)
     ensures { counter.new ≡ one_more counter.old }
 {
     *counter = counter.saturating_add(1);
 }
 
-/// How often each verdict was given. A counter stays at 2^64 - 1.
+/// How often each verdict was given. A counter saturates at 2^64 - 1.
 #[derive(Clone, Copy)]
 pub struct RxCounters {
     pub ok: u64,
@@ -34,7 +34,7 @@ pub struct RxCounters {
 }
 
 /// How often each verdict was given that is counted for a channel, and what the frames carried that
-/// verified. A counter stays at 2^64 - 1.
+/// verified. A counter saturates at 2^64 - 1.
 #[derive(Clone, Copy, Default)]
 pub struct ChannelCounters {
     pub ok: u64,
@@ -51,7 +51,7 @@ impl RxCounters {
     ghost use Rattle.std.specs.Prelude.{◌≡◌};
     ghost use Rattle.macs_rxsc.specs.Counting.{count_of, counters_after_verdict, no_counts};
 
-    /// Nothing is counted yet.
+    /// Counters that are all 0.
     pub fn new() -> RxCounters
         ensures { result ≡ no_counts }
     {
@@ -74,7 +74,7 @@ impl RxCounters {
         }
     }
 
-    /// How often a verdict was given, 0 for a frame that is held back.
+    /// How often this verdict was given, 0 for a frame that is held back.
     pub fn of(&self, verdict: Verdict) -> u64
         ensures { result ≡ count_of verdict self.now }
     {
@@ -98,7 +98,7 @@ impl RxCounters {
         }
     }
 
-    /// A verdict is given once more.
+    /// Counts one more verdict.
     pub fn add(&mut self, verdict: Verdict)
         ensures { self.new ≡ counters_after_verdict verdict self.old }
     {
@@ -128,7 +128,7 @@ impl ChannelCounters {
     ghost use Rattle.macs_rxsc.specs.Counting.{channel_count_of, channel_counters_after};
     ghost use Rattle.macs_rxsc.specs.Counting.{no_channel_counts};
 
-    /// Nothing is counted yet.
+    /// Counters that are all 0.
     pub fn new() -> ChannelCounters
         ensures { result ≡ no_channel_counts }
     {
@@ -144,7 +144,7 @@ impl ChannelCounters {
         }
     }
 
-    /// How often a verdict was given, 0 for one that is not counted for channels.
+    /// How often this verdict was given, 0 for one that is not counted for channels.
     pub fn of(&self, verdict: Verdict) -> u64
         ensures { result ≡ channel_count_of verdict self.now }
     {
@@ -160,7 +160,7 @@ impl ChannelCounters {
         }
     }
 
-    /// A verdict is given once more, on a frame with this SecTAG, and this is what is given of it.
+    /// Counts one more verdict, on a frame with this SecTAG, of which this was delivered.
     pub fn add(&mut self, tag: &SecTag, verdict: Verdict, given: &[u8])
         ensures { self.new ≡ channel_counters_after tag.now verdict given.now self.old }
     {

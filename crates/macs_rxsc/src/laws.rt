@@ -6,7 +6,7 @@ ghost use Rattle.macs_rxsc.specs.Receive.{AreNumbered, AreOrdered, Arrival, Arri
 ghost use Rattle.macs_rxsc.specs.Receive.{RxStepHolds, Outcome, IsOutcome, RxSide, RxStep};
 ghost use Rattle.macs_rxsc.specs.Receive.{rx_steps};
 
-/// A frame is settled by one of the first nine steps, or it is one arrival, and no other.
+/// A frame is settled by one of the first nine steps, or it has exactly one arrival.
 pub fn settled_or_arrives()
     ensures either { (side : RxSide) (frame : List ℕ) → AreNumbered side
         → ((step : RxStep) × IsFirst (RxStepHolds side frame) rx_steps step)
@@ -21,15 +21,15 @@ pub fn receives_once()
         → IsOutcome side ceilings frame a → IsOutcome side ceilings frame b → a ≡ b }
 {}
 
-/// Where the numbers of all associations are in order, each association that exists has its
-/// numbers, so that `settled_or_arrives` speaks of the side.
+/// If the numbers of all associations are in order, each association that exists has its numbers,
+/// so that `settled_or_arrives` applies.
 pub fn ordered_are_numbered()
     ensures { (side : RxSide) (ceilings : List ℕ → ℕ → Option ℕ)
         → ((sci : List ℕ) (an : ℕ) → AreOrdered side ceilings sci an) → AreNumbered side }
 {}
 
-/// Which numbers are in order: the lowest is 1 or more, at most a window below the next, and not
-/// above it; and the next is not above the ceiling, which is 2^32 at most.
+/// Which numbers are in order: the lowest is at least 1, at most the next, and at most a window
+/// below it; and the next is at most the ceiling, which is at most 2^32.
 pub fn numbers_in_order()
     ensures { (side : RxSide) (ceilings : List ℕ → ℕ → Option ℕ) (sci : List ℕ) (an ceiling : ℕ)
         (numbers : Numbers)

@@ -1,8 +1,8 @@
-//! What a caller is asked for.
+//! An association that needs packet numbers.
 
 use macs_frame::{An, Pn, Sci};
 
-/// An association whose ceiling is to be raised, with the greatest packet number that verified.
+/// An association whose ceiling must be raised, with the greatest packet number that verified.
 #[derive(Clone, Copy, Debug, PartialEq, Eq)]
 pub struct RxNeed {
     pub sci: Sci,

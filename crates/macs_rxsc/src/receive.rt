@@ -1,4 +1,4 @@
-//! Receive channels, and what becomes of received frames (IEEE Std 802.1AE-2018, 10.6 and 10.7).
+//! Receive channels, and the verdicts on received frames (IEEE Std 802.1AE-2018, 10.6 and 10.7).
 
 ghost use Rattle.std.specs.Prelude.{◌≡◌, ◌≤◌, ◌<◌, ◌^◌, ℕ, List, [], length, nat_lt, not, true};
 ghost use Rattle.std.specs.Prelude.{false, Some, None, IsSome, IfSome};
@@ -106,7 +106,7 @@ impl Rx {
         self.table.slide(window);
     }
 
-    /// A new channel, of an SCI that has none, where there are fewer than 32.
+    /// Adds a channel with an unused SCI. There are fewer than 32.
     pub fn add(&mut self, sci: Sci)
         requires free { has_channel (rx_side_of self.old) sci ≡ false }
         requires room { length (rx_side_of self.old).channels < this_edition.channels }
@@ -120,7 +120,7 @@ impl Rx {
         self.table.add(sci);
     }
 
-    /// A channel that exists goes, with its associations and counters.
+    /// Removes an existing channel, with its associations and counters.
     pub fn drop_channel(&mut self, sci: Sci)
         requires { has_channel (rx_side_of self.old) sci ≡ true }
         ensures side { rx_side_of self.new ≡ record (rx_side_of self.old) {
@@ -136,10 +136,10 @@ impl Rx {
         self.table.drop_channel(sci);
     }
 
-    /// A new association of an existing channel, at a number where there is none.
+    /// Adds an association to an existing channel, at an unused number.
     ///
     /// `next` is its next and lowest acceptable packet number, and only frames with numbers below
-    /// `ceiling` are delivered as verified: 1 to 2^32 both, `next` not above `ceiling`.
+    /// `ceiling` are delivered as verified: both 1 to 2^32, and `next` at most `ceiling`.
     pub fn install(&mut self, sci: Sci, an: An, key: &Key, offset: Offset, next: u64, ceiling: u64)
         requires stands { has_channel (rx_side_of self.old) sci ≡ true }
         requires empty { (rx_side_of self.old).rx sci an ≡ None }
@@ -168,7 +168,7 @@ impl Rx {
         self.table.put(sci, an, Some(association));
     }
 
-    /// An association that exists goes.
+    /// Removes an existing association.
     pub fn remove(&mut self, sci: Sci, an: An)
         requires { IsSome ((rx_side_of self.old).rx sci an) }
         ensures side { rx_side_of self.new ≡ record (rx_side_of self.old) {
@@ -183,7 +183,7 @@ impl Rx {
         self.table.put(sci, an, None);
     }
 
-    /// Raises the ceiling of an association that exists. The new one is not below the one before,
+    /// Raises the ceiling of an existing association. The new one is not below the previous one,
     /// and at most 2^32.
     pub fn raise(&mut self, sci: Sci, an: An, ceiling: u64)
         requires stands { IsSome ((rx_side_of self.old).rx sci an) }
@@ -198,8 +198,7 @@ impl Rx {
         self.table.raise(sci, an, ceiling);
     }
 
-    /// The next and the lowest acceptable packet number of an association. It is `None` where there
-    /// is none.
+    /// The next and the lowest acceptable packet number of an association. `None` if there is none.
     pub fn numbers(&self, sci: Sci, an: An) -> Option<RxNumbers>
         ensures { result ≡ option_map (λ (n : Numbers). record { next = n.next; lowest = n.lowest })
             ((rx_side_of self.now).numbers sci an) }
@@ -207,12 +206,13 @@ impl Rx {
         self.table.channel(sci)?.numbers(an)
     }
 
-    /// The first association, by ascending SCI and number, whose ceiling is to be raised.
+    /// The first association, by ascending SCI and number, whose ceiling must be raised.
     ///
-    /// With it comes the greatest packet number that was seen on it: that of a frame that verified.
-    /// It was at or above the ceiling, or at most half a block, rounded down, is left between next
-    /// and the ceiling; and the number seen and a block, at most 2^32, is above the ceiling.
-    /// `rx_block` is 1 to 65,536 packet numbers. What is named exists, and may be raised that far.
+    /// It comes with the greatest packet number seen on it: that of a frame that verified. That
+    /// number was at or above the ceiling, or at most half a block, rounded down, is left between
+    /// next and the ceiling; and the number seen plus a block, limited to 2^32, is above the
+    /// ceiling. `rx_block` is 1 to 65,536 packet numbers. The association exists, and its ceiling
+    /// may be raised that far.
     pub fn needs(&self, rx_block: u32) -> Option<RxNeed>
         ensures need { option_map
             (λ (need : RxNeed). record { sci = need.sci; an = need.an; pn = need.pn }) result
@@ -225,16 +225,16 @@ impl Rx {
         self.table.need(rx_block)
     }
 
-    /// The verdict on a frame from the common side, of any number of octets.
+    /// The verdict on a frame from the common side, of any length.
     ///
-    /// What is delivered is written to `out`: the plain frame where the frame verified, an untagged
-    /// frame whole, and else the addresses and the Secure Data. Unless the verdict is `Delivered`,
-    /// `out` is empty. Only a frame that verifies moves packet numbers, and only those of its
+    /// What is delivered is written to `out`: the plain frame if the frame verified, an untagged
+    /// frame whole, otherwise the addresses and the Secure Data. Unless the verdict is `Delivered`,
+    /// `out` is empty. Only a frame that verifies changes packet numbers, and only those of its
     /// association.
     ///
-    /// Every verdict but `HeldBack` is counted, and seven of them also for the channel that the
-    /// frame names. A frame that is held back is to be handed in again, whole and unchanged, once
-    /// `needs` has been served by `raise`: nothing of it is kept but that its number was seen.
+    /// Every verdict except `HeldBack` is counted, and seven of them also for the channel that the
+    /// frame names. A frame that is held back must be submitted again, whole and unchanged, once
+    /// `needs` has been served by `raise`: only the fact that its number was seen is kept.
     pub fn receive(&mut self, frame: &[u8], out: &mut FrameBuf) -> Verdict
         ensures verdict { IsOutcome (rx_side_of self.old) (ceilings_of self.old) frame.now
             (record {
@@ -257,15 +257,16 @@ impl Rx {
         verdict
     }
 
-    /// How often a verdict was given, at most 2^64 - 1; a frame that is held back is not counted.
+    /// How often this verdict was given, at most 2^64 - 1; a frame that is held back is not
+    /// counted.
     pub fn count(&self, verdict: Verdict) -> u64
         ensures { result ≡ count_of verdict (counters_of self.now) }
     {
         self.counters.of(verdict)
     }
 
-    /// How often a verdict was given on frames of a channel, at most 2^64 - 1. It is 0 for a
-    /// verdict that is not counted for channels, and `None` where the channel does not exist.
+    /// How often this verdict was given on frames of a channel, at most 2^64 - 1. 0 for a verdict
+    /// that is not counted for channels, and `None` if the channel does not exist.
     pub fn channel_count(&self, sci: Sci, verdict: Verdict) -> Option<u64>
         ensures { result
             ≡ option_map (channel_count_of verdict) (channel_counters_of self.now sci) }
@@ -275,7 +276,7 @@ impl Rx {
     }
 
     /// What the frames of a channel carried that verified under an association number, since the
-    /// channel was added. It is `None` where the channel does not exist.
+    /// channel was added. `None` if the channel does not exist.
     pub fn traffic(&self, sci: Sci, an: An) -> Option<Traffic>
         ensures { result ≡ option_map (λ (c : ChannelCounters). traffic_under c.traffic an)
             (channel_counters_of self.now sci) }
@@ -293,10 +294,10 @@ impl Rx {
 
     /// What holds of all receive channels.
     ///
-    /// Each association that exists has numbers in their order: the next one less the window is not
-    /// above the lowest acceptable, that not above the next, that not above the ceiling, and that
-    /// at most 2^32. It is on an existing channel. The channels ascend by SCI, and those that exist
-    /// have counters, and no others.
+    /// Each association that exists has numbers in order: the next one minus the window is at most
+    /// the lowest acceptable, that at most the next, that at most the ceiling, and that at most
+    /// 2^32. It belongs to an existing channel. The channels ascend by SCI, and exactly those that
+    /// exist have counters.
     pub fn facts(&self)
         ensures ordered { (sci : List ℕ) (an : ℕ)
             → AreOrdered (rx_side_of self.now) (ceilings_of self.now) sci an }

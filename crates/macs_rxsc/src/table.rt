@@ -36,14 +36,14 @@ pub struct Table {
     pub channels: ArrayVec<Channel, MAX_CHANNELS>,
 }
 
-/// The place of the channel of an SCI, `None` where there is none.
+/// The index of the channel with an SCI, `None` if there is none.
 fn place(channels: &[Channel], sci: Sci) -> Option<usize>
     ensures { result ≡ position (λ (channel : Channel). bytes_eq channel.sci sci) channels.now }
 {
     channels.iter().position(|channel| channel.sci == sci)
 }
 
-/// How many of the channels that exist come first, before the first that comes after an SCI.
+/// How many of the existing channels come before the first whose SCI is greater.
 fn place_after(channels: &[Channel], sci: Sci) -> usize
     ensures within { result ≤ length channels.now }
     ensures between { put_among sci (scis_of channels.now)
@@ -57,7 +57,7 @@ fn place_after(channels: &[Channel], sci: Sci) -> usize
     channels.len()
 }
 
-/// The lowest acceptable number of each association rises with the window, and never falls.
+/// Raises the lowest acceptable number of each association with the window. It never falls.
 fn slide_all(channels: &mut [Channel], window: u32)
     ensures { channels.new ≡ map (channel_under window) channels.old }
 {
@@ -66,8 +66,8 @@ fn slide_all(channels: &mut [Channel], window: u32)
     }
 }
 
-/// The SCI that a SecTAG names (9.5, 9.9). That is the one that is spelled out, the source address
-/// with port 00-01, or that of the only channel where it names none.
+/// The SCI that a SecTAG names (9.5, 9.9): the explicit one, the source address with port 00-01, or
+/// that of the only channel if it names none.
 fn sci_named(channels: &[Channel], frame: &[u8], name: ScName) -> Option<Sci>
     requires { 12 ≤ length frame.now }
     ensures { result ≡ sci_named (scis_of channels.now) frame.now name }
@@ -80,7 +80,7 @@ fn sci_named(channels: &[Channel], frame: &[u8], name: ScName) -> Option<Sci>
     }
 }
 
-/// The place of the channel that a SecTAG names, `None` where there is none.
+/// The index of the channel that a SecTAG names, `None` if there is none.
 fn place_named(channels: &[Channel], frame: &[u8], name: ScName) -> Option<usize>
     requires { 12 ≤ length frame.now }
     ensures { result ≡ option_and_then
@@ -92,7 +92,7 @@ fn place_named(channels: &[Channel], frame: &[u8], name: ScName) -> Option<usize
 }
 
 impl Table {
-    /// The channel of an SCI, `None` where there is none.
+    /// The channel with an SCI, `None` if there is none.
     pub(crate) fn channel(&self, sci: Sci) -> Option<&Channel>
         ensures { option_map (λ channel. channel.now) result
             ≡ channel_at self.now.channels.items sci }
@@ -101,14 +101,14 @@ impl Table {
         Some(&self.channels[place])
     }
 
-    /// The lowest acceptable number of each association rises with the window, and never falls.
+    /// Raises the lowest acceptable number of each association with the window. It never falls.
     pub(crate) fn slide(&mut self, window: u32)
         ensures { self.new.channels.items ≡ map (channel_under window) self.old.channels.items }
     {
         slide_all(self.channels.as_mut_slice(), window);
     }
 
-    /// A new channel, of an SCI that has none, where there are fewer than 32.
+    /// Adds a channel with an unused SCI. There are fewer than 32.
     pub(crate) fn add(&mut self, sci: Sci)
         requires free { list_any (λ other. bytes_eq other sci)
             (scis_of self.old.channels.items) ≡ false }
@@ -126,7 +126,7 @@ impl Table {
         self.channels.insert(place, Channel::new(sci));
     }
 
-    /// A channel goes, with its associations and counters.
+    /// Removes a channel, with its associations and counters.
     pub(crate) fn drop_channel(&mut self, sci: Sci)
         ensures side { (validate : Validate) (replay : Replay)
             → rx_side_in validate replay self.new.channels.items
@@ -145,7 +145,7 @@ impl Table {
         self.channels.retain(|channel| channel.sci != sci);
     }
 
-    /// Puts an association at a number of a channel that exists, or takes it away.
+    /// Sets or removes the association at a number of an existing channel.
     pub(crate) fn put(&mut self, sci: Sci, an: An, association: Option<Association>)
         requires { list_any (λ other. bytes_eq other sci) (scis_of self.old.channels.items) ≡ true }
         ensures side { (validate : Validate) (replay : Replay)
@@ -170,7 +170,7 @@ impl Table {
         }
     }
 
-    /// Raises the ceiling of an association that exists.
+    /// Raises the ceiling of an existing association.
     pub(crate) fn raise(&mut self, sci: Sci, an: An, ceiling: u64)
         requires { IsSome (ceilings_among self.old.channels.items sci an) }
         ensures side { (validate : Validate) (replay : Replay)
@@ -204,7 +204,7 @@ impl Table {
         None
     }
 
-    /// What becomes of a frame from the common side. The verdict is counted for its channel.
+    /// The verdict on a frame from the common side. It is counted for its channel.
     pub(crate) fn receive(&mut self, policy: Policy, frame: &[u8], out: &mut FrameBuf) -> Verdict
         ensures { TableReceives policy.validate policy.replay self.old.channels.items
             self.new.channels.items frame.now result out.new.items }
@@ -216,8 +216,8 @@ impl Table {
         }
     }
 
-    /// What becomes of a frame, as `receive` says. The parts are a reading of it, and `out` is
-    /// empty before.
+    /// The verdict on a frame, as by `receive`. The parts are a reading of it, and `out` is empty
+    /// before.
     fn receive_tagged(
         &mut self,
         policy: Policy,

@@ -1,4 +1,4 @@
-//! What becomes of a frame that does not verify.
+//! Frames that do not verify.
 
 ghost use Rattle.std.specs.Prelude.{◌≡◌, ◌||◌, [], if◌then◌else◌, List, ℕ};
 ghost use Rattle.macs_fields.specs.First.{IsFirst};
@@ -11,7 +11,7 @@ use crate::verdict::{Kind, Reason, Verdict};
 use macs_config::Validate;
 use macs_frame::{ADDRESS_OCTETS, FrameBuf, Parts, TagFault, append};
 
-/// Discards a frame, or delivers its addresses and Secure Data. It is delivered where validation is
+/// Discards a frame, or delivers its addresses and Secure Data. It is delivered if validation is
 /// not strict and C is clear. The parts are a reading of it, and `out` is empty before.
 pub(crate) fn discard_or_deliver(
     validate: Validate,
@@ -36,8 +36,8 @@ pub(crate) fn discard_or_deliver(
     Verdict::Delivered(kind)
 }
 
-/// What becomes of a frame with a fault of its tag, the first of them. It is discarded; without a
-/// tag, and where validation is not strict, it is delivered whole. `out` is empty before.
+/// The verdict on a frame with a fault of its tag, the first of them. It is discarded; a frame
+/// without a tag is delivered whole if validation is not strict. `out` is empty before.
 pub(crate) fn refuse(
     validate: Validate,
     fault: TagFault,

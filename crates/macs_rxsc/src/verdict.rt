@@ -1,24 +1,24 @@
-//! What becomes of a received frame.
+//! The verdict on a received frame.
 
-/// What becomes of a received frame (IEEE Std 802.1AE-2018, 10.6 and 10.7).
+/// The verdict on a received frame (IEEE Std 802.1AE-2018, 10.6 and 10.7).
 #[derive(Clone, Copy, Debug, PartialEq, Eq)]
 pub enum Verdict {
-    /// It is given to the controlled side.
+    /// It is delivered to the controlled side.
     Delivered(Kind),
     /// It is dropped.
     Discarded(Reason),
-    /// It verified, but its packet number is not reserved yet. Nothing is given, and it is to be
-    /// handed in again once the ceiling is raised.
+    /// It verified, but its packet number is not reserved yet. Nothing is delivered, and it must be
+    /// submitted again once the ceiling is raised.
     HeldBack,
 }
 
-/// As what a frame is delivered.
+/// How a frame is delivered.
 #[derive(Clone, Copy, Debug, PartialEq, Eq)]
 pub enum Kind {
     /// It verified.
     Ok,
     /// It verified, with replay protection off, and its packet number is below the lowest
-    /// acceptable.
+    /// acceptable one.
     Delayed,
     /// It did not verify; validation is not strict, and C is clear.
     Invalid,
@@ -47,7 +47,7 @@ pub enum Reason {
     NoSci,
     /// Its association does not exist; validation is strict, or C is set.
     NotUsingSa,
-    /// Replay protection is on, and its packet number is below the lowest acceptable.
+    /// Replay protection is on, and its packet number is below the lowest acceptable one.
     Late,
     /// It did not verify; validation is strict, or C is set.
     NotValid,

@@ -1,4 +1,4 @@
--- What the calls of a store promise that keep something.
+-- What the calls of a store that keep something promise.
 use Rattle.std.specs.Prelude.{◌≡◌, ◌≤◌, ◌+◌, ◌==◌, ◌↔◌, ◌⊎◌, ℕ, true, false, if◌then◌else◌, length, Result, Ok, Err}
 use Rattle.std.specs.Prelude.{IsOk, OnOk, OnErr, IsErrOf}
 use Rattle.macs_config.specs.Apply.{Named}
@@ -22,22 +22,22 @@ use Rattle.macs_store.specs.Value.{used_slots}
 use Rattle.macs_store.specs.declared.fault.CommitFault.{CommitFault}
 use Rattle.macs_store.specs.declared.fault.CommitFault.TheVariants as commit
 
--- ---- one change more
+-- ---- one more change
 
--- no change is kept any more: it runs, all slots are used, and the journal cannot start over
+-- no more change can be kept: it is running, all slots are used, and the journal cannot be rewritten
 abbrev pub IsSpent : {D : Type 0} → StoreValue D → Type 0
 IsSpent s = (is_stopped s ≡ false) × (used_slots s ≡ slots) × (generation s ≡ last_generation)
 
--- how many slots are used after one more change, where so many were used and this was the standing: where all were used
--- the journal started over with a snapshot
+-- how many slots are used after one more change, given how many were used and the standing: if all were used the
+-- journal was rewritten with a snapshot
 abbrev pub slots_with_change : ℕ → Standing → ℕ
 slots_with_change used s = if used == slots then length (snapshot s) + 1 else used + 1
 
--- and in which generation they are, where those before were in this one
+-- the generation after it, given the one before
 abbrev pub generation_with_change : ℕ → ℕ → ℕ
 generation_with_change used number = if used == slots then number + 1 else number
 
--- how many device calls the change takes at most: 4 for its record, and where all slots are used 519 for a compaction
+-- the maximum number of device calls of the change: 4 for its record, and if all slots are used 519 for a compaction
 -- and one for each record of the snapshot
 abbrev pub most_with_change : ℕ → Standing → ℕ
 most_with_change used s = if used == slots then 523 + length (snapshot s) else 4
@@ -46,19 +46,19 @@ most_with_change used s = if used == slots then 523 + length (snapshot s) else 4
 abbrev pub slots_after : {D : Type 0} → StoreValue D → ℕ
 slots_after s = slots_with_change (used_slots s) (standing_in s)
 
--- and in which generation they are
+-- the generation after it
 abbrev pub generation_after : {D : Type 0} → StoreValue D → ℕ
 generation_after s = generation_with_change (used_slots s) (generation s)
 
--- how many device calls the change takes at most
+-- the maximum number of device calls of the change
 abbrev pub most_calls : {D : Type 0} → StoreValue D → ℕ
 most_calls s = most_with_change (used_slots s) (standing_in s)
 
 -- ---- a reservation
 
--- A call keeps one change, which makes `after` of the standing. Refused as Stopped, then as GenerationsSpent; these are
--- judged before the work starts, and change nothing. Disk where a device call failed: memory is as it was, and a power
--- loss leaves the standing before or what it becomes, in format two. Where all slots are used the journal starts over
+-- A call keeps one change, which turns the standing into `after`. Fails with Stopped, then with GenerationsSpent; these
+-- are checked before the work starts, and change nothing. Disk if a device call failed: memory is unchanged, and a
+-- power loss leaves the old standing or the new one, in format two. If all slots are used the journal is rewritten
 -- first, with a snapshot of the standing.
 pub record Keeps {D : Type 0} (disk_of : D → disk.Disk) (old : StoreValue D) (after : Standing)
     (result : Result (Unit {0}) JournalFault) (new : StoreValue D) : Type 0 where
@@ -83,7 +83,7 @@ pub record Keeps {D : Type 0} (disk_of : D → disk.Disk) (old : StoreValue D) (
 
 -- ---- a command
 
--- calls of the disk: one of them failed, and no other, exactly where this is answered as Disk
+-- calls of the disk: exactly one of them failed, if and only if the answer is Disk
 abbrev pub CommitFails : disk.Disk → disk.Disk → Result (Unit {0}) CommitFault → Type 0
 CommitFails old new (Err commit.Disk) = FailsOnce old new
 CommitFails old new result = new.failures ≡ old.failures
@@ -93,10 +93,10 @@ pub record IsCommitOf (old new : disk.Disk) (result : Result (Unit {0}) CommitFa
   pub works : Works old new
   pub fails : CommitFails old new result
 
--- A call keeps a command and applies it. Refused as Stopped, then as Refused with the first refusal that holds, then as
--- GenerationsSpent; these are judged before the work starts, and change nothing. Disk where a device call failed:
--- memory is as it was, and a power loss leaves the standing before or what the command makes of it, in format two.
--- Where all slots are used the journal starts over first, with a snapshot of the standing.
+-- A call keeps a command and applies it. Fails with Stopped, then with Refused and the first refusal that applies, then
+-- with GenerationsSpent; these are checked before the work starts, and change nothing. Disk if a device call failed:
+-- memory is unchanged, and a power loss leaves the old standing or the one after the command, in format two. If all
+-- slots are used the journal is rewritten first, with a snapshot of the standing.
 pub record Commits {D : Type 0} (disk_of : D → disk.Disk) (old : StoreValue D) (command : Command)
     (result : Result (Unit {0}) CommitFault) (new : StoreValue D) : Type 0 where
   pub stopped : IsErrOf result commit.Stopped ↔ (is_stopped old ≡ true)

@@ -1,5 +1,4 @@
--- What the opening of a disk promises: what is there, or why it is refused, and what becomes of a journal of format
--- one.
+-- What opening a disk promises: the standing, or why it fails, and what becomes of a journal of format one.
 use Rattle.std.specs.Prelude.{◌≡◌, ◌≢◌, ◌<◌, ◌≤◌, ◌↔◌, ◌⊎◌, ℕ, Bool, true, false, length, Some, Result, Ok, Err}
 use Rattle.macs_config.specs.Config.{this_edition}
 use Rattle.macs_disk.specs.Disk.{Disk, IsHonest, MayLeave, Works, now}
@@ -23,43 +22,43 @@ use Rattle.macs_store.specs.Snapshot.{snapshot}
 use Rattle.macs_store.specs.Standing.{Standing}
 use Rattle.macs_store.specs.Value.{IsIdle, IsStored, StoreValue, disk_in, is_stopped, standing_in}
 
--- what a disk is refused for, by what a disk of this kind is: no endpoint of this edition goes on from it
+-- why a disk is unfit: no endpoint of this edition can continue from it
 abbrev pub IsUnfit : {D : Type 0} → (D → Disk) → D → JournalFault → Type 0
 IsUnfit disk_of disk fault = IsUnfitTo this_edition (disk_of disk).sectors (now (disk_of disk)).seen fault
 
 -- ---- what an opening leaves
 
--- an image that the disk could leave before, or one that stands for what reads gave
+-- an image that the disk could leave before, or one that represents what reads gave
 abbrev pub OpeningLeaves : Disk → Image → Type 0
 OpeningLeaves old image = MayLeave old image ⊎ StandAlike this_edition (now old).seen image
 
--- the disk has no journal that an opening starts over
+-- the disk has no journal that an opening rewrites
 abbrev pub HasNoneToMigrate : Disk → Type 0
 HasNoneToMigrate old = (c : Content) (s : Standing) → ¬ IsToMigrate this_edition (now old).seen c s
 
--- Nothing is written: after the first call the disk stays as it is to the end, and no power loss on the way left
+-- Nothing is written: after the first call the disk stays the same to the end, and no power loss on the way left
 -- anything that it could not leave before.
 pub record WritesNothing (old new : Disk) : Type 0 where
   pub from_first : StandsFromFirst old new
   pub any_moment : LeavesNothingNew old new
 
--- an image that the disk could leave before, or one with this content, or with that of a journal that started over with
--- a snapshot of what it stands for: in the other area, in the next generation and in format two
+-- an image that the disk could leave before, or one with this content, or with that of a journal rewritten with a
+-- snapshot of its standing: in the other area, in the next generation and in format two
 abbrev pub MigrationLeaves : Disk → Content → Standing → Image → Type 0
 MigrationLeaves old c s image = MayLeave old image ⊎ HasEitherJournal c (compacted c (snapshot s)) image
 
--- A journal with this content starts over, done or cut short: that is left at any moment, and no sector is touched but
--- those that a compaction writes to, all in the other area.
+-- A journal with this content is rewritten, completely or in part: that is left at any moment, and no sector is touched
+-- except those that a compaction writes to, all in the other area.
 pub record IsMigration (old new : Disk) (c : Content) (s : Standing) : Type 0 where
   pub any_moment : Leaves old new (MigrationLeaves old c s)
   pub others : (i : ℕ) → ¬ CompactWrites (now old).seen (other_area c.area) (length (snapshot s)) i → IsSpared old new i
 
--- ---- an opening that is not refused
+-- ---- an opening that succeeds
 
--- Its device calls, on a disk that stood for this: the disk is large enough, and no call failed. On an honest disk
--- nothing is pending then, the current area is of format two, and no power loss on the way left anything but what it
--- could leave before, or what stands for the same. Where nothing is to start over nothing is written: the first call is
--- a sync, and those after it only read. Else the journal started over, once.
+-- Its device calls, on a disk that represented this standing: the disk is large enough, and no call failed. On an
+-- honest disk nothing is pending then, the current area is of format two, and no power loss on the way left anything
+-- but what it could leave before, or what represents the same standing. If no rewrite is needed nothing is written: the
+-- first call is a sync, and those after it only read. Otherwise the journal was rewritten, once.
 pub record OpensDisk (old new : Disk) (s : Standing) : Type 0 where
   pub large : least_sectors ≤ old.sectors
   pub works : Works old new
@@ -71,7 +70,8 @@ pub record OpensDisk (old new : Disk) (s : Standing) : Type 0 where
   pub migrated : IsHonest new → (c : Content) → IsToMigrate this_edition (now old).seen c s
       → IsMigration old new c s × IsReady (now new) (compacted c (snapshot s))
 
--- A disk is opened to this store, which runs. On an honest disk the disk stood for what is in memory, and holds it.
+-- A disk is opened as this store, which is running. On an honest disk the disk represented what is in memory, and holds
+-- it.
 pub record Opens {D : Type 0} (disk_of : D → Disk) (disk : D) (s : StoreValue D) : Type 0 where
   pub device : OpensDisk (disk_of disk) (disk_in disk_of s) (standing_in s)
   pub running : is_stopped s ≡ false
@@ -80,16 +80,16 @@ pub record Opens {D : Type 0} (disk_of : D → Disk) (disk : D) (s : StoreValue 
       → StandingIs this_edition (disk_of disk).sectors (now (disk_of disk)).seen (Ok (standing_in s))
   pub stored : IsHonest (disk_in disk_of s) → IsStored disk_of s
 
--- ---- an opening that is refused
+-- ---- an opening that fails
 
 -- why a disk is not opened
 abbrev pub IsOpenName : JournalFault → Type 0
 IsOpenName name = IsRecoverName name ⊎ (name ≡ variant.GenerationsSpent)
 
--- An opening that is refused, and gives the disk back. The fault is TooSmall exactly where the disk is too small, and
--- then no call is made; it is Disk exactly where a device call failed. On an honest disk every other fault is what the
--- disk is unfit for, and nothing is written; nor is anything where the fault is Disk and nothing was to start over.
--- Else the journal started over at most.
+-- An opening that fails, and returns the disk. The fault is TooSmall if and only if the disk is too small, and then no
+-- call is made; it is Disk if and only if a device call failed. On an honest disk every other fault is the reason why
+-- the disk is unfit, and nothing is written; nor is anything if the fault is Disk and no rewrite was needed. Otherwise
+-- the journal was at most rewritten.
 pub record RefusesDisk {D : Type 0} (disk_of : D → Disk) (disk left : D) (fault : JournalFault) : Type 0 where
   pub name : IsOpenName fault
   pub small : (fault ≡ variant.TooSmall) ↔ ((disk_of disk).sectors < least_sectors)
@@ -104,15 +104,15 @@ pub record RefusesDisk {D : Type 0} (disk_of : D → Disk) (disk left : D) (faul
       → IsToMigrate this_edition (now (disk_of disk)).seen c s
       → IsMigration (disk_of disk) (disk_of left) c s
 
--- A disk is opened, or refused for what is on it, or for a device call that failed.
+-- A disk is opened, or refused because of what is on it, or because a device call failed.
 abbrev pub IsStoreOpening : {D : Type 0} → (D → Disk) → D → Result (StoreValue D) (RecoverRefused D) → Type 0
 IsStoreOpening disk_of disk (Ok s) = Opens disk_of disk s
 IsStoreOpening disk_of disk (Err refused) = RefusesDisk disk_of disk refused.disk refused.fault
 
--- ---- on the way
+-- ---- intermediate steps
 
--- A store whose journal was recovered starts it over with a snapshot of what is in memory, which stands for the same;
--- nothing else changes in memory.
+-- A store whose journal was recovered rewrites it with a snapshot of what is in memory, which represents the same
+-- standing; nothing else changes in memory.
 pub record BeginsAnew {D : Type 0} (disk_of : D → Disk) (old : StoreValue D) (result : Result (Unit {0}) JournalFault)
     (new : StoreValue D) : Type 0 where
   pub compacts : Compacts disk_of old.journal (snapshot (standing_in old)) result new.journal
@@ -120,8 +120,8 @@ pub record BeginsAnew {D : Type 0} (disk_of : D → Disk) (old : StoreValue D) (
   pub hand : new.hand ≡ old.hand
   pub stands : snapshot_of this_edition (standing_in old).identity (snapshot (standing_in old)) ≡ Some (standing_in old)
 
--- What comes of a store that was recovered: its records were read to stand for something or not, and their format is
--- one to start over or not.
+-- What becomes of a store that was recovered, depending on whether its records were replayed successfully, and on
+-- whether their format requires a rewrite.
 abbrev pub TakesUp : {D : Type 0} → (D → Disk) → (is_read is_old : Bool) → StoreValue D → Result (Unit {0}) JournalFault
     → StoreValue D → Type 0
 TakesUp disk_of false is_old old result new = (result ≡ Err variant.BadJournal) × (new ≡ old)

@@ -9,7 +9,7 @@ use Rattle.macs_record.specs.declared.record.Record.{Record}
 use Rattle.macs_record.specs.declared.record.Record.TheVariants.{Settings, TxSa, Channel, RxSa, Spent}
 use Rattle.macs_store.specs.Standing.{Ceilings, Standing}
 
--- the record of an association with its ceiling, if there are both
+-- the record of an association with its ceiling, if both exist
 abbrev pub record_if_both : {A : Type 0} → (A → ℕ → Record) → Option A → Option ℕ → List Record
 record_if_both r (Some sa) (Some ceiling) = r sa ceiling ∷ []
 record_if_both r sa ceiling = []
@@ -43,20 +43,20 @@ rx_records_of c ceilings sci = flat_map (rx_records_at c ceilings sci) every_an
 unfoldable pub rx_records : Config → Ceilings → List Record
 rx_records c ceilings = flat_map (rx_records_of c ceilings) c.channels
 
--- how many fingerprints a record has, but for the last of a side
+-- how many fingerprints a record has, except the last of a side
 abbrev pub fingerprints_each : ℕ
 fingerprints_each = 15
 
--- how many records the fingerprints take that may be spent on a side
+-- how many records are needed for the maximum number of spent keys of a side
 abbrev pub most_spent_records : ℕ
 most_spent_records = 35
 
--- the most records of a snapshot: the settings, 4 transmit associations, 32 channels of 4 associations each, and the
--- spent keys of both sides
+-- the maximum number of records in a snapshot: the settings, 4 transmit associations, 32 channels of 4 associations
+-- each, and the spent keys of both sides
 abbrev pub most_records : ℕ
 most_records = 235
 
--- the fingerprints of a side's record, by its place from 0 on
+-- the fingerprints of a side's record, by its position from 0 on
 abbrev pub fingerprints_at : List (List ℕ) → ℕ → List (List ℕ)
 fingerprints_at spent place = take fingerprints_each (drop (fingerprints_each * place) spent)
 
@@ -65,11 +65,11 @@ abbrev pub record_if_any : Role → List (List ℕ) → List Record
 record_if_any role [] = []
 record_if_any role (fingerprint ∷ fingerprints) = Spent role (fingerprint ∷ fingerprints) ∷ []
 
--- a side's record of spent keys at a place, if there is one
+-- a side's record of spent keys at a position, if there is one
 abbrev pub spent_records_at : Role → List (List ℕ) → ℕ → List Record
 spent_records_at role spent place = record_if_any role (fingerprints_at spent place)
 
--- the records of a side's spent keys, in the order of installing
+-- the records of a side's spent keys, in the order of installation
 unfoldable pub spent_records : Role → List (List ℕ) → List Record
 spent_records role spent = flat_map (spent_records_at role spent) (range_with_len 0 most_spent_records)
 

@@ -27,8 +27,8 @@ use Rattle.macs_store.specs.declared.fault.CommitFault.TheVariants as commit
 
 -- ---- work is started
 
--- What a store is that has started one change, which makes `after` of the standing: the standing is as it was, no
--- device call was made, and so many are to come at most.
+-- A store that has started one change, which will turn the standing into `after`: the standing is unchanged, no device
+-- call was made, and at most this many will be.
 pub record HasInHand {D : Type 0} (disk_of : D → disk.Disk) (old : StoreValue D) (after : Standing)
     (new : StoreValue D) : Type 0 where
   pub running : is_stopped new ≡ false
@@ -41,8 +41,8 @@ pub record HasInHand {D : Type 0} (disk_of : D → disk.Disk) (old : StoreValue 
   pub left : calls_left new ≡ most_calls old
   pub stored : IsStored disk_of old → IsStored disk_of new
 
--- A reservation is started, which makes `after` of the standing. Refused as Stopped, then as GenerationsSpent; nothing
--- changes then.
+-- A reservation is started, which will turn the standing into `after`. Fails with Stopped, then with GenerationsSpent;
+-- nothing changes then.
 pub record Starts {D : Type 0} (disk_of : D → disk.Disk) (old : StoreValue D) (after : Standing)
     (result : Result (Unit {0}) JournalFault) (new : StoreValue D) : Type 0 where
   pub stopped : IsErrOf result journal.Stopped ↔ (is_stopped old ≡ true)
@@ -51,7 +51,7 @@ pub record Starts {D : Type 0} (disk_of : D → disk.Disk) (old : StoreValue D) 
   pub same : OnErr result (new ≡ old)
   pub in_hand : OnOk result (HasInHand disk_of old after new)
 
--- A command is started. Refused as Stopped, then as Refused with the first refusal that holds, then as
+-- A command is started. Fails with Stopped, then with Refused and the first refusal that applies, then with
 -- GenerationsSpent; nothing changes then.
 pub record StartsCommit {D : Type 0} (disk_of : D → disk.Disk) (old : StoreValue D) (command : Command)
     (result : Result (Unit {0}) CommitFault) (new : StoreValue D) : Type 0 where
@@ -76,7 +76,7 @@ pub record StartsRecord {D : Type 0} (disk_of : D → disk.Disk) (old : StoreVal
 
 -- ---- one device call
 
--- the journal is to start over
+-- the journal is being rewritten
 abbrev pub IsRenewing : Change → Type 0
 IsRenewing (Renewing r) = Unit {0}
 IsRenewing other = ⊥
@@ -86,14 +86,14 @@ abbrev pub IsAppending : Change → Type 0
 IsAppending (Appending r) = Unit {0}
 IsAppending other = ⊥
 
--- A step of a store: one device call of the work under way. Stopped exactly where a device call failed before, else
--- Idle exactly where nothing is under way: then no call is made and nothing changes. Disk exactly where the call
--- failed, which stops the store and leaves nothing under way. Else the work goes on, or is finished: the standing
--- changes then, and at no other time. At each moment a power loss leaves the standing before, or the standing once the
--- work is done; and once it is finished, only the standing then.
+-- A step of a store: one device call of the work under way. Stopped if and only if a device call failed before, else
+-- Idle if and only if nothing is under way: then no call is made and nothing changes. Disk if and only if the call
+-- failed, which stops the store and leaves nothing under way. Otherwise the work continues, or is finished: the
+-- standing changes then, and at no other time. At each moment a power loss leaves the standing before, or the one once
+-- the work is done; and once it is finished, only the latter.
 pub record Steps {D : Type 0} (disk_of : D → disk.Disk) (old : StoreValue D) (result : Result JournalStep JournalFault)
     (new : StoreValue D) : Type 0 where
-  -- what is answered, and what becomes of the store in memory
+  -- the answer, and the store in memory
   pub stopped : IsErrOf result journal.Stopped ↔ (is_stopped old ≡ true)
   pub idle : (result ≡ Ok Idle) ↔ ((is_stopped old ≡ false) × IsIdle old)
   pub names : OnErr result (IsErrOf result journal.Stopped ⊎ IsErrOf result journal.Disk)
@@ -122,8 +122,8 @@ pub record Steps {D : Type 0} (disk_of : D → disk.Disk) (old : StoreValue D) (
 
 -- ---- to the end
 
--- The device calls of the work under way, up to its end. Refused as a step. After Ok nothing is under way, the work is
--- done, and a power loss leaves the standing.
+-- The device calls of the work under way, up to its end. Fails as a step does. After Ok nothing is under way, the work
+-- is done, and a power loss leaves the standing.
 pub record Finishes {D : Type 0} (disk_of : D → disk.Disk) (old : StoreValue D)
     (result : Result (Unit {0}) JournalFault) (new : StoreValue D) : Type 0 where
   pub stopped : IsErrOf result journal.Stopped ↔ (is_stopped old ≡ true)

@@ -32,7 +32,7 @@ standing_in s = standing_of s.held
 abbrev pub device_in : {D : Type 0} → StoreValue D → D
 device_in s = journal.device_in s.journal
 
--- the disk that its device is, where `disk_of` says what a device is
+-- its disk, where `disk_of` gives the disk of a device
 abbrev pub disk_in : {D : Type 0} → (D → disk.Disk) → StoreValue D → disk.Disk
 disk_in disk_of s = journal.disk_in disk_of s.journal
 
@@ -64,7 +64,7 @@ standing_with standing Empty = Some standing
 standing_with standing (Renewing r) = standing_after_record standing r
 standing_with standing (Appending r) = standing_after_record standing r
 
--- the same of the work that a store has under way
+-- the same for the work that a store has under way
 abbrev pub standing_then : {D : Type 0} → StoreValue D → Option Standing
 standing_then s = standing_with (standing_in s) s.hand
 
@@ -74,31 +74,31 @@ slots_with s Empty = used_slots s
 slots_with s (Renewing r) = snapshot_length s + 1
 slots_with s (Appending r) = used_slots s + 1
 
--- the same of the work that a store has under way
+-- the same for the work that a store has under way
 abbrev pub slots_then : {D : Type 0} → StoreValue D → ℕ
 slots_then s = slots_with s s.hand
 
--- and in which generation
+-- the generation once the work under way is done
 abbrev pub generation_with : {D : Type 0} → StoreValue D → Change → ℕ
 generation_with s Empty = generation s
 generation_with s (Renewing r) = generation s + 1
 generation_with s (Appending r) = generation s
 
--- the same of the work that a store has under way
+-- the same for the work that a store has under way
 abbrev pub generation_then : {D : Type 0} → StoreValue D → ℕ
 generation_then s = generation_with s s.hand
 
--- how many device calls are still to come, at most
+-- the maximum number of device calls left
 abbrev pub calls_with : {D : Type 0} → StoreValue D → Change → ℕ
 calls_with s Empty = 0
 calls_with s (Renewing r) = left_of s.journal.hand + 4
 calls_with s (Appending r) = left_of s.journal.hand
 
--- the same of the work that a store has under way
+-- the same for the work that a store has under way
 abbrev pub calls_left : {D : Type 0} → StoreValue D → ℕ
 calls_left s = calls_with s s.hand
 
--- the record under way follows from the standing, and the journal is at work for it
+-- the record under way follows from the standing, and the journal is working on it
 abbrev pub FitsChange : {D : Type 0} → JournalValue D → Standing → Change → Type 0
 FitsChange j standing Empty = journal.IsIdle j
 FitsChange j standing (Renewing r) =
@@ -113,13 +113,12 @@ is_ceiling (TxCeiling an ceiling) = true
 is_ceiling (RxCeiling sci an ceiling) = true
 is_ceiling r = false
 
--- what was judged beside a record: nothing where it is that of a raised ceiling, and else the command whose record it
--- is
+-- what was checked along with a record: nothing for a raised ceiling, else the command whose record it is
 abbrev pub IsOfRecord : Record → Option Command → Type 0
 IsOfRecord r None = is_ceiling r ≡ true
 IsOfRecord r (Some command) = record_of command ≡ Some r
 
--- what was judged beside the work under way is of the record under way, and nothing is left of it where no work is
+-- what was checked along with the work under way belongs to the record under way, and none of it is left if no work is
 -- under way
 abbrev pub IsOfChange : Change → Option Command → Type 0
 IsOfChange Empty checked = checked ≡ None
@@ -128,14 +127,14 @@ IsOfChange (Appending r) checked = IsOfRecord r checked
 
 -- ---- on its disk
 
--- what the journal's content stands for once its own work is done: an append adds its record, a compaction changes
--- nothing
+-- the standing that the journal's content represents once its own work is done: an append adds its record, a compaction
+-- changes nothing
 abbrev pub standing_next : Standing → Change → Option Standing
 standing_next standing Empty = Some standing
 standing_next standing (Renewing r) = Some standing
 standing_next standing (Appending r) = standing_after_record standing r
 
--- and that content: the same, one after a compaction, or one with the record
+-- that content: the same, one after a compaction, or one with the record
 abbrev pub LeadsTo : Change → Content → Content → Type 0
 LeadsTo Empty before after = after ≡ before
 LeadsTo (Renewing r) before after = Unit {0}

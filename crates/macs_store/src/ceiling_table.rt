@@ -14,7 +14,7 @@ use macs_config::MAX_CHANNELS;
 use macs_fields::{ASSOCIATIONS, An, Sci};
 use macs_record::Ceiling;
 
-/// The ceilings of a receive channel's associations, by their numbers.
+/// The ceilings of a receive channel's associations, by number.
 #[derive(Default, Drop)]
 pub struct ChannelCeilings {
     pub sci: Sci,
@@ -22,7 +22,7 @@ pub struct ChannelCeilings {
 }
 
 impl ChannelCeilings {
-    /// The ceilings, by the numbers of the associations.
+    /// The ceilings, by association number.
     fn all(&self) -> [Option<Ceiling>; ASSOCIATIONS]
         ensures { result ≡ self.now.ceilings }
     {
@@ -30,7 +30,7 @@ impl ChannelCeilings {
         [*first, *second, *third, *fourth]
     }
 
-    /// Puts the ceiling of an association, or takes it away.
+    /// Sets or removes the ceiling of an association.
     fn put(&mut self, an: An, ceiling: Option<Ceiling>)
         ensures sci { self.new.sci ≡ self.old.sci }
         ensures ceiling { (number : ℕ) → get_or self.new.ceilings number None
@@ -40,7 +40,7 @@ impl ChannelCeilings {
     }
 }
 
-/// The place of the channel of an SCI, `None` where there is none.
+/// The index of the channel with an SCI, `None` if there is none.
 fn place(channels: &[ChannelCeilings], sci: Sci) -> Option<usize>
     ensures { result
         ≡ position (λ (channel : ChannelCeilings). bytes_eq channel.sci sci) channels.now }
@@ -48,8 +48,8 @@ fn place(channels: &[ChannelCeilings], sci: Sci) -> Option<usize>
     channels.iter().position(|channel| channel.sci == sci)
 }
 
-/// The ceilings of transmit associations by their numbers, and those of the receive channels that
-/// exist, by ascending SCI.
+/// The ceilings of transmit associations, by number, and those of the receive channels that exist,
+/// by ascending SCI.
 #[derive(Drop)]
 pub struct CeilingTable {
     pub tx: [Option<Ceiling>; ASSOCIATIONS],
@@ -92,7 +92,7 @@ impl CeilingTable {
         }
     }
 
-    /// Puts a ceiling of a transmit association, or takes it away.
+    /// Sets or removes a ceiling of a transmit association.
     pub(crate) fn put_tx(&mut self, an: An, ceiling: Option<Ceiling>)
         ensures put { table_ceilings self.new
             ≡ ceilings_with_tx (table_ceilings self.old) an ceiling }
@@ -101,7 +101,7 @@ impl CeilingTable {
         self.tx[an.get() as usize] = ceiling;
     }
 
-    /// Puts a ceiling of a receive association of a channel that exists, or takes it away.
+    /// Sets or removes a ceiling of a receive association, in an existing channel.
     pub(crate) fn put_rx(&mut self, sci: Sci, an: An, ceiling: Option<Ceiling>)
         requires { is_among (table_scis self.old) sci ≡ true }
         ensures put { table_ceilings self.new
@@ -113,7 +113,8 @@ impl CeilingTable {
         }
     }
 
-    /// Keeps the ceilings of these channels, which exist from now on; a new one has none.
+    /// Keeps the ceilings of these channels, the only ones that exist from now on; a new one has
+    /// none.
     pub(crate) fn keep(&mut self, scis: &[Sci])
         requires few { length scis.now ≤ 32 }
         ensures tx { (table_ceilings self.new).tx ≡ (table_ceilings self.old).tx }

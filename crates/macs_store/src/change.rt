@@ -2,12 +2,13 @@
 
 use macs_record::Record;
 
-/// The change that a store has under way. What is in memory does not change before it is done.
+/// The change that a store has under way. Memory does not change before it is done.
 #[derive(Drop)]
 pub enum Change {
     /// None.
     Empty,
-    /// The journal starts over with a snapshot of what is in memory, and takes this record then.
+    /// The journal is being rewritten with a snapshot of what is in memory, and takes this record
+    /// then.
     Renewing(Record),
     /// The journal takes this record.
     Appending(Record),

@@ -1,5 +1,5 @@
-//! The configuration and the ceilings of packet numbers, kept in a journal: what is kept is there
-//! after a power loss at any moment.
+//! The configuration and the ceilings of packet numbers, kept in a journal: what is kept survives a
+//! power loss at any moment.
 #![tactic(auto)]
 
 mod ahead;

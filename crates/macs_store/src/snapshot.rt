@@ -23,10 +23,10 @@ use macs_fields::{An, Sci};
 use macs_journal::RecordSource;
 use macs_record::Record;
 
-/// How many records the keys take that may be spent on a side.
+/// How many records are needed for the maximum number of spent keys of a side.
 const MAX_SPENT_RECORDS: usize = 35;
 
-// The records of a snapshot of the standing. No more than one of them is there at a time.
+// The records of a snapshot of the standing. At most one of them exists at a time.
 impl RecordSource for Standing {
     ghost listed = { λ s. snapshot (standing_of s) };
 
@@ -40,7 +40,8 @@ impl RecordSource for Standing {
 }
 
 impl Standing {
-    /// What holds of every snapshot: it stands for what it was taken of, in 1 to 235 records.
+    /// What holds of every snapshot: it represents the standing it was taken of, in 1 to 235
+    /// records.
     pub(crate) fn facts(&self)
         ensures stands { snapshot_of this_edition self.now.config.identity
             (snapshot (standing_of self.now)) ≡ Some (standing_of self.now) }
@@ -55,12 +56,12 @@ impl Standing {
     fn record_count(&self) -> usize
         ensures { result ≡ length (snapshot (standing_of self.now)) }
     {
-        let Walk { passed, .. } = self.walk(usize::MAX); // No record is there, so none is kept.
+        let Walk { passed, .. } = self.walk(usize::MAX); // No record has this position.
         passed
     }
 
-    /// The record at a place of a snapshot of the standing, counted from 0; `None` after the last
-    /// one.
+    /// The record at a position in a snapshot of the standing, counting from 0; `None` after the
+    /// last one.
     fn record_at(&self, place: usize) -> Option<Record>
         ensures { result ≡ slice_get (snapshot (standing_of self.now)) place }
     {
@@ -68,7 +69,7 @@ impl Standing {
         found
     }
 
-    /// Goes past all records of a snapshot of the standing, and keeps the one at a place.
+    /// Walks over all records of a snapshot of the standing, and keeps the one at a position.
     fn walk(&self, place: usize) -> Walk
         ensures { result ≡ walk_past_all (new_walk place) (snapshot (standing_of self.now)) }
     {
@@ -84,7 +85,7 @@ impl Standing {
     }
 }
 
-/// Goes past the settings.
+/// Walks over the settings.
 fn pass_settings(config: &Config, walk: &mut Walk)
     requires room { walk.old.passed < most_records }
     ensures walked { walk.new ≡ walk_past walk.old (settings_record (config_of config.now)) }
@@ -98,7 +99,7 @@ fn pass_settings(config: &Config, walk: &mut Walk)
     });
 }
 
-/// Goes past the transmit associations, by their numbers.
+/// Walks over the transmit associations, by number.
 fn pass_tx(config: &Config, ceilings: &CeilingTable, walk: &mut Walk)
     requires room { walk.old.passed + 4 ≤ most_records }
     ensures walked { walk.new
@@ -110,7 +111,7 @@ fn pass_tx(config: &Config, ceilings: &CeilingTable, walk: &mut Walk)
     }
 }
 
-/// Goes past a transmit association, if there is one at that number.
+/// Walks over the transmit association at a number, if there is one.
 fn pass_tx_at(config: &Config, ceilings: &CeilingTable, an: An, walk: &mut Walk)
     requires room { walk.old.passed < most_records }
     ensures walked { walk.new ≡ walk_past_all walk.old
@@ -124,7 +125,7 @@ fn pass_tx_at(config: &Config, ceilings: &CeilingTable, an: An, walk: &mut Walk)
     }
 }
 
-/// Goes past receive channels.
+/// Walks over receive channels.
 fn pass_channels(scis: &[Sci], walk: &mut Walk)
     requires fit { length scis.now ≤ 32 }
     requires room { walk.old.passed + 32 ≤ most_records }
@@ -136,7 +137,7 @@ fn pass_channels(scis: &[Sci], walk: &mut Walk)
     }
 }
 
-/// Goes past the receive associations of all channels, in their order.
+/// Walks over the receive associations of all channels, in channel order.
 fn pass_rx(config: &Config, ceilings: &CeilingTable, scis: &[Sci], walk: &mut Walk)
     requires channels { scis.now ≡ (config_of config.now).channels }
     requires fit { length scis.now ≤ 32 }
@@ -150,7 +151,7 @@ fn pass_rx(config: &Config, ceilings: &CeilingTable, scis: &[Sci], walk: &mut Wa
     }
 }
 
-/// Goes past the receive associations of a channel, by their numbers.
+/// Walks over the receive associations of a channel, by number.
 fn pass_rx_of(config: &Config, ceilings: &CeilingTable, sci: Sci, walk: &mut Walk)
     requires room { walk.old.passed + 4 ≤ most_records }
     ensures walked { walk.new ≡ walk_past_all walk.old
@@ -162,7 +163,7 @@ fn pass_rx_of(config: &Config, ceilings: &CeilingTable, sci: Sci, walk: &mut Wal
     }
 }
 
-/// Goes past a receive association, if there is one at that number.
+/// Walks over the receive association at a number, if there is one.
 fn pass_rx_at(config: &Config, ceilings: &CeilingTable, sci: Sci, an: An, walk: &mut Walk)
     requires room { walk.old.passed < most_records }
     ensures walked { walk.new ≡ walk_past_all walk.old
@@ -181,7 +182,7 @@ fn pass_rx_at(config: &Config, ceilings: &CeilingTable, sci: Sci, an: An, walk: 
     }
 }
 
-/// Goes past the spent keys of a side, in the order of installing.
+/// Walks over the spent keys of a side, in the order of installation.
 fn pass_spent(config: &Config, role: Role, walk: &mut Walk)
     requires room { walk.old.passed + 35 ≤ most_records }
     ensures walked { walk.new
@@ -193,8 +194,8 @@ fn pass_spent(config: &Config, role: Role, walk: &mut Walk)
     }
 }
 
-/// Goes past a side's record of spent keys at a place, if there is one. It is made where it is the
-/// one that is looked for, and not to be counted.
+/// Walks over a side's record of spent keys at a position, if there is one. The record is made only
+/// if it is the wanted one, otherwise counted.
 fn pass_spent_at(config: &Config, role: Role, place: usize, walk: &mut Walk)
     requires within { place < most_spent_records }
     requires room { walk.old.passed < most_records }
@@ -209,7 +210,7 @@ fn pass_spent_at(config: &Config, role: Role, place: usize, walk: &mut Walk)
     }
 }
 
-/// Goes past the record of the fingerprints at a place, if there are any.
+/// Walks over the record of the fingerprints at a position, if there are any.
 fn pass_fingerprints(config: &Config, role: Role, place: usize, walk: &mut Walk)
     requires within { place < most_spent_records }
     requires room { walk.old.passed < most_records }
@@ -222,8 +223,8 @@ fn pass_fingerprints(config: &Config, role: Role, place: usize, walk: &mut Walk)
     }
 }
 
-/// Goes past the record of the fingerprints at a place, if there are any, where it is not the one
-/// that is looked for.
+/// Walks over the record of the fingerprints at a position, if there are any, which is not the
+/// wanted one.
 fn pass_over_fingerprints(config: &Config, role: Role, place: usize, walk: &mut Walk)
     requires within { place < most_spent_records }
     requires room { walk.old.passed < most_records }
@@ -237,7 +238,7 @@ fn pass_over_fingerprints(config: &Config, role: Role, place: usize, walk: &mut 
     }
 }
 
-/// Whether a side's record at a place has fingerprints.
+/// Whether a side's record at a position has fingerprints.
 fn has_fingerprints(config: &Config, role: Role, place: usize) -> bool
     requires within { place < most_spent_records }
     ensures some { result ≡ true
@@ -248,7 +249,8 @@ fn has_fingerprints(config: &Config, role: Role, place: usize) -> bool
     config.spent_at(role, MAX_FINGERPRINTS * place).is_some()
 }
 
-/// The fingerprints of a side's record at a place, 15 but in the last; `None` where there are none.
+/// The fingerprints of a side's record at a position, 15 except in the last; `None` if there are
+/// none.
 fn fingerprints_at(config: &Config, role: Role, place: usize) -> Option<Fingerprints>
     requires within { place < most_spent_records }
     ensures some { IfSome result (λ fingerprints.

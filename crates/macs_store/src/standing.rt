@@ -1,4 +1,4 @@
-//! What a journal's records stand for.
+//! The meaning of a journal's records.
 
 ghost use Rattle.std.specs.Prelude.{◌≡◌, ◌≤◌, ◌↔◌, List, true, false, if◌then◌else◌, Some, None};
 ghost use Rattle.std.specs.Prelude.{IfSome, IsSome, Ok, Err, IsOk, IfOk, OnOk, length};
@@ -28,7 +28,7 @@ use macs_fields::{An, Sci};
 use macs_record::{Ceiling, Format, Kind, Record};
 use std::marker::Model;
 
-/// What an endpoint goes on from: its configuration, and the ceilings of its packet numbers.
+/// What an endpoint continues from: its configuration, and the ceilings of its packet numbers.
 #[derive(Drop)]
 pub struct Standing {
     pub(crate) config: Config,
@@ -55,8 +55,8 @@ fn is_read(format: Format) -> bool
     }
 }
 
-/// Whether an area of this format may have records of these kinds: those of long keys are of format
-/// two alone.
+/// Whether an area of this format may have records of these kinds: those with long keys require
+/// format two.
 fn all_belong(format: Format, records: &[Record]) -> bool
     ensures { result ≡ all_belong format records.now }
 {
@@ -66,7 +66,7 @@ fn all_belong(format: Format, records: &[Record]) -> bool
     }
 }
 
-/// Whether a kind is one of the four of long keys.
+/// Whether a kind is one of the four with long keys.
 fn is_long_kind(kind: Kind) -> bool
     ensures { result ≡ is_long_kind kind }
 {
@@ -77,7 +77,7 @@ fn is_long_kind(kind: Kind) -> bool
 }
 
 impl Standing {
-    /// What a disk is formatted with.
+    /// The standing on a newly formatted disk.
     pub(crate) fn new(identity: &Identity) -> Standing
         ensures { standing_of result ≡ new_standing this_edition identity.now }
     {
@@ -87,10 +87,10 @@ impl Standing {
         }
     }
 
-    /// Makes it, in its place, what the records of an area of this format stand for under its
-    /// identity, those of the snapshot first, and answers whether they stand for something. Where
-    /// they are refused, one is of a kind that the format does not have, or this edition does not
-    /// read the format, nothing is said of what is left.
+    /// Replaces itself, in place, by the standing that the records of an area of this format
+    /// represent under its identity, those of the snapshot first, and returns whether there is one.
+    /// If they are refused, one is of a kind that the format does not have, or this edition does
+    /// not read the format, the resulting value is not specified.
     pub(crate) fn read(&mut self, format: Format, count: usize, records: &[Record]) -> bool
         requires { count ≤ length records.now }
         ensures { reading_of this_edition format (standing_of self.old).identity count records.now
@@ -99,9 +99,9 @@ impl Standing {
         is_read(format) && all_belong(format, records) && self.replay(count, records)
     }
 
-    /// Makes it, in its place, what the records of a snapshot stand for under its identity, then
-    /// those after it, and answers whether they stand for something; where they are refused,
-    /// nothing is said of what is left.
+    /// Replaces itself, in place, by the standing that the records of a snapshot, and then those
+    /// after it, represent under its identity, and returns whether there is one; if they are
+    /// refused, the resulting value is not specified.
     #[inline(never)]
     fn replay(&mut self, count: usize, records: &[Record]) -> bool
         requires { count ≤ length records.now }
@@ -112,8 +112,8 @@ impl Standing {
         self.restore(snapshot) && self.replay_records(later)
     }
 
-    /// Makes it what a snapshot stands for under its identity, and answers whether it stands for
-    /// something.
+    /// Replaces itself by the standing that a snapshot represents under its identity, and returns
+    /// whether there is one.
     fn restore(&mut self, records: &[Record]) -> bool
         ensures { snapshot_of this_edition (standing_of self.old).identity records.now
             ≡ (if result then Some (standing_of self.new) else None) }
@@ -126,7 +126,7 @@ impl Standing {
         true
     }
 
-    /// Goes on with the records after a snapshot, and answers whether each of them fits.
+    /// Replays the records after a snapshot, and returns whether each of them fits.
     fn replay_records(&mut self, records: &[Record]) -> bool
         ensures { standing_after_records (standing_of self.old) records.now
             ≡ (if result then Some (standing_of self.new) else None) }
@@ -139,7 +139,7 @@ impl Standing {
         true
     }
 
-    /// Goes on with the record of a command or of a raised ceiling, and answers whether it fits.
+    /// Replays the record of a command or of a raised ceiling, and returns whether it fits.
     pub(crate) fn replay_record(&mut self, value: &Record) -> bool
         ensures fits { result ≡ true
             → standing_after_record (standing_of self.old) value.now ≡ Some (standing_of self.new) }
@@ -159,7 +159,7 @@ impl Standing {
         }
     }
 
-    /// What is judged of the command that a record keeps; `None` where it keeps none, and where the
+    /// The verdict on the command that a record keeps; `None` if it keeps none, or if the
     /// configuration refuses the command.
     fn judge(&self, value: &Record) -> Option<Checked>
         ensures fits { IfSome result (λ command. (command_of value.now ≡ Some command)
@@ -176,8 +176,8 @@ impl Standing {
         }
     }
 
-    /// Goes on with a record that follows from the standing: that of a command as its check judged
-    /// it, and a raised ceiling where nothing was judged.
+    /// Applies a record that follows from the standing: a command with the verdict of its check, or
+    /// a raised ceiling if nothing was checked.
     pub(crate) fn keep(&mut self, value: &Record, checked: Option<Checked>)
         requires follows { IsSome (standing_after_record (standing_of self.old) value.now) }
         requires checked { IsOfRecord value.now checked }
@@ -192,7 +192,7 @@ impl Standing {
         }
     }
 
-    /// Goes on with a raised ceiling of a transmit association, and answers whether it is one.
+    /// Replays a raised ceiling of a transmit association, and returns whether it is higher.
     fn replay_tx(&mut self, an: An, ceiling: Ceiling) -> bool
         ensures fits { result ≡ is_raise ((standing_of self.old).ceilings.tx an) ceiling }
         ensures raised { result ≡ true
@@ -205,7 +205,7 @@ impl Standing {
         is_raised
     }
 
-    /// Goes on with a raised ceiling of a receive association, and answers whether it is one.
+    /// Replays a raised ceiling of a receive association, and returns whether it is higher.
     fn replay_rx(&mut self, sci: Sci, an: An, ceiling: Ceiling) -> bool
         ensures fits { result ≡ is_raise ((standing_of self.old).ceilings.rx sci an) ceiling }
         ensures raised { result ≡ true → standing_of self.new
@@ -218,7 +218,7 @@ impl Standing {
         is_raised
     }
 
-    /// Raises the ceiling of a transmit association that exists.
+    /// Raises the ceiling of an existing transmit association.
     pub(crate) fn raise_tx(&mut self, an: An, ceiling: Ceiling)
         requires stands { IsSome ((standing_of self.old).ceilings.tx an) }
         ensures { standing_of self.new
@@ -227,7 +227,7 @@ impl Standing {
         self.ceilings.put_tx(an, Some(ceiling));
     }
 
-    /// Raises the ceiling of a receive association that exists.
+    /// Raises the ceiling of an existing receive association.
     pub(crate) fn raise_rx(&mut self, sci: Sci, an: An, ceiling: Ceiling)
         requires stands { IsSome ((standing_of self.old).ceilings.rx sci an) }
         ensures { standing_of self.new
@@ -236,8 +236,8 @@ impl Standing {
         self.ceilings.put_rx(sci, an, Some(ceiling));
     }
 
-    /// What is judged of a command that fits the configuration, or the first refusal in the order
-    /// of `Refusal`.
+    /// The verdict on a command that fits the configuration, or the first refusal in the order of
+    /// `Refusal`.
     pub(crate) fn check(&self, command: &Command) -> Result<Checked, Refusal>
         ensures fits { OnOk result (IsOk (accept (standing_of self.now) command.now)) }
         ensures checked { IfOk result (λ checked. checked ≡ command.now) }
@@ -247,7 +247,7 @@ impl Standing {
         self.config.check(command)
     }
 
-    /// Applies a command that fits the configuration, as its check judged it.
+    /// Applies a command that fits the configuration, with the verdict of its check.
     fn accept_checked(&mut self, checked: &Checked)
         requires { IsOk (accept (standing_of self.old) checked.now) }
         ensures { accept (standing_of self.old) checked.now ≡ Ok (standing_of self.new) }
@@ -257,7 +257,7 @@ impl Standing {
     }
 }
 
-/// The ceilings in a snapshot that makes up a configuration.
+/// The ceilings in a snapshot with this configuration.
 fn ceilings_in(config: &Config, records: &[Record]) -> CeilingTable
     requires restored { (parts : List Part) × (snapshot_parts records.now ≡ Some parts)
         × (config_of_parts this_edition config.now.identity parts ≡ Some (config_of config.now)) }
@@ -281,7 +281,7 @@ fn ceilings_in(config: &Config, records: &[Record]) -> CeilingTable
     ceilings
 }
 
-/// What becomes of the ceilings by a command that made this configuration.
+/// Changes the ceilings after a command that led to this configuration.
 fn adjust(config: &Config, ceilings: &mut CeilingTable, judged: &Judged)
     requires { (old : spec.Config) × (table_scis ceilings.old ≡ old.channels)
         × (apply this_edition config.now.identity old (asked_by judged.now)
@@ -310,7 +310,7 @@ fn adjust(config: &Config, ceilings: &mut CeilingTable, judged: &Judged)
     }
 }
 
-/// Whether a ceiling is above the present one.
+/// Whether a ceiling is greater than the present one.
 fn rises(old: Option<Ceiling>, ceiling: Ceiling) -> bool
     ensures { result ≡ is_raise old ceiling }
 {

@@ -30,10 +30,10 @@ use macs_record::Record;
 use std::mem::replace;
 
 impl<D: SectorDisk> Store<D> {
-    /// Starts a command, and makes no device call. No work is under way before. Refused as
-    /// `Stopped` where a device call failed before, then as `Refused` with the first refusal that
-    /// holds, then as `GenerationsSpent` where all 256 slots are used and the generation is 2^64 -
-    /// 1; never as `Disk`. A refusal changes nothing.
+    /// Starts a command, and makes no device call. No work is under way before. Fails with
+    /// `Stopped` if a device call failed before, then with `Refused` and the first refusal that
+    /// applies, then with `GenerationsSpent` if all 256 slots are used and the generation is 2^64 -
+    /// 1; never with `Disk`. A failure changes nothing.
     pub fn start_commit(&mut self, command: &Command) -> Result<(), CommitFault>
         requires idle { IsIdle self.old }
         ensures { StartsCommit D.disk self.old command.now result self.new }
@@ -47,9 +47,9 @@ impl<D: SectorDisk> Store<D> {
         }
     }
 
-    /// Starts a command that the configuration does not refuse, as its check judged it, and makes
-    /// no device call. No work is under way before, and no device call failed. Refused as
-    /// `GenerationsSpent` where all 256 slots are used and the generation is 2^64 - 1; then nothing
+    /// Starts a command that the configuration does not refuse, with the verdict of its check, and
+    /// makes no device call. No work is under way before, and no device call failed. Fails with
+    /// `GenerationsSpent` if all 256 slots are used and the generation is 2^64 - 1; then nothing
     /// changes.
     pub fn start_checked(&mut self, checked: &Checked) -> Result<(), CommitFault>
         requires idle { IsIdle self.old }
@@ -64,11 +64,10 @@ impl<D: SectorDisk> Store<D> {
         }
     }
 
-    /// Starts to raise the ceiling of a transmit association by a block, to 2^32 at most, and makes
-    /// no device call. No work is under way before; the association exists, and its ceiling is
-    /// below 2^32. Refused as `Stopped` where a device call failed before, then as
-    /// `GenerationsSpent` where all 256 slots are used and the generation is 2^64 - 1; these change
-    /// nothing.
+    /// Starts to raise the ceiling of a transmit association by a block, to at most 2^32, and makes
+    /// no device call. No work is under way before; the association exists, and its ceiling is less
+    /// than 2^32. Fails with `Stopped` if a device call failed before, then with `GenerationsSpent`
+    /// if all 256 slots are used and the generation is 2^64 - 1; these change nothing.
     pub fn start_tx(&mut self, an: An) -> Result<(), JournalFault>
         requires idle { IsIdle self.old }
         requires raised { IfSome ((standing_in self.old).ceilings.tx an) (λ old. old < 2 ^ 32) }
@@ -82,8 +81,8 @@ impl<D: SectorDisk> Store<D> {
     }
 
     /// Starts to raise the ceiling of a receive association to a block beyond a packet number, to
-    /// 2^32 at most, and makes no device call. No work is under way; the association exists, and
-    /// its ceiling is below the new one. Refused as `start_tx`.
+    /// at most 2^32, and makes no device call. No work is under way; the association exists, and
+    /// its ceiling is less than the new one. Fails as `start_tx` does.
     pub fn start_rx(&mut self, sci: Sci, an: An, pn: Pn) -> Result<(), JournalFault>
         requires idle { IsIdle self.old }
         requires raised { IfSome ((standing_in self.old).ceilings.rx sci an)
@@ -96,9 +95,9 @@ impl<D: SectorDisk> Store<D> {
         self.start(Record::RxCeiling { sci, an, ceiling }, None)
     }
 
-    /// Starts work on a record that follows from the standing; where it is a command's, with what
-    /// its check judged: nothing is judged of a raised ceiling, and of each command its record.
-    /// Where all 256 slots are used the journal is to start over first.
+    /// Starts work on a record that follows from the standing, with the verdict of its check if it
+    /// is a command's: a raised ceiling has no verdict, and each command has that of its record. If
+    /// all 256 slots are used the journal must be rewritten first.
     fn start(&mut self, value: Record, checked: Option<Checked>) -> Result<(), JournalFault>
         requires idle { IsIdle self.old }
         requires follows { IsSome (standing_after_record (standing_in self.old) value) }
@@ -118,11 +117,11 @@ impl<D: SectorDisk> Store<D> {
         Ok(())
     }
 
-    /// Makes the next device call of the work under way, and none where no work is under way.
-    /// Configuration and ceilings change where it answers `Finished` and at no other time. A record
-    /// that waits for a compaction is begun by the step after it. Refused as `Stopped`, and as
-    /// `Disk` where the call fails: then no work is under way, the standing is as it was, and a
-    /// power loss leaves it with the work or without.
+    /// Makes the next device call of the work under way, and none if no work is under way.
+    /// Configuration and ceilings change only when it returns `Finished`. A record that waits for a
+    /// compaction is started by the step after it. Fails with `Stopped`, and with `Disk` if the
+    /// call fails: then no work is under way, the standing is unchanged, and a power loss leaves it
+    /// with the work or without.
     pub fn step(&mut self) -> Result<JournalStep, JournalFault>
         ensures { Steps D.disk self.old result self.new }
     {
@@ -133,8 +132,8 @@ impl<D: SectorDisk> Store<D> {
         }
     }
 
-    /// Makes the device calls of the work under way up to its end, and none where no work is under
-    /// way. Refused as `step`.
+    /// Makes the device calls of the work under way up to its end, and none if no work is under
+    /// way. Fails as `step` does.
     pub fn finish(&mut self) -> Result<(), JournalFault>
         ensures { Finishes D.disk self.old result self.new }
     {
@@ -160,7 +159,7 @@ impl<D: SectorDisk> Store<D> {
         }
     }
 
-    /// What a step answers where no work is under way.
+    /// The result of a step if no work is under way.
     fn rest(&self) -> Result<JournalStep, JournalFault>
         ensures { result ≡ (if is_stopped self.now then Err Stopped else Ok Idle) }
     {
@@ -170,8 +169,8 @@ impl<D: SectorDisk> Store<D> {
         Ok(JournalStep::Idle)
     }
 
-    /// The next device call of a journal that starts over. After the last one the record is under
-    /// way.
+    /// The next device call of a journal that is being rewritten. After the last one the record is
+    /// under way.
     fn step_renewal(&mut self) -> Result<JournalStep, JournalFault>
         requires renewing { IsRenewing self.old.hand }
         ensures { Steps D.disk self.old result self.new }
@@ -196,8 +195,9 @@ impl<D: SectorDisk> Store<D> {
         }
     }
 
-    /// The next device call of an append. After the last one the standing is what the record makes
-    /// of it: a command is applied as its check judged it, since the standing has not changed.
+    /// The next device call of an append. After the last one the record is applied to the standing:
+    /// a command with the verdict of its check, which still holds since the standing has not
+    /// changed.
     fn step_append(&mut self) -> Result<JournalStep, JournalFault>
         requires appending { IsAppending self.old.hand }
         ensures { Steps D.disk self.old result self.new }
@@ -235,8 +235,8 @@ fn start_renewal<D: SectorDisk>(
     journal.start_compact(standing)
 }
 
-/// The next device call of a journal that starts over with a snapshot of the standing: the record
-/// whose body it writes is made for that call.
+/// The next device call of a journal that is being rewritten with a snapshot of the standing: the
+/// record whose body it writes is made for that call.
 fn step_with_snapshot<D: SectorDisk>(
     journal: &mut Journal<D>,
     standing: &Standing,

@@ -23,17 +23,17 @@ use macs_record::Ceiling;
 use std::marker::Model;
 
 /// The configuration of an endpoint and the ceilings of its packet numbers, as they are on its
-/// disk. A change is in memory only after its record is durable. Where all 256 slots of the
-/// journal's current area are used it starts over in the other area, with a snapshot of both,
-/// before it takes the next record. After a device fault the store answers `Stopped` until the disk
-/// is opened again.
+/// disk. A change is in memory only after its record is durable. If all 256 slots of the journal's
+/// current area are used the journal is rewritten in the other area, with a snapshot of both,
+/// before it takes the next record. After a device fault each call fails with `Stopped` until the
+/// disk is opened again.
 #[derive(Drop)]
 pub struct Store<D: SectorDisk> {
     pub(crate) journal: Journal<D>,
     pub(crate) standing: Standing,
     pub(crate) hand: Change,
-    /// What the check of the command under way judged; `None` where a ceiling is being raised or no
-    /// work is under way, so that a key is kept no longer than its record is under way.
+    /// The verdict on the command under way; `None` if a ceiling is being raised or no work is
+    /// under way, so that a key is kept no longer than its record is under way.
     pub(crate) checked: Option<Checked>,
 }
 
@@ -47,9 +47,9 @@ impl<D: SectorDisk> Model for Store<D> {
 }
 
 impl<D: SectorDisk> Store<D> {
-    /// What is judged of a command that the configuration does not refuse, or the first refusal in
-    /// the order of `Refusal`. It holds while the configuration stays: raised ceilings leave it as
-    /// it is.
+    /// The verdict on a command that the configuration does not refuse, or the first refusal in the
+    /// order of `Refusal`. It holds as long as the configuration is unchanged, which raised
+    /// ceilings do not affect.
     pub fn check(&self, command: &Command) -> Result<Checked, Refusal>
         ensures fits { OnOk result (IsOk (accept (standing_in self.now) command.now)) }
         ensures checked { IfOk result (λ checked. checked ≡ command.now) }
@@ -59,10 +59,10 @@ impl<D: SectorDisk> Store<D> {
         self.standing.check(command)
     }
 
-    /// Keeps a command and applies it. No work is under way. Refused as `Stopped`, then as
-    /// `Refused` with the first refusal that holds, then as `GenerationsSpent`; these change
-    /// nothing. `Disk` at the first device call that fails: the configuration is as it was, and
-    /// after a power loss it is found with the command or without.
+    /// Keeps a command and applies it. No work is under way. Fails with `Stopped`, then with
+    /// `Refused` and the first refusal that applies, then with `GenerationsSpent`; these change
+    /// nothing. Fails with `Disk` at the first device call that fails: the configuration is
+    /// unchanged, and after a power loss it is found with the command or without.
     pub fn commit(&mut self, command: &Command) -> Result<(), CommitFault>
         requires idle { IsIdle self.old }
         ensures { Commits D.disk self.old command.now result self.new }
@@ -74,9 +74,9 @@ impl<D: SectorDisk> Store<D> {
         }
     }
 
-    /// Keeps a command that the configuration does not refuse, and applies it, as its check judged
-    /// it. No work is under way, and no device call failed. Refused as `GenerationsSpent`, which
-    /// changes nothing, and as `Disk` as `commit`.
+    /// Keeps a command that the configuration does not refuse, and applies it, with the verdict of
+    /// its check. No work is under way, and no device call failed. Fails with `GenerationsSpent`,
+    /// which changes nothing, and with `Disk` as `commit` does.
     pub fn commit_checked(&mut self, checked: &Checked) -> Result<(), CommitFault>
         requires idle { IsIdle self.old }
         requires running { is_stopped self.old ≡ false }
@@ -90,10 +90,10 @@ impl<D: SectorDisk> Store<D> {
         }
     }
 
-    /// Raises the ceiling of a transmit association by a block, to 2^32 at most. No work is under
-    /// way; the association exists, and its ceiling is below 2^32. Refused as `Stopped`, then as
-    /// `GenerationsSpent`; these change nothing. `Disk` at the first device call that fails: the
-    /// ceiling is as it was, and after a power loss it is found raised or not.
+    /// Raises the ceiling of a transmit association by a block, to at most 2^32. No work is under
+    /// way; the association exists, and its ceiling is less than 2^32. Fails with `Stopped`, then
+    /// with `GenerationsSpent`; these change nothing. Fails with `Disk` at the first device call
+    /// that fails: the ceiling is unchanged, and after a power loss it is found raised or not.
     pub fn reserve_tx(&mut self, an: An) -> Result<(), JournalFault>
         requires idle { IsIdle self.old }
         requires raised { IfSome ((standing_in self.old).ceilings.tx an) (λ old. old < 2 ^ 32) }
@@ -105,9 +105,9 @@ impl<D: SectorDisk> Store<D> {
         self.finish()
     }
 
-    /// Raises the ceiling of a receive association to a block beyond a packet number, to 2^32 at
-    /// most. No work is under way; the association exists, and its ceiling is below the new one.
-    /// Refused as `reserve_tx`.
+    /// Raises the ceiling of a receive association to a block beyond a packet number, to at most
+    /// 2^32. No work is under way; the association exists, and its ceiling is less than the new
+    /// one. Fails as `reserve_tx` does.
     pub fn reserve_rx(&mut self, sci: Sci, an: An, pn: Pn) -> Result<(), JournalFault>
         requires idle { IsIdle self.old }
         requires raised { IfSome ((standing_in self.old).ceilings.rx sci an)
@@ -120,7 +120,7 @@ impl<D: SectorDisk> Store<D> {
         self.finish()
     }
 
-    /// Whether a device call failed: the disk is to be opened again.
+    /// Whether a device call failed: the disk must be opened again.
     pub fn is_stopped(&self) -> bool
         ensures { result ≡ is_stopped self.now }
     {
@@ -138,7 +138,7 @@ impl<D: SectorDisk> Store<D> {
         }
     }
 
-    /// The configuration, which holds the identity too.
+    /// The configuration, which includes the identity.
     pub fn config(&self) -> &Config
         ensures config { config_of result.now ≡ (standing_in self.now).config }
         ensures identity { result.now.identity ≡ (standing_in self.now).identity }
@@ -146,21 +146,21 @@ impl<D: SectorDisk> Store<D> {
         &self.standing.config
     }
 
-    /// What the disk was formatted with.
+    /// The identity that the disk was formatted with.
     pub fn identity(&self) -> Identity
         ensures { result ≡ (standing_in self.now).identity }
     {
         self.standing.config.identity()
     }
 
-    /// The ceiling of a transmit association, `None` where there is none at that number.
+    /// The ceiling of a transmit association, `None` if there is none at that number.
     pub fn tx_ceiling(&self, an: An) -> Option<Ceiling>
         ensures { result ≡ (standing_in self.now).ceilings.tx an }
     {
         self.standing.ceilings.tx(an)
     }
 
-    /// The ceiling of a receive association, `None` where there is none at that number of that
+    /// The ceiling of a receive association, `None` if there is none at that number of that
     /// channel.
     pub fn rx_ceiling(&self, sci: Sci, an: An) -> Option<Ceiling>
         ensures { result ≡ (standing_in self.now).ceilings.rx sci an }
@@ -175,7 +175,7 @@ impl<D: SectorDisk> Store<D> {
         let _config = &self.standing.config;
     }
 
-    /// The disk, as it is.
+    /// The disk.
     pub fn into_disk(self) -> D
         ensures { result ≡ device_in self }
     {

@@ -1,4 +1,4 @@
-//! Records gone through one by one.
+//! A walk over records, one by one.
 
 ghost use Rattle.std.specs.Prelude.{◌≡◌, ◌<◌, ◌+◌, ◌==◌, false};
 ghost use Rattle.macs_store.specs.Snapshot.{most_records};
@@ -6,15 +6,14 @@ ghost use Rattle.macs_store.specs.Walk.{new_walk, walk_past};
 
 use macs_record::Record;
 
-/// Records gone through one by one, of which the one at a place is kept, and the others are counted
-/// alone.
+/// A walk over records, one by one, which keeps the one at a position and only counts the others.
 #[derive(Drop)]
 pub(crate) struct Walk {
-    /// The place that is looked for, counted from 0.
+    /// The position of the wanted record, counting from 0.
     pub place: usize,
-    /// How many records came so far.
+    /// How many records have passed so far.
     pub passed: usize,
-    /// The one at the place, once it came.
+    /// The record at that position, once it has passed.
     pub found: Option<Record>,
 }
 
@@ -31,14 +30,14 @@ impl Walk {
         }
     }
 
-    /// Whether the next record is the one that is looked for.
+    /// Whether the next record is the wanted one.
     pub(crate) fn is_here(&self) -> bool
         ensures { result ≡ (self.now.passed == self.now.place) }
     {
         self.passed == self.place
     }
 
-    /// Goes past a record, and keeps it where it is the one that is looked for.
+    /// Passes a record, and keeps it if it is the wanted one.
     pub(crate) fn pass(&mut self, value: Record)
         requires { self.old.passed < most_records }
         ensures walked { self.new ≡ walk_past self.old value }
@@ -51,7 +50,7 @@ impl Walk {
         }
     }
 
-    /// Goes past a record that is not the one that is looked for, and need not be made.
+    /// Passes a record that is not the wanted one, and need not be made.
     pub(crate) fn pass_over(&mut self)
         requires room { self.old.passed < most_records }
         requires other { (self.old.passed == self.old.place) ≡ false }

@@ -1,4 +1,4 @@
--- The transmit channel (IEEE Std 802.1AE-2018, 10.5): which fault comes first, and the frame that goes out.
+-- The transmit channel (IEEE Std 802.1AE-2018, 10.5): which fault comes first, and the frame that is sent.
 use Rattle.std.specs.Prelude.{◌≡◌, ◌≤◌, ℕ, ◌+◌, ◌-◌, ◌/◌, ◌^◌, ◌==◌, nat_le, nat_lt, Bool, false, not, ◌&&◌}
 use Rattle.std.specs.Prelude.{if◌then◌else◌, List, [], ◌∷◌, ◌++◌, length, take, slice_range, Option, Some, None}
 use Rattle.std.specs.Prelude.{is_none, Result, Ok, Err}
@@ -34,29 +34,29 @@ pub record TxSide : Type 0 where
 abbrev pub new_tx_side : List ℕ → TxSide
 new_tx_side sci = record { sci = sci; mode = Explicit; encoding = None; tx = λ an. None; next = λ an. None }
 
--- ---- what goes out
+-- ---- sent frames
 
--- the association that frames go out under, and its next packet number
+-- the association that frames are sent under, and its next packet number
 pub record Outgoing : Type 0 where
   pub an : ℕ
   pub sa : TxSa
   pub pn : ℕ
 
--- an AN with its association and next packet number, None where one of the two is missing
+-- an AN with its association and next packet number, None if one of the two is missing
 abbrev pub outgoing_with : ℕ → Option TxSa → Option ℕ → Option Outgoing
 outgoing_with an (Some sa) (Some pn) = Some (record { an = an; sa = sa; pn = pn })
 outgoing_with an sa pn = None
 
--- the association at a chosen AN, None where none is chosen or none exists there
+-- the association at a selected AN, None if none is selected or none exists there
 abbrev pub outgoing_at : TxSide → Option ℕ → Option Outgoing
 outgoing_at side None = None
 outgoing_at side (Some an) = outgoing_with an (side.tx an) (side.next an)
 
--- what the next frame goes out under, None where no encoding association exists
+-- what the next frame is sent under, None if no encoding association exists
 abbrev pub next_outgoing : TxSide → Option Outgoing
 next_outgoing side = outgoing_at side side.encoding
 
--- how SecTAGs name the channel of this SCI in a mode: with SC set and the SCI spelled out, with ES set, or with neither
+-- how SecTAGs name the channel with this SCI in a mode: with SC set and an explicit SCI, with ES set, or with neither
 -- (9.5)
 abbrev pub name_in : SciMode → List ℕ → ScName
 name_in Explicit sci = NamesSci sci
@@ -73,11 +73,11 @@ tag_for side o = record {
   changed = is_confidential o.sa.protection;
 }
 
--- the SecTAG of the next frame, None where no encoding association exists
+-- the SecTAG of the next frame, None if no encoding association exists
 abbrev pub next_tag : TxSide → Option SecTag
 next_tag side = option_map (tag_for side) (next_outgoing side)
 
--- the frame that goes out for a plain frame
+-- the frame that is sent for a plain frame
 abbrev pub frame_of : TxSide → Outgoing → List ℕ → List ℕ
 frame_of side o plain = protected_frame o.sa.key side.sci (tag_for side o) (octets_of (offset_of o.sa.protection)) plain
 
@@ -86,7 +86,7 @@ abbrev pub side_after : TxSide → Option Outgoing → TxSide
 side_after side None = side
 side_after side (Some o) = record side { next = put side.next o.an (Some (o.pn + 1)) }
 
--- the channel after a frame went out under its encoding association
+-- the channel after a frame was sent under its encoding association
 abbrev pub side_after_frame : TxSide → TxSide
 side_after_frame side = side_after side (next_outgoing side)
 
@@ -101,7 +101,7 @@ abbrev pub is_used_up : Option Outgoing → Bool
 is_used_up None = false
 is_used_up (Some o) = o.pn == 2 ^ 32
 
--- every fault but NoNumber with its test, in the order in which they are looked for
+-- every fault except NoNumber with its test, in the order in which they are checked
 abbrev pub tx_faults : TxSide → List ℕ → List (TxFault × Bool)
 tx_faults side plain =
     (Runt, nat_lt (length plain) 14)
@@ -111,12 +111,12 @@ tx_faults side plain =
     ∷ (Exhausted, is_used_up (next_outgoing side))
     ∷ []
 
--- the next packet number is the ceiling, so that it is not reserved yet
+-- the next packet number is the ceiling, so it is not reserved yet
 abbrev pub is_at_ceiling : (ℕ → Option ℕ) → Option Outgoing → Bool
 is_at_ceiling ceilings None = false
 is_at_ceiling ceilings (Some o) = option_map_or (λ ceiling. ceiling == o.pn) (ceilings o.an) false
 
--- and NoNumber last, where the ceilings are known
+-- and NoNumber last, if the ceilings are known
 abbrev pub all_tx_faults : TxSide → (ℕ → Option ℕ) → List ℕ → List (TxFault × Bool)
 all_tx_faults side ceilings plain = tx_faults side plain ++ (NoNumber, is_at_ceiling ceilings (next_outgoing side)) ∷ []
 
@@ -126,19 +126,19 @@ all_tx_faults side ceilings plain = tx_faults side plain ++ (NoNumber, is_at_cei
 abbrev pub is_needed : ℕ → ℕ → ℕ → Bool
 is_needed block next ceiling = nat_le (ceiling - next) (block / 2) && nat_lt ceiling (2 ^ 32)
 
--- the AN of this association, if its ceiling is to be raised
+-- the AN of this association, if its ceiling should be raised
 abbrev pub need_at : (ℕ → Option ℕ) → ℕ → Option Outgoing → Option ℕ
 need_at ceilings block None = None
 need_at ceilings block (Some o) =
     if option_map_or (is_needed block o.pn) (ceilings o.an) false then Some o.an else None
 
--- the AN of the encoding association, if its ceiling is to be raised
+-- the AN of the encoding association, if its ceiling should be raised
 abbrev pub need_of : TxSide → (ℕ → Option ℕ) → ℕ → Option ℕ
 need_of side ceilings block = need_at ceilings block (next_outgoing side)
 
 -- ---- ranges
 
--- 1 <= next <= ceiling <= 2^32, or there is neither
+-- 1 <= next <= ceiling <= 2^32, or neither exists
 abbrev pub InOrder : Option ℕ → Option ℕ → Type 0
 InOrder (Some next) (Some ceiling) = (1 ≤ next) × (next ≤ ceiling) × (ceiling ≤ 2 ^ 32)
 InOrder (Some next) None = ⊥
@@ -151,7 +151,7 @@ AreOrdered side ceilings an = InOrder (side.next an) (ceilings an) × (is_none (
 
 -- ---- counters
 
--- each count of a transmit channel at 0
+-- a transmit channel's counters, all 0
 abbrev pub no_counts : TxCounters
 no_counts = record {
   protected = 0;
@@ -187,7 +187,7 @@ abbrev pub counters_after_frame : SecTag → List ℕ → TxCounters → TxCount
 counters_after_frame tag plain c =
     record c { protected = one_more c.protected; traffic = traffic_after tag plain c.traffic }
 
--- what an answer to a plain frame adds, where the next frame of the channel has this SecTAG
+-- the counters after an answer to a plain frame, where the next frame of the channel has this SecTAG
 abbrev pub counters_after_answer : Option SecTag → List ℕ → Result ℕ TxFault → TxCounters → TxCounters
 counters_after_answer (Some tag) plain (Ok pn) c = counters_after_frame tag plain c
 counters_after_answer None plain (Ok pn) c = c

@@ -1,4 +1,4 @@
--- A transmit channel as it is kept.
+-- A transmit channel as it is stored.
 use Rattle.std.specs.Prelude.{ℕ, get_or, Option, None}
 use Rattle.std.specs.Option.{option_map}
 use Rattle.macs_config.specs.declared.association.TxSa.{TxSa}
@@ -7,7 +7,7 @@ use Rattle.macs_txsc.specs.declared.association.Association.{Association}
 use Rattle.macs_txsc.specs.declared.channel.Tx.{Tx}
 use Rattle.macs_txsc.specs.declared.counters.TxCounters.{TxCounters}
 
--- what is kept of the association at an AN, None where there is none
+-- the association stored at an AN, None if there is none
 abbrev pub association_at : Tx → ℕ → Option Association
 association_at t an = get_or t.associations an None
 
@@ -15,7 +15,7 @@ association_at t an = get_or t.associations an None
 abbrev pub sa_of : Association → TxSa
 sa_of a = record { key = a.key; protection = a.protection }
 
--- what is kept, as a transmit channel, but for ceilings and counters
+-- the stored transmit channel, without ceilings and counters
 abbrev pub tx_side_of : Tx → TxSide
 tx_side_of t = record {
   sci = t.sci;
@@ -25,7 +25,7 @@ tx_side_of t = record {
   next = λ an. option_map (λ (a : Association). a.next) (association_at t an);
 }
 
--- the ceilings of associations, by their numbers
+-- the ceilings of associations, by number
 abbrev pub ceilings_of : Tx → ℕ → Option ℕ
 ceilings_of t an = option_map (λ (a : Association). a.ceiling) (association_at t an)
 

@@ -28,8 +28,7 @@ pub struct Association {
 }
 
 impl Association {
-    /// The next packet number, or why there is none: every one is used, or the next is not
-    /// reserved.
+    /// The next packet number, or why there is none: all are used, or the next is not reserved.
     pub fn packet_number(&self) -> Result<Pn, TxFault>
         ensures fault { IfErr result (λ fault. first ((Exhausted, self.now.next == 2 ^ 32)
             ∷ (NoNumber, self.now.ceiling == self.now.next) ∷ []) ≡ Some fault) }
@@ -47,7 +46,7 @@ impl Association {
         Ok(pn)
     }
 
-    /// Protects a plain frame under the next packet number, which is then used, and answers its
+    /// Protects a plain frame under the next packet number, which is then used, and returns its
     /// SecTAG. `sci` is that of the transmit channel, `an` the association's number in it, and
     /// `name` how frames name the channel.
     pub fn seal(

@@ -30,8 +30,8 @@ use macs_frame::{
 };
 use macs_gcm::SealingKey;
 
-/// A transmit channel: its SCI, how its frames name it, its associations by their numbers, and the
-/// one that frames go out under.
+/// A transmit channel: its SCI, how its frames name it, its associations by number, and the one
+/// that frames are sent under.
 #[derive(Drop)]
 pub struct Tx {
     sci: Sci,
@@ -42,7 +42,7 @@ pub struct Tx {
 }
 
 impl Tx {
-    /// A channel without associations, that spells its SCI out.
+    /// A channel without associations, whose frames carry an explicit SCI.
     pub fn new(sci: Sci) -> Tx
         ensures side { tx_side_of result ≡ new_tx_side sci }
         ensures ceilings { ceilings_of result ≡ (λ an. None) }
@@ -67,8 +67,8 @@ impl Tx {
         self.mode = mode;
     }
 
-    /// A new association at a number where there is none. `next` is the first packet number that is
-    /// used, and only numbers below `ceiling` are: 1 to 2^32 both, `next` not above `ceiling`.
+    /// Adds an association at an unused number. `next` is the first packet number that is used, and
+    /// only numbers below `ceiling` are: both 1 to 2^32, and `next` at most `ceiling`.
     pub fn install(
         &mut self,
         an: An,
@@ -100,7 +100,7 @@ impl Tx {
         });
     }
 
-    /// An association that exists goes. Frames do not go out under it.
+    /// Removes an existing association, which frames are not sent under.
     pub fn remove(&mut self, an: An)
         requires stands { IsSome ((tx_side_of self.old).tx an) }
         requires unused { (tx_side_of self.old).encoding ≢ Some an }
@@ -115,7 +115,7 @@ impl Tx {
         self.associations[an.get() as usize] = None;
     }
 
-    /// Frames go out under this association, which exists.
+    /// Sends frames under this association, which exists, from now on.
     pub fn select(&mut self, an: An)
         requires { IsSome ((tx_side_of self.old).tx an) }
         ensures side { tx_side_of self.new ≡ record (tx_side_of self.old) { encoding = Some an } }
@@ -125,8 +125,7 @@ impl Tx {
         self.encoding = Some(an);
     }
 
-    /// Raises the ceiling of an association that exists: not below the one before, and at most
-    /// 2^32.
+    /// Raises the ceiling of an existing association: not below the previous one, and at most 2^32.
     pub fn raise(&mut self, an: An, ceiling: u64)
         requires stands { IsSome ((tx_side_of self.old).tx an) }
         requires higher { IfSome (ceilings_of self.old an) (λ old. old ≤ ceiling) }
@@ -140,8 +139,7 @@ impl Tx {
         }
     }
 
-    /// The next packet number of an association, 1 to 2^32, `None` where there is none at that
-    /// number.
+    /// The next packet number of an association, 1 to 2^32, `None` if there is none at that number.
     pub fn next_number(&self, an: An) -> Option<u64>
         ensures { result ≡ (tx_side_of self.now).next an }
     {
@@ -149,9 +147,9 @@ impl Tx {
         Some(association.next)
     }
 
-    /// The number of the association whose ceiling has to be raised: the one that frames go out
-    /// under, where at most half a block of packet numbers, rounded down, is left below its
-    /// ceiling, and the ceiling is below 2^32. `tx_block` is 1 to 65,536 packet numbers.
+    /// The number of the association whose ceiling must be raised: the one that frames are sent
+    /// under, if at most half a block of packet numbers, rounded down, is left below its ceiling,
+    /// and the ceiling is less than 2^32. `tx_block` is 1 to 65,536 packet numbers.
     pub fn needs(&self, tx_block: u32) -> Option<An>
         ensures { result ≡ need_of (tx_side_of self.now) (ceilings_of self.now) tx_block }
     {
@@ -162,9 +160,9 @@ impl Tx {
         is_needed.then_some(an)
     }
 
-    /// Protects a plain frame, writes the protected frame to `out`, and answers its packet number,
-    /// which is then used. The first fault, in the order of `TxFault`, is answered in its place;
-    /// then `out` is empty, and no number is used. Each answer is counted.
+    /// Protects a plain frame, writes the protected frame to `out`, and returns its packet number,
+    /// which is then used. If a fault applies, the first one in the order of `TxFault` is returned
+    /// instead; then `out` is empty, and no number is used. Each answer is counted.
     pub fn protect(&mut self, plain: &[u8], out: &mut FrameBuf) -> Result<Pn, TxFault>
         ensures fault { (fault : TxFault) → (result ≡ Err fault)
             ↔ (first (all_tx_faults (tx_side_of self.old) (ceilings_of self.old) plain.now)
@@ -223,8 +221,8 @@ impl Tx {
         ensures { (an : ℕ) → AreOrdered (tx_side_of self.now) (ceilings_of self.now) an }
     {}
 
-    /// Protects a plain frame as `protect` does, answers its SecTAG, and counts nothing. After a
-    /// fault `out` is as before.
+    /// Protects a plain frame as `protect` does, returns its SecTAG, and counts nothing. After a
+    /// fault `out` is unchanged.
     fn send(&mut self, plain: &[u8], out: &mut FrameBuf) -> Result<SecTag, TxFault>
         ensures fault { IfErr result
             (λ fault. first (all_tx_faults (tx_side_of self.old) (ceilings_of self.old) plain.now)
@@ -274,7 +272,7 @@ impl Tx {
         plain[6..12] == self.sci.get()[..6]
     }
 
-    /// The first fault of a plain frame that does not lie in an association.
+    /// The first fault of a plain frame that does not concern an association.
     fn frame_fault(&self, plain: &[u8]) -> Option<TxFault>
         ensures { result ≡ first (
             (Runt, nat_lt (length plain.now) 14)

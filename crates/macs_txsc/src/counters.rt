@@ -1,4 +1,4 @@
-//! What is counted.
+//! The counters of a transmit channel.
 
 ghost use Rattle.std.specs.Prelude.{◌≡◌};
 ghost use Rattle.macs_config.specs.Numbers.{one_more};
@@ -8,8 +8,8 @@ ghost use Rattle.macs_txsc.specs.Transmit.{fault_count, no_counts};
 use crate::fault::TxFault;
 use macs_frame::{ChannelTraffic, SecTag};
 
-/// How many frames were protected, what they carried, and how many met each fault. A counter stays
-/// at 2^64 - 1.
+/// How many frames were protected, what they carried, and how many met each fault. A counter
+/// saturates at 2^64 - 1.
 #[derive(Clone, Copy)]
 pub struct TxCounters {
     pub protected: u64,
@@ -23,7 +23,7 @@ pub struct TxCounters {
 }
 
 impl TxCounters {
-    /// Nothing is counted yet.
+    /// Counters that are all 0.
     pub fn new() -> TxCounters
         ensures { result ≡ no_counts }
     {
@@ -53,7 +53,7 @@ impl TxCounters {
         }
     }
 
-    /// One more frame met this fault.
+    /// Counts one more frame that met this fault.
     pub fn add_fault(&mut self, fault: TxFault)
         ensures { self.new ≡ counters_after_fault fault self.old }
     {
@@ -67,7 +67,7 @@ impl TxCounters {
         }
     }
 
-    /// One more plain frame was protected, under this SecTAG.
+    /// Counts one more plain frame that was protected, under this SecTAG.
     pub fn add_frame(&mut self, tag: &SecTag, plain: &[u8])
         ensures { self.new ≡ counters_after_frame tag.now plain.now self.old }
     {
@@ -76,7 +76,7 @@ impl TxCounters {
     }
 }
 
-/// One more, up to 2^64 - 1.
+/// Adds one, up to 2^64 - 1.
 fn count_one(counter: &mut u64)
     ensures { counter.new ≡ one_more counter.old }
 {

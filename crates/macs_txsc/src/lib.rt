@@ -1,4 +1,5 @@
-//! The transmit channel of a MAC Security Entity: which frames go out, under which packet number.
+//! The transmit channel of a MAC Security Entity: which frames are sent, and with which packet
+//! number.
 #![tactic(auto)]
 
 mod association;
