@@ -1,4 +1,4 @@
--- What a program in C says of a frame that is sealed.
+-- The fields of a frame that is sealed, as a C program passes them.
 use Rattle.std.specs.Prelude.{◌&&◌, ◌||◌, ◌==◌, ℕ, Bool, if◌then◌else◌, nat_lt}
 use Rattle.macs_frame.specs.declared.tag.ScName.{ScName}
 use Rattle.macs_frame.specs.declared.tag.ScName.TheVariants.{Explicit, EndStation, Implicit}
@@ -18,7 +18,7 @@ is_in_range tag = nat_lt tag.an 4 && nat_lt 0 tag.pn && nat_lt tag.name 3 && nat
 abbrev pub name_of : MacsTag → ScName
 name_of tag = if tag.name == 1 then Explicit tag.sci.octets else if tag.name == 2 then EndStation else Implicit
 
--- the SecTAG: E and C are alike (9.5)
+-- the SecTAG: E and C are equal (9.5)
 abbrev pub sec_tag : MacsTag → SecTag
 sec_tag tag = record {
   an = tag.an;

@@ -1,8 +1,8 @@
--- Keys as a program in C keeps them.
+-- Keys as a C program stores them.
 use Rattle.std.specs.Prelude.{◌≡◌, ◌⊎◌, ◌||◌, ◌==◌, ℕ, Bool, List, take}
 use Rattle.macs_c.specs.declared.keys.MacsKey.{MacsKey}
 
--- a key has 16 octets or 32 (IEEE Std 802.1AE-2018, 14.5 and 14.6)
+-- a key has 16 or 32 octets (IEEE Std 802.1AE-2018, 14.5 and 14.6)
 abbrev pub IsKeyLength : ℕ → Type 0
 IsKeyLength octets = (octets ≡ 16) ⊎ (octets ≡ 32)
 

@@ -1,4 +1,4 @@
--- Why a frame is not sealed or not opened, and the codes of answers.
+-- Why a frame is not sealed or not opened, and the return codes.
 use Rattle.std.specs.Prelude.{◌≡◌, ◌+◌, ◌<◌, ◌≤◌, ℕ, Bool, true, false, not, List, drop, take, [], ◌∷◌, Option, Some}
 use Rattle.std.specs.Prelude.{None, length, nat_lt}
 use Rattle.macs_fields.specs.First.{IsFirst, first}
@@ -20,7 +20,7 @@ use Rattle.macs_c.specs.declared.refusals.Refusal.TheVariants.{OtherSci, NotVali
 use Rattle.macs_c.specs.Fields.{is_in_range, is_offset, name_of, sec_tag}
 use Rattle.macs_c.specs.Keys.{is_key, key_octets}
 
--- what is answered: 0 where all is done
+-- the return code: 0 for success
 abbrev pub code_of : Option Refusal → ℕ
 code_of None = 0
 code_of (Some Key) = 1
@@ -38,14 +38,14 @@ code_of (Some NotValid) = 10
 abbrev pub sealed_frame : MacsKey → MacsTag → List ℕ → List ℕ
 sealed_frame key tag plain = protected_frame (key_octets key) tag.sci.octets (sec_tag tag) tag.offset plain
 
--- why a plain frame is not sealed into so much room, in the order in which it is looked for
+-- why a plain frame is not sealed into a buffer of this size, in the order in which the reasons are checked
 abbrev pub seal_refusals : MacsKey → MacsTag → List ℕ → ℕ → List (Refusal × Bool)
 seal_refusals key tag plain room =
     (Key, not (is_key key)) ∷ (Field, not (is_in_range tag)) ∷ (Runt, nat_lt (length plain) 14)
     ∷ (Oversize, nat_lt 9216 (length plain + overhead (name_of tag)))
     ∷ (Room, nat_lt room (length (sealed_frame key tag plain))) ∷ []
 
--- the first of them, if there is one
+-- the first of them, if any
 abbrev pub seal_refusal : MacsKey → MacsTag → List ℕ → ℕ → Option Refusal
 seal_refusal key tag plain room = first (seal_refusals key tag plain room)
 
@@ -59,7 +59,8 @@ IsFault frame key sci offset fault = IsFirst (OpenFaultHolds frame key sci offse
 pub record IsFaultless (frame key sci : List ℕ) (offset : ℕ) : Type 0 where
   pub none : (fault : OpenFault) → ¬ IsFault frame key sci offset fault
 
--- a refusal that a frame itself has, under a key, an SCI and an offset, or that its plain frame has for want of room
+-- a refusal because of the frame itself, under a key, an SCI and an offset, or because there is no room for its plain
+-- frame
 abbrev pub FrameRefusal : (frame key sci : List ℕ) → (offset room : ℕ) → Refusal → Type 0
 FrameRefusal frame key sci offset room Key = ⊥
 FrameRefusal frame key sci offset room Field = ⊥
@@ -73,14 +74,14 @@ FrameRefusal frame key sci offset room ForKay = IsFault frame key sci offset (Ta
 FrameRefusal frame key sci offset room OtherSci = IsFault frame key sci offset NamesOther
 FrameRefusal frame key sci offset room NotValid = IsFault frame key sci offset IsNotValid
 
--- why a frame is not opened: the key is none, or else the offset, or else the frame's own reason
+-- why a frame is not opened: the key is invalid, or else the offset, or else the frame's own reason
 abbrev pub OpenRefusal : MacsKey → (sci frame : List ℕ) → (offset room : ℕ) → Refusal → Type 0
 OpenRefusal key sci frame offset room Key = is_key key ≡ false
 OpenRefusal key sci frame offset room Field = (is_key key ≡ true) × (is_offset offset ≡ false)
 OpenRefusal key sci frame offset room refusal = (is_key key ≡ true) × (is_offset offset ≡ true)
     × FrameRefusal frame (key_octets key) sci offset room refusal
 
--- what is at the front of a room is the frame's plain frame, and what is said of the frame
+-- the plain frame is at the front of a buffer, and this is what is reported about the frame
 pub record IsOpened (frame key sci : List ℕ) (offset : ℕ) (old new : List ℕ) (opened : MacsOpened) : Type 0 where
   pub within : opened.octets ≤ length old
   pub verified : Verified frame key sci offset (take opened.octets new)
@@ -88,7 +89,7 @@ pub record IsOpened (frame key sci : List ℕ) (offset : ℕ) (old new : List �
   pub pn : opened.pn ≡ (tag_of frame).pn
   pub an : opened.an ≡ (tag_of frame).an
 
--- what the answer to an opening says: of the room as it was and is, and of what was and is said of the frame
+-- the result of an opening: the buffer before and after, and the report on the frame before and after
 abbrev pub OpenAnswer : MacsKey → (sci frame : List ℕ) → (offset : ℕ) → (old new : List ℕ) → (was is : MacsOpened)
     → Option Refusal → Type 0
 OpenAnswer key sci frame offset old new was is None = (is_key key ≡ true) × (is_offset offset ≡ true)

@@ -11,8 +11,7 @@ use crate::opening::open_into;
 use crate::refusals::{Refusal, code_of};
 use crate::sealing::seal_into;
 
-/// Keeps a key of 16 or 32 octets. The answer is 0, or 1 where they are not so many: then `key`
-/// stays as it was.
+/// Stores a key of 16 or 32 octets. Returns 0, or 1 for any other length: then `key` is unchanged.
 #[unsafe(no_mangle)]
 pub extern "C" fn macs_key_new(octets: &[u8], key: &mut MacsKey) -> u32
     ensures kept { result ≡ 0 → IsKeyLength (length octets.now) × (is_key key.new ≡ true)
@@ -23,9 +22,8 @@ pub extern "C" fn macs_key_new(octets: &[u8], key: &mut MacsKey) -> u32
     if keep(octets, key) { 0 } else { 1 }
 }
 
-/// Protects a plain frame (10.5) into `out`, and says in `written` how many octets it has. The
-/// answer is 0, or the code of the first refusal that holds: then `out` and `written` stay as they
-/// were.
+/// Protects a plain frame (10.5) into `out`, and stores its length in octets in `written`. Returns
+/// 0, or the code of the first refusal that applies: then `out` and `written` are unchanged.
 #[unsafe(no_mangle)]
 pub extern "C" fn macs_seal_frame(
     key: &MacsKey,
@@ -52,9 +50,9 @@ pub extern "C" fn macs_seal_frame(
     }
 }
 
-/// Opens a protected frame (10.6) into `out`, and says in `opened` what its SecTAG says and how
-/// many octets the plain frame has. The answer is 0, or the code of a refusal: then `out` and
-/// `opened` stay as they were.
+/// Opens a protected frame (10.6) into `out`, and stores in `opened` the contents of its SecTAG and
+/// the length of the plain frame in octets. Returns 0, or the code of a refusal: then `out` and
+/// `opened` are unchanged.
 #[unsafe(no_mangle)]
 pub extern "C" fn macs_open_frame(
     key: &MacsKey,

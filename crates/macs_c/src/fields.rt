@@ -1,4 +1,4 @@
-//! What a program in C says of a frame, and what is reported to it of one.
+//! The fields of a frame that a C program passes, and those that it gets.
 
 ghost use Rattle.std.specs.Prelude.{◌≡◌, ◌↔◌, IfSome, IsSome, true};
 ghost use Rattle.macs_fields.specs.Fields.{octets_of};
@@ -14,11 +14,11 @@ pub struct MacsSci {
     pub octets: [u8; 8],
 }
 
-/// What the SecTAG of a frame that is sealed says (9.5 to 9.9), and the confidentiality offset.
+/// The fields of the SecTAG of a frame that is sealed (9.5 to 9.9), and the confidentiality offset.
 #[repr(C)]
 #[derive(Clone, Copy)]
 pub struct MacsTag {
-    /// The transmit channel's, which enters the initialisation vector.
+    /// That of the transmit channel, which is part of the initialisation vector.
     pub sci: MacsSci,
     /// The packet number, not 0.
     pub pn: u32,
@@ -28,23 +28,23 @@ pub struct MacsTag {
     pub name: u8,
     /// Whether User Data are encrypted: 0 or 1.
     pub encrypted: u8,
-    /// How many octets of User Data stay in the clear where the others are encrypted: 0, 30 or 50.
+    /// How many octets of User Data are in the clear if the others are encrypted: 0, 30 or 50.
     pub offset: u8,
 }
 
-/// What is known of a frame that was opened.
+/// What is reported about a frame that was opened.
 #[repr(C)]
 #[derive(Clone, Copy)]
 pub struct MacsOpened {
     /// How many octets the plain frame has.
     pub octets: usize,
-    /// The packet number that its SecTAG says.
+    /// The packet number in its SecTAG.
     pub pn: u32,
-    /// The association number that its SecTAG says.
+    /// The association number in its SecTAG.
     pub an: u8,
 }
 
-/// A SecTAG's name of a channel.
+/// How a SecTAG names its channel.
 fn name_of(tag: &MacsTag) -> ScName
     ensures { result ≡ name_of tag.now }
 {
@@ -63,7 +63,7 @@ pub(crate) fn offset_of(octets: u8) -> Option<Offset>
     Offset::new(octets)
 }
 
-/// The SecTAG and the offset, `None` where a field is out of its range.
+/// The SecTAG and the offset, `None` if a field is out of its range.
 pub(crate) fn fields_of(tag: &MacsTag) -> Option<(SecTag, Offset)>
     ensures some { IsSome result ↔ (is_in_range tag.now ≡ true) }
     ensures fields { IfSome result

@@ -1,4 +1,4 @@
-//! Keys as a program in C keeps them.
+//! Keys as a C program stores them.
 
 ghost use Rattle.std.specs.Prelude.{◌≡◌, ◌↔◌, ◌≤◌, IfSome, IsSome, IsTrue, length, true};
 ghost use Rattle.std.specs.Bool.{OnFalse, OnTrue};
@@ -14,7 +14,7 @@ pub struct MacsKey {
     pub length: u32,
 }
 
-/// The key, `None` where its length is neither 16 nor 32.
+/// The key, `None` if its length is neither 16 nor 32.
 pub(crate) fn key_of(key: &MacsKey) -> Option<Key>
     ensures some { IsSome result ↔ (is_key key.now ≡ true) }
     ensures octets { IfSome result (λ found. octets_of_key found ≡ key_octets key.now) }
@@ -26,7 +26,8 @@ pub(crate) fn key_of(key: &MacsKey) -> Option<Key>
     Key::from_slice(&key.octets[..length])
 }
 
-/// Keeps a key of 16 or 32 octets. It answers whether they are so many, and else leaves `key`.
+/// Stores a key of 16 or 32 octets. Returns whether the length is valid; if not, `key` is
+/// unchanged.
 pub(crate) fn keep(octets: &[u8], key: &mut MacsKey) -> bool
     ensures exactly { IsTrue result ↔ IsKeyLength (length octets.now) }
     ensures kept { OnTrue result ((is_key key.new ≡ true) × (key_octets key.new ≡ octets.now)) }

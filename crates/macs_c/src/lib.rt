@@ -1,5 +1,5 @@
-//! Frames protected and opened for programs in C (`include/macsec.h`): IEEE Std 802.1AE-2018, 10.5,
-//! 10.6, 14.5 and 14.6. It takes no memory but its caller's, and keeps nothing between two calls.
+//! Frames protected and opened for C programs (`include/macsec.h`): IEEE Std 802.1AE-2018, 10.5,
+//! 10.6, 14.5 and 14.6. It uses only its caller's memory, and keeps no state between calls.
 #![tactic(auto)]
 
 mod exports;

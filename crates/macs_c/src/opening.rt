@@ -1,4 +1,4 @@
-//! A frame opened into a caller's room.
+//! Opening a frame into a caller's buffer.
 
 ghost use Rattle.std.specs.Prelude.{◌≡◌, ℕ, List, IfErr, IfOk, OnErr, OnOk, true, length};
 ghost use Rattle.macs_aes.specs.Keys.{octets_of_key};
@@ -17,7 +17,7 @@ use macs_fields::{Offset, Sci};
 use macs_frame::{FrameBuf, OpenFault, TagFault, open_frame};
 use macs_gcm::GcmKey;
 
-/// The refusal that a fault of a frame is.
+/// The refusal for a fault of a frame.
 fn refusal_of(fault: OpenFault) -> Refusal
     ensures { (frame key sci : List ℕ) (offset room : ℕ) → IsFault frame key sci offset fault
         → FrameRefusal frame key sci offset room result }
@@ -33,7 +33,7 @@ fn refusal_of(fault: OpenFault) -> Refusal
     }
 }
 
-/// Opens a frame into a room.
+/// Opens a frame into a buffer.
 fn open_under(
     key: &Key,
     sci: Sci,
@@ -63,8 +63,8 @@ fn open_under(
     }
 }
 
-/// Opens a frame into a room, and answers what its SecTAG says and how many octets the plain frame
-/// has.
+/// Opens a frame into a buffer, and returns the contents of its SecTAG and the length of the plain
+/// frame in octets.
 pub(crate) fn open_into(
     key: &MacsKey,
     sci: &MacsSci,

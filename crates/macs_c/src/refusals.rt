@@ -1,9 +1,9 @@
-//! Why a frame is not sealed or not opened, and the codes that a program in C is answered.
+//! Why a frame is not sealed or not opened, and the codes returned to a C program.
 
 ghost use Rattle.std.specs.Prelude.{◌≡◌, Err, Ok, Option, Some, None};
 ghost use Rattle.macs_c.specs.Refusals.{code_of};
 
-/// Why not.
+/// Why a frame is not sealed or not opened.
 #[derive(Clone, Copy)]
 pub(crate) enum Refusal {
     /// The key was not made by `macs_key_new`.
@@ -14,7 +14,7 @@ pub(crate) enum Refusal {
     Runt,
     /// The frame has more than 9,216 octets, or would have.
     Oversize,
-    /// There is too little room for the frame that is made.
+    /// The buffer is too small for the resulting frame.
     Room,
     /// The EtherType is not 88-E5.
     NoTag,
@@ -28,7 +28,7 @@ pub(crate) enum Refusal {
     NotValid,
 }
 
-/// The code of an answer.
+/// The return code.
 pub(crate) fn code_of(refusal: Option<Refusal>) -> u32
     ensures { result ≡ code_of refusal }
 {

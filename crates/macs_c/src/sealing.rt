@@ -1,4 +1,4 @@
-//! A frame sealed into a caller's room.
+//! Sealing a frame into a caller's buffer.
 
 ghost use Rattle.std.specs.Prelude.{◌≡◌, ◌+◌, ◌++◌, ◌≤◌, ◌<◌, ◌↔◌, Err, IfErr, IfOk, OnErr, OnOk};
 ghost use Rattle.std.specs.Prelude.{Some, None, drop, length};
@@ -16,7 +16,7 @@ use macs_fields::{Offset, Sci};
 use macs_frame::{FrameBuf, MAX_FRAME, MIN_FRAME, SecTag, seal_frame};
 use macs_gcm::GcmKey;
 
-/// Octets at the front of a room, where it has so much. The answer is how many they are.
+/// Puts octets at the front of a buffer, if it is large enough. Returns how many there are.
 pub(crate) fn put(octets: &[u8], out: &mut [u8]) -> Result<usize, Refusal>
     ensures refused { IfErr result (λ r. r ≡ Room) }
     ensures room { OnErr result (length out.old < length octets.now) }
@@ -33,7 +33,7 @@ pub(crate) fn put(octets: &[u8], out: &mut [u8]) -> Result<usize, Refusal>
     Ok(count)
 }
 
-/// The protected frame of a plain one, at the front of a room.
+/// Puts the protected frame of a plain one at the front of a buffer.
 fn seal_under(
     key: &Key,
     sci: Sci,
@@ -63,7 +63,7 @@ fn seal_under(
     put(frame.as_slice(), out)
 }
 
-/// Seals a plain frame into a room, and answers how many octets the protected frame has.
+/// Seals a plain frame into a buffer, and returns the length of the protected frame in octets.
 pub(crate) fn seal_into(
     key: &MacsKey,
     tag: &MacsTag,

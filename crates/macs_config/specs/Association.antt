@@ -7,17 +7,17 @@ use Rattle.macs_config.specs.declared.association.Protection.TheVariants.{Integr
 use Rattle.macs_config.specs.declared.command.SciMode.{SciMode}
 use Rattle.macs_config.specs.declared.command.SciMode.TheVariants.{Explicit, EndStation, Implicit}
 
--- what an install asks for: confidentiality with this offset, or integrity alone
+-- the protection that an install requests: confidentiality with this offset, or integrity only
 abbrev pub protection_of : Bool → Offset → Protection
 protection_of true offset = Confidentiality offset
 protection_of false offset = Integrity
 
--- User Data are encrypted from the offset on, and not authenticated alone
+-- User Data are encrypted from the offset on, not only authenticated
 abbrev pub is_confidential : Protection → Bool
 is_confidential Integrity = false
 is_confidential (Confidentiality offset) = true
 
--- the confidentiality offset, Zero where nothing is encrypted
+-- the confidentiality offset, Zero if nothing is encrypted
 abbrev pub offset_of : Protection → Offset
 offset_of Integrity = Zero
 offset_of (Confidentiality offset) = offset

@@ -17,28 +17,28 @@ use Rattle.macs_config.specs.declared.command.SciMode.TheVariants.{Explicit, End
 use Rattle.macs_config.specs.declared.command.Role.{Role}
 use Rattle.macs_config.specs.declared.command.Role.TheVariants.{Transmit, Receive}
 
--- what an edition of the product takes: how many receive channels, whether keys of 32 octets besides those of 16, and
+-- what an edition of the product accepts: how many receive channels, whether keys of 32 octets besides those of 16, and
 -- whether areas of format two besides those of format one
 pub record Edition : Type 0 where
   pub channels : ℕ
   pub long_keys : Bool
   pub format_two : Bool
 
--- at most 8 receive channels, keys of 16 octets alone, and areas of format one alone
+-- at most 8 receive channels, only keys of 16 octets, and only areas of format one
 abbrev pub first_edition : Edition
 first_edition = record { channels = 8; long_keys = false; format_two = false }
 
--- the edition that this program is of: at most 32 receive channels, keys of 32 octets too, and areas of format two too
+-- the edition of this program: at most 32 receive channels, also keys of 32 octets, and also areas of format two
 abbrev pub this_edition : Edition
 this_edition = record { channels = 32; long_keys = true; format_two = true }
 
--- whatever the smaller edition takes the larger takes too
+-- the larger edition accepts everything that the smaller one accepts
 pub record IsUpTo (small large : Edition) : Type 0 where
   pub channels : small.channels ≤ large.channels
   pub long_keys : small.long_keys ≡ true → large.long_keys ≡ true
   pub format_two : small.format_two ≡ true → large.format_two ≡ true
 
--- an edition takes a key of so many octets: 32, for GCM-AES-256 (IEEE Std 802.1AE-2018, 14.6), where it takes long
+-- an edition accepts a key of this many octets: 32, for GCM-AES-256 (IEEE Std 802.1AE-2018, 14.6), if it accepts long
 -- keys, and 16, for GCM-AES-128 (14.5)
 abbrev pub takes_key : Edition → List ℕ → Bool
 takes_key edition key = (edition.long_keys && (length key == 32)) || (length key == 16)
@@ -47,8 +47,8 @@ takes_key edition key = (edition.long_keys && (length key == 32)) || (length key
 abbrev pub max_spent : ℕ
 max_spent = 512
 
--- Associations by their numbers, receive associations by SCI and number; the receive channels as their SCIs, ascending;
--- the fingerprints of spent keys in the order of installing. It holds no start, next number or ceiling.
+-- Associations by number, receive associations by SCI and number; the receive channels as their SCIs, ascending; the
+-- fingerprints of spent keys in the order of installation. It holds no start, next number or ceiling.
 pub record Config : Type 0 where
   pub validate : Validate
   pub replay : Replay
@@ -60,7 +60,7 @@ pub record Config : Type 0 where
   pub spent_tx : List (List ℕ)
   pub spent_rx : List (List ℕ)
 
--- what an endpoint is formatted with
+-- the configuration of a newly formatted endpoint
 abbrev pub default : Config
 default = record {
   validate = Strict;
@@ -80,21 +80,21 @@ default = record {
 abbrev pub is_among : List (List ℕ) → List ℕ → Bool
 is_among items item = list_any (λ other. bytes_eq other item) items
 
--- a receive channel of that SCI exists
+-- a receive channel with that SCI exists
 abbrev pub has_channel : Config → List ℕ → Bool
 has_channel c sci = is_among c.channels sci
 
--- an SCI comes before another one: by the first octet in which they differ, as numbers of 64 bits do
+-- an SCI is less than another one: compared by the first octet in which they differ, like 64-bit numbers
 abbrev pub comes_before : List ℕ → List ℕ → Bool
 comes_before a b = is_lt (slice_cmp nat_cmp a b)
 
--- an SCI put among those that ascend
+-- an SCI inserted into an ascending list
 abbrev pub put_among : List ℕ → List (List ℕ) → List (List ℕ)
 put_among sci [] = sci ∷ []
 put_among sci (other ∷ others) =
     if comes_before sci other then sci ∷ other ∷ others else other ∷ put_among sci others
 
--- each SCI comes before the next, so that none comes twice
+-- each SCI is less than the next, so that none occurs twice
 abbrev pub is_ascending : List (List ℕ) → Bool
 is_ascending [] = true
 is_ascending (sci ∷ []) = true
@@ -102,12 +102,11 @@ is_ascending (sci ∷ next ∷ others) = comes_before sci next && is_ascending (
 
 -- ---- spent keys
 
--- what stands for a key on the transmit side: the SHA-256 of the key (FIPS 180-4), 32 octets
+-- the fingerprint of a key on the transmit side: the SHA-256 of the key (FIPS 180-4), 32 octets
 abbrev pub tx_fingerprint : List ℕ → List ℕ
 tx_fingerprint key = sha256 key
 
--- what stands for a key under an SCI on the receive side: the SHA-256 of the SCI and the key, one after the other, 32
--- octets
+-- the fingerprint of a key with an SCI on the receive side: the SHA-256 of the SCI followed by the key, 32 octets
 abbrev pub rx_fingerprint : List ℕ → List ℕ → List ℕ
 rx_fingerprint sci key = sha256 (sci ++ key)
 
@@ -115,20 +114,20 @@ rx_fingerprint sci key = sha256 (sci ++ key)
 abbrev pub is_spent : List (List ℕ) → List ℕ → Bool
 is_spent spent fingerprint = is_among spent fingerprint
 
--- the fingerprints of a side's spent keys, in the order of installing
+-- the fingerprints of a side's spent keys, in the order of installation
 abbrev pub spent_of : Role → Config → List (List ℕ)
 spent_of Transmit c = c.spent_tx
 spent_of Receive c = c.spent_rx
 
--- none comes twice
+-- none occurs twice
 abbrev pub are_distinct : List (List ℕ) → Bool
 are_distinct [] = true
 are_distinct (item ∷ items) = not (is_among items item) && are_distinct items
 
 -- ---- what holds of every configuration
 
--- Associations that exist have keys that the edition takes, and that are spent. Two of them may have one key: a key is
--- spent for a side and, on the receive side, for an SCI.
+-- Associations that exist have keys that the edition accepts, and that are spent. Two of them may have the same key: a
+-- key is spent for a side and, on the receive side, for an SCI.
 pub record IsConfig (edition : Edition) (identity : Identity) (c : Config) : Type 0 where
   pub encoding_stands : IfSome c.encoding (λ an. IsSome (c.tx an))
   pub end_station : c.mode ≡ EndStation → is_port_one identity.sci ≡ true

@@ -1,4 +1,4 @@
--- What an endpoint is formatted with.
+-- The identity that an endpoint is formatted with.
 use Rattle.std.specs.Prelude.{◌≤◌, ℕ, Bool, List, [], ◌∷◌, drop}
 use Rattle.std.specs.Str.{bytes_eq}
 use Rattle.macs_fields.specs.Fields.{IsSci}

@@ -1,4 +1,4 @@
--- What the check of a command read and judged, and the command that it was.
+-- The verdict of a command's check, and the command that was checked.
 use Rattle.std.proofs.Common.{◌≡◌, ap, refl, ℕ, Bool, true, false, if◌then◌else◌, ◌==◌, List, [], ◌∷◌, ◌++◌, length}
 use Rattle.std.proofs.Common.{Option, Some, None, not, bytes_eq}
 use Rattle.std.specs.List.{filter}
@@ -43,20 +43,20 @@ asked_by (judged.RxDrop sci) = RxDrop sci
 asked_by (judged.RxInstall sci an sa start fingerprint) = rx_install sci an sa start
 asked_by (judged.RxRemove sci an) = RxRemove sci an
 
--- the fingerprint that is kept for it, if it installs
+-- the fingerprint that is stored for it, if it installs a key
 abbrev pub fingerprint_in : Judged → Option (List ℕ)
 fingerprint_in (judged.TxInstall an sa start fingerprint) = Some fingerprint
 fingerprint_in (judged.RxInstall sci an sa start fingerprint) = Some fingerprint
 fingerprint_in other = None
 
--- Its fingerprint is the one that the command spends; the command has a start and an offset that may be.
+-- Its fingerprint is the one that the command spends; the command has a valid start and offset.
 abbrev pub IsJudged : Judged → Type 0
 IsJudged j = (fingerprint_in j ≡ fingerprint_of (asked_by j)) × (has_wrong_start (asked_by j) ≡ false)
     × (has_wrong_offset (asked_by j) ≡ false)
 
 -- ---- effects
 
--- what a command that is not refused makes of the configuration, by what was judged
+-- the configuration after a command that is not refused, from its verdict
 abbrev pub config_changed : Config → Judged → Config
 config_changed c (judged.SetValidate validate) = record c { validate = validate }
 config_changed c (judged.SetReplay on window) = record c { replay = record { on = on; window = window } }
@@ -78,9 +78,9 @@ config_changed c (judged.RxInstall sci an sa start fingerprint) = record c {
 }
 config_changed c (judged.RxRemove sci an) = record c { rx = put_at c.rx sci (put (c.rx sci) an None) }
 
--- ---- and back
+-- ---- and conversely
 
--- what is judged of a command that is not refused
+-- the verdict on a command that is not refused
 abbrev pub judged_of : Command → Judged
 judged_of (SetValidate validate) = judged.SetValidate validate
 judged_of (SetReplay on window) = judged.SetReplay on window
@@ -105,7 +105,7 @@ octets-by : (octets : List ℕ) (short : Bool) → octets_of_key (if short then 
 octets-by octets true = refl
 octets-by octets false = refl
 
--- octets are found in their key
+-- the octets of a key are recovered from it
 pub octets-back : (octets : List ℕ) → octets_of_key (key_of_octets octets) ≡ octets
 octets-back octets = octets-by octets (length octets == 16)
 
@@ -122,7 +122,7 @@ protection-back (Confidentiality offset) = ap (λ (o : Offset). Confidentiality 
 some-alike : (fingerprint spent : List ℕ) → Some fingerprint ≡ Some spent → spent ≡ fingerprint
 some-alike fingerprint spent is = cc
 
--- what was judged is known by its command
+-- a verdict is determined by its command
 pub judged_of-asked_by : (j : Judged) → IsJudged j → judged_of (asked_by j) ≡ j
 judged_of-asked_by (judged.SetValidate validate) is = refl
 judged_of-asked_by (judged.SetReplay on window) is = refl

@@ -1,7 +1,7 @@
--- Numbers that end: packet numbers and counts.
+-- Numbers with a maximum: packet numbers and counters.
 use Rattle.std.specs.Prelude.{◌+◌, ◌-◌, ◌^◌, ℕ, min}
 
--- a block beyond a number, as far as packet numbers go
+-- a block beyond a number, limited to the range of packet numbers
 abbrev pub block_beyond : ℕ → ℕ → ℕ
 block_beyond number block = min (number + block) (2 ^ 32)
 

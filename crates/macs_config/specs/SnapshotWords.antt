@@ -1,5 +1,5 @@
--- What is to be drawn of the parts of a snapshot: which are refused after those before them, and in which order they
--- come.
+-- What follows from the definitions of a snapshot's parts: which are refused after those before them, and in which
+-- order they come.
 use Rattle.std.specs.Prelude.{◌≡◌, ◌<◌, ◌≤◌, ◌+◌, ◌++◌, ℕ, true, false, List, [], ◌∷◌, length, Option, Some, None}
 use Rattle.macs_config.specs.Config.{Config, Edition, has_channel, is_among, max_spent, spent_of, takes_key}
 use Rattle.macs_config.specs.Identity.{Identity}
@@ -14,9 +14,9 @@ use Rattle.macs_config.specs.declared.command.Validate.{Validate}
 use Rattle.macs_config.specs.declared.part.Part.{Part}
 use Rattle.macs_config.specs.declared.part.Part.TheVariants.{Settings, TxSa, Channel, RxSa, Spent}
 
--- A snapshot is refused where after some of its parts there comes an association or a channel that is there already; an
--- association to receive whose channel is not there; a key that the edition does not take; the own SCI as a channel, or
--- one more channel than the edition may have; spent keys of which the first is spent already, or is the second too, or
+-- A snapshot is refused if it contains, after some of its parts, an association or a channel that exists already; a
+-- receive association whose channel does not exist; a key that the edition does not accept; the own SCI as a channel,
+-- or one more channel than the edition may have; spent keys the first of which is already spent, or also the second, or
 -- more of them than fit.
 pub record PartWords : Type 0 where
   pub tx_twice : (edition : Edition) (identity : Identity) (c : Config) (an : ℕ) (before sa : TxAssociation)
@@ -52,8 +52,8 @@ pub record PartWords : Type 0 where
       → max_spent < length (spent_of role c) + length fingerprints
       → config_with_parts edition identity c (Spent role fingerprints ∷ parts) ≡ None
 
--- A snapshot begins with its settings, and no part of it comes after one that has a later place in the order:
--- settings, associations to transmit, channels, associations to receive, and the fingerprints of either side.
+-- A snapshot begins with its settings, and no part of it comes after one with a higher rank in the order: settings,
+-- transmit associations, channels, receive associations, and the fingerprints of each side.
 pub record OrderWords : Type 0 where
   pub first : (edition : Edition) (identity : Identity) (part : Part) (parts : List Part) → 1 < place_of part
       → config_of_parts edition identity (part ∷ parts) ≡ None

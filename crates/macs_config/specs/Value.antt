@@ -1,4 +1,4 @@
--- A configuration as it is kept.
+-- A configuration as it is stored.
 use Rattle.std.specs.Prelude.{ℕ, if◌then◌else◌, List, [], ◌∷◌, map, get_or, Option, None}
 use Rattle.std.specs.Str.{bytes_eq}
 use Rattle.macs_config.specs.Config.{Config}
@@ -7,18 +7,18 @@ use Rattle.macs_config.specs.declared.association.RxSa.{RxSa}
 use Rattle.macs_config.specs.declared.contents.Channel.{Channel}
 use Rattle.macs_config.specs.declared.contents.Contents.{Contents}
 
--- an identity, and besides it what is kept of its configuration
+-- an identity, and with it the rest of its configuration
 pub record ConfigValue : Type 0 where
   pub identity : Identity
   pub contents : Contents
 
--- the receive association of an SCI at an AN, None where there is none
+-- the receive association with an SCI at an AN, None if there is none
 abbrev pub rx_at : List Channel → List ℕ → ℕ → Option RxSa
 rx_at [] sci an = None
 rx_at (channel ∷ channels) sci an =
     if bytes_eq channel.sci sci then get_or channel.associations an None else rx_at channels sci an
 
--- what is kept, as a configuration
+-- the stored configuration
 abbrev pub config_in : Contents → Config
 config_in c = record {
   validate = c.validate;
@@ -32,6 +32,6 @@ config_in c = record {
   spent_rx = c.spent_rx;
 }
 
--- the configuration besides the identity
+-- the configuration without the identity
 abbrev pub config_of : ConfigValue → Config
 config_of stored = config_in stored.contents

@@ -6,7 +6,7 @@ use macs_fields::Offset;
 /// What an association does with User Data (IEEE Std 802.1AE-2018, 14.5).
 #[derive(Clone, Copy, Debug, PartialEq, Eq)]
 pub enum Protection {
-    /// User Data are authenticated, and all of them stay in the clear.
+    /// User Data are authenticated, and all are in the clear.
     Integrity,
     /// User Data are authenticated, and encrypted from the offset on.
     Confidentiality(Offset),
@@ -16,7 +16,7 @@ impl Protection {
     ghost use Rattle.std.specs.Prelude.{◌≡◌, ◌↔◌, Some};
     ghost use Rattle.macs_config.specs.Association.{is_confidential, offset_of, protection_of};
 
-    /// With confidentiality at this offset, or without: then the offset says nothing.
+    /// With confidentiality at this offset, or without: then the offset is ignored.
     pub fn new(confidential: bool, offset: Offset) -> Protection
         ensures { result ≡ protection_of confidential offset }
     {

@@ -1,4 +1,4 @@
-//! What a command does.
+//! Applying a command.
 
 ghost use Rattle.std.specs.Prelude.{◌≡◌, None};
 ghost use Rattle.macs_config.specs.Apply.{refusal_of};
@@ -11,7 +11,7 @@ use crate::checked::Judged;
 use crate::command::Replay;
 use crate::contents::Contents;
 
-/// Does what a command asks for that is not refused, as its check judged it.
+/// Applies a command that is not refused, with the verdict of its check.
 pub(crate) fn change(contents: &mut Contents, judged: &Judged)
     requires { (identity : Identity)
         × (refusal_of this_edition identity (config_in contents.old) (asked_by judged.now) ≡ None) }

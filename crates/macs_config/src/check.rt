@@ -26,7 +26,7 @@ use macs_fields::{An, Offset, Pn, Sci};
 /// The port of an end station's SCI (IEEE Std 802.1AE-2018, 9.5).
 const END_STATION_PORT: [u8; 2] = [0, 1];
 
-/// What is judged of a command, or its first refusal in the order of `Refusal`.
+/// The verdict on a command, or its first refusal in the order of `Refusal`.
 pub(crate) fn check(
     contents: &Contents,
     identity: &Identity,
@@ -77,7 +77,7 @@ pub(crate) fn check(
     }
 }
 
-/// What the check of a command that spends no key answers.
+/// The result of the check of a command that spends no key.
 fn unless_refused(refusal: Option<Refusal>, judged: Judged) -> Result<Checked, Refusal>
     requires { IsJudged judged }
     ensures { with_reason result ≡ answer_or_refusal (reason_named refusal) (asked_by judged) }
@@ -134,7 +134,7 @@ fn check_tx_install(
     check_tx(contents, an, TxSa { key, protection }, start)
 }
 
-/// What is judged of an install of a transmit association.
+/// The verdict on an install of a transmit association.
 pub(crate) fn check_tx(contents: &Contents, an: An, sa: TxSa, start: Pn) -> Result<Checked, Refusal>
     ensures { (identity : _) → with_reason result
         ≡ answer_or_refusal (refusal_of this_edition identity (config_in contents.now)
@@ -230,7 +230,7 @@ fn check_rx_install(
     check_rx(contents, sci, an, RxSa { key, offset }, start)
 }
 
-/// What is judged of an install of a receive association.
+/// The verdict on an install of a receive association.
 pub(crate) fn check_rx(
     contents: &Contents,
     sci: Sci,
@@ -276,7 +276,7 @@ fn rx_remove_refusal(contents: &Contents, sci: Sci, an: An) -> Option<Refusal>
     }
 }
 
-/// What keeps a key of this fingerprint from being spent among those of its side.
+/// Why a key with this fingerprint may not be spent on its side, if it may not.
 fn key_refusal(spent: &SpentKeys, fingerprint: &Fingerprint) -> Option<Refusal>
     ensures { result ≡ (if is_spent spent.now fingerprint.now then Some KeySpent
         else if nat_le max_spent (length spent.now) then Some SpentFull else None) }

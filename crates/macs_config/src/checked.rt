@@ -1,4 +1,4 @@
-//! What the check of a command judged.
+//! The verdict of a command's check.
 
 ghost use Rattle.std.specs.Prelude.{◌≡◌};
 ghost use Rattle.macs_aes.specs.Keys.{key_of_octets};
@@ -11,8 +11,8 @@ use macs_aes::{Key, KeyOctets};
 use macs_fields::{An, Pn, Sci};
 use std::marker::Model;
 
-/// A command as its check judged it, in the types of what it changes. An install has what its
-/// association is, its first packet number, and the fingerprint of its key.
+/// The verdict on a command, in the types of what it changes. An install has its association, its
+/// first packet number, and the fingerprint of its key.
 #[derive(Clone, Copy)]
 pub enum Judged {
     SetValidate(Validate),
@@ -52,8 +52,8 @@ pub enum Judged {
     },
 }
 
-/// A command that a configuration does not refuse, as its check judged it. It fits that
-/// configuration, or one with the same contents; in clauses it is the command.
+/// A command that a configuration does not refuse, with the verdict of its check. It fits that
+/// configuration, or one with the same contents; in contracts its value is the command.
 #[derive(Clone, Copy)]
 pub struct Checked {
     judged: Judged,
@@ -76,7 +76,7 @@ impl Model for Checked {
 }
 
 impl Checked {
-    /// Of a command that was judged.
+    /// From a verdict.
     pub(crate) fn of(judged: Judged) -> Checked
         requires { IsJudged judged }
         ensures { result ≡ asked_by judged }
@@ -84,7 +84,7 @@ impl Checked {
         Checked { judged }
     }
 
-    /// What was judged.
+    /// The verdict.
     pub fn judged(&self) -> &Judged
         ensures asked { asked_by result.now ≡ self.now }
         ensures judged { IsJudged result.now }
@@ -100,7 +100,7 @@ impl Checked {
     }
 }
 
-/// The command that was judged so.
+/// The command with this verdict.
 fn asked_by(judged: &Judged) -> Command
     ensures { result ≡ asked_by judged.now }
 {
@@ -136,7 +136,7 @@ fn asked_by(judged: &Judged) -> Command
     }
 }
 
-/// The key that an association has.
+/// The key of an association.
 fn key_of(octets: KeyOctets) -> Key
     ensures { result ≡ key_of_octets octets }
 {

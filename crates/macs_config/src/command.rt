@@ -1,4 +1,4 @@
-//! What the operator asks for.
+//! The operator's commands.
 
 use macs_aes::Key;
 use macs_fields::{An, Sci};
@@ -9,12 +9,12 @@ use macs_fields::{An, Sci};
 pub enum Validate {
     /// They are discarded.
     Strict,
-    /// They are delivered where their User Data were not changed: C is clear.
+    /// They are delivered if their User Data were not changed: C is clear.
     Check,
 }
 
 /// Whether received packet numbers are checked for replay, and how far below the next expected one
-/// they may lie (10.7.8): `window` is 0 to 2^32 - 1 numbers.
+/// they may be (10.7.8): `window` is 0 to 2^32 - 1 numbers.
 #[derive(Clone, Copy, Debug, PartialEq, Eq)]
 pub struct Replay {
     pub on: bool,
@@ -24,15 +24,15 @@ pub struct Replay {
 /// How the SecTAG of transmitted frames names the channel (9.5, 9.9).
 #[derive(Clone, Copy, Debug, PartialEq, Eq)]
 pub enum SciMode {
-    /// It spells the SCI out.
+    /// It has an explicit SCI.
     Explicit,
     /// It names an end station: the source address with port 00-01.
     EndStation,
-    /// It leaves the channel to the receiver.
+    /// It leaves the identification of the channel to the receiver.
     Implicit,
 }
 
-/// The side that an association, or a spent key, is on.
+/// The side of an association, or of a spent key.
 #[derive(Clone, Copy, Debug, PartialEq, Eq)]
 pub enum Role {
     Transmit,
@@ -40,8 +40,8 @@ pub enum Role {
 }
 
 /// A command of the operator. `start` is the first packet number of a new association, `offset` its
-/// confidentiality offset in octets, and the length of its key chooses its cipher suite: any number
-/// and any key is read here, and one that may not be is refused when the command is applied.
+/// confidentiality offset in octets, and the length of its key determines its cipher suite: any
+/// number and any key is accepted here, and an invalid one is refused when the command is applied.
 #[derive(Clone, Copy, PartialEq, Eq)]
 pub enum Command {
     /// Sets what is done with frames that do not verify. Never refused.
@@ -53,7 +53,7 @@ pub enum Command {
     },
     /// Sets how transmitted frames name the channel.
     SetSciMode(SciMode),
-    /// A new transmit association; its key is spent from then on.
+    /// Installs a transmit association; its key is spent from then on.
     TxInstall {
         an: An,
         key: Key,
@@ -61,23 +61,23 @@ pub enum Command {
         confidential: bool,
         offset: u8,
     },
-    /// Frames go out under this association from then on.
+    /// Sends frames under this association from then on.
     TxUse {
         an: An,
     },
-    /// A transmit association goes.
+    /// Removes a transmit association.
     TxRemove {
         an: An,
     },
-    /// A new receive channel.
+    /// Adds a receive channel.
     RxAdd {
         sci: Sci,
     },
-    /// A receive channel goes, with its associations.
+    /// Drops a receive channel, with its associations.
     RxDrop {
         sci: Sci,
     },
-    /// A new receive association of a channel; its key is spent there from then on.
+    /// Installs a receive association of a channel; its key is spent there from then on.
     RxInstall {
         sci: Sci,
         an: An,
@@ -85,7 +85,7 @@ pub enum Command {
         start: u32,
         offset: u8,
     },
-    /// A receive association goes.
+    /// Removes a receive association.
     RxRemove {
         sci: Sci,
         an: An,

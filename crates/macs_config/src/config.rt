@@ -28,8 +28,8 @@ use macs_aes::Key;
 use macs_fields::{An, Pn, Sci};
 use std::marker::Model;
 
-/// The configuration of an endpoint: what its operator has commanded, and which keys are spent. It
-/// holds no packet number.
+/// The configuration of an endpoint: the result of its operator's commands, and which keys are
+/// spent. It holds no packet number.
 #[derive(Drop)]
 pub struct Config {
     identity: Identity,
@@ -48,8 +48,8 @@ impl Model for Config {
 }
 
 impl Config {
-    /// What an endpoint is formatted with: strict validation, replay protection with window 0, SCIs
-    /// spelled out, no association and no channel, and no key spent.
+    /// The configuration of a newly formatted endpoint: strict validation, replay protection with
+    /// window 0, explicit SCIs, no association and no channel, and no key spent.
     pub fn new(identity: &Identity) -> Config
         ensures identity { result.identity ≡ identity.now }
         ensures default { config_of result ≡ default }
@@ -60,12 +60,12 @@ impl Config {
         }
     }
 
-    /// The configuration that the parts of a snapshot make up. `None` where they are not in a
+    /// The configuration that the parts of a snapshot make up. `None` if they are not in a
     /// snapshot's order, with settings once; an association, a channel or, on one side, a
-    /// fingerprint comes twice; a channel is the endpoint's own SCI, or one more than 32; more than
-    /// 512 keys are spent on a side; a receive association has no channel; an installed key is not
-    /// spent; the encoding association does not exist; or the mode is that of an end station, and
-    /// the port of the endpoint's SCI is not 00-01.
+    /// fingerprint occurs twice; a channel is the endpoint's own SCI, or there are more than 32;
+    /// more than 512 keys are spent on a side; a receive association has no channel; an installed
+    /// key is not spent; the encoding association does not exist; or the mode is that of an end
+    /// station, and the port of the endpoint's SCI is not 00-01.
     pub fn restore(identity: &Identity, parts: &[Part]) -> Option<Config>
         ensures restored { option_map config_of result
             ≡ config_of_parts this_edition identity.now parts.now }
@@ -79,9 +79,9 @@ impl Config {
         }
     }
 
-    /// Makes it, in its place, the configuration that the parts of a snapshot make up under its
-    /// identity, and answers whether there is one. Where a place has no part, or `restore` refuses
-    /// the parts, it is then what an endpoint is formatted with.
+    /// Replaces itself, in place, by the configuration that the parts of a snapshot make up under
+    /// its identity, and returns whether there is one. If a position has no part, or `restore`
+    /// refuses the parts, it is then the configuration of a newly formatted endpoint.
     pub fn restore_from<P: PartSource>(&mut self, parts: &P) -> bool
         ensures restored { config_of_listed this_edition self.old.identity (P.listed parts.now)
             ≡ (if result then Some (config_of self.new) else None) }
@@ -95,8 +95,8 @@ impl Config {
         is_restored
     }
 
-    /// What is judged of a command that may be applied, or the first refusal in the order of
-    /// `Refusal`. An install hashes its key here, and nowhere after it.
+    /// The verdict on a command that may be applied, or the first refusal in the order of
+    /// `Refusal`. An install's key is hashed here, and nowhere later.
     pub fn check(&self, command: &Command) -> Result<Checked, Refusal>
         ensures refused { (refusal : Refusal) → (result ≡ Err refusal)
             ↔ (refusal_of this_edition self.now.identity (config_of self.now) command.now
@@ -108,7 +108,7 @@ impl Config {
         check(&self.contents, &self.identity, command)
     }
 
-    /// What `check` judges of the command that installs this transmit association.
+    /// The verdict of `check` on the command that installs this transmit association.
     pub fn check_tx(&self, an: An, sa: TxSa, start: Pn) -> Result<Checked, Refusal>
         ensures { with_reason result
             ≡ answer_or_refusal (refusal_of this_edition self.now.identity (config_of self.now)
@@ -117,7 +117,7 @@ impl Config {
         check_tx(&self.contents, an, sa, start)
     }
 
-    /// What `check` judges of the command that installs this receive association.
+    /// The verdict of `check` on the command that installs this receive association.
     pub fn check_rx(&self, sci: Sci, an: An, sa: RxSa, start: Pn) -> Result<Checked, Refusal>
         ensures { with_reason result
             ≡ answer_or_refusal (refusal_of this_edition self.now.identity (config_of self.now)
@@ -126,7 +126,7 @@ impl Config {
         check_rx(&self.contents, sci, an, sa, start)
     }
 
-    /// Applies a command that this configuration does not refuse, as its check judged it.
+    /// Applies a command that this configuration does not refuse, with the verdict of its check.
     pub fn apply_checked(&mut self, checked: &Checked)
         requires { refusal_of this_edition self.old.identity (config_of self.old)
             checked.now ≡ None }
@@ -191,21 +191,21 @@ impl Config {
         self.contents.mode
     }
 
-    /// The number of the association that frames go out under.
+    /// The number of the association that frames are sent under.
     pub fn encoding(&self) -> Option<An>
         ensures { result ≡ (config_of self.now).encoding }
     {
         self.contents.encoding
     }
 
-    /// A transmit association, `None` where there is none at that number.
+    /// A transmit association, `None` if there is none at that number.
     pub fn tx(&self, an: An) -> Option<TxSa>
         ensures { result ≡ (config_of self.now).tx an }
     {
         self.contents.tx[an.get() as usize]
     }
 
-    /// Whether a receive channel of that SCI exists.
+    /// Whether a receive channel with that SCI exists.
     pub fn has_channel(&self, sci: Sci) -> bool
         ensures { result ≡ has_channel (config_of self.now) sci }
     {
@@ -223,7 +223,7 @@ impl Config {
         scis
     }
 
-    /// A receive association, `None` where there is none at that number of that channel.
+    /// A receive association, `None` if there is none at that number of that channel.
     pub fn rx(&self, sci: Sci, an: An) -> Option<RxSa>
         ensures { result ≡ (config_of self.now).rx sci an }
     {
@@ -262,8 +262,8 @@ impl Config {
         self.contents.spent_rx.contains(&fingerprint)
     }
 
-    /// The fingerprint of the key that was spent at this place in the order of installing, counted
-    /// from 0; `None` where fewer are spent on that side.
+    /// The fingerprint of the key that was spent at this index in the order of installation,
+    /// counting from 0; `None` if fewer are spent on that side.
     pub fn spent_at(&self, role: Role, at: usize) -> Option<Fingerprint>
         ensures { result ≡ slice_get (spent_of role (config_of self.now)) at }
     {

@@ -1,4 +1,4 @@
-//! What a configuration holds, and how one command changes it.
+//! The contents of a configuration, and how one command changes them.
 
 use crate::association::{RxSa, TxSa};
 use crate::command::{Replay, SciMode, Validate};
@@ -7,10 +7,10 @@ use crate::spent_keys::SpentKeys;
 use arrayvec::ArrayVec;
 use macs_fields::{ASSOCIATIONS, An, Sci};
 
-/// How many receive channels there may be.
+/// The maximum number of receive channels.
 pub const MAX_CHANNELS: usize = 32;
 
-/// A receive channel, with its associations by their numbers.
+/// A receive channel, with its associations by number.
 #[derive(Default, Drop)]
 pub(crate) struct Channel {
     pub sci: Sci,
@@ -36,7 +36,7 @@ impl Channel {
         self.associations[an.get() as usize]
     }
 
-    /// Puts an association at a number, or takes it away.
+    /// Sets or removes the association at a number.
     fn put(&mut self, an: An, sa: Option<RxSa>)
         ensures sci { self.new.sci ≡ self.old.sci }
         ensures association { (number : ℕ) → get_or self.new.associations number None
@@ -46,8 +46,8 @@ impl Channel {
     }
 }
 
-/// What a configuration holds: transmit associations by their numbers, receive channels by
-/// ascending SCI, and the fingerprints of spent keys in the order of installing.
+/// The contents of a configuration: transmit associations by number, receive channels by ascending
+/// SCI, and the fingerprints of spent keys in the order of installation.
 #[derive(Drop)]
 pub(crate) struct Contents {
     pub validate: Validate,
@@ -71,7 +71,7 @@ impl Contents {
     ghost use Rattle.macs_config.specs.Value.{config_in};
     ghost use Rattle.macs_config.specs.Tables.{put, put_at};
 
-    /// What an endpoint is formatted with.
+    /// The contents for a newly formatted endpoint.
     pub(crate) fn new() -> Contents
         ensures { config_in result ≡ default }
     {
@@ -90,7 +90,7 @@ impl Contents {
         }
     }
 
-    /// Makes it what an endpoint is formatted with.
+    /// Resets them to those for a newly formatted endpoint.
     pub(crate) fn reset(&mut self)
         ensures { config_in self.new ≡ default }
     {
@@ -120,7 +120,7 @@ impl Contents {
         }
     }
 
-    /// The place of a receive channel among those that exist.
+    /// The index of a receive channel among those that exist.
     fn place(&self, sci: Sci) -> Option<usize>
         ensures stands { IfSome result (λ place. IsPlace (config_in self.now).channels sci place) }
         ensures none { IfNone result (has_channel (config_in self.now) sci ≡ false) }
@@ -133,7 +133,7 @@ impl Contents {
         None
     }
 
-    /// Whether a receive channel of that SCI exists.
+    /// Whether a receive channel with that SCI exists.
     pub(crate) fn has_channel(&self, sci: Sci) -> bool
         ensures { result ≡ has_channel (config_in self.now) sci }
     {
@@ -148,7 +148,7 @@ impl Contents {
         self.channels[place].at(an)
     }
 
-    /// Puts a transmit association at a number, or takes it away.
+    /// Sets or removes the transmit association at a number.
     pub(crate) fn put_tx(&mut self, an: An, sa: Option<TxSa>)
         ensures { config_in self.new
             ≡ record (config_in self.old) { tx = put (config_in self.old).tx an sa } }
@@ -156,7 +156,7 @@ impl Contents {
         self.tx[an.get() as usize] = sa;
     }
 
-    /// Puts a receive association at a number of a channel that exists, or takes it away.
+    /// Sets or removes the receive association at a number of an existing channel.
     pub(crate) fn put_rx(&mut self, sci: Sci, an: An, sa: Option<RxSa>)
         requires { has_channel (config_in self.old) sci ≡ true }
         ensures { config_in self.new ≡ record (config_in self.old)
@@ -181,7 +181,7 @@ impl Contents {
         self.channels.insert(place, Channel { sci, associations });
     }
 
-    /// How many of the channels that exist come first, before the first that comes after an SCI.
+    /// How many of the existing channels come before the first whose SCI is greater.
     fn place_after(&self, sci: Sci) -> usize
         ensures within { result ≤ length (config_in self.now).channels }
         ensures between { put_among sci (config_in self.now).channels ≡

@@ -1,4 +1,4 @@
-//! What stands for a key that is spent.
+//! Fingerprints of spent keys.
 
 ghost use Rattle.std.specs.Prelude.{◌≡◌};
 ghost use Rattle.std.specs.Str.{bytes_eq};
@@ -10,14 +10,14 @@ use sha2::{Digest, Sha256};
 /// The SHA-256 of a key, or of an SCI and a key: 32 octets.
 pub type Fingerprint = [u8; 32];
 
-/// What stands for a key of these octets among those that are spent on the transmit side.
+/// The fingerprint of a key with these octets on the transmit side.
 pub(crate) fn tx_fingerprint(key: &[u8]) -> Fingerprint
     ensures { result ≡ tx_fingerprint key.now }
 {
     Sha256::digest(key)
 }
 
-/// What stands for an SCI and a key of these octets among those that are spent on the receive side.
+/// The fingerprint of an SCI and a key with these octets on the receive side.
 pub(crate) fn rx_fingerprint(sci: Sci, key: &[u8]) -> Fingerprint
     ensures { result ≡ rx_fingerprint sci key.now }
 {
@@ -28,7 +28,7 @@ pub(crate) fn rx_fingerprint(sci: Sci, key: &[u8]) -> Fingerprint
     hasher.finalize()
 }
 
-/// Whether a fingerprint is among these. It is compared with each of them, wherever it is found.
+/// Whether a fingerprint is among these. It is compared with each of them, even after a match.
 pub(crate) fn is_spent(spent: &[Fingerprint], fingerprint: &Fingerprint) -> bool
     ensures { result ≡ is_spent spent.now fingerprint.now }
 {
@@ -39,8 +39,8 @@ pub(crate) fn is_spent(spent: &[Fingerprint], fingerprint: &Fingerprint) -> bool
     found
 }
 
-/// Whether two fingerprints are equal. It reads all 32 octets of both, wherever they differ.
-#[inline(never)] // Else sixteen pairs are compared at a time, octet by octet, which is slower.
+/// Whether two fingerprints are equal. It reads all 32 octets of both, even after a difference.
+#[inline(never)] // Otherwise sixteen pairs are compared at a time, octet by octet: slower.
 fn is_equal(one: &Fingerprint, other: &Fingerprint) -> bool
     ensures { result ≡ bytes_eq one.now other.now }
 {

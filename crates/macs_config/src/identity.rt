@@ -1,4 +1,4 @@
-//! What an endpoint is formatted with and keeps for good.
+//! The identity that an endpoint is formatted with and keeps for good.
 
 ghost use Rattle.std.specs.Prelude.{◌≡◌, ◌↔◌, ◌≤◌, IsSome, IfSome};
 ghost use Rattle.macs_config.specs.Identity.{Identity, IsBlock};
@@ -10,7 +10,7 @@ use std::marker::Model;
 const MAX_BLOCK: u32 = 65_536;
 
 /// The SCI of an endpoint's transmit channel, and how many packet numbers it reserves at a time, 1
-/// to 65,536 on either side.
+/// to 65,536 in each direction.
 #[derive(Clone, Copy, Debug, PartialEq, Eq)]
 pub struct Identity {
     sci: Sci,

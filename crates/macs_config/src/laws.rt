@@ -1,5 +1,5 @@
-//! Laws of the definitions, for the layers above. Where a law speaks of a value behind a reference,
-//! its body reads the fields: that is how a proof learns their ranges.
+//! Laws of the definitions, for the layers above. If a law is about a value behind a reference, its
+//! body reads the fields: that is how a proof learns their ranges.
 
 ghost use Rattle.std.specs.Prelude.{◌≡◌, ◌<◌, ◌^◌, ◌++◌, List, true, Some, Ok};
 ghost use Rattle.macs_aes.specs.Keys.{octets_of_key};
@@ -82,26 +82,25 @@ pub fn identity_in_range(identity: &Identity)
     let _blocks = (identity.tx_block(), identity.rx_block());
 }
 
-/// What an endpoint is formatted with is a configuration.
+/// The initial state of a newly formatted endpoint is a configuration.
 pub fn default_is_config()
     ensures { (edition : Edition) (identity : Identity) → IsConfig edition identity default }
 {}
 
-/// A command that is not refused makes a configuration of a configuration.
+/// A command that is not refused turns a configuration into a configuration.
 pub fn apply_keeps()
     ensures { (edition : Edition) (identity : Identity) (old new : Config) (command : Command)
         → IsConfig edition identity old → apply edition identity old command ≡ Ok new
         → IsConfig edition identity new }
 {}
 
-/// What a snapshot is restored to is a configuration.
+/// Restoring a snapshot gives a configuration.
 pub fn restored_is_config()
     ensures { (edition : Edition) (identity : Identity) (parts : List Part) (c : Config)
         → config_of_parts edition identity parts ≡ Some c → IsConfig edition identity c }
 {}
 
-/// Spent keys stay, in their order; an install adds its key on its side, and no other command adds
-/// any.
+/// Spent keys stay, in order; an install adds its key on its side, and no other command adds any.
 pub fn spent_for_good()
     ensures { (edition : Edition) (identity : Identity) (old new : Config) (command : Command)
         (role : Role)
@@ -109,14 +108,16 @@ pub fn spent_for_good()
         → spent_of role new ≡ spent_of role old ++ spent_by role command }
 {}
 
-/// What an edition applies, one that takes as much or more applies too, and with the same result.
+/// What an edition applies, an edition that accepts at least as much also applies, with the same
+/// result.
 pub fn larger_applies()
     ensures { (small large : Edition) → IsUpTo small large
         → (identity : Identity) (old new : Config) (command : Command)
         → apply small identity old command ≡ Ok new → apply large identity old command ≡ Ok new }
 {}
 
-/// What an edition restores from a snapshot, one that takes as much or more restores too.
+/// What an edition restores from a snapshot, an edition that accepts at least as much also
+/// restores.
 pub fn larger_restores()
     ensures { (small large : Edition) → IsUpTo small large
         → (identity : Identity) (parts : List Part) (c : Config)
@@ -124,24 +125,24 @@ pub fn larger_restores()
         → config_of_parts large identity parts ≡ Some c }
 {}
 
-/// A configuration of an edition is one of an edition that takes as much or more.
+/// A configuration of an edition is also one of an edition that accepts at least as much.
 pub fn larger_has()
     ensures { (small large : Edition) → IsUpTo small large
         → (identity : Identity) (c : Config) → IsConfig small identity c
         → IsConfig large identity c }
 {}
 
-/// An edition that takes long keys refuses no command for its key's length, which is 16 octets or
-/// 32.
+/// An edition that accepts long keys refuses no command for its key's length, which is 16 or 32
+/// octets.
 pub fn long_keys_taken()
     ensures { (edition : Edition) (identity : Identity) (c : Config) (command : Command)
         → IsCommand command
         → edition.long_keys ≡ true → ¬ (refusal_of edition identity c command ≡ Some LongKey) }
 {}
 
-/// The words on snapshots say this.
+/// What follows from the definitions of snapshots.
 pub fn snapshots()
-    // Which part may not follow those in front of it.
+    // Which parts may not follow those before them.
     ensures parts { PartWords }
     // Which orders of parts are refused.
     ensures order { OrderWords }

@@ -1,5 +1,5 @@
-//! The configuration of a MAC Security Entity: what its operator commands, why a command is
-//! refused, and which keys are spent.
+//! The configuration of a MAC Security Entity: its operator's commands, why a command is refused,
+//! and which keys are spent.
 #![tactic(auto)]
 
 mod association;

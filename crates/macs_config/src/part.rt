@@ -10,10 +10,10 @@ use arrayvec::ArrayVec;
 use macs_fields::{An, Sci};
 use std::marker::Model;
 
-/// The most fingerprints that one part holds.
+/// The maximum number of fingerprints in one part.
 pub const MAX_FINGERPRINTS: usize = 15;
 
-/// 1 to 15 fingerprints of spent keys, in the order of installing.
+/// 1 to 15 fingerprints of spent keys, in the order of installation.
 #[derive(Drop)]
 pub struct Fingerprints {
     items: ArrayVec<Fingerprint, MAX_FINGERPRINTS>,
@@ -51,7 +51,7 @@ impl Fingerprints {
         Some(Fingerprints { items })
     }
 
-    /// Adds a fingerprint, and answers whether it did: 15 are the most.
+    /// Adds a fingerprint, and returns whether there was room: 15 is the maximum.
     pub fn push(&mut self, fingerprint: Fingerprint) -> bool
         ensures room { IsTrue result ↔ (length self.old < 15) }
         ensures pushed { result ≡ true → self.new ≡ self.old ++ fingerprint ∷ [] }
@@ -60,7 +60,7 @@ impl Fingerprints {
         self.items.try_push(fingerprint).is_ok()
     }
 
-    /// The same fingerprints.
+    /// A copy of the fingerprints.
     pub fn copied(&self) -> Fingerprints
         ensures { result ≡ self.now }
     {
@@ -77,9 +77,9 @@ impl Fingerprints {
     }
 }
 
-/// A part of a snapshot. In order a snapshot has its settings, the transmit associations, the
-/// receive channels, the receive associations, the spent keys of the transmit side and those of the
-/// receive side.
+/// A part of a snapshot. A snapshot has, in this order, its settings, the transmit associations,
+/// the receive channels, the receive associations, the spent keys of the transmit side and those of
+/// the receive side.
 #[derive(Drop)]
 pub enum Part {
     Settings {
@@ -107,7 +107,7 @@ pub enum Part {
 }
 
 impl Part {
-    /// The same part.
+    /// A copy of the part.
     pub(crate) fn copied(&self) -> Part
         ensures { result ≡ self.now }
     {

@@ -1,20 +1,22 @@
-//! Where the parts of a snapshot come from.
+//! Sources of the parts of a snapshot.
 
 ghost use Rattle.std.specs.Prelude.{◌≡◌, List, Option, None, Some, get_or, length, map};
 ghost use Rattle.macs_config.specs.declared.part.Part.{Part};
 
 use crate::part::Part;
 
-/// A source of the parts of a snapshot: what has one at each of its places, or has none at some.
+/// A source of the parts of a snapshot, which has one at each of its positions, or has none at
+/// some.
 pub trait PartSource {
-    /// The part at each place, `None` where there is none.
+    /// The part at each position, `None` if there is none.
     ghost listed: { Self → List (Option Part) };
 
-    /// How many places there are.
+    /// How many positions there are.
     fn count(&self) -> usize
         ensures { result ≡ length (listed self.now) };
 
-    /// The part at a place, counted from 0; `None` where there is none, and after the last place.
+    /// The part at a position, counting from 0; `None` if there is none, and after the last
+    /// position.
     fn part(&self, at: usize) -> Option<Part>
         ensures { result ≡ get_or (listed self.now) at None };
 }

@@ -1,10 +1,10 @@
 //! Why a command is refused.
 
-/// Why a command is refused, in the order in which refusals are looked for. A refused command
-/// changes nothing.
+/// Why a command is refused, in the order in which refusals are checked. A refused command changes
+/// nothing.
 #[derive(Clone, Copy, Debug, PartialEq, Eq)]
 pub enum Refusal {
-    /// The start of a new association is 0, which is no packet number.
+    /// The start of a new association is 0, which is not a packet number.
     StartRange,
     /// The offset of a new association is not 0, 30 or 50 octets, or not 0 without
     /// confidentiality.
@@ -13,20 +13,20 @@ pub enum Refusal {
     OwnSci,
     /// The mode would be that of an end station, and the port of the endpoint's SCI is not 00-01.
     EndStationSci,
-    /// There is no such receive channel.
+    /// The receive channel does not exist.
     NoChannel,
-    /// There is a receive channel of that SCI.
+    /// A receive channel with that SCI exists.
     ChannelTaken,
-    /// There are as many receive channels as there may be: 32.
+    /// There are already 32 receive channels, the maximum.
     ChannelsFull,
     /// There is an association at that number.
     SlotTaken,
     /// There is no association at that number.
     SlotEmpty,
-    /// Frames go out under that association.
+    /// Frames are sent under that association.
     InUse,
     /// The key is spent on the transmit side, or on the receive side for that SCI.
     KeySpent,
-    /// As many keys are spent on that side as may be: 512.
+    /// 512 keys are already spent on that side, the maximum.
     SpentFull,
 }

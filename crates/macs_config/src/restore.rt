@@ -1,4 +1,4 @@
-//! A configuration made of the parts of a snapshot, in its place.
+//! Restoring a configuration from the parts of a snapshot, in place.
 
 ghost use Rattle.std.specs.Prelude.{◌≡◌, ◌+◌, ◌&&◌, ◌<◌, [], ◌∷◌, Bool, true, false, not};
 ghost use Rattle.std.specs.Prelude.{if◌then◌else◌, drop, length, nat_le, nat_lt, is_none, is_some};
@@ -29,11 +29,11 @@ use crate::part_source::PartSource;
 use crate::spent_keys::{MAX_SPENT, SpentKeys};
 use macs_fields::{An, Sci};
 
-/// The place of the first parts after the settings, in the order of a snapshot.
+/// The rank of the first parts after the settings, in the order of a snapshot.
 const BEHIND_SETTINGS: u8 = 2;
 
-/// Makes it what the parts of a snapshot make up, and answers whether they make up something; where
-/// the snapshot is refused, nothing is said of what is left.
+/// Replaces the contents by what the parts of a snapshot make up, and returns whether there is such
+/// a configuration; if the snapshot is refused, the result is not specified.
 pub(crate) fn restore<P: PartSource>(
     identity: &Identity,
     contents: &mut Contents,
@@ -49,7 +49,7 @@ pub(crate) fn restore<P: PartSource>(
     add_all(identity, contents, parts) && is_whole(identity, contents)
 }
 
-/// Takes the settings of a first part, and answers whether it has settings.
+/// Takes the settings of a first part, and returns whether it has settings.
 fn take_settings(contents: &mut Contents, first: Option<Part>) -> bool
     ensures test { result ≡ option_map_or (λ part. nat_le (place_of part) 1) first false }
     ensures settled { result ≡ true → IfSome first
@@ -73,8 +73,8 @@ fn take_settings(contents: &mut Contents, first: Option<Part>) -> bool
     true
 }
 
-/// Adds the parts after the settings in turn, and answers whether there is one at each place, none
-/// is out of order, and each may follow those in front of it.
+/// Adds the parts after the settings in turn, and returns whether there is one at each position,
+/// none is out of order, and each may follow those before it.
 fn add_all<P: PartSource>(identity: &Identity, contents: &mut Contents, parts: &P) -> bool
     ensures { config_with_listed this_edition identity.now 2 (config_in contents.old)
         (drop 1 (P.listed parts.now))
@@ -94,7 +94,7 @@ fn add_all<P: PartSource>(identity: &Identity, contents: &mut Contents, parts: &
     true
 }
 
-/// A part's place in the order of a snapshot, 1 to 6.
+/// A part's rank in the order of a snapshot, 1 to 6.
 fn place_of(part: &Part) -> u8
     ensures { result ≡ place_of part.now }
 {
@@ -114,7 +114,7 @@ fn place_of(part: &Part) -> u8
     }
 }
 
-/// Adds a part, and answers whether it may follow what is there.
+/// Adds a part, and returns whether it may follow what is present.
 fn add(identity: &Identity, contents: &mut Contents, part: &Part) -> bool
     ensures test { result ≡ may_follow this_edition identity.now (config_in contents.old) part.now }
     ensures added { result ≡ true
@@ -129,8 +129,8 @@ fn add(identity: &Identity, contents: &mut Contents, part: &Part) -> bool
     }
 }
 
-/// Adds a transmit association, and answers whether there was none at its number and its key is one
-/// that this edition takes.
+/// Adds a transmit association, and returns whether there was none at its number and this edition
+/// accepts its key.
 fn add_tx(contents: &mut Contents, an: An, sa: TxSa) -> bool
     ensures test { result
         ≡ (is_none ((config_in contents.old).tx an) && takes_key this_edition sa.key) }
@@ -144,7 +144,7 @@ fn add_tx(contents: &mut Contents, an: An, sa: TxSa) -> bool
     may_follow
 }
 
-/// Adds a receive channel, and answers whether it is not the own one, did not exist, and fits.
+/// Adds a receive channel, and returns whether it is not the own one, did not exist, and fits.
 fn add_channel(identity: &Identity, contents: &mut Contents, sci: Sci) -> bool
     ensures test { result
         ≡ (not (bytes_eq sci identity.now.sci) && not (has_channel (config_in contents.old) sci)
@@ -160,8 +160,8 @@ fn add_channel(identity: &Identity, contents: &mut Contents, sci: Sci) -> bool
     may_follow
 }
 
-/// Adds a receive association, and answers whether its channel exists, there is no association at
-/// its number, and its key is one that this edition takes.
+/// Adds a receive association, and returns whether its channel exists, there was no association at
+/// its number, and this edition accepts its key.
 fn add_rx(contents: &mut Contents, sci: Sci, an: An, sa: RxSa) -> bool
     ensures test { result
         ≡ (has_channel (config_in contents.old) sci && is_none ((config_in contents.old).rx sci an)
@@ -179,7 +179,7 @@ fn add_rx(contents: &mut Contents, sci: Sci, an: An, sa: RxSa) -> bool
     may_follow
 }
 
-/// Adds spent keys of a side, and answers whether they are new and fit.
+/// Adds spent keys of a side, and returns whether they are new and fit.
 fn add_spent(contents: &mut Contents, role: Role, fingerprints: &[Fingerprint]) -> bool
     ensures test { result ≡ (are_new (spent_of role (config_in contents.old)) fingerprints.now
         && nat_le (length (spent_of role (config_in contents.old)) + length fingerprints.now)
@@ -226,7 +226,7 @@ fn may_be_spent(spent: &SpentKeys, fingerprints: &[Fingerprint]) -> bool
     are_new(spent, fingerprints) && spent.len() + fingerprints.len() <= MAX_SPENT
 }
 
-/// Whether no fingerprint comes twice, and none is among those that are spent.
+/// Whether no fingerprint occurs twice, and none is among those that are spent.
 fn are_new(spent: &SpentKeys, fingerprints: &[Fingerprint]) -> bool
     ensures { result ≡ are_new spent.now fingerprints.now }
 {
@@ -236,7 +236,7 @@ fn are_new(spent: &SpentKeys, fingerprints: &[Fingerprint]) -> bool
             .all(|fingerprint| !spent.contains(fingerprint))
 }
 
-/// Whether no fingerprint comes twice.
+/// Whether no fingerprint occurs twice.
 fn are_distinct(fingerprints: &[Fingerprint]) -> bool
     ensures { result ≡ are_distinct fingerprints.now }
 {
@@ -269,7 +269,7 @@ fn are_tx_spent(contents: &Contents) -> bool
     contents.tx.iter().all(|sa| is_tx_spent(spent, sa))
 }
 
-/// Whether the key of a transmit association is spent; true where there is none.
+/// Whether the key of a transmit association is spent; true if there is none.
 fn is_tx_spent(spent: &SpentKeys, sa: &Option<TxSa>) -> bool
     ensures { result
         ≡ option_map_or (λ sa. is_spent spent.now (tx_fingerprint sa.key)) sa.now true }
@@ -298,7 +298,7 @@ fn are_keys_spent(contents: &Contents, sci: Sci) -> bool
     An::all().iter().all(|an| is_rx_spent(contents, sci, *an))
 }
 
-/// Whether the key of a receive association is spent; true where there is none.
+/// Whether the key of a receive association is spent; true if there is none.
 fn is_rx_spent(contents: &Contents, sci: Sci, an: An) -> bool
     ensures { result ≡ is_rx_spent (config_in contents.now) sci an }
 {
@@ -310,7 +310,7 @@ fn is_rx_spent(contents: &Contents, sci: Sci, an: An) -> bool
     }
 }
 
-/// Whether the association that frames go out under exists; true where there is none.
+/// Whether the association that frames are sent under exists; true if none is selected.
 fn encoding_stands(contents: &Contents) -> bool
     ensures { result ≡ option_map_or (λ an. is_some ((config_in contents.now).tx an))
         (config_in contents.now).encoding true }

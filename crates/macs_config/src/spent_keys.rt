@@ -1,4 +1,4 @@
-//! The keys that are spent on a side.
+//! The keys that are spent on one side.
 
 ghost use Rattle.std.specs.Prelude.{◌≡◌, ◌<◌};
 
@@ -6,10 +6,10 @@ use crate::fingerprint::{Fingerprint, is_spent};
 use arrayvec::ArrayVec;
 use std::marker::Model;
 
-/// How many keys may be spent on a side.
+/// The maximum number of keys that may be spent on a side.
 pub const MAX_SPENT: usize = 512;
 
-/// The fingerprints of spent keys, in the order of installing.
+/// The fingerprints of spent keys, in the order of installation.
 #[derive(Drop)]
 pub(crate) struct SpentKeys {
     fingerprints: ArrayVec<Fingerprint, MAX_SPENT>,
@@ -36,7 +36,7 @@ impl SpentKeys {
         }
     }
 
-    /// Takes all keys away.
+    /// Removes all keys.
     pub(crate) fn clear(&mut self)
         ensures { self.new ≡ [] }
     {
@@ -51,7 +51,7 @@ impl SpentKeys {
         self.fingerprints.len()
     }
 
-    /// The fingerprint at a place in the order of installing, counted from 0.
+    /// The fingerprint at an index in the order of installation, counting from 0.
     pub(crate) fn get(&self, at: usize) -> Option<Fingerprint>
         ensures { result ≡ slice_get self.now at }
     {
@@ -65,7 +65,7 @@ impl SpentKeys {
         is_spent(self.fingerprints.as_slice(), fingerprint)
     }
 
-    /// Adds a fingerprint after those that are spent.
+    /// Adds a fingerprint after those already spent.
     pub(crate) fn push(&mut self, fingerprint: Fingerprint)
         requires { length self.old < max_spent }
         ensures { self.new ≡ self.old ++ fingerprint ∷ [] }

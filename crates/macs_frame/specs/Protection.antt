@@ -11,7 +11,7 @@ use Rattle.macs_frame.specs.Opening.{clear_of, hidden_of, iv_of}
 
 -- ---- the SecTAG as it is written
 
--- SC, ES or neither, as the channel is named (9.5)
+-- SC, ES or neither, depending on how the channel is named (9.5)
 abbrev pub name_bits : ScName → ℕ
 name_bits (Explicit sci) = 0x20
 name_bits EndStation = 0x40
@@ -22,17 +22,17 @@ abbrev pub control_octet : SecTag → ℕ
 control_octet tag =
     name_bits tag.name + (if tag.encrypted then 0x08 else 0) + (if tag.changed then 0x04 else 0) + tag.an
 
--- octet 4: SL, the number of octets of Secure Data where it is below 48, else 0 (9.7)
+-- octet 4: SL, the number of octets of Secure Data if it is below 48, else 0 (9.7)
 abbrev pub short_of : ℕ → ℕ
 short_of secure = if nat_lt secure 48 then secure else 0
 
--- octets 9 to 16: the SCI, only where it is spelled out (9.9)
+-- octets 9 to 16: the SCI, only if it is explicit (9.9)
 abbrev pub sci_octets : ScName → List ℕ
 sci_octets (Explicit sci) = sci
 sci_octets EndStation = []
 sci_octets Implicit = []
 
--- the SecTAG in front of so many octets of Secure Data (9.3)
+-- the SecTAG before this many octets of Secure Data (9.3)
 abbrev pub written_tag : SecTag → ℕ → List ℕ
 written_tag tag secure =
     0x88 ∷ 0xE5 ∷ control_octet tag ∷ short_of secure ∷ to_be_bytes w32 tag.pn ++ sci_octets tag.name
@@ -49,7 +49,7 @@ overhead name = tag_octets name + 16
 
 -- ---- the protected frame
 
--- the User Data of a plain frame: what comes after its two addresses
+-- the User Data of a plain frame: everything after its two addresses
 abbrev pub user_data : List ℕ → List ℕ
 user_data plain = drop 12 plain
 
@@ -57,8 +57,8 @@ user_data plain = drop 12 plain
 abbrev pub header_of : SecTag → List ℕ → List ℕ
 header_of tag plain = take 12 plain ++ written_tag tag (length (user_data plain))
 
--- Addresses, SecTAG, Secure Data and ICV. Secure Data are the User Data in the clear and then the ciphertext of those
--- that are encrypted; addresses, SecTAG and the octets in the clear are authenticated with them (14.5 and 14.6).
+-- Addresses, SecTAG, Secure Data and ICV. Secure Data are the User Data in the clear followed by the ciphertext of the
+-- rest; addresses, SecTAG and the octets in the clear are authenticated with them (14.5 and 14.6).
 unfoldable pub protected_frame : (key sci : List ℕ) → SecTag → (offset : ℕ) → (plain : List ℕ) → List ℕ
 protected_frame key sci tag offset plain =
     let clear = clear_of tag.encrypted offset (user_data plain) in
@@ -66,19 +66,19 @@ protected_frame key sci tag offset plain =
     seal key (iv_of sci tag.pn) (header_of tag plain ++ clear) (hidden_of tag.encrypted offset (user_data plain)) in
     header_of tag plain ++ clear ++ sealed.0 ++ sealed.1
 
--- the parts of the frame that protects a plain frame of so many octets
+-- the parts of the frame that protects a plain frame of this many octets
 abbrev pub written_parts : SecTag → ℕ → Parts
 written_parts tag octets = record { tag = tag; start = 12 + tag_octets tag.name; end = octets + tag_octets tag.name }
 
 -- ---- ranges
 
--- an SCI that is spelled out has 8 octets (9.9)
+-- an explicit SCI has 8 octets (9.9)
 abbrev pub IsName : ScName → Type 0
 IsName (Explicit sci) = length sci ≡ 8
 IsName EndStation = Unit {0}
 IsName Implicit = Unit {0}
 
--- the fields of a SecTAG are in their ranges, and E and C are alike: all that is encrypted is changed, and the reverse
+-- the fields of a SecTAG are in their ranges, and E and C are equal: everything encrypted is changed, and vice versa
 -- (9.5)
 pub record IsWritten (tag : SecTag) : Type 0 where
   pub an : tag.an < 4

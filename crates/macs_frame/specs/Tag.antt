@@ -1,5 +1,5 @@
--- The SecTAG of a frame (IEEE Std 802.1AE-2018, clause 9), and what makes it bad. Octets of the frame are counted from
--- 0, octets of the SecTAG from 1: octet 1 of the SecTAG is octet 12 of the frame.
+-- The SecTAG of a frame (IEEE Std 802.1AE-2018, clause 9), and when it is bad. Octets of the frame are counted from 0,
+-- octets of the SecTAG from 1: octet 1 of the SecTAG is octet 12 of the frame.
 use Rattle.std.specs.Prelude.{◌≡◌, ◌≢◌, ℕ, ◌+◌, ◌-◌, ◌%◌, ◌<◌, ◌≤◌, ◌⊎◌, ◌&&◌, ◌==◌, Bool, true, false, not, List, []}
 use Rattle.std.specs.Prelude.{◌∷◌, length, slice_index, slice_range, if◌then◌else◌, bit_and}
 use Rattle.std.specs.Int.{w32, from_be_bytes}
@@ -32,11 +32,11 @@ has_version octet = has_bit octet 0x80
 abbrev pub end_station : ℕ → Bool
 end_station octet = has_bit octet 0x40
 
--- SC: the SCI is spelled out in the SecTAG (9.5)
+-- SC: the SecTAG has an explicit SCI (9.5)
 abbrev pub has_sci : ℕ → Bool
 has_sci octet = has_bit octet 0x20
 
--- SCB: the frame is sent by the single copy broadcast of EPON (9.5)
+-- SCB: the frame was sent by the single copy broadcast of EPON (9.5)
 abbrev pub single_copy_broadcast : ℕ → Bool
 single_copy_broadcast octet = has_bit octet 0x10
 
@@ -44,7 +44,7 @@ single_copy_broadcast octet = has_bit octet 0x10
 abbrev pub encrypted : ℕ → Bool
 encrypted octet = has_bit octet 0x08
 
--- C: the Secure Data are not the User Data as they were handed in (9.5)
+-- C: the Secure Data differ from the original User Data (9.5)
 abbrev pub changed : ℕ → Bool
 changed octet = has_bit octet 0x04
 
@@ -56,7 +56,7 @@ short_length frame = slice_index frame 15
 abbrev pub pn_of : List ℕ → ℕ
 pn_of frame = from_be_bytes w32 (slice_range frame 16 20)
 
--- octets 9 to 16, only where SC is set: the SCI (9.9)
+-- octets 9 to 16, only if SC is set: the SCI (9.9)
 abbrev pub sci_of : List ℕ → List ℕ
 sci_of frame = slice_range frame 20 28
 
@@ -65,17 +65,17 @@ sci_of frame = slice_range frame 20 28
 abbrev pub start_of : List ℕ → ℕ
 start_of frame = if has_sci (control frame) then 28 else 20
 
--- ---- where Secure Data end
+-- ---- the end of Secure Data
 
--- A frame of so many octets, with Secure Data from start on, agrees with SL (9.7, 9.12): where SL is 0 there are 48
--- octets of Secure Data or more in front of the ICV; else SL octets and the ICV end the frame, or the padding to 60
--- octets follows them. That padding, and an SL of 48 to 63, are this profile's own.
+-- The length of a frame, with Secure Data from start on, agrees with SL (9.7, 9.12): if SL is 0 there are at least 48
+-- octets of Secure Data before the ICV; else SL octets and the ICV end the frame, or are followed by padding to 60
+-- octets. That padding, and an SL of 48 to 63, are rules of this profile.
 abbrev pub Agrees : ℕ → ℕ → ℕ → Type 0
 Agrees octets start short =
     ((short ≡ 0) × (start + 48 + 16 ≤ octets))
     ⊎ ((short ≢ 0) × ((octets ≡ start + short + 16) ⊎ ((octets ≡ 60) × (start + short + 16 < 60))))
 
--- where Secure Data from start on end: 16 octets before the frame's end where SL is 0, else SL octets after start
+-- where Secure Data from start on end: 16 octets before the frame's end if SL is 0, else SL octets after start
 abbrev pub end_at : ℕ → ℕ → ℕ → ℕ
 end_at octets start short = if short == 0 then octets - 16 else start + short
 
@@ -83,7 +83,7 @@ end_at octets start short = if short == 0 then octets - 16 else start + short
 abbrev pub end_of : List ℕ → ℕ
 end_of frame = end_at (length frame) (start_of frame) (short_length frame)
 
--- ---- what the tag says
+-- ---- the contents of the tag
 
 -- how the tag names its channel: by an SCI, as an end station, or not at all (9.5, 9.9)
 abbrev pub name_of : List ℕ → ScName
@@ -108,8 +108,8 @@ pub record IsGoodControl (octet : ℕ) : Type 0 where
   pub single_copy_clear : single_copy_broadcast octet ≡ false
   pub one_name : has_sci octet && end_station octet ≡ false
 
--- no rule of PDU validation is broken (9.12; that SCB is always clear is this profile's own): the tag is whole, octet 3
--- breaks no rule, the upper bits of octet 4 are clear, the PN is not 0, and the frame's length agrees with SL
+-- no rule of PDU validation is broken (9.12; that SCB must be clear is a rule of this profile): the tag is whole, octet
+-- 3 breaks no rule, the upper bits of octet 4 are clear, the PN is not 0, and the frame's length agrees with SL
 pub record IsGoodTag (frame : List ℕ) : Type 0 where
   pub whole : start_of frame ≤ length frame
   pub good_control : IsGoodControl (control frame)
@@ -131,13 +131,13 @@ pub record Tag (frame : List ℕ) (parts : Parts) : Type 0 where
   pub tagged : IsTagged frame
   pub reading : IsReading frame parts
 
--- E without C: the frame is for the key agreement entity alone (9.5)
+-- E without C: the frame is only for the key agreement entity (9.5)
 abbrev pub IsForKay : List ℕ → Type 0
 IsForKay frame = (encrypted (control frame) ≡ true) × (changed (control frame) ≡ false)
 
 -- ---- faults
 
--- what each fault says of a frame
+-- when each fault applies to a frame
 abbrev pub TagFaultHolds : List ℕ → TagFault → Type 0
 TagFaultHolds frame Runt = length frame < 14
 TagFaultHolds frame Oversize = 9216 < length frame
@@ -145,6 +145,6 @@ TagFaultHolds frame NoTag = ¬ IsTagged frame
 TagFaultHolds frame BadTag = ¬ IsGoodTag frame
 TagFaultHolds frame ForKay = IsForKay frame
 
--- in the order in which they are looked for
+-- in the order in which they are checked
 abbrev pub tag_faults : List TagFault
 tag_faults = Runt ∷ Oversize ∷ NoTag ∷ BadTag ∷ ForKay ∷ []

@@ -1,4 +1,4 @@
--- What frames carried: frames and octets of User Data, with integrity alone and encrypted (IEEE Std 802.1AE-2018, 10.7).
+-- What frames carried: frames and octets of User Data, with integrity only and encrypted (IEEE Std 802.1AE-2018, 10.7).
 use Rattle.std.specs.Prelude.{ℕ, ◌+◌, ◌-◌, ◌^◌, min, Bool, true, false, List, [], ◌∷◌, length, get_or, slice_set}
 use Rattle.macs_frame.specs.Protection.{user_data}
 use Rattle.macs_frame.specs.declared.tag.SecTag.{SecTag}
@@ -6,7 +6,7 @@ use Rattle.macs_frame.specs.declared.traffic.Carried.{Carried}
 use Rattle.macs_frame.specs.declared.traffic.Traffic.{Traffic}
 use Rattle.macs_frame.specs.declared.traffic.ChannelTraffic.{ChannelTraffic}
 
--- so many more, up to 2^64 - 1
+-- increased by this many, up to 2^64 - 1
 abbrev pub more : ℕ → ℕ → ℕ
 more count amount = min (count + amount) (2 ^ 64 - 1)
 
@@ -14,7 +14,7 @@ more count amount = min (count + amount) (2 ^ 64 - 1)
 abbrev pub no_carried : Carried
 no_carried = record { frames = 0; octets = 0 }
 
--- one more frame, with so many octets of User Data
+-- one more frame, with this many octets of User Data
 abbrev pub carried_with : ℕ → Carried → Carried
 carried_with octets c = record { frames = more c.frames 1; octets = more c.octets octets }
 
@@ -22,7 +22,7 @@ carried_with octets c = record { frames = more c.frames 1; octets = more c.octet
 abbrev pub no_traffic : Traffic
 no_traffic = record { plain = no_carried; encrypted = no_carried }
 
--- one more frame, encrypted or not, with so many octets of User Data
+-- one more frame, encrypted or not, with this many octets of User Data
 abbrev pub traffic_with : Bool → ℕ → Traffic → Traffic
 traffic_with true octets t = record t { encrypted = carried_with octets t.encrypted }
 traffic_with false octets t = record t { plain = carried_with octets t.plain }

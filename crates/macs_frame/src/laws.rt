@@ -1,5 +1,5 @@
-//! Laws of the definitions, for the layers above. Where a law speaks of a value behind a reference,
-//! its body reads it: that is how a proof learns its range.
+//! Laws of the definitions, for the layers above. If a law is about a value behind a reference, its
+//! body reads it: that is how a proof learns its range.
 
 ghost use Rattle.std.specs.Prelude.{◌≡◌, ◌↔◌, ◌⊎◌, ◌≤◌, ◌+◌, ℕ, List};
 ghost use Rattle.std.specs.Prelude.{length};
@@ -11,7 +11,7 @@ ghost use Rattle.macs_frame.specs.declared.tag.Parts.{Parts};
 ghost use Rattle.macs_frame.specs.declared.tag.SecTag.{SecTag};
 ghost use Rattle.macs_frame.specs.declared.tag.TagFault.{TagFault};
 
-/// A frame has one reading.
+/// The reading of a frame is unique.
 pub fn one_reading()
     ensures { (frame : List ℕ) (a b : Parts) → Tag frame a → Tag frame b → a ≡ b }
 {}
@@ -22,26 +22,26 @@ pub fn read_or_refused()
         ⊎ ((fault : TagFault) × IsFirst (TagFaultHolds frame) tag_faults fault) }
 {}
 
-/// The parts of a frame open to one plain frame.
+/// The parts of a frame open to at most one plain frame.
 pub fn opens_once()
     ensures { (frame key sci : List ℕ) (offset : ℕ) (parts : Parts) (p q : List ℕ)
         → OpensTo frame key sci offset parts p → OpensTo frame key sci offset parts q → p ≡ q }
 {}
 
-/// A frame is verified as one plain frame.
+/// A frame verifies as at most one plain frame.
 pub fn verified_once()
     ensures { (frame key sci : List ℕ) (offset : ℕ) (p q : List ℕ)
         → Verified frame key sci offset p → Verified frame key sci offset q → p ≡ q }
 {}
 
-/// A frame is verified exactly where the parts that were read from it open.
+/// A frame verifies if and only if the parts that were read from it open.
 pub fn verified_by_its_parts()
     ensures { (frame key sci : List ℕ) (offset : ℕ) (parts : Parts) (plain : List ℕ)
         → Tag frame parts → ¬ IsForKay frame
         → (Verified frame key sci offset plain ↔ OpensTo frame key sci offset parts plain) }
 {}
 
-/// A frame is verified as a plain frame, or as none.
+/// A frame verifies as a plain frame, or as none.
 pub fn verified_or_not()
     ensures { (frame key sci : List ℕ) (offset : ℕ)
         → ((plain : List ℕ) × Verified frame key sci offset plain)
@@ -55,7 +55,7 @@ pub fn protected_length()
         → length (protected_frame key sci tag offset plain) ≡ length plain + overhead tag.name }
 {}
 
-/// A protected frame is read as it was written.
+/// A protected frame is read back as it was written.
 pub fn protected_is_read()
     ensures { (key sci : List ℕ) (tag : SecTag) (offset : ℕ) (plain : List ℕ) → IsWritten tag
         → 14 ≤ length plain
@@ -64,8 +64,8 @@ pub fn protected_is_read()
         × (¬ IsForKay (protected_frame key sci tag offset plain)) }
 {}
 
-/// A protected frame is verified, under the key, the SCI and the offset that it was protected
-/// under, as its own plain frame and as no other.
+/// A protected frame verifies, under the key, the SCI and the offset that it was protected with, as
+/// its own plain frame and no other.
 pub fn protected_is_verified()
     ensures { (key sci : List ℕ) (tag : SecTag) (offset : ℕ) (plain other : List ℕ) → IsWritten tag
         → 14 ≤ length plain

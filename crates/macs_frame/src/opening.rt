@@ -17,13 +17,12 @@ use crate::tag::{ADDRESS_OCTETS, FrameBuf, ICV_OCTETS, Parts, ScName, TagFault};
 use macs_fields::{An, Offset, Pn, Sci};
 use macs_gcm::{GcmKey, open};
 
-/// Why a frame is not opened, in the order in which the faults are looked for.
+/// Why a frame is not opened, in the order in which the faults are checked.
 #[derive(Debug, Clone, Copy, PartialEq, Eq)]
 pub enum OpenFault {
     /// The SecTAG has a fault.
     Tag(TagFault),
-    /// The SecTAG names another SCI: it spells one out, or names the source address with port
-    /// 00-01.
+    /// The SecTAG names another SCI: an explicit one, or the source address with port 00-01.
     OtherSci,
     /// The ICV is not that of the frame under this key, SCI and offset.
     NotValid,
@@ -49,7 +48,7 @@ fn icv_at(frame: &[u8], end: usize) -> [u8; ICV_OCTETS]
     icv
 }
 
-/// Opens the octets from `start` on in place, and leaves those in front of it.
+/// Opens the octets from `start` on in place, and leaves those before it unchanged.
 fn open_from(
     key: &GcmKey,
     iv: &[u8; 12],
@@ -70,8 +69,8 @@ fn open_from(
 }
 
 /// Opens the Secure Data and the ICV of a frame, and writes its plain frame to `out`. The parts are
-/// a reading of this frame, as `read_tag` answers. The answer is whether they open under this key,
-/// SCI and offset; if not, `out` is empty.
+/// a reading of this frame, as `read_tag` returns. Returns whether they open under this key, SCI
+/// and offset; if not, `out` is empty.
 pub fn open_parts(
     key: &GcmKey,
     sci: Sci,
@@ -102,7 +101,7 @@ pub fn open_parts(
     is_valid
 }
 
-/// The SCI that a SecTAG names, `None` where it leaves the channel to the receiver (9.5, 9.9).
+/// The SCI that a SecTAG names, `None` if it leaves the channel to the receiver (9.5, 9.9).
 fn named_sci(frame: &[u8], name: ScName) -> Option<Sci>
     requires { 12 ≤ length frame.now }
     ensures { result ≡ named_sci frame.now name }
@@ -126,7 +125,7 @@ pub fn end_station_sci(frame: &[u8]) -> Sci
     Sci([a, b, c, d, e, f, 0, 1])
 }
 
-/// Whether a SecTAG names an SCI, and it is another one.
+/// Whether a SecTAG names an SCI other than this one.
 fn names_other(frame: &[u8], name: ScName, sci: Sci) -> bool
     requires { 12 ≤ length frame.now }
     ensures { IsTrue result ↔ IsSomeAnd (named_sci frame.now name) (λ named. named ≢ sci) }
@@ -134,8 +133,8 @@ fn names_other(frame: &[u8], name: ScName, sci: Sci) -> bool
     named_sci(frame, name).is_some_and(|named| named != sci)
 }
 
-/// Opens a protected frame, writes its plain frame to `out`, and answers the association and the
-/// packet number that its SecTAG names. After a fault `out` is empty.
+/// Opens a protected frame, writes its plain frame to `out`, and returns the association and the
+/// packet number in its SecTAG. After a fault `out` is empty.
 pub fn open_frame(
     key: &GcmKey,
     sci: Sci,

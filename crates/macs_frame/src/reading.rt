@@ -26,7 +26,7 @@ pub(crate) const CHANGED: u8 = 0x04;
 /// The shortest Secure Data whose length SL may leave out, in octets (9.7).
 pub(crate) const MIN_LONG_DATA: usize = 48;
 
-/// A frame that is padded, in octets.
+/// The length of a padded frame, in octets.
 const PADDED_FRAME: usize = 60;
 
 /// Whether the bit with this value is set.
@@ -36,7 +36,7 @@ fn is_set(octet: u8, mask: u8) -> bool
     octet & mask != 0
 }
 
-/// The PN's four octets as a number.
+/// The PN as a number.
 fn number_of(frame: &[u8]) -> u32
     requires { 20 ≤ length frame.now }
     ensures { result ≡ pn_of frame.now }
@@ -46,7 +46,7 @@ fn number_of(frame: &[u8]) -> u32
     u32::from_be_bytes(number)
 }
 
-/// The SCI that is spelled out.
+/// The explicit SCI.
 fn sci_of(frame: &[u8]) -> Sci
     requires { 28 ≤ length frame.now }
     ensures { result ≡ sci_of frame.now }
@@ -56,7 +56,7 @@ fn sci_of(frame: &[u8]) -> Sci
     Sci(octets)
 }
 
-/// Where Secure Data that start at `start` end in a frame of `len` octets, by SL: `None` where SL
+/// Where Secure Data that start at `start` end in a frame of `len` octets, given SL: `None` if SL
 /// does not agree with the frame's length (9.7).
 fn data_end(len: usize, start: usize, short_length: u8) -> Option<usize>
     requires start { start ≤ 28 }
@@ -102,7 +102,7 @@ fn name_of(frame: &[u8]) -> ScName
     }
 }
 
-/// The parts of a tagged frame, `None` where its tag is bad.
+/// The parts of a tagged frame, `None` if its tag is bad.
 fn parts_of(frame: &[u8]) -> Option<Parts>
     requires { 14 ≤ length frame.now }
     ensures { MatchOption result (¬ IsGoodTag frame.now) (IsReading frame.now) }
@@ -127,8 +127,7 @@ fn parts_of(frame: &[u8]) -> Option<Parts>
     Some(Parts { tag, start, end })
 }
 
-/// The parts of a protected frame of any number of octets, or the first fault in the order of
-/// `TagFault`.
+/// The parts of a protected frame of any length, or the first fault in the order of `TagFault`.
 pub fn read_tag(frame: &[u8]) -> Result<Parts, TagFault>
     ensures parts { (parts : Parts)
         → (result ≡ Ok parts) ↔ (Tag frame.now parts × (¬ IsForKay frame.now)) }

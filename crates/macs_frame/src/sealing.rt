@@ -28,7 +28,7 @@ fn control_octet(tag: &SecTag) -> u8
     name + encrypted + changed + tag.an.get()
 }
 
-/// SL for so many octets of Secure Data (9.7).
+/// SL for `secure_len` octets of Secure Data (9.7).
 fn short_of(secure_len: usize) -> u8
     ensures { result ≡ short_of secure_len }
 {
@@ -39,9 +39,9 @@ fn short_of(secure_len: usize) -> u8
     }
 }
 
-/// Appends a SecTAG, 16 octets where it spells an SCI out and else 8, in front of `secure_len`
-/// octets of Secure Data (9.3): SL is their number where it is below 48, else 0 (9.7). There is
-/// room for 16 octets.
+/// Appends a SecTAG, 16 octets with an explicit SCI and 8 otherwise, for `secure_len` octets of
+/// Secure Data (9.3): SL is their number if it is below 48, else 0 (9.7). There is room for 16
+/// octets.
 pub fn write_tag(tag: &SecTag, secure_len: usize, out: &mut FrameBuf)
     requires { array_vec_len out.old + 16 ≤ 9216 }
     ensures written { out.new.items ≡ out.old.items ++ written_tag tag.now secure_len }
@@ -55,8 +55,8 @@ pub fn write_tag(tag: &SecTag, secure_len: usize, out: &mut FrameBuf)
     }
 }
 
-/// Seals the octets from `start` on in place, with those in front of it as additional data, and
-/// answers the ICV.
+/// Seals the octets from `start` on in place, with those before it as additional data, and returns
+/// the ICV.
 fn seal_from(key: &GcmKey, iv: &[u8; 12], octets: &mut [u8], start: usize) -> [u8; ICV_OCTETS]
     requires start { start ≤ length octets.old }
     requires octets { length octets.old < 2 ^ 32 }
@@ -68,7 +68,7 @@ fn seal_from(key: &GcmKey, iv: &[u8; 12], octets: &mut [u8], start: usize) -> [u
     seal(key, iv, aad, text)
 }
 
-/// The same under a key that makes key stream ahead.
+/// The same with a key that generates key stream in advance.
 fn seal_next_from(
     key: &mut SealingKey,
     iv: &[u8; 12],
@@ -86,8 +86,8 @@ fn seal_next_from(
     key.seal(iv, aad, text)
 }
 
-/// Writes addresses, SecTAG and User Data of a plain frame to `out`, in place of what was there, and
-/// answers where those octets begin that are encrypted.
+/// Writes addresses, SecTAG and User Data of a plain frame to `out`, replacing its contents, and
+/// returns where the octets to encrypt begin.
 fn lay_out(tag: &SecTag, offset: Offset, plain: &[u8], out: &mut FrameBuf) -> usize
     requires long_enough { 14 ≤ length plain.now }
     requires fits { length plain.now + overhead tag.now.name ≤ 9216 }
@@ -108,13 +108,13 @@ fn lay_out(tag: &SecTag, offset: Offset, plain: &[u8], out: &mut FrameBuf) -> us
     start
 }
 
-/// Protects a plain frame of 14 octets or more under a key, by GCM-AES-128 where that has 128 bits
-/// and by GCM-AES-256 where it has 256 (14.5 and 14.6), and writes the protected frame to `out` in
-/// place of what was there. The tag names the association, the packet number and the channel, and
-/// its `encrypted` is its `changed`: with both set User Data are encrypted from `offset` on, else
-/// all of them stay in the clear. `sci` is the transmit channel's, which enters the initialisation
-/// vector. The protected frame has at most 9,216 octets: it is 32 octets longer than the plain one
-/// where the tag spells an SCI out, else 24.
+/// Protects a plain frame of 14 octets or more under a key, with GCM-AES-128 for a key of 128 bits
+/// and GCM-AES-256 for one of 256 (14.5 and 14.6), and writes the protected frame to `out`,
+/// replacing its contents. The tag names the association, the packet number and the channel, and
+/// its `encrypted` equals its `changed`: if both are set User Data are encrypted from `offset` on,
+/// otherwise all of them are in the clear. `sci` is the transmit channel's, which is part of the
+/// initialisation vector. The protected frame has at most 9,216 octets: it is 32 octets longer than
+/// the plain one if the tag has an explicit SCI, else 24.
 pub fn seal_frame(
     key: &GcmKey,
     sci: Sci,
@@ -134,8 +134,8 @@ pub fn seal_frame(
     append(out, &icv);
 }
 
-/// Protects a plain frame as `seal_frame` does, under a key that makes key stream ahead, which is
-/// faster where packet numbers follow one another.
+/// Protects a plain frame as `seal_frame` does, with a key that generates key stream in advance,
+/// which is faster when packet numbers are consecutive.
 pub fn seal_next_frame(
     key: &mut SealingKey,
     sci: Sci,

@@ -17,8 +17,8 @@ pub(crate) fn iv_of(sci: Sci, number: Pn) -> [u8; 12]
     [a, b, c, d, e, f, g, h, i, j, k, l]
 }
 
-/// Of the octets from `start` up to `end` after a SecTAG, where those in the clear end; the others
-/// are encrypted (14.5 and 14.6).
+/// Of the octets from `start` to before `end` after a SecTAG, where those in the clear end; the
+/// others are encrypted (14.5 and 14.6).
 pub(crate) fn clear_end(tag: &SecTag, offset: Offset, start: usize, end: usize) -> usize
     requires { start ≤ end }
     ensures low { start ≤ result }
@@ -35,7 +35,7 @@ pub(crate) fn clear_end(tag: &SecTag, offset: Offset, start: usize, end: usize) 
     }
 }
 
-/// Appends octets to a frame that has room for them: 9,216 octets at most.
+/// Appends octets to a frame that has room for them: at most 9,216 octets.
 pub fn append(out: &mut FrameBuf, octets: &[u8])
     requires { array_vec_len out.old + length octets.now ≤ 9216 }
     ensures { out.new.items ≡ out.old.items ++ octets.now }

@@ -9,10 +9,10 @@ pub const MIN_FRAME: usize = 14;
 /// The longest frame, in octets.
 pub const MAX_FRAME: usize = 9216;
 
-/// The two addresses that a frame begins with, in octets.
+/// The length of the two addresses at the start of a frame, in octets.
 pub const ADDRESS_OCTETS: usize = 12;
 
-/// An ICV, in octets.
+/// The length of an ICV, in octets.
 pub(crate) const ICV_OCTETS: usize = 16;
 
 /// A frame of at most 9,216 octets.
@@ -21,7 +21,7 @@ pub type FrameBuf = ArrayVec<u8, MAX_FRAME>;
 /// How a SecTAG names its secure channel (IEEE Std 802.1AE-2018, 9.5 and 9.9).
 #[derive(Debug, Clone, Copy, PartialEq, Eq)]
 pub enum ScName {
-    /// The SecTAG spells the SCI out: SC is set.
+    /// The SecTAG has an explicit SCI: SC is set.
     Explicit(Sci),
     /// The source address with port 00-01: ES is set.
     EndStation,
@@ -33,9 +33,8 @@ impl ScName {
     ghost use Rattle.std.specs.Prelude.{◌≡◌};
     ghost use Rattle.macs_frame.specs.Protection.{overhead};
 
-    /// By how many octets a frame that is protected under a SecTAG with this name is longer than
-    /// its plain frame: 16 of SecTAG where the SCI is spelled out, else 8, and 16 of ICV (9.3,
-    /// 9.11).
+    /// How many octets longer than its plain frame a frame protected with such a SecTAG is: 16 for
+    /// the SecTAG with an explicit SCI, else 8, and 16 for the ICV (9.3, 9.11).
     pub fn overhead(self) -> usize
         ensures { result ≡ overhead self }
     {
@@ -46,7 +45,7 @@ impl ScName {
     }
 }
 
-/// What a SecTAG says. `encrypted` is its E bit and `changed` its C bit (9.5).
+/// The fields of a SecTAG. `encrypted` is its E bit and `changed` its C bit (9.5).
 #[derive(Debug, Clone, Copy, PartialEq, Eq)]
 pub struct SecTag {
     pub an: An,
@@ -56,8 +55,8 @@ pub struct SecTag {
     pub changed: bool,
 }
 
-/// A tagged frame, by the places of its octets, counted from 0: Secure Data are those from `start`
-/// up to `end`, which is not one of them, and the ICV is the 16 octets from `end` on.
+/// The positions in a tagged frame, counting octets from 0: Secure Data are the octets from `start`
+/// to before `end`, and the ICV is the 16 octets from `end` on.
 #[derive(Debug, Clone, Copy, PartialEq, Eq)]
 pub struct Parts {
     pub tag: SecTag,
@@ -65,7 +64,7 @@ pub struct Parts {
     pub end: usize,
 }
 
-/// What is wrong with a frame or its SecTAG, in the order in which the faults are looked for.
+/// What is wrong with a frame or its SecTAG, in the order in which the faults are checked.
 #[derive(Debug, Clone, Copy, PartialEq, Eq)]
 pub enum TagFault {
     /// The frame has fewer than 14 octets.

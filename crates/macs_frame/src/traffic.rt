@@ -8,8 +8,8 @@ ghost use Rattle.macs_frame.specs.Traffic.{user_octets};
 use crate::tag::{ADDRESS_OCTETS, SecTag};
 use macs_fields::{ASSOCIATIONS, An};
 
-/// How many frames there were, and octets of User Data in them: of each plain frame all but its two
-/// addresses. Both numbers stay at 2^64 - 1.
+/// How many frames there were, and octets of User Data in them: of each plain frame everything
+/// except its two addresses. Both numbers saturate at 2^64 - 1.
 #[derive(Clone, Copy, Debug, Default, PartialEq, Eq)]
 pub struct Carried {
     pub frames: u64,
@@ -17,7 +17,7 @@ pub struct Carried {
 }
 
 impl Carried {
-    /// No frame.
+    /// No frames.
     fn new() -> Carried
         ensures { result ≡ no_carried }
     {
@@ -27,7 +27,7 @@ impl Carried {
         }
     }
 
-    /// One more frame, with so many octets of User Data.
+    /// Counts one more frame, with this many octets of User Data.
     fn add(&mut self, octets: u64)
         ensures { self.new ≡ carried_with octets self.old }
     {
@@ -36,19 +36,19 @@ impl Carried {
     }
 }
 
-/// Frames under one association number. By the octets of both parts count OutOctetsProtected and
-/// OutOctetsEncrypted of a transmit channel, and InOctetsValidated and InOctetsDecrypted of a
+/// Frames under one association number. The octets of the two parts are OutOctetsProtected and
+/// OutOctetsEncrypted for a transmit channel, and InOctetsValidated and InOctetsDecrypted for a
 /// receive channel (IEEE Std 802.1AE-2018, 10.7).
 #[derive(Clone, Copy, Debug, Default, PartialEq, Eq)]
 pub struct Traffic {
-    /// Those with integrity alone: E is clear.
+    /// Those with integrity only: E is clear.
     pub plain: Carried,
-    /// Those with confidentiality too: E is set.
+    /// Those with confidentiality as well: E is set.
     pub encrypted: Carried,
 }
 
 impl Traffic {
-    /// No frame.
+    /// No frames.
     fn new() -> Traffic
         ensures { result ≡ no_traffic }
     {
@@ -58,7 +58,7 @@ impl Traffic {
         }
     }
 
-    /// One more frame, encrypted or not, with so many octets of User Data.
+    /// Counts one more frame, encrypted or not, with this many octets of User Data.
     fn add(&mut self, is_encrypted: bool, octets: u64)
         ensures { self.new ≡ traffic_with is_encrypted octets self.old }
     {
@@ -70,14 +70,14 @@ impl Traffic {
     }
 }
 
-/// Frames of a channel, by their association numbers.
+/// Frames of a channel, by association number.
 #[derive(Clone, Copy, Default)]
 pub struct ChannelTraffic {
     by_an: [Traffic; ASSOCIATIONS],
 }
 
 impl ChannelTraffic {
-    /// No frame.
+    /// No frames.
     pub fn new() -> ChannelTraffic
         ensures { result ≡ no_channel_traffic }
     {
@@ -93,7 +93,7 @@ impl ChannelTraffic {
         self.by_an[an.get() as usize]
     }
 
-    /// One more frame: its SecTAG, and the plain frame that it protects.
+    /// Counts one more frame: its SecTAG, and the plain frame that it protects.
     pub fn add(&mut self, tag: &SecTag, plain: &[u8])
         ensures { self.new ≡ traffic_after tag.now plain.now self.old }
     {

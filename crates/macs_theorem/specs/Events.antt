@@ -1,5 +1,4 @@
--- What programs do with a disk by calls of `format`, of `Endpoint::open` and of an endpoint, as it is seen from
--- outside.
+-- What programs do with a disk by calls of `format`, of `Endpoint::open` and of an endpoint, as seen from outside.
 use Rattle.std.specs.Prelude.{◌≡◌, List, [], ◌∷◌, Result, Ok, Err}
 use Rattle.macs_config.specs.Identity.{Identity}
 use Rattle.macs_disk.specs.Disk.{Disk}
@@ -13,8 +12,8 @@ use Rattle.macs_headline.specs.Deeds.{IsPassedOn}
 
 -- ---- events
 
--- A call is answered: of `format`; of `Endpoint::open`; of an endpoint; of its readers, which show something of type V;
--- or of `into_disk`.
+-- A call returns: `format`; `Endpoint::open`; a call of an endpoint; its readers, which show a value of type V; or
+-- `into_disk`.
 pub data Answer (V : Type 0) : Type 0 where
   Formats : (identity : Identity) (result : Result (Unit {0}) JournalFault) → Answer V
   Opens : (result : Result (Unit {0}) JournalFault) → Answer V
@@ -22,8 +21,8 @@ pub data Answer (V : Type 0) : Type 0 where
   Shows : (shown : V) → Answer V
   Closes : Answer V
 
--- A call is answered; or a program ends inside a call, before it sees this answer; or it ends between two calls. It may
--- end because power is lost, because it is killed, or in any other way.
+-- A call returns; or a program ends inside a call, before it sees this answer; or it ends between two calls. It may end
+-- because power is lost, because it is killed, or in any other way.
 pub data Event (V : Type 0) : Type 0 where
   Answers : Answer V → Event V
   EndsIn : Answer V → Event V
@@ -36,13 +35,13 @@ pub data Holds (D : Type 0) : Type 0 where
   HoldsDisk : (disk : D) → Holds D
   HoldsEndpoint : (endpoint : EndpointValue D) → Holds D
 
--- the disk that it holds; `disk_of` says what a device of type D is
+-- the disk that it holds; `disk_of` gives the disk of a device of type D
 abbrev pub disk_held : {D : Type 0} → (D → Disk) → Holds D → Disk
 disk_held disk_of (HoldsDisk disk) = disk_of disk
 disk_held disk_of (HoldsEndpoint endpoint) = disk_in disk_of endpoint
 
--- A call is answered as the contract of its function says, which the function is proved to meet; `show` says what the
--- readers of an endpoint show.
+-- A call returns an answer allowed by the contract of its function, which the function is proved to meet; `show` gives
+-- what the readers of an endpoint show.
 abbrev pub IsAnswered : {D V : Type 0} → (D → Disk) → (show : EndpointValue D → V) → Holds D → Answer V
     → Holds D → Type 0
 IsAnswered disk_of show (HoldsDisk old) (Formats identity result) (HoldsDisk new) =
@@ -56,7 +55,7 @@ IsAnswered disk_of show (HoldsEndpoint old) (Shows shown) (HoldsEndpoint new) = 
 IsAnswered disk_of show (HoldsEndpoint old) Closes (HoldsDisk new) = new ≡ device_in old
 IsAnswered disk_of show old answer new = ⊥
 
--- An event happens. Where a program ends, the next one holds a disk with what was left at some moment of the call.
+-- An event happens. If a program ends, the next one holds a disk with what was left at some moment of the call.
 abbrev pub Happens : {D V : Type 0} → (D → Disk) → (show : EndpointValue D → V) → Holds D → Event V → Holds D → Type 0
 Happens disk_of show old (Answers answer) new = IsAnswered disk_of show old answer new
 Happens {D} disk_of show old (EndsIn answer) (HoldsDisk new) =

@@ -1,4 +1,4 @@
--- What the example programs keep, and the deeds of histories, as events.
+-- What the example programs remember, and the deeds of histories, as events.
 use Rattle.std.specs.Prelude.{◌≡◌, ◌++◌, ℕ, Bool, List, [], ◌∷◌, Contains, Option, Some, None, is_some, Result, Ok, Err}
 use Rattle.macs_disk.specs.Disk.{Disk}
 use Rattle.macs_endpoint.specs.State.{Protected, Protects}
@@ -9,12 +9,12 @@ use Rattle.macs_theorem.specs.Shown.{Shown, shown_by}
 
 -- ---- packet numbers around a power loss
 
--- the number of a frame, where one was written
+-- the number of a frame, if one was written
 abbrev pub numbers_of : Result ℕ ProtectFault → List ℕ
 numbers_of (Ok pn) = pn ∷ []
 numbers_of (Err fault) = []
 
--- the numbers of a frame, one or none
+-- the numbers of a frame, at most one
 abbrev pub number_list : Option ℕ → List ℕ
 number_list (Some pn) = pn ∷ []
 number_list None = []
@@ -36,7 +36,7 @@ AreFirst (Some first) None (pn ∷ []) = first ≡ pn
 AreFirst (Some first) (Some second) (pn ∷ next ∷ more) = (first ≡ pn) × (second ≡ next)
 AreFirst first second numbers = ⊥
 
--- ---- a command that is cut short
+-- ---- a command that is interrupted
 
 -- an endpoint showed, among these events, a transmit association at this AN, or none
 abbrev pub WasShown : List (Event Shown) → (an : ℕ) → (there : Bool) → Type 0

@@ -1,4 +1,4 @@
--- Disks in files, which the theorem speaks of where their files behave.
+-- Disks in files, to which the theorem applies if their files behave.
 use Rattle.std.specs.Prelude.{◌≡◌, true}
 use Rattle.macs_disk.specs.Disk.{IsHonest}
 use Rattle.macs_disk.specs.FileDisks.{IsBlank, IsFoundAgain, IsLeftAsShown, IsOpened, disk_in_file, file_left}
@@ -10,13 +10,13 @@ use Rattle.macs_headline.specs.Binding.{IsNewDisk}
 use Rattle.macs_theorem.specs.Events.{Ends, Happens, HoldsDisk}
 use Rattle.macs_theorem.specs.Shown.{shown_by}
 
--- A disk in a file that was made blank is new, where its layout suits the blocks of the device.
+-- A disk in a file that was made blank is new, if its layout suits the blocks of the device.
 abbrev pub BlankFilesAreNew : {F : Type 0} → (F → FileState) → Type 0
 BlankFilesAreNew {F} file = (old new : FileState) (layout : Layout) (disk : FileDisk F)
     → IsBlank old new layout (disk_in_file file disk) → suits layout old.block ≡ true
     → IsNewDisk (disk_in_file file disk)
 
--- A program ends, and another one opens the file again, of which nothing is new since: that is an event. Where the file
+-- A program ends, and another one opens the file again, with nothing new in it since: that is an event. If the file
 -- behaves, the disk is honest.
 abbrev pub ReopeningsAreEnds : {F : Type 0} → (F → FileState) → Type 0
 ReopeningsAreEnds {F} file = (old new : FileDisk F) (left : FileState) (again : Layout)

@@ -1,4 +1,4 @@
--- An observer sees events alone, and expects of each what was promised.
+-- An observer sees only events, and expects of each what was promised.
 use Rattle.std.specs.Prelude.{◌≡◌, ◌≢◌, ◌⊎◌, ◌<◌, ◌≤◌, ◌+◌, ◌%◌, ◌^◌, ◌++◌, ℕ, length, take, slice_range, true, false}
 use Rattle.std.specs.Prelude.{List, [], ◌∷◌, Bool, Contains, IsOk, Option, Some, None, Result, Ok, Err}
 use Rattle.std.specs.List.{AllByRecursion}
@@ -39,7 +39,7 @@ use Rattle.macs_theorem.specs.Shown.{RxAssociation, Settings, Shown, TxAssociati
 
 -- ---- commands
 
--- what a disk is formatted with
+-- the settings of a newly formatted disk
 abbrev pub first_settings : Settings
 first_settings = record {
   validate = Strict;
@@ -51,7 +51,7 @@ first_settings = record {
   rx = λ sci an. None;
 }
 
--- what each command sets
+-- the settings after a command
 abbrev pub settings_after : Command → Settings → Settings
 settings_after (SetValidate validate) s = record s { validate = validate }
 settings_after (SetReplay on window) s = record s { replay = record { on = on; window = window } }
@@ -71,7 +71,7 @@ settings_after (RxInstall sci an key start offset) s = record s {
 }
 settings_after (RxRemove sci an) s = record s { rx = put_at s.rx sci (put (s.rx sci) an None) }
 
--- the key that a command installs: for frames that go out, or for those that come in under an SCI
+-- the key that a command installs: for transmitted frames, or for received ones with an SCI
 abbrev pub install_of : Command → List (Option (List ℕ) × List ℕ)
 install_of (TxInstall an key start confidential offset) = (None, octets_of_key key) ∷ []
 install_of (RxInstall sci an key start offset) = (Some sci, octets_of_key key) ∷ []
@@ -79,12 +79,12 @@ install_of command = []
 
 -- ---- the observer
 
--- What an observer knows: with which identity the disk is formatted for sure, and with which a `format` was tried; what
--- is set, and which keys were installed; the next packet number of each transmit association, and the packet numbers of
--- each receive association; the submitted commands that wait, and how many tickets were given since the disk was
--- opened; the command whose work on the disk may have begun; whether a call was answered Disk since the disk was
--- opened; key and packet number of each frame that was sent; SCI, key and packet number of each that was delivered as
--- verified, and of those that were before the disk was opened.
+-- What an observer knows: with which identity the disk is certainly formatted, and with which a `format` was tried; the
+-- settings, and which keys were installed; the next packet number of each transmit association, and the packet numbers
+-- of each receive association; the pending submitted commands, and how many tickets were given since the disk was
+-- opened; the command whose work on the disk may have begun; whether a call returned Disk since the disk was opened;
+-- key and packet number of each frame that was sent; SCI, key and packet number of each that was delivered as verified,
+-- and of those that were before the disk was opened.
 pub record Observer : Type 0 where
   pub formatted : Option Identity
   pub tried : List Identity
@@ -100,7 +100,7 @@ pub record Observer : Type 0 where
   pub delivered : List Delivery
   pub before : List Delivery
 
--- one of a disk that is new
+-- the observer of a new disk
 abbrev pub new_observer : Observer
 new_observer = record {
   formatted = None;
@@ -118,9 +118,9 @@ new_observer = record {
   before = [];
 }
 
--- ---- frames that go out
+-- ---- transmitted frames
 
--- A frame goes out: the protected frame of the plain one (IEEE Std 802.1AE-2018, clauses 9, 10 and 14), under the
+-- A frame is sent: the protected frame of the plain one (IEEE Std 802.1AE-2018, clauses 9, 10 and 14), under the
 -- encoding association, with its next packet number, which no frame had under this key.
 pub record IsSent (o : Observer) (plain : List ℕ) (pn : ℕ) (out : List ℕ) (new : Observer) : Type 0 where
   pub identity : Identity
@@ -147,9 +147,9 @@ pub record IsSent (o : Observer) (plain : List ℕ) (pn : ℕ) (out : List ℕ) 
     sent = record { key = sa.key; pn = pn } ∷ o.sent;
   }
 
--- ---- frames that come in
+-- ---- received frames
 
--- a frame names the receive channel of this SCI: its SecTAG does, or it names none, and there is no other channel
+-- a frame names the receive channel with this SCI: its SecTAG does, or it names none, and there is no other channel
 abbrev pub IsNamed : Settings → List ℕ → List ℕ → Type 0
 IsNamed s frame sci = (s.channels sci ≡ true) × ((named_sci frame (name_of frame) ≡ Some sci)
     ⊎ ((named_sci frame (name_of frame) ≡ None) × ((other : List ℕ) → s.channels other ≡ true → other ≡ sci)))
@@ -159,8 +159,8 @@ abbrev pub an_of : List ℕ → ℕ
 an_of frame = control frame % 4
 
 -- A frame is genuine (clauses 10 and 14): of the octets between SecTAG and ICV, those that are encrypted, and the ICV,
--- are what the plaintext is sealed to under this key, with SCI and PN as IV, and with addresses, SecTAG and the octets
--- in the clear as additional data. The plain frame has addresses, octets in the clear, and plaintext.
+-- are the result of sealing the plaintext under this key, with SCI and PN as IV, and with addresses, SecTAG and the
+-- octets in the clear as additional data. The plain frame consists of addresses, octets in the clear, and plaintext.
 abbrev pub IsGenuine : (frame key sci : List ℕ) → (offset : ℕ) → (plain : List ℕ) → Type 0
 IsGenuine frame key sci offset plain =
     let between = slice_range frame (start_of frame) (end_of frame) in
@@ -171,9 +171,9 @@ IsGenuine frame key sci offset plain =
     × (seal key (iv_of sci (pn_of frame)) (take (start_of frame) frame ++ clear) plaintext ≡ (hidden, icv))
     × (plain ≡ take 12 frame ++ clear ++ plaintext)
 
--- A frame verifies as this plain one: it has a SecTAG with a PN that is not 0, and with C where E is set (9.4 to 9.8);
--- it is genuine under the association that it names; and where replay protection is on, its packet number is not below
--- the lowest acceptable one (10.6).
+-- A frame verifies as this plain one: it has a SecTAG with a PN that is not 0, and with C if E is set (9.4 to 9.8); it
+-- is genuine under the association that it names; and if replay protection is on, its packet number is not below the
+-- lowest acceptable one (10.6).
 pub record IsVerified (o : Observer) (frame plain : List ℕ) : Type 0 where
   pub sci : List ℕ
   pub sa : RxAssociation
@@ -186,7 +186,7 @@ pub record IsVerified (o : Observer) (frame plain : List ℕ) : Type 0 where
   pub in_time : o.settings.replay.on ≡ true → numbers.lowest ≤ pn_of frame
 
 -- A frame that does not verify is delivered as this kind: no channel has the SCI that its SecTAG names; or its channel
--- has no association of its AN; or it is not genuine under that.
+-- has no association with its AN; or it is not genuine under that association.
 abbrev pub IsUnverified : Settings → (frame : List ℕ) → Kind → Type 0
 IsUnverified s frame UnknownSci =
     (sci : List ℕ) → named_sci frame (name_of frame) ≡ Some sci → s.channels sci ≡ false
@@ -195,14 +195,14 @@ IsUnverified s frame Invalid = (sci : List ℕ) × (sa : RxAssociation) × IsNam
     × (s.rx sci (an_of frame) ≡ Some sa) × ((plain : List ℕ) → ¬ IsGenuine frame sa.key sci sa.offset plain)
 IsUnverified s frame kind = ⊥
 
--- a frame of that SCI, key and packet number is among these deliveries
+-- a frame with that SCI, key and packet number is among these deliveries
 abbrev pub WasDelivered : List Delivery → (sci key : List ℕ) (pn : ℕ) → Type 0
 WasDelivered delivered sci key pn =
     (kind : Kind) × Contains delivered (record { sci = sci; key = key; pn = pn; kind = kind })
 
--- A frame is delivered as verified, as Delayed where its packet number is below the lowest acceptable one, else as Ok.
--- None of its SCI, key and packet number was delivered so, where replay protection is on with window 0; and none was
--- before the disk was opened, where it is delivered as Ok.
+-- A frame is delivered as verified, as Delayed if its packet number is below the lowest acceptable one, else as Ok.
+-- None with its SCI, key and packet number has been delivered as verified, if replay protection is on with window 0;
+-- and none had been before the disk was opened, if it is delivered as Ok.
 pub record IsDelivered (o : Observer) (frame : List ℕ) (kind : Kind) (out : List ℕ) (new : Observer) : Type 0 where
   pub is : IsVerified o frame out
   pub kind_is : kind ≡ delivery_kind is.numbers (pn_of frame)
@@ -226,7 +226,7 @@ pub record IsHeldBack (o : Observer) (frame : List ℕ) (new : Observer) : Type 
 
 -- ---- calls
 
--- a command installs no key again
+-- a command installs no key a second time
 abbrev pub IsNew : Command → Observer → Type 0
 IsNew command o = AllByRecursion (λ (it : Option (List ℕ) × List ℕ). ¬ Contains o.installed it) (install_of command)
 
@@ -240,36 +240,36 @@ after_command command o = record o {
   begun = None;
 }
 
--- the command whose work on the disk a call may begin: the one that it is given, where none waits, or the first that
--- waits; none once the endpoint is stopped
+-- the command whose work on the disk a call may begin: the call's own command, if none is pending, or the first pending
+-- one; none once the endpoint is stopped
 abbrev pub begun_in : (stopped : Bool) → Call → List Waiting → Option Command
 begun_in false (Commands command) [] = Some command
 begun_in false Advances (first ∷ rest) = Some first.command
 begun_in stopped call waiting = None
 
--- its work may have begun, unless that of another had
+-- its work may have begun, unless that of another one had
 abbrev pub begin : Call → Observer → Observer
 begin call o = record o { begun = option_or o.begun (begun_in o.stopped call o.waiting) }
 
--- a call is answered Disk
+-- a call returns Disk
 abbrev pub fail : Observer → Observer
 fail o = record o { stopped = true }
 
--- a command that waited takes effect, or not
+-- a pending command takes effect, or not
 abbrev pub after_result : Result (Unit {0}) CommandFault → Command → Observer → Observer
 after_result (Ok done) command o = after_command command o
 after_result (Err fault) command o = record o { begun = None }
 
--- the first command that waits is done with, and this is its ticket
+-- the first pending command is completed, and this is its ticket
 abbrev pub IsDone : Observer → (ticket : ℕ) → Result (Unit {0}) CommandFault → Observer → Type 0
 IsDone o ticket result new = (first : Waiting) × (rest : List Waiting) × (o.waiting ≡ first ∷ rest)
     × (first.ticket ≡ ticket) × (IsOk result → IsNew first.command o)
     × (new ≡ after_result result first.command (record o { waiting = rest }))
 
--- A call of an endpoint that runs is answered. A frame that is not verified is delivered under Check alone: as it is
--- where it has no SecTAG, or without SecTAG and ICV where C is clear. Where no frame goes out, or none is delivered,
--- `out` is empty. Each command that waits gets the next ticket. A step is idle, and another command takes effect, only
--- where none waits. Another answer of its function changes nothing, and an answer of another function is never given.
+-- A call of a running endpoint returns. A frame that is not verified is delivered only under Check: unchanged if it has
+-- no SecTAG, or without SecTAG and ICV if C is clear. If no frame is sent or delivered, `out` is empty. Each submitted
+-- command gets the next ticket. A step is idle, and another command takes effect, only if none is pending. Any other
+-- answer of its function changes nothing, and an answer of another function is never given.
 abbrev pub ExpectsCall : Observer → Call → Reply → Observer → Type 0
 ExpectsCall o (Protects plain) (Protected (Ok pn) out) new = IsSent o plain pn out new
 ExpectsCall o (Protects plain) (Protected (Err fault) out) new = (out ≡ []) × (new ≡ o)
@@ -299,13 +299,13 @@ ExpectsCall o Refills (Refilled (Err refill.Disk)) new = new ≡ fail o
 ExpectsCall o Refills (Refilled result) new = new ≡ o
 ExpectsCall o call reply new = ⊥
 
--- once a call was answered Disk, each is answered Stopped, until the disk is opened again; before that, none is
+-- once a call returned Disk, each returns Stopped, until the disk is opened again; before that, none does
 abbrev pub ExpectsReply : (stopped : Bool) → Observer → Call → Reply → Observer → Type 0
 ExpectsReply true o call reply new = IsStopped call reply × (new ≡ o)
 ExpectsReply false o call reply new = (¬ IsStopped call reply) × ExpectsCall o call reply new
 
--- A program ends in a call, before it sees this answer. Where the call did no work on the disk it is as good as
--- answered; else that of a command may have begun.
+-- A program ends in a call, before it sees this answer. If the call did no work on the disk the effect is the same as
+-- if it had returned; otherwise the work of a command may have begun.
 abbrev pub ExpectsCut : Observer → Call → Reply → Observer → Type 0
 ExpectsCut o (Commands command) (Ran (Ok done)) new = new ≡ begin (Commands command) o
 ExpectsCut o (Commands command) (Ran (Err ran.Disk)) new = new ≡ begin (Commands command) o
@@ -319,14 +319,14 @@ ExpectsCut o call reply new = ExpectsReply o.stopped o call reply new
 
 -- ---- `format` and openings
 
--- `format` answers Ok once at most
+-- `format` returns Ok at most once
 abbrev pub ExpectsFormat : Observer → Identity → Result (Unit {0}) JournalFault → Observer → Type 0
 ExpectsFormat o identity (Ok done) new = (o.formatted ≡ None) × (new ≡ record o { formatted = Some identity })
 ExpectsFormat o identity (Err fault) new = new ≡ record o { tried = identity ∷ o.tried }
 
--- What is set is found again. Packet numbers do not fall, and few are skipped: of a transmit association at most a
--- block and a half, of a receive association at most up to a block beyond the greatest one that verified. No command
--- waits.
+-- The settings are found again. Packet numbers do not fall, and few are skipped: for a transmit association at most a
+-- block and a half, for a receive association at most up to a block beyond the greatest one that verified. No command
+-- is pending.
 abbrev pub IsResumed : Identity → Observer → Observer → Type 0
 IsResumed identity o new =
     ((an : ℕ) → TxRises identity.tx_block (o.next an) (new.next an))
@@ -341,8 +341,8 @@ IsResumed identity o new =
       before = o.delivered;
     })
 
--- What an opening finds. Each command that was answered Ok took effect, and none besides them but the one whose work
--- may have begun. Where the disk is not formatted for sure, it finds what a `format` may have written.
+-- What an opening finds. Each command that was answered Ok took effect, and no other except the one whose work may have
+-- begun. If the disk is not certainly formatted, it finds what a `format` may have written.
 abbrev pub IsFound : Observer → Option Identity → Observer → Type 0
 IsFound o (Some identity) new = IsResumed identity o new
     ⊎ ((command : Command) × (o.begun ≡ Some command) × IsNew command o
@@ -350,7 +350,7 @@ IsFound o (Some identity) new = IsResumed identity o new
 IsFound o None new =
     (identity : Identity) × Contains o.tried identity × (new ≡ record o { formatted = Some identity })
 
--- Once the disk is formatted for sure, it is opened, or refused as Disk or as GenerationsSpent.
+-- Once the disk is certainly formatted, it is opened, or refused with Disk or with GenerationsSpent.
 abbrev pub ExpectsOpening : Observer → Result (Unit {0}) JournalFault → Observer → Type 0
 ExpectsOpening o (Ok done) new = IsFound o o.formatted new
 ExpectsOpening o (Err fault) new =
@@ -363,7 +363,7 @@ IsKnown o shown = (o.formatted ≡ Some shown.identity) × (shown.settings ≡ o
 
 -- ---- events
 
--- An observer expects this event, and knows this after it. A frame counts as sent, or as delivered, also where the
+-- An observer expects this event, and knows this afterwards. A frame counts as sent, or as delivered, even if the
 -- program ended before it saw the answer.
 abbrev pub Expects : Observer → Event Shown → Observer → Type 0
 Expects o (Answers (Formats identity result)) new = ExpectsFormat o identity result new

@@ -1,4 +1,4 @@
--- Disks that an older edition used: what an observer knows of them, and expects from then on.
+-- Disks that an older edition used: what an observer knows about them, and expects from then on.
 use Rattle.std.specs.Prelude.{◌++◌, List, [], map, None, Some}
 use Rattle.macs_config.specs.Config.{Edition, IsUpTo, this_edition}
 use Rattle.macs_disk.specs.Disk.{Disk}
@@ -9,8 +9,8 @@ use Rattle.macs_theorem.specs.Events.{Event, Happen, Holds, HoldsDisk}
 use Rattle.macs_theorem.specs.Shown.{settings_of, Shown, shown_by}
 use Rattle.macs_theorem.specs.Observer.{ExpectsAll, Observer, new_observer}
 
--- what an observer knows after a history: what is set, what numbers were used, and the command under way, if one was;
--- of the keys that were installed, those of frames that were sent, or delivered as verified
+-- what an observer knows after a history: the settings, the numbers that were used, and the command under way, if any;
+-- of the installed keys, those of frames that were sent, or delivered as verified
 abbrev pub observer_after : Past → Observer
 observer_after (Blank identities) = record new_observer { tried = identities }
 observer_after (Formatted s) = record {
@@ -29,9 +29,9 @@ observer_after (Formatted s) = record {
   before = s.logs.given;
 }
 
--- Whatever programs of this edition do with an honest disk that older ones used, in format one too, and wherever they
--- end, an observer who knows that history expects all that is seen: so an opening that migrates the disk finds what was
--- there.
+-- For all programs of this edition, on an honest disk that older ones used, even in format one, and no matter where the
+-- programs end: an observer who knows that history expects all that is seen. So an opening that migrates the disk finds
+-- what was on it.
 abbrev pub OlderIsExpected : {D : Type 0} → (D → Disk) → Type 0
 OlderIsExpected {D} disk_of = (edition : Edition) → IsUpTo edition this_edition
     → (disk : D) (lives : List Life) (h : HasHistory edition (disk_of disk) lives) (events : List (Event Shown))

@@ -1,4 +1,4 @@
--- What is promised of an endpoint on an honest disk, whatever programs do with that, and wherever they end.
+-- What is promised of an endpoint on an honest disk, for all programs, and no matter where they end.
 use Rattle.std.specs.Prelude.{◌≡◌, ◌≢◌, ◌<◌, ◌≤◌, ◌^◌, ℕ, Bool, true, false, List, [], ◌∷◌, AllPairs, Contains, filter}
 use Rattle.std.specs.Prelude.{flat_map, length, Ok, Err}
 use Rattle.macs_aes.specs.Keys.{octets_of_key}
@@ -15,28 +15,28 @@ use Rattle.macs_theorem.specs.Shown.{Shown, shown_by}
 
 -- ---- no packet number is used twice
 
--- all calls of an endpoint, with their answers, also where a program ended before it saw the answer
+-- all calls of an endpoint, with their answers, even if a program ended before it saw the answer
 abbrev pub calls_in : {V : Type 0} → List (Event V) → List Exchange
 calls_in [] = []
 calls_in (Answers (Calls call reply) ∷ events) = record { call = call; reply = reply } ∷ calls_in events
 calls_in (EndsIn (Calls call reply) ∷ events) = record { call = call; reply = reply } ∷ calls_in events
 calls_in (event ∷ events) = calls_in events
 
--- the key of a transmit association that a call is to install, whatever is answered
+-- the key of a transmit association that a call should install, regardless of the answer
 abbrev pub installed_by : Call → List (List ℕ)
 installed_by (Commands (TxInstall an key start confidential offset)) = octets_of_key key ∷ []
 installed_by (Submits (TxInstall an key start confidential offset)) = octets_of_key key ∷ []
 installed_by call = []
 
--- a frame is written: a packet number is answered, or `out` is not empty
+-- a frame is written: a packet number is returned, or `out` is not empty
 abbrev pub writes : Reply → Bool
 writes (Protected (Err fault) []) = false
 writes (Protected answer out) = true
 writes reply = false
 
 -- A call writes the frame that protects its plain one under this key, which is one of these, and this packet number
--- (IEEE Std 802.1AE-2018, clauses 9, 10 and 14): the number, and some SCI, make the IV. Which SCI, SecTAG and offset
--- does not matter here.
+-- (IEEE Std 802.1AE-2018, clauses 9, 10 and 14): the number and some SCI form the IV. Which SCI, SecTAG and offset does
+-- not matter here.
 abbrev pub IsProtected : (keys : List (List ℕ)) → Use → Call → Reply → Type 0
 IsProtected keys u (Protects plain) (Protected (Ok pn) out) =
     (sci : List ℕ) × (tag : SecTag) × (offset : ℕ) × (out ≡ protected_frame u.key sci tag offset plain)
@@ -49,9 +49,9 @@ AreProtected keys [] [] = Unit {0}
 AreProtected keys (u ∷ uses) (e ∷ calls) = IsProtected keys u e.call e.reply × AreProtected keys uses calls
 AreProtected keys uses calls = ⊥
 
--- Whatever programs do with an honest disk that was new, and wherever they end, each frame that they write is protected
--- under a key that they were to install, with some packet number, and no two have the same of both. What readers show
--- does not matter here: so they show nothing.
+-- For all programs, on an honest disk that was new, and no matter where they end: each frame that they write is
+-- protected under a key that they were to install, with some packet number, and no two have the same key and number.
+-- What readers show does not matter here, so they show nothing.
 abbrev pub NoNumberTwice : {D : Type 0} → (D → Disk) → Type 0
 NoNumberTwice {D} disk_of = (disk : D) (events : List (Event (Unit {0}))) (end : Holds D) → IsNewDisk (disk_of disk)
     → Happen disk_of (λ endpoint. tt) (HoldsDisk disk) events end
@@ -62,7 +62,7 @@ NoNumberTwice {D} disk_of = (disk : D) (events : List (Event (Unit {0}))) (end :
 
 -- ---- all that is seen
 
--- Whatever programs do with an honest disk that was new, and wherever they end, an observer expects all that is seen.
+-- For all programs, on an honest disk that was new, and no matter where they end: an observer expects all that is seen.
 abbrev pub AllIsExpected : {D : Type 0} → (D → Disk) → Type 0
 AllIsExpected {D} disk_of = (disk : D) (events : List (Event Shown)) (end : Holds D) → IsNewDisk (disk_of disk)
     → Happen disk_of shown_by (HoldsDisk disk) events end → ExpectsAll new_observer events

@@ -1,4 +1,4 @@
--- What a program hears that asks for calls of a disk, and of the endpoint on it.
+-- What a program hears when it requests calls of a disk, and of the endpoint on it.
 use Rattle.std.specs.Prelude.{◌≡◌, ◌⊎◌, ◌++◌, List, [], ◌∷◌, Option, Some, None}
 use Rattle.macs_disk.specs.Disk.{Disk}
 use Rattle.macs_endpoint.specs.State.{Advanced, Advances, Commands, Protected, Protects, Ran, Received, Receives}
@@ -22,7 +22,7 @@ abbrev pub holds : {D : Type 0} → Held D → Holds D
 holds (held.Disk disk) = HoldsDisk disk
 holds (held.Endpoint endpoint) = HoldsEndpoint endpoint
 
--- the answer that it hears, as one that is seen
+-- the answer that it hears, as an observed answer
 abbrev pub answer_of : Heard → Answer Shown
 answer_of (heard.Formatted identity result) = Formats identity result
 answer_of (heard.Opened result) = Opens result
@@ -34,7 +34,7 @@ answer_of (heard.Protected plain result out) = Calls (Protects plain.items) (Pro
 answer_of (heard.Received frame result out) = Calls (Receives frame.items) (Received result out.items)
 answer_of heard.Closed = Closes
 
--- this was asked for, and this was heard
+-- this answer may be heard for this request
 abbrev pub IsAnswerTo : Request → Heard → Type 0
 IsAnswerTo (request.Format identity) (heard.Formatted given result) = given ≡ identity
 IsAnswerTo request.Open (heard.Opened result) = Unit {0}
@@ -47,7 +47,7 @@ IsAnswerTo (request.Receive frame) (heard.Received given result out) = given ≡
 IsAnswerTo request.Close heard.Closed = Unit {0}
 IsAnswerTo asked answer = ⊥
 
--- what is held does not have this call
+-- what the program holds does not have this call
 abbrev pub HasNot : {D : Type 0} → Holds D → Request → Type 0
 HasNot (HoldsDisk disk) (request.Format identity) = ⊥
 HasNot (HoldsDisk disk) request.Open = ⊥
@@ -56,13 +56,13 @@ HasNot (HoldsEndpoint endpoint) (request.Format identity) = Unit {0}
 HasNot (HoldsEndpoint endpoint) request.Open = Unit {0}
 HasNot (HoldsEndpoint endpoint) asked = ⊥
 
--- The call that was asked for was answered so; or what is held does not have it, and nothing was done.
+-- The requested call was made, with this answer; or what is held does not have it, and nothing was done.
 abbrev pub IsMade : {D : Type 0} → (D → Disk) → Holds D → Request → Option Heard → Holds D → Type 0
 IsMade disk_of old asked (Some answer) new =
     IsAnswerTo asked answer × IsAnswered disk_of shown_by old (answer_of answer) new
 IsMade disk_of old asked None new = HasNot old asked × (new ≡ old)
 
--- an event is what was asked for
+-- an event is what was requested
 abbrev pub IsAskedFor : Ask → Event Shown → Type 0
 IsAskedFor (ask.Call asked) (Answers answer) = (it : Heard) × IsAnswerTo asked it × (answer ≡ answer_of it)
 IsAskedFor ask.Show (Answers (Shows shown)) = Unit {0}
@@ -82,8 +82,8 @@ IsPassedOver (HoldsDisk disk) (ask.Power (power.LastsFor calls)) = ⊥
 IsPassedOver (HoldsEndpoint endpoint) ask.Show = ⊥
 IsPassedOver (HoldsEndpoint endpoint) (ask.Power (power.LastsFor calls)) = Unit {0}
 
--- What was asked for happened, and the program keeps it with the events before; or what is held does not have it, and
--- nothing was done.
+-- What was requested happened, and the program remembers it along with the events before; or what is held does not have
+-- it, and nothing was done.
 abbrev pub Hears : {D : Type 0} → (D → Disk) → Holds D → Ask → (before after : List (Event Shown) → Type 0) → Holds D
     → Type 0
 Hears disk_of old asked before after new =
@@ -92,7 +92,7 @@ Hears disk_of old asked before after new =
     × Happens disk_of shown_by old event new)
     ⊎ (IsPassedOver old asked × ((events : List (Event Shown)) → before events → after events) × (new ≡ old))
 
--- What the program keeps happened, from a new disk on, and an observer expects it.
+-- The events that the program remembers happened, starting with a new disk, and an observer expects them.
 abbrev pub HearsExpected : {D : Type 0} → (D → Disk) → D → (List (Event Shown) → Type 0) → Holds D → Type 0
 HearsExpected disk_of disk keeps new =
     (events : List (Event Shown)) × keeps events × Happen disk_of shown_by (HoldsDisk disk) events new

@@ -27,7 +27,7 @@ pub record RxAssociation : Type 0 where
   pub key : List ℕ
   pub offset : ℕ
 
--- what commands set: transmit associations by AN; the AN of the encoding one; receive channels by SCI; and receive
+-- the result of commands: transmit associations by AN; the AN of the encoding one; receive channels by SCI; and receive
 -- associations by SCI and AN
 pub record Settings : Type 0 where
   pub validate : Validate
@@ -47,9 +47,9 @@ pub record Shown : Type 0 where
   pub numbers : List ℕ → ℕ → Option RxNumbers
   pub waiting : List Waiting
 
--- ---- how it is read
+-- ---- reading an endpoint
 
--- associations and settings, as a configuration has them
+-- associations and settings, from a configuration
 abbrev pub tx_association : TxSa → TxAssociation
 tx_association sa = record {
   key = sa.key;
@@ -71,11 +71,11 @@ settings_of c = record {
   rx = λ sci an. option_map rx_association (c.rx sci an);
 }
 
--- of the packet numbers of a receive association those that are shown: next and lowest
+-- the packet numbers of a receive association that are shown: next and lowest
 abbrev pub shown_numbers : Numbers → RxNumbers
 shown_numbers numbers = record { next = numbers.next; lowest = numbers.lowest }
 
--- what the readers of an endpoint show, by their contracts
+-- what the readers of an endpoint show, according to their contracts
 abbrev pub shown_by : {D : Type 0} → EndpointValue D → Shown
 shown_by e = record {
   identity = (state_of e no_logs).identity;

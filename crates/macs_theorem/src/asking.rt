@@ -1,4 +1,4 @@
-//! What a program asks for, and what it hears.
+//! The requests of a program, and what it hears.
 
 use macs_config::{Command, Identity};
 use macs_endpoint::{
@@ -23,7 +23,7 @@ pub enum Request {
     Close,
 }
 
-/// What becomes of the power.
+/// What happens to the power.
 #[derive(Drop)]
 pub enum Power {
     /// It is lost inside this call, at the first device call that fails, or at the end.
@@ -34,8 +34,8 @@ pub enum Power {
     LastsFor(u64),
 }
 
-/// What a program asks for. What it cannot have is passed over, as a `format` while it holds an
-/// endpoint.
+/// A request of a program. One that cannot be met is skipped, for example a `format` while the
+/// program holds an endpoint.
 #[derive(Drop)]
 pub enum Ask {
     /// A call, whose answer it hears.
@@ -45,7 +45,7 @@ pub enum Ask {
     Power(Power),
 }
 
-/// What was called, and what was answered.
+/// The call that was made, and its answer.
 #[derive(Drop)]
 pub enum Heard {
     Formatted(Identity, Result<(), JournalFault>),

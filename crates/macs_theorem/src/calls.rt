@@ -1,4 +1,4 @@
-//! The calls that a program asks for.
+//! The calls that a program requests.
 
 ghost use Rattle.macs_theorem.specs.Events.{HoldsDisk, HoldsEndpoint};
 ghost use Rattle.macs_theorem.specs.Programs.{IsMade, holds};
@@ -11,8 +11,8 @@ use macs_disk::SectorDisk;
 use macs_endpoint::{Endpoint, format};
 use macs_frame::FrameBuf;
 
-/// Makes a call, unless what is held does not have it, and puts what was answered into `heard`. An
-/// endpoint is large: so it is moved in few places.
+/// Makes a call, unless what is held does not have it, and puts the answer into `heard`. An
+/// endpoint is large, so it is moved in few places.
 pub(crate) fn make_call<D: SectorDisk>(
     held: Held<D>,
     request: Request,

@@ -1,4 +1,4 @@
-//! A program: a command that a loss of power cuts short.
+//! A program: a command that a power loss interrupts.
 
 ghost use Rattle.std.specs.Prelude.{◌≡◌, IfSome, None};
 ghost use Rattle.macs_theorem.specs.Examples.{WasShown};
@@ -10,9 +10,9 @@ use macs_disk::SectorDisk;
 use macs_endpoint::Endpoint;
 use macs_frame::An;
 
-/// It formats a disk, and opens it while the power lasts for some device calls. It gives a
-/// command, inside which the power is lost, and opens the disk again. It keeps whether it then saw
-/// a transmit association at an AN.
+/// Formats a disk, and opens it while the power lasts for some device calls. It gives a command,
+/// inside which the power is lost, and opens the disk again. It remembers whether it then saw a
+/// transmit association at an AN.
 #[derive(Drop)]
 pub struct CutCommand {
     pub identity: Identity,
@@ -24,7 +24,7 @@ pub struct CutCommand {
 }
 
 impl CutCommand {
-    /// One that has asked for nothing.
+    /// One that has not requested anything yet.
     pub fn new(identity: Identity, calls: u64, install: Command, an: An) -> CutCommand
         ensures { result.found ≡ None }
     {

@@ -14,7 +14,7 @@ pub enum Held<D: SectorDisk> {
     Endpoint(Endpoint<D>),
 }
 
-/// The disk, as it is.
+/// The disk.
 pub(crate) fn into_disk<D: SectorDisk>(held: Held<D>) -> D
     ensures { D.disk result ≡ disk_held D.disk (holds held) }
 {

@@ -1,4 +1,4 @@
-//! Programs over a disk in memory.
+//! Programs over an in-memory disk.
 
 ghost use Rattle.std.specs.Prelude.{[], IfSome};
 ghost use Rattle.macs_disk.specs.Fuses.{FuseValue, disk_of_fuse};
@@ -11,8 +11,8 @@ use crate::running::run;
 use macs_disk::{Fuse, MemDisk};
 use std::alloc::Global;
 
-/// Runs a program on a new disk in memory, of 1,028 sectors, behind a fuse. `None` where there is
-/// no memory for it.
+/// Runs a program on a new in-memory disk, of 1,028 sectors, with a fuse. `None` if there is no
+/// memory for it.
 pub fn run_in_memory<P: Program>(
     alloc: Global,
     program: &mut P,

@@ -1,4 +1,4 @@
-//! The theorem: what is promised of an endpoint over all that is ever seen of it.
+//! The theorem: what is promised of an endpoint about all that is ever seen of it.
 #![tactic(auto)]
 
 mod asking;

@@ -9,13 +9,13 @@ use crate::asking::{Ask, Heard};
 use macs_disk::SectorDisk;
 use macs_endpoint::Endpoint;
 
-/// A program: it asks for one thing after another, and hears what was answered.
+/// A program: it makes one request after another, and hears the answers.
 pub trait Program {
-    /// What it keeps of the events so far. It may keep as much or as little as it likes, but
-    /// nothing that is not so.
+    /// What it remembers of the events so far. It may remember as much or as little as it likes,
+    /// but nothing untrue.
     ghost keeps: { Self → List (Event Shown) → Type 0 };
 
-    /// What it asks for next, `None` where it is done.
+    /// Its next request, `None` if it is done.
     fn ask(&mut self) -> Option<Ask>
         ensures { (events : List (Event Shown)) → keeps self.old events → keeps self.new events };
 
@@ -29,7 +29,8 @@ pub trait Program {
         ensures { (events : List (Event Shown)) → keeps self.old events
             → keeps self.new (events ++ Answers (Shows (shown_by endpoint.now)) ∷ []) };
 
-    /// The power was lost inside the call that it asked for, whatever that would have answered.
+    /// The power was lost inside the call that it requested, regardless of what that would have
+    /// returned.
     fn cut(&mut self)
         ensures { (events : List (Event Shown)) (answer : Answer Shown) → keeps self.old events
             → keeps self.new (events ++ EndsIn answer ∷ []) };

@@ -1,4 +1,4 @@
-//! A program is run: what it asks for is done, and it hears what was answered.
+//! Running a program: its requests are met, and it hears the answers.
 
 ghost use Rattle.std.specs.Prelude.{[]};
 ghost use Rattle.macs_headline.specs.Binding.{IsNewDisk};
@@ -14,8 +14,8 @@ use crate::program::Program;
 use macs_disk::SectorDisk;
 use macs_headline::PowerLoss;
 
-/// Runs a program on a new disk, for at most this many turns, and gives what it holds in the end.
-/// Whatever program it is, an observer expects all that it hears.
+/// Runs a program on a new disk, for at most this many turns, and returns what it holds in the end.
+/// For any program, an observer expects all that it hears.
 pub fn run<D: PowerSupply, P: Program>(disk: D, program: &mut P, turns: u64) -> Held<D>
     requires new { IsNewDisk (D.disk disk) }
     requires fresh { P.keeps program.old [] }
@@ -82,8 +82,9 @@ fn show<D: SectorDisk, P: Program>(held: Held<D>, program: &mut P) -> Held<D>
     }
 }
 
-/// The call is made, and the power is lost before anyone hears its answer. Once the power does not
-/// last, its device calls fail and change nothing: so what is left is what was there at the first.
+/// The call is made, and the power is lost before its answer is heard. Once the power is out,
+/// device calls fail and change nothing, so what is left is what was there at the first failed
+/// call.
 fn lose_power_in<D: PowerLoss, P: Program>(
     held: Held<D>,
     request: Request,

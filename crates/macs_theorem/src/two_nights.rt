@@ -1,4 +1,4 @@
-//! A program: a frame, a loss of power, and another frame under the same key.
+//! A program: a frame, a power loss, and another frame under the same key.
 
 ghost use Rattle.std.specs.Prelude.{◌≡◌, ◌++◌, ℕ, List, [], ◌∷◌};
 ghost use Rattle.macs_theorem.specs.Events.{Answers};
@@ -13,9 +13,9 @@ use macs_disk::SectorDisk;
 use macs_endpoint::{Endpoint, ProtectFault};
 use macs_frame::{FrameBuf, Pn};
 
-/// It formats a disk, opens it, gives two commands and a plain frame. After the power was lost it
-/// opens the disk again, and gives the frame again. It keeps the packet numbers of the first two
-/// frames that were written.
+/// Formats a disk, opens it, gives two commands and a plain frame. After a power loss it opens the
+/// disk again, and gives the frame again. It remembers the packet numbers of the first two frames
+/// that were written.
 #[derive(Drop)]
 pub struct TwoNights {
     pub identity: Identity,
@@ -27,7 +27,7 @@ pub struct TwoNights {
 }
 
 impl TwoNights {
-    /// One that has asked for nothing.
+    /// One that has not requested anything yet.
     pub fn new(identity: Identity, install: Command, select: Command) -> TwoNights
         ensures { AreFirst result.first result.second [] }
     {

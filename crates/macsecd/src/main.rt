@@ -12,9 +12,9 @@ use std::process::ExitCode;
 /// The greatest descriptor of standard input, output and error.
 const LAST_STANDARD: i32 = 2;
 
-/// Takes those descriptors of standard input, output and error that are closed, by a folder that
-/// can be neither read nor written. Else the disk file would get one of them, and what is printed
-/// would be written over its sectors.
+/// Opens a folder that can be neither read nor written on each closed descriptor of standard input,
+/// output and error. Otherwise the disk file could get one of them, and printed lines would
+/// overwrite its sectors.
 fn take_closed_descriptors(rt: &HostRuntime) -> Result<[Option<File>; 3], Failure> {
     let mut taken = [None, None, None];
     for i in 0..taken.len() {
@@ -41,7 +41,7 @@ fn words_of(rt: &HostRuntime) -> Result<Vec<String>, Failure> {
     }
 }
 
-/// Runs the program on the words of the process, and answers its status.
+/// Runs the program with the words of the process, and returns its exit status.
 fn run_process(rt: &HostRuntime) -> Result<u8, Failure> {
     let _taken = take_closed_descriptors(rt)?;
     let words = words_of(rt)?;
