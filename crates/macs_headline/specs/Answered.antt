@@ -15,7 +15,7 @@ exchanges_in life = []
 abbrev pub exchanges_of_lives : List Life → List Exchange
 exchanges_of_lives lives = flat_map exchanges_in lives
 
--- the lives up to a moment: those before it, and then the one that is under way, so far
+-- the lives up to a moment: those before it, and then the one under way, so far
 abbrev pub lives_at : {sectors : ℕ} {s : State} → Moment sectors s → List Life
 lives_at m = m.lives ++ Serves m.edition m.image m.exchanges None ∷ []
 
@@ -23,8 +23,8 @@ lives_at m = m.lives ++ Serves m.edition m.image m.exchanges None ∷ []
 abbrev pub MomentsAreHistories : ℕ → Type 0
 MomentsAreHistories sectors = (s : State) (m : Moment sectors s) → IsHistory sectors (lives_at m) (Formatted s)
 
--- In these lives a call was answered so: it is among their answers. It was at this moment of them: after the lives and
--- the calls before it. It was a step of the endpoint, and these logs hold all that was used and delivered by then.
+-- In these lives this call was answered: it is among their answers. At this moment of them, after the lives and the
+-- calls before it, it was a step of the endpoint, and these logs hold all that was used and delivered by then.
 pub record WasAnswered (sectors : ℕ) (lives : List Life) (e : Exchange) (logs : Logs) : Type 0 where
   pub among : Contains (exchanges_of_lives lives) e
   pub at : State
@@ -37,7 +37,7 @@ pub record WasAnswered (sectors : ℕ) (lives : List Life) (e : Exchange) (logs 
   pub step : Step at e.call e.reply after
   pub held : AreHeldIn after.logs logs
 
--- so was each call that is among the answers of a history
+-- this holds of each call that is among the answers of a history
 abbrev pub AnswersAreHeld : ℕ → Type 0
 AnswersAreHeld sectors = (lives : List Life) (past : Past) → IsHistory sectors lives past → (e : Exchange)
     → Contains (exchanges_of_lives lives) e

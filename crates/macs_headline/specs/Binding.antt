@@ -1,5 +1,5 @@
--- What binds the program to the headline: whatever is done with a disk that has a history is one, and a disk that is
--- new has the empty one.
+-- What binds the program to the headline: anything done with a disk that has a history continues it, and a new disk has
+-- the empty one.
 use Rattle.std.specs.Prelude.{◌≡◌, ◌≢◌, ◌⊎◌, ◌↔◌, ◌≤◌, ◌+◌, ◌-◌, ◌^◌, true, ◌++◌, ℕ, List, [], ◌∷◌}
 use Rattle.std.specs.Prelude.{length, map, Contains, Option, Some, None, Result, Ok, Err}
 use Rattle.macs_config.specs.Config.{Edition, IsUpTo, this_edition}
@@ -38,14 +38,14 @@ use Rattle.macs_headline.specs.History.{state_at_end}
 use Rattle.macs_headline.specs.Moments.{IsFoundAfter, Moment}
 use Rattle.macs_headline.specs.Openings.{IsSpentFor}
 
--- an honest disk of 1,028 sectors or more, whose head gates are closed in every image
+-- an honest disk of at least 1,028 sectors, whose head gates are closed in every image
 pub record IsNewDisk (disk : Disk) : Type 0 where
   pub honest : IsHonest disk
   pub large : least_sectors ≤ disk.sectors
   pub closed : (image : Image) → MayLeave disk image → IsNotFormatted image
 
 -- A history of these lives led to the disk: each image that a power loss may leave now is one that a program of this
--- edition may come upon after it.
+-- edition may find after it.
 pub record HasHistory (edition : Edition) (disk : Disk) (lives : List Life) : Type 0 where
   pub honest : IsHonest disk
   pub past : Past
@@ -54,30 +54,30 @@ pub record HasHistory (edition : Edition) (disk : Disk) (lives : List Life) : Ty
 
 -- ---- where a history begins, and which disks have it
 
--- a disk that is new has the history in which nothing was done
+-- a new disk has the history in which nothing was done
 abbrev pub NewDisksHaveHistories : Type 0
 NewDisksHaveHistories = (edition : Edition) (disk : Disk) → IsNewDisk disk → HasHistory edition disk []
 
--- an honest disk has each history after which a program may come upon each image that it may leave, whatever is pending
--- on it
+-- an honest disk has each history after which a program may find each image that it may leave, no matter what is
+-- pending on it
 abbrev pub FittingHaveHistories : Type 0
 FittingHaveHistories = (edition : Edition) (disk : Disk) (lives : List Life) (past : Past) → IsHonest disk
     → IsHistory disk.sectors lives past
     → ((image : Image) → MayLeave disk image → FitsPast edition disk.sectors past image)
     → (h : HasHistory edition disk lives) × (h.past ≡ past)
 
--- a disk on which nothing is pending has each history after which a program may come upon what is on it
+-- a disk on which nothing is pending has each history after which a program may find what is on it
 abbrev pub SettledHaveHistories : Type 0
 SettledHaveHistories = (edition : Edition) (disk : Disk) (lives : List Life) (past : Past) (image : Image)
     → IsHonest disk → now disk ≡ settled_state image
     → IsHistory disk.sectors lives past → FitsPast edition disk.sectors past image → HasHistory edition disk lives
 
--- a history from which a program of one edition goes on is one from which a program of a larger edition does
+-- a history from which a program of one edition continues is one from which a program of a larger edition does
 abbrev pub LargerGoOn : Type 0
 LargerGoOn = (small large : Edition) → IsUpTo small large → (disk : Disk) (lives : List Life)
     → HasHistory small disk lives → HasHistory large disk lives
 
--- so what a larger edition finds there, in each image that a power loss may leave, is what an opening finds after that
+-- what a larger edition finds there, in each image that a power loss may leave, is what an opening finds after that
 -- history
 abbrev pub LargerFind : Type 0
 LargerFind = (small large : Edition) → IsUpTo small large
@@ -85,8 +85,8 @@ LargerFind = (small large : Edition) → IsUpTo small large
     → (image : Image) (found : Standing) → MayLeave disk image → StandingIs large disk.sectors image (Ok found)
     → (f : IsFoundAfter disk.sectors h.past found) × (f.lives ≡ lives) × (f.edition ≡ large) × (f.image ≡ image)
 
--- And no other disk has it: one that does is honest; the lives led to its past; and a program of the edition may come
--- upon each image that it may leave.
+-- No other disk has it: one that does is honest; the lives led to its past; and a program of the edition may find each
+-- image that it may leave.
 abbrev pub HistoriesFit : Type 0
 HistoriesFit = (edition : Edition) (disk : Disk) (lives : List Life) (h : HasHistory edition disk lives)
     → IsHonest disk × IsHistory disk.sectors lives h.past
@@ -98,15 +98,15 @@ PassedOnHaveHistories = (edition : Edition) (old new : Disk) (lives : List Life)
     → IsPassedOn old old.clock new
     → HasHistory edition new lives
 
--- ---- how it goes on
+-- ---- how it continues
 
--- whatever is done with a disk that has a history, the history goes on with it
+-- anything done with a disk that has a history continues the history
 abbrev pub DeedsAreHistories : {D : Type 0} → (D → Disk) → Type 0
 DeedsAreHistories {D} disk_of = (old new : D) (before : List Life) (links : List (Link D))
     → HasHistory this_edition (disk_of old) before
     → Chain disk_of old links new → HasHistory this_edition (disk_of new) (before ++ lives_of_links disk_of old links)
 
--- so whatever was done with a disk that was new, a history led to it
+-- a history led to any disk that was new and with which deeds were done
 abbrev pub NewDeedsAreHistories : {D : Type 0} → (D → Disk) → Type 0
 NewDeedsAreHistories {D} disk_of = (old new : D) (links : List (Link D)) → IsNewDisk (disk_of old)
     → Chain disk_of old links new
@@ -137,7 +137,7 @@ LivesAreMoments {D} disk_of =
     → HasHistory this_edition (disk_of disk) before → LivesFrom disk_of disk first turns last
     → IsAtMoment (disk_of disk).sectors before (now (disk_of disk)).seen turns first last
 
--- what an endpoint begins with is what an opening finds after the history of its disk
+-- the initial state of an endpoint is what an opening finds after the history of its disk
 abbrev pub OpeningsFind : {D : Type 0} → (D → Disk) → Type 0
 OpeningsFind {D} disk_of = (disk : D) (before : List Life) (first : EndpointValue D)
     → (h : HasHistory this_edition (disk_of disk) before)
@@ -145,7 +145,7 @@ OpeningsFind {D} disk_of = (disk : D) (before : List Life) (first : EndpointValu
     → (f : IsFoundAfter (disk_of disk).sectors h.past (standing_in first.store))
     × (f.lives ≡ before) × (f.edition ≡ this_edition) × (f.image ≡ (now (disk_of disk)).seen)
 
--- where a medium is passed on at a moment since an opening began, that moment is one of the opening, or of one of the
+-- if a medium is passed on at a moment since an opening began, that moment is one of the opening, or of one of the
 -- calls after it
 abbrev pub EndsAreCuts : {D : Type 0} → (D → Disk) → Type 0
 EndsAreCuts {D} disk_of = (old new : D) (first last : EndpointValue D) (turns : List (Transition D))
@@ -155,15 +155,15 @@ EndsAreCuts {D} disk_of = (old new : D) (first last : EndpointValue D) (turns : 
     ⊎ ((before : List (Transition D)) × (mid : EndpointValue D) × (turn : Transition D) × (rest : List (Transition D))
     × (before ++ turn ∷ rest ≡ turns) × Does disk_of old (Living first before mid (Some turn.call)) new)
 
--- The call in which a life ends, where a command may begin in it. A step begins the first command that waits only where
--- no ceiling is being raised and to keep that command is the next piece of work, by need and turn.
+-- The call in which a life ends, if a command may begin in it. A step begins the first pending command only if no
+-- ceiling is being raised and keeping that command is the next piece of work, by need and turn.
 abbrev pub cut_beginning : Option Call → Option Raise → Option Piece → Option Call
 cut_beginning (Some Advances) None (Some (ToKeep first)) = Some Advances
 cut_beginning (Some Advances) reserving next = None
 cut_beginning cut reserving next = cut
 
--- The state in which a life ends, after these logs: with the command under way that may have begun in the call that was
--- cut short
+-- The state in which a life ends, after these logs: with the command under way that may have begun in the interrupted
+-- call
 abbrev pub state_left : {D : Type 0} → EndpointValue D → Logs → Option Call → State
 state_left e logs cut = state_at_end (state_of e logs) (cut_beginning cut e.reserving (next_piece e))
 
@@ -179,15 +179,15 @@ LivesFit {D} disk_of =
 
 -- ---- device faults
 
--- one failed call more was counted, or the disk is worn, so that one may have failed uncounted
+-- one more failed call was counted, or the disk is worn, so that one may have failed uncounted
 abbrev pub CountsOneFailure : Disk → Disk → Type 0
 CountsOneFailure old new = (new.failures ≡ old.failures + 1) ⊎ (new.worn ≡ true)
 
--- ---- openings that are refused
+-- ---- openings that fail
 
--- An opening is refused as Disk, with one failed call counted or the disk worn; or as NotFormatted, and then no
--- `format` of the history answered Ok, and no opening of it succeeded; or as GenerationsSpent, and then the journal is
--- of format one, in the last generation.
+-- An opening fails with Disk, with one failed call counted or the disk worn; or with NotFormatted, and then no `format`
+-- of the history returned Ok, and no opening of it succeeded; or with GenerationsSpent, and then the journal is of
+-- format one, in the last generation.
 abbrev pub RefusalsAreFailures : {D : Type 0} → (D → Disk) → Type 0
 RefusalsAreFailures {D} disk_of = (disk : D) (before : List Life) (refused : RecoverRefused D)
     → HasHistory this_edition (disk_of disk) before
@@ -199,15 +199,15 @@ RefusalsAreFailures {D} disk_of = (disk : D) (before : List Life) (refused : Rec
     → ¬ Contains before (Serves edition image exchanges cut)))
     ⊎ IsSpentFor this_edition (now (disk_of disk)).seen refused.fault)
 
--- ---- what an opening makes of a journal
+-- ---- what an opening does to a journal
 
--- nothing was written between these: at each moment the disk is as it was, or as a sync leaves it
+-- nothing was written between these: at each moment the disk is unchanged, or as a sync leaves it
 abbrev pub IsUnwritten : Disk → Disk → Type 0
 IsUnwritten old new = (k : ℕ) → old.clock ≤ k → k ≤ new.clock
     → (new.past k ≡ now old) ⊎ (new.past k ≡ state_after_sync (now old))
 
 -- A journal that was rewritten, once: in the other area, in the next generation and in format two, of the same
--- endpoint. Its records are those of a snapshot of what the one before it stood for, with the ceilings of that.
+-- endpoint. Its records are those of a snapshot of what the journal before it represented, with its ceilings.
 pub record IsBegunAnew (before after : Content) (s : Standing) : Type 0 where
   pub area : after.area ≡ 1 - before.area
   pub generation : after.head.generation ≡ before.head.generation + 1
@@ -216,17 +216,17 @@ pub record IsBegunAnew (before after : Content) (s : Standing) : Type 0 where
   pub count : after.head.count ≡ length (snapshot s)
   pub records : after.records ≡ snapshot s
 
--- the image stands for the same as what was read
+-- the image represents the same standing as what was read
 abbrev pub StandsAsRead : Disk → Image → Type 0
 StandsAsRead old image = (s : Standing) × StandsFor this_edition (now old).seen s × StandsFor this_edition image s
 
--- What an opening makes of the journal of an honest disk. Whatever it answers, and wherever it is cut short, what is
--- left could be left before, or stands for the same; and where a journal of format one was there, and has a next
--- generation, that one is left, or the one that was rewritten. An opening of a journal of format two writes nothing,
--- nor does one that is refused for what is on the disk; but for a disk that is too small, that one leaves it as a sync
--- does. Nor does one of a disk with no journal to rewrite, whatever it answers. After Ok nothing is pending, each image
--- is in format two, and a journal of format one was rewritten, which was not in the last generation. Each image is in
--- format two after a `format` that answers Ok, too, and after each call of an endpoint.
+-- What an opening does to the journal of an honest disk. Regardless of its result, and wherever it is interrupted, what
+-- is left could be left before, or represents the same standing; and if there was a journal of format one, and it has a
+-- next generation, that one is left, or the rewritten one. An opening of a journal of format two writes nothing, nor
+-- does one that is refused because of what is on the disk; except for a disk that is too small, that one leaves it as a
+-- sync does. Nor does an opening of a disk with no journal to rewrite, regardless of its result. After Ok nothing is
+-- pending, each image is in format two, and a journal of format one was rewritten, which was not in the last
+-- generation. Each image is also in format two after a `format` that returns Ok, and after each call of an endpoint.
 pub record OpeningsBeginAnew {D : Type 0} (disk_of : D → Disk) : Type 0 where
   pub alike : (disk : D) (result : Result (EndpointValue D) (RecoverRefused D)) → IsHonest (disk_of disk)
       → IsOpening disk_of disk result
@@ -279,11 +279,11 @@ pub record OpeningsBeginAnew {D : Type 0} (disk_of : D → Disk) : Type 0 where
 
 -- ---- deeds
 
--- What a call's contract says makes a deed: a `format` that was answered, and one in which the medium was passed on; an
--- opening that was refused, and one in which it was passed on; an endpoint that gave its disk back, and one in a call
--- of which it was passed on; and a disk with which nothing was done. A life begins with an opening and goes on with
--- each call; a chain begins with nothing and goes on with each deed. The disk after an opening is that of the endpoint,
--- or the one that a refusal gives back; and what a chain reports of a call is the call and its answer.
+-- The contract of a call makes it a deed: a `format` that returned, and one in which the medium was passed on; an
+-- opening that failed, and one in which it was passed on; an endpoint that returned its disk, and one in a call of
+-- which it was passed on; and a disk with which nothing was done. A life begins with an opening and continues with each
+-- call; a chain begins empty and continues with each deed. The disk after an opening is that of the endpoint, or the
+-- one that a failure returns; and what a chain reports of a call is the call and its answer.
 pub record CallsAreDeeds {D : Type 0} (disk_of : D → Disk) : Type 0 where
   pub formatted : (old new : D) (identity : Identity) (result : Result (Unit {0}) JournalFault)
       → IsFormat disk_of old identity result new

@@ -1,4 +1,4 @@
--- The headline on the configuration: what an endpoint is formatted with, and what each command makes of it.
+-- The headline on the configuration: the initial one, and how each command changes it.
 use Rattle.std.specs.Prelude.{◌≡◌, ◌↔◌, ◌++◌, ◌∷◌, ◌&&◌, true, false, ℕ, Bool, List, [], None, Some}
 use Rattle.std.specs.Prelude.{IsSomeAnd}
 use Rattle.macs_aes.specs.Keys.{octets_of_key}
@@ -14,9 +14,9 @@ use Rattle.macs_config.specs.declared.command.Command.TheVariants.{SetSciMode, S
 use Rattle.macs_config.specs.declared.command.SciMode.TheVariants.{Explicit}
 use Rattle.macs_config.specs.declared.command.Validate.TheVariants.{Strict}
 
--- ---- what an endpoint is formatted with
+-- ---- the initial configuration
 
--- Validation is strict, replay protection is on with window 0, SecTAGs have the SCI spelled out, and there is no
+-- Validation is strict, replay protection is on with window 0, SecTAGs have an explicit SCI, and there is no
 -- association, no receive channel and no spent key.
 pub record IsFirstConfiguration : Type 0 where
   pub validate : default.validate ≡ Strict
@@ -32,18 +32,18 @@ pub record IsFirstConfiguration : Type 0 where
 
 -- ---- what a command does
 
--- an association protects as an install asks: under its key, with confidentiality from its offset on, or with integrity
--- alone
+-- an association protects as an install requests: under its key, with confidentiality from its offset on, or with
+-- integrity only
 abbrev pub IsTxAsked : Key → Bool → ℕ → TxSa → Type 0
 IsTxAsked key confidential offset sa =
     (sa.key ≡ octets_of_key key) × (is_confidential sa.protection ≡ confidential)
     × (octets_of (offset_of sa.protection) ≡ offset)
 
--- and one validates so
+-- an association validates as an install requests
 abbrev pub IsRxAsked : Key → ℕ → RxSa → Type 0
 IsRxAsked key offset sa = (sa.key ≡ octets_of_key key) × (octets_of sa.offset ≡ offset)
 
--- what each command makes of the configuration, where it is not refused
+-- how each command changes the configuration, if it is not refused
 abbrev pub IsDone : Command → Config → Type 0
 IsDone (SetValidate validate) new = new.validate ≡ validate
 IsDone (SetReplay on window) new = (new.replay.on ≡ on) × (new.replay.window ≡ window)
@@ -57,7 +57,7 @@ IsDone (RxDrop sci) new = (is_among new.channels sci ≡ false) × ((an : ℕ) �
 IsDone (RxInstall sci an key start offset) new = IsSomeAnd (new.rx sci an) (λ sa. IsRxAsked key offset sa)
 IsDone (RxRemove sci an) new = new.rx sci an ≡ None
 
--- ---- what it leaves alone
+-- ---- what it leaves unchanged
 
 -- the command is on validation
 abbrev pub IsOnValidate : Command → Type 0

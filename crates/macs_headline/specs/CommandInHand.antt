@@ -1,4 +1,4 @@
--- The headline on the command under way: where work on it may have begun, and that it is accepted.
+-- The headline on the command under way: when work on it may have begun, and that it is accepted.
 use Rattle.std.specs.Prelude.{◌≡◌, ◌≢◌, ◌⊎◌, ℕ, false, List, [], Option, Some, None}
 use Rattle.macs_config.specs.declared.command.Command.{Command}
 use Rattle.macs_endpoint.specs.Queue.{first_command}
@@ -10,20 +10,20 @@ use Rattle.macs_headline.specs.History.{state_at_end}
 use Rattle.macs_headline.specs.Moments.{Moment}
 use Rattle.macs_headline.specs.Refused.{refusal_at}
 
--- Work on the command may begin in this call, where these wait: in a step, on the first of them; and in `command`, on
--- the one that it is given, where none waits. In no other call.
+-- Work on the command may begin in this call, with these pending: in a step, on the first of them; and in `command`, on
+-- the one that it is given, if none is pending. In no other call.
 abbrev pub MayBegin : Option Call → List Waiting → Command → Type 0
 MayBegin (Some Advances) waiting command = first_command waiting ≡ Some command
 MayBegin (Some (Commands given)) [] command = given ≡ command
 MayBegin cut waiting command = ⊥
 
--- A command was under way after the last answer, or work on it may have begun in the call that was cut short, of an
--- endpoint that is not stopped; and no reason holds to refuse it.
+-- A command was under way after the last answer, or work on it may have begun in the interrupted call, of an endpoint
+-- that is not stopped; and there is no reason to refuse it.
 pub record WasBegun (exchanges : List Exchange) (last : State) (cut : Option Call) (command : Command) : Type 0 where
   pub begun : (last.in_hand ≡ Some command) ⊎ ((last.stopped ≡ false) × MayBegin cut (waiting_at_end exchanges) command)
   pub accepted : refusal_at last command ≡ None
 
--- so it is of what is under way at whatever moment a life ends, in the middle of a call or not
+-- this holds of what is under way at any moment at which a life ends, inside a call or not
 abbrev pub InHandWasBegun : ℕ → Type 0
 InHandWasBegun sectors = (last : State) (m : Moment sectors last) (cut : Option Call) (command : Command)
     → (state_at_end last cut).in_hand ≡ Some command → WasBegun m.exchanges last cut command

@@ -21,77 +21,75 @@ use Rattle.macs_headline.specs.Moments.{Moment}
 
 -- ---- the commands of a life
 
--- the first command that waits, where it waits under this ticket
+-- the first pending command, if it has this ticket
 abbrev pub first_under : ℕ → List Waiting → List Command
 first_under ticket [] = []
 first_under ticket (first ∷ rest) = if first.ticket == ticket then first.command ∷ [] else []
 
--- those that wait without it
+-- the pending commands without it
 abbrev pub without_first : ℕ → List Waiting → List Waiting
 without_first ticket [] = []
 without_first ticket (first ∷ rest) = if first.ticket == ticket then rest else first ∷ rest
 
--- The command that this answer acknowledges, if it acknowledges one: that of the call, or the first of these that wait,
--- by its ticket.
+-- The command that this answer acknowledges, if any: that of the call, or the first of these pending commands, by its
+-- ticket.
 abbrev pub acknowledged_by : List Waiting → Call → Reply → List Command
 acknowledged_by waiting (Commands command) (Ran (Ok done)) = command ∷ []
 acknowledged_by waiting Advances (Advanced (Ok (Done ticket (Ok done)))) = first_under ticket waiting
 acknowledged_by waiting call reply = []
 
--- the commands that wait after a call, where these waited before it: one more under the ticket that is answered, or one
--- less, by its ticket
+-- the pending commands after a call, given those before it: one more with the ticket that is returned, or one fewer, by
+-- its ticket
 abbrev pub waiting_after : List Waiting → Call → Reply → List Waiting
 waiting_after waiting (Submits command) (Submitted (Ok ticket)) = with_waiting waiting ticket command
 waiting_after waiting Advances (Advanced (Ok (Done ticket result))) = without_first ticket waiting
 waiting_after waiting Advances (AdvancedLong ticket) = without_first ticket waiting
 waiting_after waiting call reply = waiting
 
--- those that were acknowledged while these waited at first, in their order
+-- those that were acknowledged, starting with these pending, in order
 abbrev pub acknowledged_from : List Waiting → List Exchange → List Command
 acknowledged_from waiting [] = []
 acknowledged_from waiting (e ∷ exchanges) =
     acknowledged_by waiting e.call e.reply ++ acknowledged_from (waiting_after waiting e.call e.reply) exchanges
 
--- those of a whole life, in which none waits at first
+-- those of a whole life, in which none is pending at first
 abbrev pub acknowledged_commands : List Exchange → List Command
 acknowledged_commands exchanges = acknowledged_from [] exchanges
 
--- those whose work on the disk began: the acknowledged ones, and then the one that is under way at the end of the life,
--- if one is
+-- those whose work on the disk began: the acknowledged ones, and then the one under way at the end of the life, if any
 abbrev pub accepted_commands : List Exchange → (in_hand : Option Command) → List Command
 accepted_commands exchanges in_hand = acknowledged_commands exchanges ++ option_to_list in_hand
 
 -- ---- the command under way
 
--- those that wait after these calls, where these waited at first
+-- the pending commands after these calls, starting with these
 abbrev pub waiting_from : List Waiting → List Exchange → List Waiting
 waiting_from waiting [] = waiting
 waiting_from waiting (e ∷ exchanges) = waiting_from (waiting_after waiting e.call e.reply) exchanges
 
--- those that wait after the calls of a life, in which none waits at first
+-- the pending commands after the calls of a life, in which none is pending at first
 abbrev pub waiting_at_end : List Exchange → List Waiting
 waiting_at_end exchanges = waiting_from [] exchanges
 
--- `command` was given this command, and answered that a device call failed
+-- `command` was given this command, and returned that a device call failed
 abbrev pub failing : Command → Exchange
 failing command = record { call = Commands command; reply = Ran (Err ran.Disk) }
 
--- A call of this life was given the command, and work on it may have begun: it is the first of those that wait at the
--- end; or none waits there, and it was given to `command`, which answered Disk or is the call that was cut short.
+-- A call of this life was given the command, and work on it may have begun: it is the first of those pending at the
+-- end; or none is pending there, and it was given to `command`, which returned Disk or is the interrupted call.
 abbrev pub WasHandedIn : List Exchange → (cut : Option Call) → Command → Type 0
 WasHandedIn exchanges cut command =
     (first_command (waiting_at_end exchanges) ≡ Some command)
     ⊎ ((waiting_at_end exchanges ≡ []) × (Contains exchanges (failing command) ⊎ (cut ≡ Some (Commands command))))
 
--- At whatever moment a life ends, in the middle of a call or not: what is under way there was so given to a call of
--- that life.
+-- At any moment at which a life ends, inside a call or not: what is under way was given to a call of that life.
 abbrev pub InHandWasGiven : ℕ → Type 0
 InHandWasGiven sectors = (last : State) (m : Moment sectors last) (cut : Option Call) (command : Command)
     → (state_at_end last cut).in_hand ≡ Some command → WasHandedIn m.exchanges cut command
 
--- ---- what commands make
+-- ---- the effect of commands
 
--- each of these is accepted at its turn, and they make new of old
+-- each of these is accepted in turn, and they lead from old to new
 abbrev pub CommandsMake : Edition → Identity → (old : Config) → List Command → (new : Config) → Type 0
 CommandsMake edition identity old [] new = new ≡ old
 CommandsMake edition identity old (command ∷ commands) new =
@@ -104,7 +102,7 @@ abbrev pub IsPrefix : {X : Type 0} → (xs ys : List X) → Type 0
 IsPrefix {X} xs ys = (rest : List X) × (xs ++ rest ≡ ys)
 
 -- What is found after a life that itself found `before` and ended with this command under way, or none: the
--- configuration after some of its commands, a prefix of those that were accepted that holds every acknowledged one.
+-- configuration after some of its commands, a prefix of those that were accepted which contains every acknowledged one.
 pub record FindsPrefix (before : Standing) (exchanges : List Exchange) (in_hand : Option Command)
     (after : Standing) : Type 0 where
   pub identity : after.identity ≡ before.identity
@@ -113,9 +111,9 @@ pub record FindsPrefix (before : Standing) (exchanges : List Exchange) (in_hand 
   pub accepted : IsPrefix kept (accepted_commands exchanges in_hand)
   pub made : CommandsMake before.edition before.identity before.config kept after.config
 
--- Where nothing was under way at its end, one configuration is found after a life, under one identity: each
--- acknowledged command took effect, and no other did. Where a command was under way, it is that configuration, or what
--- the command makes of it.
+-- If nothing was under way at its end, one configuration is found after a life, with one identity: each acknowledged
+-- command took effect, and no other did. If a command was under way, it is that configuration, or the one after the
+-- command.
 pub record FindsOne : Type 0 where
   pub none_in_hand : (before a b : Standing) (exchanges : List Exchange) → FindsPrefix before exchanges None a
       → FindsPrefix before exchanges None b
@@ -127,8 +125,8 @@ pub record FindsOne : Type 0 where
       ⊎ (apply before.edition before.identity without.config command ≡ Ok after.config))
       × (after.identity ≡ without.identity)
 
--- At whatever moment a life ends, in the middle of a call or not, and whatever edition opens the disk next: in every
--- image that it may come upon it finds such a prefix.
+-- At any moment at which a life ends, inside a call or not, and for any edition that opens the disk next: in every
+-- image that it may find it finds such a prefix.
 abbrev pub CommandsKept : ℕ → Type 0
 CommandsKept sectors =
     (last : State) (m : Moment sectors last) (cut : Option Call) (later : Edition) (image : Image) (after : Standing)

@@ -1,4 +1,4 @@
--- The headline on configurations: what is found after all lives, counted from the first configuration.
+-- The headline on configurations: what is found after all lives, starting with the first configuration.
 use Rattle.std.specs.Prelude.{◌≡◌, ℕ, true, List, [], ◌∷◌, Contains, Option, Some, Ok}
 use Rattle.macs_config.specs.Config.{Config, Edition, default}
 use Rattle.macs_config.specs.Identity.{Identity}
@@ -13,10 +13,10 @@ use Rattle.macs_headline.specs.Commands.{CommandsMake, IsPrefix, WasHandedIn, ac
 use Rattle.macs_headline.specs.History.{Formats, Life, Past, Refuses, Serves, state_at_end}
 use Rattle.macs_headline.specs.Moments.{IsFoundAfter, Moment}
 
--- The commands of a life that are kept: a prefix of those that were accepted that holds every acknowledged one. The one
--- under way is the one at its end, which comes after a moment of some history, with this edition, this image and these
--- answers, whatever lives came before it; if there was one, it was given to a call of this life, and work on it had
--- begun, or may have in the call that was cut short.
+-- The commands of a life that are kept: a prefix of those that were accepted which contains every acknowledged one. The
+-- one under way is the one at its end, which comes after a moment of some history, with this edition, this image and
+-- these answers, regardless of the lives before it; if there was one, it was given to a call of this life, and work on
+-- it had begun, or may have in the interrupted call.
 pub record AreKept (sectors : ℕ) (edition : Edition) (image : Image) (exchanges : List Exchange) (cut : Option Call)
     (kept : List Command) : Type 0 where
   pub last : State
@@ -31,14 +31,14 @@ pub record AreKept (sectors : ℕ) (edition : Edition) (image : Image) (exchange
   pub acknowledged : IsPrefix (acknowledged_commands exchanges) kept
   pub accepted : IsPrefix kept (accepted_commands exchanges in_hand)
 
--- on a disk of so many sectors this image stands for the configuration
+-- on a disk of this many sectors this image represents the configuration
 abbrev pub StandsFor : ℕ → Edition → Image → Config → Type 0
 StandsFor sectors edition image config = (found : Standing) × StandingIs edition sectors image (Ok found)
     × (found.config ≡ config)
 
--- These lives make new of a configuration. Each in which an endpoint served opened an image that stands for the
--- configuration so far, and makes of it what the commands make that are kept of this life, which its edition accepts at
--- their turns. A `format` and an opening that is refused make nothing.
+-- These lives lead from old to new. Each in which an endpoint served opened an image that represents the configuration
+-- so far, and applies to it the commands of this life that are kept, which its edition accepts in turn. A `format` and
+-- an opening that fails change nothing.
 abbrev pub LivesMake : ℕ → Identity → (old : Config) → List Life → (new : Config) → Type 0
 LivesMake sectors identity old [] new = new ≡ old
 LivesMake sectors identity old (Formats edition given is_ok ∷ lives) new = LivesMake sectors identity old lives new
@@ -47,14 +47,14 @@ LivesMake sectors identity old (Serves edition image exchanges cut ∷ lives) ne
     StandsFor sectors edition image old × (kept : List Command) × AreKept sectors edition image exchanges cut kept
     × (mid : Config) × CommandsMake edition identity old kept mid × LivesMake sectors identity mid lives new
 
--- What is found after lives has the identity that a `format` was given which answered Ok, where one did; and it is the
--- configuration that the lives make of the one that an endpoint is formatted with.
+-- What is found after lives has the identity given to a `format` that returned Ok, if one did; and it is the
+-- configuration to which the lives lead from the initial one.
 pub record IsMadeByLives (sectors : ℕ) (lives : List Life) (found : Standing) : Type 0 where
   pub identity : (edition : Edition) (given : Identity) → Contains lives (Formats edition given true)
       → found.identity ≡ given
   pub made : LivesMake sectors found.identity default lives found.config
 
--- Whatever edition opens the disk after a history, it finds such a configuration in every image that it may come upon.
+-- Any edition that opens the disk after a history finds such a configuration in every image that it may find.
 abbrev pub ConfigurationIs : ℕ → Type 0
 ConfigurationIs sectors = (past : Past) (found : Standing) (f : IsFoundAfter sectors past found)
     → IsMadeByLives sectors f.lives found

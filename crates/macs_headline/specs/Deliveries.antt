@@ -1,4 +1,4 @@
--- The headline on frames that are received.
+-- The headline on received frames.
 use Rattle.std.specs.Prelude.{◌≡◌, ◌≢◌, ◌⊎◌, ◌<◌, ◌≤◌, ◌+◌, ◌-◌, ◌++◌, max, true, ℕ, List, [], ◌∷◌, Contains, Option}
 use Rattle.std.specs.Prelude.{Some, None, Result, Ok}
 use Rattle.macs_fields.specs.Fields.{octets_of}
@@ -32,14 +32,13 @@ IsVerifiedKind kind = ⊥
 abbrev pub IsInTime : ℕ → ℕ → Kind → Type 0
 IsInTime lowest pn kind = ((pn < lowest) × (kind ≡ Delayed)) ⊎ ((lowest ≤ pn) × (kind ≡ AsOk))
 
--- the greatest packet number that was seen, after this one was
+-- the greatest packet number seen, after this one was
 abbrev pub greatest_seen : Option ℕ → ℕ → ℕ
 greatest_seen None pn = pn
 greatest_seen (Some seen) pn = max seen pn
 
 -- The numbers of an association after a frame of it was delivered. Next is at least one more than its packet number,
--- and lowest at least that next less the window; neither falls (10.6). The greatest number that was seen is at least
--- this one.
+-- and lowest at least that next minus the window; neither falls (10.6). The greatest number seen is at least this one.
 abbrev pub numbers_moved : (window : ℕ) → Numbers → (pn : ℕ) → Numbers
 numbers_moved window n pn = record {
   next = max n.next (pn + 1);
@@ -47,10 +46,10 @@ numbers_moved window n pn = record {
   seen = Some (greatest_seen n.seen pn);
 }
 
--- A frame verifies (IEEE Std 802.1AE-2018, clause 10) under the key, the SCI and the offset of the association of that
--- moment that its tag names, by channel and AN; it is Delayed where its packet number is below the lowest acceptable
--- one there, else Ok, and where replay protection is on it is not below that (10.6); it gives its plain frame and no
--- other; and its packet number joins those that were delivered, and moves those of the association.
+-- A frame verifies (IEEE Std 802.1AE-2018, clause 10) under the key, the SCI and the offset of the association at that
+-- moment that its tag names, by channel and AN; it is Delayed if its packet number is below the lowest acceptable one
+-- there, else Ok, and if replay protection is on it is not below that (10.6); it gives its plain frame and no other;
+-- and its packet number is added to those that were delivered, and changes those of the association.
 pub record IsVerifiedDelivery (s : State) (frame : List ℕ) (kind : Kind) (out : List ℕ) (new : State) : Type 0 where
   pub sci : List ℕ
   pub sa : RxSa
@@ -70,7 +69,7 @@ abbrev pub IsVerifiedAnswer : Result Verdict Stopped → Type 0
 IsVerifiedAnswer (Ok (Delivered kind)) = IsVerifiedKind kind
 IsVerifiedAnswer answer = ⊥
 
--- each frame with such an answer is so delivered
+-- each frame with such an answer is delivered as verified
 abbrev pub DeliveriesAreVerified : ℕ → Type 0
 DeliveriesAreVerified sectors = (s : State) → Moment sectors s → (frame out : List ℕ) (verdict : Verdict) (new : State)
     → IsVerifiedAnswer (Ok verdict)
@@ -80,13 +79,13 @@ DeliveriesAreVerified sectors = (s : State) → Moment sectors s → (frame out 
 -- ---- all other answers
 
 -- what `out` holds after another answer: a frame without a tag whole, one that is delivered though it did not verify
--- without its SecTAG and ICV, and nothing of one that is discarded or held back, or that a stopped endpoint was given
+-- without its SecTAG and ICV, and nothing for one that is discarded or held back, or that a stopped endpoint was given
 abbrev pub out_after : List ℕ → Result Verdict Stopped → List ℕ
 out_after frame (Ok (Delivered Untagged)) = frame
 out_after frame (Ok (Delivered kind)) = bare_frame frame
 out_after frame answer = []
 
--- each other answer gives that, and nothing joins what was used and delivered
+-- each other answer gives that, and adds nothing to what was used and delivered
 abbrev pub OthersAreBare : ℕ → Type 0
 OthersAreBare sectors = (s : State) → Moment sectors s
     → (frame out : List ℕ) (answer : Result Verdict Stopped) (new : State) → ¬ IsVerifiedAnswer answer
@@ -94,20 +93,20 @@ OthersAreBare sectors = (s : State) → Moment sectors s
 
 -- ---- no number twice
 
--- `receive` was given this frame, and delivered it so
+-- `receive` was given this frame, and delivered it as this kind
 abbrev pub delivering : (frame : List ℕ) → Kind → (out : List ℕ) → Exchange
 delivering frame kind out = record { call = Receives frame; reply = Received (Ok (Delivered kind)) out }
 
--- A frame was delivered so in these lives, and then it verified under another SCI or key than these, or it has another
--- number.
+-- A frame was delivered as this kind in these lives, and then it verified under an SCI or key other than these, or it
+-- has another number.
 pub record IsOtherDelivery (sectors : ℕ) (lives : List Life) (logs : Logs) (frame : List ℕ) (kind : Kind)
     (out sci key : List ℕ) (pn : ℕ) : Type 0 where
   pub answered : WasAnswered sectors lives (delivering frame kind out) logs
   pub delivery : IsVerifiedDelivery answered.at frame kind out answered.after
   pub other : delivery.sci ≡ sci → delivery.sa.key ≡ key → (tag_of frame).pn ≢ pn
 
--- Where replay protection is on with window 0, a frame that is delivered as verified is another than each that was so
--- delivered in this life or in one before it: on an association of the same SCI and key it has another number.
+-- If replay protection is on with window 0, a frame that is delivered as verified differs from each that was delivered
+-- as verified in this life or in one before it: on an association with the same SCI and key it has another number.
 abbrev pub GivenOnce : ℕ → Type 0
 GivenOnce sectors = (s : State) (m : Moment sectors s) → s.config.replay.on ≡ true → s.config.replay.window ≡ 0
     → (frame out : List ℕ) (kind : Kind) (new : State) (d : IsVerifiedDelivery s frame kind out new)
@@ -116,8 +115,8 @@ GivenOnce sectors = (s : State) (m : Moment sectors s) → s.config.replay.on �
     → Contains (exchanges_of_lives (lives_at m)) (delivering earlier was given)
     → IsOtherDelivery sectors (lives_at m) s.logs earlier was given d.sci d.sa.key (tag_of frame).pn
 
--- Whatever the window, a frame that is delivered as Ok is another than each that was delivered as verified in a life
--- before this one.
+-- For any window, a frame that is delivered as Ok differs from each that was delivered as verified in a life before
+-- this one.
 abbrev pub NeverOkAgain : ℕ → Type 0
 NeverOkAgain sectors = (s : State) (m : Moment sectors s)
     → (frame out : List ℕ) (new : State) (d : IsVerifiedDelivery s frame AsOk out new)
@@ -126,17 +125,17 @@ NeverOkAgain sectors = (s : State) (m : Moment sectors s)
     → Contains (exchanges_of_lives m.lives) (delivering earlier was given)
     → IsOtherDelivery sectors m.lives (logs_of m.past) earlier was given d.sci d.sa.key (tag_of frame).pn
 
--- ---- what is found is above the number of each
+-- ---- what is found is greater than the number of each
 
--- A frame was delivered so in these lives, and this was found after them: the key of the association under which it
--- verified is spent for its SCI, and each association of the SCI that has the key begins above the number.
+-- A frame was delivered as this kind in these lives, and this was found after them: the key of the association under
+-- which it verified is spent for its SCI, and each association of the SCI with that key begins above the number.
 pub record IsFoundBeyondDelivery (sectors : ℕ) (lives : List Life) (logs : Logs) (frame : List ℕ) (kind : Kind)
     (out : List ℕ) (found : Standing) : Type 0 where
   pub answered : WasAnswered sectors lives (delivering frame kind out) logs
   pub delivery : IsVerifiedDelivery answered.at frame kind out answered.after
   pub beyond : IsBeyondRx found delivery.sci delivery.sa.key (tag_of frame).pn
 
--- so it is in every image, of each frame that any life before it delivered as verified
+-- this holds in every image, for each frame that any life before it delivered as verified
 abbrev pub DeliveredBelow : ℕ → Type 0
 DeliveredBelow sectors = (past : Past) (found : Standing) (f : IsFoundAfter sectors past found) (frame out : List ℕ)
     (kind : Kind) → IsVerifiedKind kind

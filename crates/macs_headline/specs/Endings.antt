@@ -7,13 +7,13 @@ use Rattle.macs_disk.specs.States.{DiskState, Image, IsImage, settled_state}
 use Rattle.macs_disk.specs.declared.disk.DeviceFault.{DeviceFault}
 use Rattle.macs_headline.specs.Deeds.{IsPassedOn}
 
--- a disk of the same size and honesty, as another value over the same medium is
+-- a disk with the same size and honesty, as another value over the same medium has
 pub record IsAlike (old new : Disk) : Type 0 where
   pub sectors : new.sectors ≡ old.sectors
   pub honest : new.honest ≡ old.honest
 
--- The power goes at some moment of calls that began at `since` and would have led to `ran`: the disk holds one of the
--- images of that moment, and nothing is pending.
+-- The power is lost at some moment of calls that began at `since` and would have led to `ran`: the disk holds one of
+-- the images of that moment, and nothing is pending.
 pub record LosesPower (ran : Disk) (since : ℕ) (new : Disk) : Type 0 where
   pub image : Image
   pub left : LeftSince ran since image
@@ -31,12 +31,12 @@ KillingsPassOn = (old new : Disk) (since moment : ℕ) → since ≤ moment → 
     → now new ≡ old.past moment
     → IsPassedOn old since new
 
--- The program lets go of its disk, or ends after its last call, and another disk opens the medium as it is, with what
--- is pending.
+-- The program drops its disk, or ends after its last call, and another disk opens the medium unchanged, with what is
+-- pending.
 abbrev pub DroppedPassOn : Type 0
 DroppedPassOn = (old new : Disk) → IsAlike old new → now new ≡ now old → IsPassedOn old old.clock new
 
--- the state after these sectors reached the medium: each is durable as reads give it, and the others are as before
+-- the state after these sectors reached the medium: each is durable as reads give it, and the others are unchanged
 abbrev pub state_written_back : (ℕ → Bool) → DiskState → DiskState
 state_written_back written state = record {
   seen = state.seen;
@@ -44,7 +44,7 @@ state_written_back written state = record {
   pending = λ i. state.pending i && not (written i);
 }
 
--- Some of the pending sectors reach the medium meanwhile, all of them, or none.
+-- Some of the pending sectors reach the medium meanwhile, or all of them, or none.
 abbrev pub WrittenBackPassOn : {D : Type 0} → (D → Disk) → Type 0
 WrittenBackPassOn {D} disk_of = (old : D) (new : Disk) (written : ℕ → Bool) → IsHonest (disk_of old)
     → IsAlike (disk_of old) new

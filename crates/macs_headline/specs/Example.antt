@@ -1,4 +1,4 @@
--- What the example of a history is about: an endpoint, its peer, and what is asked of it.
+-- The setting of an example history: an endpoint, its peer, and the commands.
 use Rattle.std.specs.Prelude.{ℕ, true, false, List, [], ◌∷◌, replicate}
 use Rattle.macs_frame.specs.Protection.{protected_frame}
 use Rattle.macs_fields.specs.declared.fields.Offset.TheVariants.{Zero}
@@ -19,7 +19,7 @@ use Rattle.macs_config.specs.declared.command.Validate.TheVariants.{Check, Stric
 abbrev pub example_sectors : ℕ
 example_sectors = 1028
 
--- an edition that takes more
+-- an edition that accepts more
 abbrev pub later_edition : Edition
 later_edition = record { channels = 64; long_keys = true; format_two = true }
 
@@ -35,11 +35,11 @@ peer_sci = 2 ∷ 0 ∷ 0 ∷ 0 ∷ 0 ∷ 7 ∷ 0 ∷ 1 ∷ []
 abbrev pub example_identity : Identity
 example_identity = record { sci = own_sci; tx_block = 4; rx_block = 4 }
 
--- the key that frames go out under, of 128 bits
+-- the key for transmitted frames, of 128 bits
 abbrev pub own_key : List ℕ
 own_key = replicate 16 1
 
--- the key that the peer's frames are under, of 256 bits
+-- the key for the peer's frames, of 256 bits
 abbrev pub peer_key : List ℕ
 peer_key = replicate 32 2
 
@@ -61,7 +61,7 @@ peer_sa = record { key = peer_key; offset = Zero }
 abbrev pub own_tag : ℕ → SecTag
 own_tag pn = record { an = 0; pn = pn; name = Explicit own_sci; encrypted = true; changed = true }
 
--- the SecTAG of the peer's, which sends with integrity alone
+-- the SecTAG of the peer's frames, which have integrity only
 abbrev pub peer_tag : ℕ → SecTag
 peer_tag pn = record { an = 0; pn = pn; name = Explicit peer_sci; encrypted = false; changed = false }
 
@@ -79,7 +79,7 @@ peer_frame pn = protected_frame peer_key peer_sci (peer_tag pn) 0 example_plain
 abbrev pub install_own : Command
 install_own = TxInstall 0 (Short own_key) 1 true 0
 
--- frames go out under it
+-- frames are sent under it
 abbrev pub use_own : Command
 use_own = TxUse 0
 
@@ -91,7 +91,7 @@ add_peer = RxAdd peer_sci
 abbrev pub install_peer : Command
 install_peer = RxInstall peer_sci 0 (Long peer_key) 1 0
 
--- which goes again
+-- which is removed again
 abbrev pub remove_peer : Command
 remove_peer = RxRemove peer_sci 0
 
@@ -107,12 +107,11 @@ widen = SetReplay true 3
 abbrev pub unguard : Command
 unguard = SetReplay false 3
 
--- and again, with the window that was
+-- and again, with the previous window
 abbrev pub guard : Command
 guard = SetReplay true 3
 
--- each of the two keys that are installed, once more, for an association of another number: the own key for association
--- 1
+-- each of the two installed keys, once more, for an association with another number: the own key for association 1
 abbrev pub install_own_again : Command
 install_own_again = TxInstall 1 (Short own_key) 1 true 0
 
@@ -120,10 +119,10 @@ install_own_again = TxInstall 1 (Short own_key) 1 true 0
 abbrev pub install_peer_again : Command
 install_peer_again = RxInstall peer_sci 1 (Long peer_key) 1 0
 
--- validation as it is
+-- validation unchanged
 abbrev pub stay_strict : Command
 stay_strict = SetValidate Strict
 
--- another one
+-- another mode of validation
 abbrev pub check_only : Command
 check_only = SetValidate Check

@@ -1,4 +1,4 @@
--- The disks of the example where its lives are cut short: what their device calls did until then.
+-- The disks of the example at the points where its lives are interrupted: what their device calls did until then.
 use Rattle.std.specs.Prelude.{◌≡◌, ◌⊎◌, ◌<◌, ℕ, zero, suc, ◌+◌, ◌-◌, true, false, List, [], ◌∷◌, take, length}
 use Rattle.macs_disk.specs.Disk.{Disk, now}
 use Rattle.macs_disk.specs.States.{DiskState, Image, put_sector, settled_state, state_after_sync, state_after_write}
@@ -20,7 +20,7 @@ use Rattle.macs_headline.specs.ExampleDisk.{checked, narrow_content, narrow_imag
 use Rattle.macs_headline.specs.ExampleDisk.{full_snapshot, last_content, last_image, widened}
 use Rattle.macs_headline.specs.Images.{image_with_next_body}
 
--- a disk of the example on which so many calls led through these states
+-- a disk of the example on which this many calls led through these states
 abbrev pub disk_through : (ℕ → DiskState) → (calls : ℕ) → Disk
 disk_through states calls =
     record { sectors = example_sectors; past = states; clock = calls; failures = 0; honest = true; worn = false }
@@ -50,7 +50,7 @@ append_states image c r (suc (suc zero)) = settled_state (image_with_next_body i
 append_states image c r (suc (suc (suc n))) =
     state_after_write (settled_state (image_with_next_body image c r)) (free_gate c) open_gate
 
--- and what is under way then: the call that is left makes the gate durable
+-- what is under way then: the remaining call makes the gate durable
 abbrev pub append_in_hand : Record → Hand
 append_in_hand r = hand.Append (record { sector = sector_of r; stage = GateSync })
 
@@ -62,11 +62,11 @@ widening_disk = disk_through (append_states narrow_image narrow_content widened)
 abbrev pub working_disk : Disk
 working_disk = disk_through (append_states last_image last_content checked) 3
 
--- and another disk has the medium from then on, with what is pending
+-- another disk has the medium from then on, with what is pending
 abbrev pub killed_disk : Disk
 killed_disk = disk_through (λ k. now working_disk) 0
 
--- ---- a journal that starts over
+-- ---- a journal that is rewritten
 
 -- a write to a sector
 pub record Write : Type 0 where
@@ -78,7 +78,7 @@ unfoldable pub state_after_writes : DiskState → List Write → DiskState
 state_after_writes s [] = s
 state_after_writes s (w ∷ ws) = state_after_writes (state_after_write s w.at w.octets) ws
 
--- the bodies of these records, to the slots of an area from a place on
+-- the bodies of these records, to the slots of an area from a position on
 unfoldable pub body_writes : (area place : ℕ) → List Record → List Write
 body_writes area place [] = []
 body_writes area place (r ∷ rs) =
@@ -91,16 +91,16 @@ writes_anew c records =
     ∷ body_writes (other_area c.area) 0 records
 
 -- A compaction of a disk that holds this image, with nothing pending and no gate of the other area open: before its
--- first device call, and after so many. 257 reads of gates and a sync change nothing. Then each call writes.
+-- first device call, and after `calls` of them. 257 reads of gates and a sync change nothing. Then each call writes.
 abbrev pub compaction_states : Image → Content → List Record → (calls : ℕ) → DiskState
 compaction_states image c records calls =
     state_after_writes (settled_state image) (take (calls - 258) (writes_anew c records))
 
--- power fails in the compaction of the full area, when three bodies are written
+-- power fails in the compaction of the full area, after three bodies are written
 abbrev pub compacting_disk : Disk
 compacting_disk = disk_through (compaction_states full_image full_content full_snapshot) 261
 
--- and what is under way then: the call that is next writes the snapshot's third body
+-- what is under way then: the next call writes the snapshot's third body
 abbrev pub compaction_in_hand : Hand
 compaction_in_hand = hand.Compact (record { head = next_head full_content.head (length full_snapshot); stage = Body 2 })
 

@@ -25,7 +25,7 @@ new_image = formatted_image example_identity
 
 -- ---- after the first life
 
--- its commands and ceilings, but for its last command
+-- its commands and ceilings, except its last command
 abbrev pub first_records : List Record
 first_records =
     kept.TxInstall 0 own_sa 1
@@ -41,11 +41,11 @@ first_records =
 abbrev pub narrow_content : Content
 narrow_content = content_with_records new_content first_records
 
--- and the image with them
+-- the image with them
 abbrev pub narrow_image : Image
 narrow_image = image_with_records new_image new_content first_records
 
--- the last command, which was cut short while its gate was pending
+-- the last command, which was interrupted while its gate was pending
 abbrev pub widened : Record
 widened = kept.SetReplay (record { on = true; window = 3 })
 
@@ -53,13 +53,13 @@ widened = kept.SetReplay (record { on = true; window = 3 })
 abbrev pub served_content : Content
 served_content = content_with_record narrow_content widened
 
--- and the image, where the gate was left open
+-- the image, in which the gate was left open
 abbrev pub served_image : Image
 served_image = image_with_record narrow_image narrow_content widened
 
 -- ---- after the second life
 
--- a raised ceiling, replay protection off and on, and the same command so often that all 256 slots are used
+-- a raised ceiling, replay protection off and on, and the same command until all 256 slots are used
 abbrev pub second_records : List Record
 second_records =
     kept.TxCeiling 0 13
@@ -75,21 +75,21 @@ full_content = content_with_records served_content second_records
 abbrev pub full_image : Image
 full_image = image_with_records served_image served_content second_records
 
--- the snapshot with which the journal starts over
+-- the snapshot with which the journal is rewritten
 abbrev pub full_snapshot : List Record
 full_snapshot = snapshot full_standing
 
--- The life ended while the journal started over: so many bodies of the snapshot were written, and no head gate.
+-- The life ended while the journal was being rewritten: `count` bodies of the snapshot were written, and no head gate.
 abbrev pub cut_image : (count : ℕ) → Image
 cut_image count = image_while_compacted full_image full_content (length full_snapshot) (take count full_snapshot)
 
 -- ---- after the third life
 
--- the journal that started over, in generation 2
+-- the rewritten journal, in generation 2
 abbrev pub anew_content : Content
 anew_content = compacted full_content full_snapshot
 
--- its image, over what the cut had left
+-- its image, over what the interrupted rewrite had left
 abbrev pub anew_image : Image
 anew_image = compacted_image (cut_image 2) full_content full_snapshot
 
@@ -101,7 +101,7 @@ third_records = kept.RxRemove peer_sci 0 ∷ kept.TxCeiling 0 17 ∷ []
 abbrev pub last_content : Content
 last_content = content_with_records anew_content third_records
 
--- and its image
+-- its image
 abbrev pub last_image : Image
 last_image = image_with_records anew_image anew_content third_records
 
@@ -115,6 +115,6 @@ checked = kept.SetValidate Check
 abbrev pub ended_content : Content
 ended_content = content_with_record last_content checked
 
--- and the image
+-- its image
 abbrev pub ended_image : Image
 ended_image = image_with_record last_image last_content checked

@@ -1,4 +1,4 @@
--- The example of a history: its lives, over these images.
+-- The example of a history: its lives, on these images.
 use Rattle.std.specs.Prelude.{◌≡◌, ℕ, true, false, List, [], ◌∷◌, map, replicate, take, length, Some, None, Ok, Err}
 use Rattle.macs_config.specs.Config.{IsUpTo, this_edition}
 use Rattle.macs_config.specs.declared.command.Command.{Command}
@@ -53,19 +53,19 @@ obeyed command = answered (Commands command) (Ran (Ok tt))
 abbrev pub refused : Command → Refusal → Exchange
 refused command refusal = answered (Commands command) (Ran (Err (ran.Refused refusal)))
 
--- a plain frame that goes out with this packet number
+-- a plain frame that is sent with this packet number
 abbrev pub sent : ℕ → Exchange
 sent pn = answered (Protects example_plain) (Protected (Ok pn) (own_frame pn))
 
--- and one that does not, for this fault
+-- a plain frame that is not sent, because of this fault
 abbrev pub unsent : ProtectFault → Exchange
 unsent fault = answered (Protects example_plain) (Protected (Err fault) [])
 
--- a command that is to wait, under this ticket
+-- a command that is queued, with this ticket
 abbrev pub submitted : (ticket : ℕ) → Command → Exchange
 submitted ticket command = answered (Submits command) (Submitted (Ok ticket))
 
--- a device call with which work is not done yet
+-- a device call after which work continues
 abbrev pub worked : Exchange
 worked = answered Advances (Advanced (Ok Worked))
 
@@ -73,7 +73,7 @@ worked = answered Advances (Advanced (Ok Worked))
 abbrev pub reserved : Exchange
 reserved = answered Advances (Advanced (Ok Reserved))
 
--- the command of this ticket takes effect
+-- the command with this ticket takes effect
 abbrev pub done : (ticket : ℕ) → Exchange
 done ticket = answered Advances (Advanced (Ok (Done ticket (Ok tt))))
 
@@ -87,9 +87,9 @@ received verdict out = answered (Receives (peer_frame 5)) (Received (Ok verdict)
 
 -- ---- the lives
 
--- Frames go out between the steps of a reservation, until none has a number; and one between the steps of `add_peer`,
--- which waited. A frame of the peer is held back until its number is reserved, and then delivered twice, within a
--- replay window of 1. Then the power goes between two steps of `widen`: its third device call wrote its gate, which is
+-- Frames are sent between the steps of a reservation, until none has a number; and one between the steps of `add_peer`,
+-- which was pending. A frame of the peer is held back until its number is reserved, and then delivered twice, within a
+-- replay window of 1. Then the power fails between two steps of `widen`: its third device call wrote its gate, which is
 -- pending.
 abbrev pub first_exchanges : List Exchange
 first_exchanges =
@@ -101,9 +101,9 @@ first_exchanges =
     ∷ submitted 2 widen ∷ worked ∷ sent 6 ∷ worked ∷ worked
     ∷ []
 
--- The next frame goes out with number 9; an association in use is not removed; neither key is installed again. The
--- peer's frame is late; without replay protection it is Delayed, and with it late again. A command is given until the
--- area is full. Then the power goes in `remove_peer`, while the journal starts over.
+-- The next frame is sent with number 9; an association in use is not removed; neither key is installed again. The
+-- peer's frame is late; without replay protection it is Delayed, and with it late again. A command is repeated until
+-- the area is full. Then the power fails in `remove_peer`, while the journal is being rewritten.
 abbrev pub second_exchanges : List Exchange
 second_exchanges =
     unsent (protect.Tx NoNumber) ∷ refilled ∷ sent 9
@@ -112,24 +112,24 @@ second_exchanges =
     ∷ received (Discarded Late) []
     ∷ replicate 244 (obeyed stay_strict)
 
--- The journal starts over with `remove_peer`; frame 13 goes out; a device call fails in `check_only`.
+-- The journal is rewritten with `remove_peer`; frame 13 is sent; a device call fails in `check_only`.
 abbrev pub third_exchanges : List Exchange
 third_exchanges =
     obeyed remove_peer ∷ unsent (protect.Tx NoNumber) ∷ refilled ∷ sent 13
     ∷ answered (Commands check_only) (Ran (Err ran.Disk)) ∷ unsent protect.Stopped
     ∷ []
 
--- `check_only` is asked for again. The program is killed in its fourth step, and no power is lost: its gate, which is
+-- `check_only` is given again. The program is killed in its fourth step, and no power is lost: its gate, which is
 -- pending, is read as it was written.
 abbrev pub fourth_exchanges : List Exchange
 fourth_exchanges = submitted 1 check_only ∷ worked ∷ worked ∷ worked ∷ []
 
--- A program of a later edition goes on: frame 17 goes out, and the replay window is set once more.
+-- A program of a later edition continues: frame 17 is sent, and the replay window is set once more.
 abbrev pub last_exchanges : List Exchange
 last_exchanges = unsent (protect.Tx NoNumber) ∷ refilled ∷ sent 17 ∷ obeyed guard ∷ []
 
--- `format` cut short, an opening that finds nothing, `format`, an opening that a failed device call refuses; the four
--- lives, with a `format` by mistake between them; and a life of a later edition
+-- an interrupted `format`, an opening that finds nothing, a `format`, an opening that fails because of a failed device
+-- call; the four lives, with a mistaken `format` between them; and a life of a later edition
 abbrev pub example_lives : List Life
 example_lives =
     Formats this_edition example_identity false
@@ -144,24 +144,25 @@ example_lives =
     ∷ Serves later_edition ended_image last_exchanges None
     ∷ []
 
--- all but that life
+-- all except that life
 abbrev pub early_lives : List Life
 early_lives = take 9 example_lives
 
--- a frame went out under the endpoint's key with this packet number
+-- a frame was sent under the endpoint's key with this packet number
 abbrev pub own_use : ℕ → Use
 own_use pn = record { key = own_key; pn = pn }
 
--- the peer's frame was delivered so
+-- the peer's frame was delivered as this kind
 abbrev pub peer_delivery : Kind → Delivery
 peer_delivery kind = record { sci = peer_sci; key = peer_key; pn = 5; kind = kind }
 
--- This is a history: nine frames went out under one key, one frame was delivered twice in one life and once in the
--- next, and the journal started over. Where a life was cut short its disk had work under way, as a journal has it, and
--- was left so: a power loss may leave the image that the next life opens, and the killed program left what reads give,
--- with the gate pending. While the journal starts over its disk stands for what it stood for, however many bodies are
--- written. Before the later edition opens it, its disk has this history to both editions. The life before the last
--- found the disk without the command that failed, and the last one finds it.
+-- This is a history: nine frames were sent under one key, one frame was delivered twice in one life and once in the
+-- next, and the journal was rewritten. Where a life was interrupted its disk had work under way, in a state that a
+-- journal has, and was left like that: a power loss may leave the image that the next life opens, and the killed
+-- program left what reads give, with the gate pending. While the journal is being rewritten its disk still represents
+-- the same standing, regardless of how many bodies are written. Before the later edition opens it, its disk has this
+-- history to both editions. The life before the last found the disk without the command that failed, and the last one
+-- finds it.
 pub record IsWorkedHistory : Type 0 where
   pub last : State
   pub history : IsHistory example_sectors example_lives (Formatted last)

@@ -1,5 +1,5 @@
--- A disk that the first edition of the program formatted: what it is to this one, whose opening starts its journal
--- over.
+-- A disk formatted by the first edition of the program: its meaning to this edition, whose opening rewrites its
+-- journal.
 use Rattle.std.specs.Prelude.{◌≡◌, true, List, [], ◌∷◌, ◌++◌, fold, map, replicate, take, length, None, Some, Ok}
 use Rattle.macs_aes.specs.declared.keys.Key.TheVariants.{Long}
 use Rattle.macs_config.specs.Apply.{config_after}
@@ -59,12 +59,12 @@ old_image = image_with_open_head (image_with_area blank_image 0 old_head (defaul
 
 -- ---- a life of the first edition
 
--- a key of 256 bits is to be installed
+-- an install with a key of 256 bits
 abbrev pub install_long : Command
 install_long = TxInstall 0 (Long (replicate 32 7)) 1 true 0
 
--- That is refused for the length of the key. The endpoint's own association is installed, under a key of 128 bits, and
--- a frame goes out.
+-- That is refused because of the key's length. The endpoint's own association is installed, with a key of 128 bits, and
+-- a frame is sent.
 abbrev pub old_exchanges : List Exchange
 old_exchanges = answered (Commands install_long) RefusedLong ∷ obeyed install_own ∷ obeyed use_own ∷ sent 1 ∷ []
 
@@ -90,13 +90,13 @@ pub record IsOldDisk (disk : Disk) : Type 0 where
   pub size : disk.sectors ≡ example_sectors
   pub settled : now disk ≡ settled_state used_image
 
--- ---- its journal starts over
+-- ---- its journal is rewritten
 
 -- the configuration that it has
 abbrev pub used_config : Config
 used_config = fold config_after default (install_own ∷ use_own ∷ [])
 
--- what it stands for to an edition
+-- the standing that it represents to an edition
 abbrev pub used_standing : Edition → Standing
 used_standing edition =
     record {
@@ -112,39 +112,40 @@ abbrev pub used_records : List Record
 used_records =
     settings_record used_config ∷ kept.TxSa 0 own_sa 5 ∷ kept.Spent Transmit (tx_fingerprint own_key ∷ []) ∷ []
 
--- An opening by this edition is cut short: the bodies of the head and of the first two records are written, and the
+-- An opening by this edition is interrupted: the bodies of the head and of the first two records are written, and the
 -- head gate is not.
 abbrev pub begun_image : Image
 begun_image = image_while_compacted used_image used_content 3 (take 2 used_records)
 
--- The disk then, from the call on that is next to find it: 257 reads of gates and a sync changed nothing, and three
--- writes followed.
+-- The disk at that point, before the next call: 257 reads of gates and a sync changed nothing, and three writes
+-- followed.
 abbrev pub beginning_disk : Disk
 beginning_disk = disk_through (compaction_states used_image used_content used_records) 261
 
--- and what is under way then: the call that is next writes the snapshot's third body
+-- what is under way then: the next call writes the snapshot's third body
 abbrev pub beginning_in_hand : Hand
 beginning_in_hand = hand.Compact (record { head = next_head used_content.head (length used_records); stage = Body 2 })
 
--- the next one finishes that: the journal is in the second area, in format two
+-- the next opening completes that: the journal is in the second area, in format two
 abbrev pub migrated_content : Content
 migrated_content = compacted used_content used_records
 
--- and its image, over what that had left
+-- its image, over what the interrupted opening had left
 abbrev pub migrated_image : Image
 migrated_image = compacted_image begun_image used_content used_records
 
 -- ---- lives of this edition
 
--- After that opening a frame goes out under the key of 128 bits, with number 5. The peer's association is installed,
--- under one of 256 bits; its frame is held back until its number is reserved, and then delivered. Then the power goes.
+-- After that opening a frame is sent under the key of 128 bits, with number 5. The peer's association is installed,
+-- with a key of 256 bits; its frame is held back until its number is reserved, and then delivered. Then the power
+-- fails.
 abbrev pub long_exchanges : List Exchange
 long_exchanges =
     refilled ∷ sent 5 ∷ obeyed add_peer ∷ obeyed install_peer
     ∷ received HeldBack [] ∷ refilled ∷ received (Delivered AsOk) example_plain
     ∷ []
 
--- the records of that
+-- its records
 abbrev pub long_records : List Record
 long_records =
     kept.TxCeiling 0 9 ∷ kept.RxAdd peer_sci ∷ kept.RxInstall peer_sci 0 peer_sa 1 ∷ kept.RxCeiling peer_sci 0 9 ∷ []
@@ -172,16 +173,16 @@ long_standing = record {
       (Some 9);
 }
 
--- Both keys are spent, and a frame goes out with number 9.
+-- Both keys are spent, and a frame is sent with number 9.
 abbrev pub front_exchanges : List Exchange
 front_exchanges = refused install_own_again KeySpent ∷ refused install_peer_again KeySpent ∷ refilled ∷ sent 9 ∷ []
 
--- Then a command is given until the area is full, and the power goes in the next one, when the journal has started
--- over.
+-- Then a command is repeated until the area is full, and the power fails in the next one, after the journal was
+-- rewritten.
 abbrev pub spent_exchanges : List Exchange
 spent_exchanges = front_exchanges ++ replicate 248 (obeyed stay_strict)
 
--- the records of that
+-- its records
 abbrev pub filled_records : List Record
 filled_records = kept.TxCeiling 0 13 ∷ replicate 248 (kept.SetValidate Strict)
 
@@ -212,7 +213,7 @@ abbrev pub closed_image : Image
 closed_image = put_sector (put_sector (put_sector filled_image (gate 0 0) closed_gate) (gate 0 2) closed_gate)
     (gate 0 3) closed_gate
 
--- and the journal starts over there
+-- the journal is rewritten there
 abbrev pub again_content : Content
 again_content = compacted filled_content filled_snapshot
 
@@ -224,7 +225,7 @@ again_image = compacted_image closed_image filled_content filled_snapshot
 abbrev pub again_exchanges : List Exchange
 again_exchanges = refilled ∷ sent 13 ∷ []
 
--- what this edition does with the disk: an opening that is cut short is no life; the next one comes upon what that left
+-- what this edition does with the disk: an interrupted opening is not a life; the next one finds what it left
 abbrev pub later_lives : List Life
 later_lives =
     Serves this_edition begun_image long_exchanges None
@@ -232,12 +233,12 @@ later_lives =
     ∷ Serves this_edition again_image again_exchanges None
     ∷ []
 
--- Such is each honest disk of that size with that image and nothing pending. It has that history to the edition that
--- formatted it, and so to this one. To this one it is one to start over. Three bodies into that it still has that
--- history, whatever a power loss leaves of it; and once it is done it stands for what it stood for, in the second area
--- and in format two. So lives of this edition go on from it: after the first of them keys of both lengths are side by
--- side, and the journal starts over once more, in the first area. Over all of them four frames went out under the short
--- key, and one was delivered under the long one.
+-- This holds of each honest disk of that size with that image and nothing pending. It has that history to the edition
+-- that formatted it, and so to this one. This edition must rewrite its journal. After three bodies of that it still has
+-- that history, no matter what a power loss leaves of it; and once it is done it represents the same standing, in the
+-- second area and in format two. So lives of this edition continue from it: after the first of them there are keys of
+-- both lengths, and the journal is rewritten once more, in the first area. Over all of them four frames were sent under
+-- the short key, and one was delivered under the long one.
 pub record IsWorkedMigration : Type 0 where
   pub as_old : (disk : Disk) → IsHonest disk → disk.sectors ≡ example_sectors → now disk ≡ settled_state used_image
       → IsOldDisk disk

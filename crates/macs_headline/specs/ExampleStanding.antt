@@ -6,7 +6,7 @@ use Rattle.macs_store.specs.Standing.{Standing, ceilings_with_rx, ceilings_with_
 use Rattle.macs_headline.specs.Example.{add_peer, check_only, example_identity, install_own, install_peer, narrow}
 use Rattle.macs_headline.specs.Example.{peer_sci, remove_peer, use_own, widen}
 
--- the configuration after the first life, the command that was cut short included
+-- the configuration after the first life, including the interrupted command
 abbrev pub served_config : Config
 served_config = fold config_after default (install_own ∷ use_own ∷ add_peer ∷ install_peer ∷ narrow ∷ widen ∷ [])
 
@@ -28,7 +28,7 @@ last_standing edition = record {
   ceilings = ceilings_with_tx no_ceilings 0 (Some 17);
 }
 
--- and at last, with the command in which the program was killed
+-- and finally, with the command in which the program was killed
 abbrev pub checked_standing : Edition → Standing
 checked_standing edition =
     record (last_standing edition) { config = config_after (config_after served_config remove_peer) check_only }

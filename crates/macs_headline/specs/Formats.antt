@@ -1,4 +1,4 @@
--- The headline on `format`: once it answered Ok, and once an opening succeeded, it no longer answers Ok, and no opening
+-- The headline on `format`: once it returned Ok, and once an opening succeeded, it no longer returns Ok, and no opening
 -- finds the disk without a journal.
 use Rattle.std.specs.Prelude.{◌≡◌, ◌⊎◌, ◌++◌, ℕ, true, List, ◌∷◌, Contains, Option}
 use Rattle.macs_config.specs.Config.{Edition}
@@ -11,20 +11,20 @@ use Rattle.macs_endpoint.specs.Step.{Exchange}
 use Rattle.macs_headline.specs.History.{Formats, IsHistory, Leads, Life, Past, Refuses, Serves}
 use Rattle.macs_headline.specs.Openings.{IsSpentFor}
 
--- In these lives no `format` answered Ok, and no opening succeeded.
+-- In these lives no `format` returned Ok, and no opening succeeded.
 pub record AreUnformatted (lives : List Life) : Type 0 where
   pub no_format : (edition : Edition) (identity : Identity) → ¬ Contains lives (Formats edition identity true)
   pub no_opening : (edition : Edition) (image : Image) (exchanges : List Exchange) (cut : Option Call)
       → ¬ Contains lives (Serves edition image exchanges cut)
 
--- so are the lives before a `format` that answers Ok
+-- this holds of the lives before a `format` that returns Ok
 abbrev pub FormatsOnce : ℕ → Type 0
 FormatsOnce sectors = (lives : List Life) (past : Past) → IsHistory sectors lives past
     → (before after : List Life) (edition : Edition) (identity : Identity)
     → before ++ Formats edition identity true ∷ after ≡ lives → AreUnformatted before
 
--- An opening is refused as Disk; or as NotFormatted, and then no `format` of the lives before it answered Ok, and no
--- opening of them succeeded; or since a journal of a format that the edition starts over is in the last generation.
+-- An opening fails with Disk; or with NotFormatted, and then no `format` of the lives before it returned Ok, and no
+-- opening of them succeeded; or because a journal of a format that the edition rewrites is in the last generation.
 abbrev pub RefusedByHistory : ℕ → Type 0
 RefusedByHistory sectors = (lives : List Life) (past : Past) → IsHistory sectors lives past
     → (edition : Edition) (image : Image) (fault : JournalFault) (new : Past)

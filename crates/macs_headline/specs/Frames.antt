@@ -1,4 +1,4 @@
--- The headline on frames.
+-- The headline on transmitted frames.
 use Rattle.std.specs.Prelude.{◌≡◌, ◌≢◌, ◌<◌, ◌≤◌, ◌+◌, ◌-◌, ◌%◌, ◌^◌, ◌++◌, if◌then◌else◌, ℕ, List, [], ◌∷◌, length}
 use Rattle.std.specs.Prelude.{nat_lt, slice_index, slice_range, Contains, Some, Ok}
 use Rattle.macs_fields.specs.Fields.{octets_of}
@@ -22,7 +22,7 @@ use Rattle.macs_headline.specs.History.{Life, Past, logs_of}
 use Rattle.macs_headline.specs.Moments.{IsFoundAfter, Moment}
 use Rattle.macs_headline.specs.Numbers.{IsBeyondTx}
 
--- a tag names the channel of this SCI in this mode: the SCI is spelled out, or ES is set, or the tag names none (IEEE
+-- a tag names the channel with this SCI in this mode: the SCI is explicit, or ES is set, or the tag names none (IEEE
 -- Std 802.1AE-2018, 9.5 and 9.9)
 abbrev pub IsNamedIn : SciMode → List ℕ → ScName → Type 0
 IsNamedIn Explicit sci name = name ≡ NamesSci sci
@@ -30,12 +30,12 @@ IsNamedIn EndStation sci name = name ≡ NamesStation
 IsNamedIn Implicit sci name = name ≡ NamesNone
 
 -- A frame is the standard's (IEEE Std 802.1AE-2018, clauses 9 and 10): the protected frame of the plain one under the
--- encoding association of that moment, with its mode and its next packet number, 1 to 2^32 - 1; the number joins those
--- that were used, and the next one is one more. SL, octet 15, is the number of octets of Secure Data where they are
--- fewer than 48, so that the plain frame has fewer than 60, else 0 (9.7). Where ES is set, the SCI is the source
--- address with port 00-01 (9.5). Where the identity is in its ranges, the tag is read as the mode says, octet 14 has
--- the AN, and E and C both set under confidentiality, else both clear (9.5 and 9.6); and the frame verifies as the
--- plain one under the key, the SCI and the offset of the association.
+-- encoding association at that moment, with its mode and its next packet number, 1 to 2^32 - 1; the number is added to
+-- those that were used, and the next one is one more. SL, octet 15, is the number of octets of Secure Data if they are
+-- fewer than 48, so that the plain frame has fewer than 60, else 0 (9.7). If ES is set, the SCI is the source address
+-- with port 00-01 (9.5). If the identity is in its ranges, the tag is read as the mode requires, octet 14 has the AN,
+-- and E and C both set under confidentiality, else both clear (9.5 and 9.6); and the frame verifies as the plain one
+-- under the key, the SCI and the offset of the association.
 pub record IsStandardFrame (s : State) (plain : List ℕ) (pn : ℕ) (out : List ℕ) (new : State) : Type 0 where
   pub an : ℕ
   pub sa : TxSa
@@ -81,7 +81,7 @@ pub record IsOtherFrame (sectors : ℕ) (lives : List Life) (logs : Logs) (plain
   pub frame : IsStandardFrame answered.at plain pn out answered.after
   pub other : frame.sa.key ≡ key → pn ≢ number
 
--- a frame that is written is another than each that was written in this life or in one before it: under the same key it
+-- a frame that is written differs from each that was written in this life or in one before it: under the same key it
 -- has another number
 abbrev pub WrittenOnce : ℕ → Type 0
 WrittenOnce sectors = (s : State) (m : Moment sectors s) (plain : List ℕ) (pn : ℕ) (out : List ℕ) (new : State)
@@ -91,17 +91,17 @@ WrittenOnce sectors = (s : State) (m : Moment sectors s) (plain : List ℕ) (pn 
     → Contains (exchanges_of_lives (lives_at m)) (writing earlier was given)
     → IsOtherFrame sectors (lives_at m) s.logs earlier was given f.sa.key pn
 
--- ---- what is found is above the number of each
+-- ---- what is found is greater than the number of each
 
 -- A frame was written in these lives, and this was found after them: the key of the frame is spent, and each
--- association that has it begins above the number.
+-- association with that key begins above the number.
 pub record IsFoundBeyondFrame (sectors : ℕ) (lives : List Life) (logs : Logs) (plain : List ℕ) (pn : ℕ) (out : List ℕ)
     (found : Standing) : Type 0 where
   pub answered : WasAnswered sectors lives (writing plain pn out) logs
   pub frame : IsStandardFrame answered.at plain pn out answered.after
   pub beyond : IsBeyondTx found frame.sa.key pn
 
--- so it is in every image, of each frame that any life before it wrote
+-- this holds in every image, for each frame that any life before it wrote
 abbrev pub WrittenBelow : ℕ → Type 0
 WrittenBelow sectors =
     (past : Past) (found : Standing) (f : IsFoundAfter sectors past found) (plain : List ℕ) (pn : ℕ) (out : List ℕ)

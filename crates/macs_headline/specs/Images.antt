@@ -1,4 +1,4 @@
--- Images of a disk, by what was written to it, one sector after another.
+-- Images of a disk, given by the writes to it, one sector after another.
 use Rattle.std.specs.Prelude.{ℕ, ◌+◌, List, [], ◌∷◌, ◌++◌, length}
 use Rattle.macs_config.specs.Identity.{Identity}
 use Rattle.macs_disk.specs.States.{Image, put_sector, zero_sector}
@@ -19,13 +19,13 @@ blank_image i = zero_sector
 
 -- ---- an area rewritten
 
--- the bodies of these records, in the slots of an area from a place on
+-- the bodies of these records, in the slots of an area from a position on
 unfoldable pub image_with_bodies : Image → (area place : ℕ) → List Record → Image
 image_with_bodies image area place [] = image
 image_with_bodies image area place (r ∷ rs) =
     image_with_bodies (put_sector image (slot_body area place) (sector_of r)) area (place + 1) rs
 
--- the bodies of an area's head and of its first slots; its head gate is as it was
+-- the bodies of an area's head and of its first slots; its head gate is unchanged
 unfoldable pub image_with_area : Image → (area : ℕ) → Head → List Record → Image
 image_with_area image area head records =
     image_with_bodies (put_sector image (head_body area) (head_sector_of head)) area 0 records
@@ -36,21 +36,21 @@ image_with_open_head image area = put_sector image (gate area 0) open_gate
 
 -- ---- a disk formatted
 
--- all but the head gate is written
+-- all except the head gate is written
 abbrev pub image_while_formatted : Identity → Image
 image_while_formatted identity = image_with_area blank_image 0 (first_head identity) (default_settings ∷ [])
 
--- it is done
+-- formatting is done
 abbrev pub formatted_image : Identity → Image
 formatted_image identity = image_with_open_head (image_while_formatted identity) 0
 
 -- ---- records appended
 
--- the body of the next record is written; its gate is as it was
+-- the body of the next record is written; its gate is unchanged
 abbrev pub image_with_next_body : Image → Content → Record → Image
 image_with_next_body image c r = put_sector image (free_body c) (sector_of r)
 
--- and its gate is opened
+-- its gate is opened
 abbrev pub image_with_record : Image → Content → Record → Image
 image_with_record image c r = put_sector (image_with_next_body image c r) (free_gate c) open_gate
 
@@ -59,18 +59,17 @@ unfoldable pub image_with_records : Image → Content → List Record → Image
 image_with_records image c [] = image
 image_with_records image c (r ∷ rs) = image_with_records (image_with_record image c r) (content_with_record c r) rs
 
--- the content with several records more
+-- the content with several more records
 abbrev pub content_with_records : Content → List Record → Content
 content_with_records c rs = record c { records = c.records ++ rs }
 
--- ---- a journal that starts over
+-- ---- a journal that is rewritten
 
--- The body of the next head and the first bodies of a snapshot are written in the other area, of so many records in
--- all.
+-- The body of the next head and the first bodies of a snapshot of `count` records are written in the other area.
 abbrev pub image_while_compacted : Image → Content → (count : ℕ) → List Record → Image
 image_while_compacted image c count written = image_with_area image (other_area c.area) (next_head c.head count) written
 
--- all of them are, and its head gate is opened
+-- all of them are written, and the head gate is opened
 abbrev pub compacted_image : Image → Content → List Record → Image
 compacted_image image c records =
     image_with_open_head (image_while_compacted image c (length records) records) (other_area c.area)

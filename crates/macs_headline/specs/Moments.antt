@@ -21,8 +21,8 @@ pub record Moment (sectors : ℕ) (s : State) : Type 0 where
   pub exchanges : List Exchange
   pub life : IsLifeSoFar sectors past edition image exchanges s
 
--- An opening finds this after a history that led to a past, by whatever edition it is made, and whatever image of those
--- that may be there it comes upon.
+-- An opening finds this after a history that led to a past, by a program of any edition, in any image that may be on
+-- the disk.
 pub record IsFoundAfter (sectors : ℕ) (past : Past) (found : Standing) : Type 0 where
   pub lives : List Life
   pub history : IsHistory sectors lives past
@@ -33,23 +33,23 @@ pub record IsFoundAfter (sectors : ℕ) (past : Past) (found : Standing) : Type 
 
 -- ---- editions
 
--- An endpoint is of the edition of the program that opened its disk, at each moment of that life; and one whose disk
--- was formatted just now, of that of the program that formatted it.
+-- At each moment of its life an endpoint is of the edition of the program that opened its disk; and one whose disk was
+-- just formatted, of that of the program that formatted it.
 abbrev pub OfItsEdition : ℕ → Type 0
 OfItsEdition sectors = ((s : State) (m : Moment sectors s) → s.edition ≡ m.edition)
     × ((edition : Edition) (identity : Identity) → (formatted_state edition identity).edition ≡ edition)
 
--- and one that opens the disk after it is of no smaller edition
+-- one that opens the disk later is of no smaller edition
 abbrev pub EditionsRise : ℕ → Type 0
 EditionsRise sectors = (s : State) (edition : Edition) (image : Image) → Fits edition sectors image s
     → IsUpTo s.edition edition
 
 -- ---- numbers that were used
 
--- a frame went out under this key with this packet number
+-- a frame was sent under this key with this packet number
 abbrev pub WasUsed : Logs → (key : List ℕ) (pn : ℕ) → Type 0
 WasUsed logs key pn = Contains logs.used (record { key = key; pn = pn })
 
--- a frame with this packet number was delivered as Ok or Delayed, on an association of this SCI and key
+-- a frame with this packet number was delivered as Ok or Delayed, on an association with this SCI and key
 abbrev pub WasGiven : Logs → (sci key : List ℕ) (pn : ℕ) → Type 0
 WasGiven logs sci key pn = (kind : Kind) × Contains logs.given (record { sci = sci; key = key; pn = pn; kind = kind })

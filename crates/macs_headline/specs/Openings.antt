@@ -1,4 +1,4 @@
--- The headline on openings: why one is refused, what that changes, and under which identity one finds a disk.
+-- The headline on openings: why one fails, what that changes, and which identity one finds on a disk.
 use Rattle.std.specs.Prelude.{◌≡◌, ◌⊎◌, ◌↔◌, ◌-◌, ◌^◌, ℕ, Bool, true, List, Contains, Some}
 use Rattle.macs_config.specs.Config.{Edition}
 use Rattle.macs_config.specs.Identity.{Identity}
@@ -14,37 +14,35 @@ use Rattle.macs_endpoint.specs.State.{State}
 use Rattle.macs_headline.specs.History.{Blank, FitsPast, Formats, Formatted, Leads, Past, Refuses, logs_of}
 use Rattle.macs_headline.specs.Moments.{IsFoundAfter}
 
--- since a journal of a format that the edition starts over is in the last generation
+-- a journal of a format that the edition rewrites is in the last generation
 abbrev pub IsSpentFor : Edition → Image → JournalFault → Type 0
 IsSpentFor edition image fault = (fault ≡ GenerationsSpent) × IsAtLast edition image
 
--- That is answered as GenerationsSpent, and is a journal of format one that means something, in generation 2^64 - 1,
--- and the edition reads areas of format two.
+-- That fault is GenerationsSpent, and means a valid journal of format one in generation 2^64 - 1, and an edition that
+-- reads areas of format two.
 abbrev pub SpentAreLast : Type 0
 SpentAreLast = (edition : Edition) (image : Image) (fault : JournalFault) → IsSpentFor edition image fault
     → (fault ≡ GenerationsSpent) × (c : Content) × (s : Standing) × HasJournal image c × (meaning_of edition c ≡ Some s)
     × (c.head.format ≡ One) × (edition.format_two ≡ true) × (c.head.generation ≡ 2 ^ 64 - 1)
 
--- once `format` has answered Ok, only for a device call that failed, or for that
+-- once `format` has returned Ok, only because a device call failed, or for that reason
 abbrev pub RefusedForDiskOrSpent : ℕ → Type 0
 RefusedForDiskOrSpent sectors = (s : State) (edition : Edition) (image : Image) (fault : JournalFault) (new : Past)
     → Leads sectors (Formatted s) (Refuses edition image fault) new → (fault ≡ Disk) ⊎ IsSpentFor edition image fault
 
--- before that also where no head gate is open
+-- before that also if no head gate is open
 abbrev pub RefusedForDiskOrBlank : ℕ → Type 0
 RefusedForDiskOrBlank sectors =
     (identities : List Identity) (edition : Edition) (image : Image) (fault : JournalFault) (new : Past)
     → Leads sectors (Blank identities) (Refuses edition image fault) new
     → (fault ≡ Disk) ⊎ ((fault ≡ NotFormatted) ⊎ IsSpentFor edition image fault)
 
--- A program of any edition may come upon the same images later, and upon no others; and what was used and delivered is
--- the same.
+-- A program of any edition may find the same images later, and no others; and what was used and delivered is the same.
 pub record AreAsBefore (sectors : ℕ) (old new : Past) : Type 0 where
   pub images : (later : Edition) (image : Image) → FitsPast later sectors new image ↔ FitsPast later sectors old image
   pub logs : logs_of new ≡ logs_of old
 
--- so it is after an opening that was refused, and after a `format` of a disk that is formatted, whatever edition either
--- was of
+-- this holds after an opening that failed, and after a `format` of a disk that is formatted, for any edition of either
 pub record NothingChanges (sectors : ℕ) : Type 0 where
   pub refused : (old : Past) (edition : Edition) (image : Image) (fault : JournalFault) (new : Past)
       → Leads sectors old (Refuses edition image fault) new

@@ -1,4 +1,4 @@
--- The headline on calls that are refused: for the first reason that holds, and for none that does not.
+-- The headline on commands that are refused: for the first reason that applies, and for no other.
 use Rattle.std.specs.Prelude.{◌≡◌, ◌≢◌, ◌⊎◌, ◌↔◌, ◌<◌, ◌≤◌, ◌+◌, ◌-◌, ◌^◌, ℕ, [], ◌∷◌}
 use Rattle.std.specs.Prelude.{Option}
 use Rattle.macs_config.specs.Apply.{Reason, refusal_of}

@@ -8,7 +8,7 @@ use macs_fields::laws::octets_in_range;
 use macs_frame::{An, FrameBuf, Offset, Pn, ScName, Sci, SecTag, seal_frame};
 use macs_gcm::GcmKey;
 
-/// Its octets are octets, as those of each frame that is protected in Rust.
+/// Its octets are below 256, like those of each frame that is protected in Rust.
 pub(crate) fn peer_frame_in_range()
     ensures { All (λ octet. octet < 2 ^ 8) (peer_frame 5) }
 {

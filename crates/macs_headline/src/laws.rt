@@ -1,4 +1,4 @@
-//! The laws, and that what a program does is what they speak of.
+//! The laws, and that they apply to what a program does.
 
 ghost use Rattle.std.specs.Prelude.{◌≡◌, ◌≤◌, ◌<◌, ◌+◌, ◌/◌, ◌%◌, ℕ, max, true, false};
 ghost use Rattle.macs_disk.specs.Disk.{Disk, IsHonest, LeftSince, MayLeave, disk_after_loss, now};
@@ -53,7 +53,7 @@ use macs_disk::{DiskFile, SectorDisk};
 use macs_store::laws::snapshot_stands_for_itself;
 
 /// Over every history: opening finds the configuration after a prefix of the accepted commands that
-/// holds every acknowledged one; each frame that is written is the standard's, no two carry the
+/// contains every acknowledged one; each frame that is written is the standard's, no two have the
 /// same key and packet number, and with replay window zero no packet number is delivered twice as
 /// verified on one association.
 pub fn headline()
@@ -68,11 +68,11 @@ pub fn headline()
     // What any life answered was answered at a moment of the history, and what it used and
     // delivered is held.
     ensures answers_are_held { (sectors : ℕ) → AnswersAreHeld sectors }
-    // No two frames carry the same key and packet number: at each moment of each life, and at the
+    // No two frames have the same key and packet number: at each moment of each life, and at the
     // end.
     ensures used_once { (sectors : ℕ) → UsedOnce sectors }
     ensures used_once_at_end { (sectors : ℕ) → UsedOnceAtEnd sectors }
-    // A frame that is written carries another key or number than each that was, in this life or
+    // A frame that is written has another key or number than each that was written, in this life or
     // before it.
     ensures written_once { (sectors : ℕ) → WrittenOnce sectors }
     // With replay protection on and window 0 no packet number is delivered twice as verified on one
@@ -80,58 +80,59 @@ pub fn headline()
     ensures given_once { (sectors : ℕ) → GivenOnce sectors }
     ensures given_apart { (sectors : ℕ) → GivenApart sectors }
     // A packet number that was delivered before a restart is never delivered as Ok after it, on an
-    // association of the same SCI and key.
+    // association with the same SCI and key.
     ensures never_ok_again { (sectors : ℕ) → NeverOkAgain sectors }
     ensures ok_apart { (sectors : ℕ) → OkApart sectors }
     // In every image each number that was used is below the next one found for its key, which is
     // spent.
     ensures used_below { (sectors : ℕ) → UsedBelow sectors }
-    // So is that of each frame which any life wrote.
+    // The same for each frame that any life wrote.
     ensures written_below { (sectors : ℕ) → WrittenBelow sectors }
-    // The same of each number that was delivered, for its SCI and key.
+    // The same for each number that was delivered, for its SCI and key.
     ensures given_below { (sectors : ℕ) → GivenBelow sectors }
-    // And of each frame which any life delivered as verified.
+    // And for each frame that any life delivered as verified.
     ensures delivered_below { (sectors : ℕ) → DeliveredBelow sectors }
     // No next number falls over a restart, or vanishes, and at most a block and a half is skipped.
     ensures skips_few { (sectors : ℕ) → SkipsFew sectors }
-    // Of a receive association it skips at most a block beyond what was seen, and nothing where
-    // nothing was.
+    // For a receive association at most a block beyond what was seen is skipped, and nothing if
+    // nothing was seen.
     ensures skips_few_received { (sectors : ℕ) → SkipsFewReceived sectors }
-    // What the command under way installs, and an opening finds, begins where the command says.
+    // What the command under way installs, and an opening finds, begins as the command requests.
     ensures begin_as_asked { (sectors : ℕ) → BeginAsAsked sectors }
-    // An opening finds a prefix of the accepted commands that holds every acknowledged one.
+    // An opening finds a prefix of the accepted commands that contains every acknowledged one.
     ensures commands_kept { (sectors : ℕ) → CommandsKept sectors }
-    // Where nothing was under way, that is one configuration; where a command was, that one or what
-    // the command makes of it.
+    // If nothing was under way, that is one configuration; if a command was, that one or the one
+    // after the command.
     ensures finds_one { FindsOne }
-    // What is under way where a life ends was given to a call of that life.
+    // What is under way when a life ends was given to a call of that life.
     ensures in_hand_was_given { (sectors : ℕ) → InHandWasGiven sectors }
     // Over all lives: it finds what the kept commands of each make of the first configuration, and
-    // the identity of the `format` that answered Ok.
+    // the identity given to the `format` that returned Ok.
     ensures configuration_is { (sectors : ℕ) → ConfigurationIs sectors }
     // That configuration is strict, with replay protection on and window 0, and has no association.
     ensures first_configuration { IsFirstConfiguration }
-    // Each frame is the protected frame of that moment, and its number joins those that were used.
+    // Each frame is the protected frame of that moment, and its number is added to those that were
+    // used.
     ensures frames_are_standard { (sectors : ℕ) → FramesAreStandard sectors }
-    // Each frame delivered as Ok or Delayed verifies, and its own number joins those that were
-    // delivered.
+    // Each frame delivered as Ok or Delayed verifies, and its own number is added to those that
+    // were delivered.
     ensures deliveries_are_verified { (sectors : ℕ) → DeliveriesAreVerified sectors }
-    // Each other answer gives nothing that was hidden, and leaves what was used and delivered as it
-    // was.
+    // Each other answer gives nothing that was hidden, and leaves what was used and delivered
+    // unchanged.
     ensures others_are_bare { (sectors : ℕ) → OthersAreBare sectors }
-    // After `format` has answered Ok an opening is refused for the disk alone, or for a last
-    // generation in an older format.
+    // After `format` has returned Ok an opening fails only because of the disk, or because of a
+    // last generation in an older format.
     ensures refused_for_disk_or_spent { (sectors : ℕ) → RefusedForDiskOrSpent sectors }
-    // That is answered as GenerationsSpent, and is generation 2^64 - 1 of a journal of format one.
+    // That fault is GenerationsSpent, for generation 2^64 - 1 of a journal of format one.
     ensures spent_are_last { SpentAreLast }
     // Before that it may also find no journal.
     ensures refused_for_disk_or_blank { (sectors : ℕ) → RefusedForDiskOrBlank sectors }
-    // So it is over the lives of a history: as not formatted only where none of them formatted the
-    // disk for sure.
+    // The same over the lives of a history: an opening fails with NotFormatted only if none of them
+    // certainly formatted the disk.
     ensures refused_by_history { (sectors : ℕ) → RefusedByHistory sectors }
-    // And `format` answers Ok once at most, and after no opening that succeeded.
+    // And `format` returns Ok at most once, and after no opening that succeeded.
     ensures formats_once { (sectors : ℕ) → FormatsOnce sectors }
-    // A refused opening, and a `format` of a formatted disk, change nothing.
+    // A failed opening, and a `format` of a formatted disk, change nothing.
     ensures nothing_changes { (sectors : ℕ) → NothingChanges sectors }
     // An opening finds an identity that some `format` was given.
     ensures identity_was_given { (sectors : ℕ) → IdentityWasGiven sectors }
@@ -142,12 +143,11 @@ pub fn headline()
 /// Where a history begins, and which disks have it.
 pub fn beginnings()
     ensures new { NewDisksHaveHistories }
-    // An honest disk has each history after which a program may come upon each image that it may
-    // leave.
+    // An honest disk has each history after which a program may find each image that it may leave.
     ensures fitting { FittingHaveHistories }
-    // One with nothing pending has each after which a program may come upon what is on it.
+    // One with nothing pending has each history after which a program may find what is on it.
     ensures settled { SettledHaveHistories }
-    // A program of a larger edition goes on from the history that those of a smaller one made.
+    // A program of a larger edition continues from the history that those of a smaller one made.
     ensures larger { LargerGoOn }
     // And it finds, in each image, what is found after that history.
     ensures found { LargerFind }
@@ -162,14 +162,15 @@ pub fn endings<D: SectorDisk>()
     ensures power_lost { PowerLossesPassOn }
     // The program is killed, and no power is lost.
     ensures killed { KillingsPassOn }
-    // It lets go of its disk while sectors are pending.
+    // It drops its disk while sectors are pending.
     ensures dropped { DroppedPassOn }
     // Some of the pending sectors reach the medium meanwhile.
     ensures written_back { WrittenBackPassOn D.disk }
     // The owner reads, or syncs.
     ensures read { ReadsPassOn D.disk }
     ensures synced { SyncsPassOn D.disk }
-    // After a power loss nothing is pending; a sector that was has 512 octets, whichever.
+    // After a power loss nothing is pending; a sector that was pending has 512 octets, of any
+    // value.
     ensures settled { LossesSettle }
     ensures whole { ImagesAreWhole }
 {}
@@ -177,37 +178,37 @@ pub fn endings<D: SectorDisk>()
 /// What is done with a disk that has a history, by the contracts of `format`, of `Endpoint::open`
 /// and of an endpoint's calls, wherever a program ends, continues that history.
 pub fn histories<D: SectorDisk>()
-    // What a call's contract says makes a deed.
+    // The contract of a call makes it a deed.
     ensures deeds { CallsAreDeeds D.disk }
     // Deeds, one after another, continue the history of the disk.
     ensures whole { DeedsAreHistories D.disk }
     // What their endpoints answered is among what the lives answered.
     ensures answers { ChainsAnswer D.disk }
-    // From a disk that is new they are one.
+    // Starting with a new disk they are a history.
     ensures from_new { NewDeedsAreHistories D.disk }
     // An opening finds what may be found after the history.
     ensures found { OpeningsFind D.disk }
-    // An endpoint that lives is at a moment of it.
+    // An endpoint is at a moment of it during its life.
     ensures under_way { LivesAreMoments D.disk }
-    // Where the medium is passed on while it lives, that is in its opening, or inside one of its
+    // If the medium is passed on during its life, that is in its opening, or inside one of its
     // calls.
     ensures cut { EndsAreCuts D.disk }
-    // An opening is refused only where a device call failed, where the disk was not formatted for
-    // sure, or for a last generation in an older format.
+    // An opening fails only because a device call failed, because the disk was not certainly
+    // formatted, or because of a last generation in an older format.
     ensures refusals { RefusalsAreFailures D.disk }
-    // An opening of a journal of format two writes nothing, nor does one that is refused for what
-    // is on the disk. One of format one is rewritten, once, and what it stands for stays, wherever
-    // that is cut short.
+    // An opening of a journal of format two writes nothing, nor does one that is refused because of
+    // what is on the disk. A journal of format one is rewritten, once, and the standing that it
+    // represents stays the same, wherever that is interrupted.
     ensures begun_anew { OpeningsBeginAnew D.disk }
     // What is left after it is opened as a restart of the state in which it ended, with the command
-    // that the call which was cut short may have begun.
+    // that the interrupted call may have begun.
     ensures fit { LivesFit D.disk }
 {}
 
-/// There are histories, over real images and frames: with a `format` that did not answer Ok, power
-/// losses between two steps of a command and in a compaction, a program that is killed, a device's
-/// fault, refused openings and commands, and frames of both sides, also within a replay window and
-/// without replay protection.
+/// There are histories, over real images and frames: with a `format` that did not return Ok, power
+/// losses between two steps of a command and in a compaction, a program that is killed, a device
+/// fault, failed openings and refused commands, and frames in both directions, also within a replay
+/// window and without replay protection.
 pub fn worked_history()
     ensures { IsWorkedHistory }
 {
@@ -215,63 +216,63 @@ pub fn worked_history()
 }
 
 /// A disk that the first edition of the program formatted, and from which it sent a frame, has that
-/// history to this one too, whose opening starts its journal over: what it stands for does not
-/// change, and lives go on from it with keys of both lengths.
+/// history to this edition too, whose opening rewrites its journal: the standing that it represents
+/// does not change, and lives continue from it with keys of both lengths.
 pub fn worked_migration()
     ensures { IsWorkedMigration }
 {
     peer_frame_in_range();
 }
 
-/// A disk of zeros in memory is new.
+/// An in-memory disk of zeros is new.
 pub fn new_disks()
     ensures { (sectors : ℕ) → least_sectors ≤ sectors → IsNewDisk (blank_memory sectors).disk }
 {}
 
-/// A power loss, as a disk in memory plays one, is a power loss of a history.
+/// A power loss, as staged by an in-memory disk, is a power loss of a history.
 pub fn power_losses()
     ensures { (disk : Disk) (since : ℕ) (image : Image) → LeftSince disk since image
         → LosesPower disk since (disk_after_loss disk image) }
 {}
 
-/// A disk in a file that behaves is one that histories are of, where the blocks of its device suit
-/// the layout.
+/// The laws of histories apply to a disk in a file that behaves, if the layout suits the blocks of
+/// its device.
 pub fn files<F: DiskFile>()
     // A new one is a new disk.
     ensures new { (old new : FileState) (layout : Layout) (disk : Disk)
         → IsBlank old new layout disk
         → suits layout old.block ≡ true → IsNewDisk disk }
-    // To open its file again is to a disk what a power loss is: the file as it was left, or as a
-    // power loss or openings that failed left that. The new disk has its layout and its sectors,
+    // To a disk, opening its file again is the same as a power loss: the file as it was left, or as
+    // a power loss or openings that failed left it. The new disk has its layout and its sectors,
     // and one of the images that the file might have been left with.
     ensures opened_again { (left file : FileState) (layout again : Layout) (old new : Disk)
         → IsFoundAs layout old.sectors left → suits layout left.block ≡ true → IsHonest old
         → ((image : Image) → IsImage (state_in_file layout left) image → MayLeave old image)
         → HasNothingNew left file → IsSoundFile file → IsOpened file 0 again new
         → (again ≡ layout) × LosesPower old old.clock new }
-    // So it is where a disk in a file left it, be it after a call that failed.
+    // The same holds of the file as a disk in it left it, even after a failed call.
     ensures reopened { (it : FileDisk F) (file : FileState) (again : Layout) (new : Disk)
         → IsLeftAsShown F.file it → IsFoundAgain F.file it → Behaves (F.file (file_left it))
         → IsHonest (disk_in_file F.file it) → HasNothingNew (F.file (file_left it)) file
         → IsSoundFile file → IsOpened file 0 again new
         → (again ≡ layout_of it)
         × LosesPower (disk_in_file F.file it) (disk_in_file F.file it).clock new }
-    // A power loss leaves nothing new of a file that was let go of, whatever it shows then and
-    // whoever claims it; of one after a power loss, and of one after the other,
-    // `nothing_new_of_a_file` of `macs_disk` says so.
+    // A power loss leaves nothing new of a file that was released, no matter what it shows then and
+    // who claims it; for a file after a power loss, and for both in sequence, see
+    // `nothing_new_of_a_file` of `macs_disk`.
     ensures let_go { (left file : FileState) → file.block ≡ left.block → file.size ≡ left.size
         → file.is_size_durable ≡ left.is_size_durable → ((p : ℕ) → file.durable p ≡ left.durable p)
         → ((n : ℕ) → file.pending n ≡ left.pending n) → HasNothingNew left file }
-    // All sectors of one that is opened are durable, and it has as many as were asked for.
+    // All sectors of an opened file are durable, and it has at least as many as requested.
     ensures opened { (file : FileState) (least : ℕ) (layout : Layout) (disk : Disk) (i : ℕ)
         → IsOpened file least layout disk → (least ≤ disk.sectors)
         × ((now disk).durable i ≡ (now disk).seen i) × ((now disk).pending i ≡ false) }
-    // It has no more: those of its file, or as many as were asked for, where these are more.
+    // It has no more: those of its file, or the number requested, if that is greater.
     ensures counted { (file : FileState) (least : ℕ) (layout : Layout) (disk : Disk)
         → IsOpened file least layout disk
         → (layout ≡ Packed → disk.sectors ≡ max (file.size / 512) least)
         × (layout ≡ Spaced → disk.sectors ≡ max 1028 least) }
-    // One that is made longer for them keeps its sectors, as it showed them, and has zeros in the
+    // A file that is extended for them keeps its sectors, as it showed them, and has zeros in the
     // others.
     ensures lengthened { (file : FileState) (least : ℕ) (layout : Layout) (disk : Disk) (i : ℕ)
         → IsOpened file least layout disk
@@ -279,11 +280,10 @@ pub fn files<F: DiskFile>()
         → (now disk).seen i ≡ values_from file.seen (place layout i) 512)
         × (file.size ≤ place layout i → place layout i + 512 ≤ place layout least
         → (now disk).seen i ≡ zero_sector) }
-    // A file that is opened has whole sectors.
+    // An opened file has whole sectors.
     ensures whole_sectors { (file : FileState) (least : ℕ) (layout : Layout) (disk : Disk)
         → IsOpened file least layout disk → file.size % 512 ≡ 0 }
-    // Blocks of 512 octets suit both layouts, and those of 4,096 the one in which sectors lie
-    // apart.
+    // Blocks of 512 octets suit both layouts, and those of 4,096 only the spaced one.
     ensures blocks { (suits Packed 512 ≡ true) × (suits Spaced 512 ≡ true)
         × (suits Spaced 4096 ≡ true) }
 {

@@ -1,5 +1,5 @@
-//! The headline, over every history of an endpoint: whatever commands and frames come and wherever
-//! power fails.
+//! The headline, over every history of an endpoint: for all commands and frames, and wherever power
+//! fails.
 #![tactic(auto)]
 
 mod example;
