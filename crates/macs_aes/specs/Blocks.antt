@@ -26,7 +26,7 @@ octet_in basis planes i j = combined basis (bits_in planes i j)
 unfoldable pub block_in : List ℕ → List (List ℕ) → ℕ → List ℕ
 block_in basis planes i = map (octet_in basis planes i) (range_with_len 0 16)
 
--- the blocks of planes of so many lanes
+-- the blocks of planes of this many lanes
 unfoldable pub blocks_in : ℕ → List ℕ → List (List ℕ) → List (List ℕ)
 blocks_in lanes basis planes = map (block_in basis planes) (range_with_len 0 lanes)
 
@@ -43,7 +43,7 @@ subfield_basis = 0xb0 ∷ 0xec ∷ 0x0c ∷ 0x51 ∷ []
 abbrev pub octet : List (List ℕ) → ℕ → ℕ → ℕ
 octet blocks i j = slice_index (get_or blocks i []) j
 
--- each plane has so many lanes
+-- each plane has this many lanes
 abbrev pub ArePlanes : ℕ → List (List ℕ) → Type 0
 ArePlanes lanes [] = Unit {0}
 ArePlanes lanes (p ∷ planes) = (length p ≡ lanes) × ArePlanes lanes planes

@@ -17,7 +17,7 @@ abbrev pub HasItsLength : Key → Type 0
 HasItsLength (Short octets) = length octets ≡ 16
 HasItsLength (Long octets) = length octets ≡ 32
 
--- a key is known by its octets
+-- a key is determined by its octets
 pub key_of_octets-octets_of_key : (key : Key) → HasItsLength key → key_of_octets (octets_of_key key) ≡ key
 key_of_octets-octets_of_key (Short octets) size = rw size refl
 key_of_octets-octets_of_key (Long octets) size = rw size refl

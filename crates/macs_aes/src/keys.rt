@@ -15,7 +15,7 @@ pub enum Key {
 }
 
 impl Key {
-    /// The key with these octets, where they are 16 or 32; else `None`.
+    /// The key with these octets, if there are 16 or 32; else `None`.
     pub fn from_slice(octets: &[u8]) -> Option<Self>
         ensures found { IfSome result (λ key. octets_of_key key ≡ octets.now) }
         ensures exactly { IsSome result ↔ ((length octets.now ≡ 16) ⊎ (length octets.now ≡ 32)) }
@@ -41,7 +41,7 @@ impl Key {
     }
 }
 
-/// A key, for what keeps one. In clauses it is the list of its octets, 16 or 32.
+/// A key, for storage. In contracts its value is the list of its octets, 16 or 32.
 #[derive(Clone, Copy, PartialEq, Eq)]
 pub struct KeyOctets {
     key: Key,

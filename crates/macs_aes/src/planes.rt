@@ -17,7 +17,7 @@ use std::marker::Model;
 use std::simd::prelude::*;
 
 /// N blocks in eight planes: bit j of lane i of plane k is bit k (the least significant first) of
-/// octet j of block i. In clauses it is the list of the blocks, each a list of 16 octets.
+/// octet j of block i. In contracts its value is the list of the blocks, each a list of 16 octets.
 #[derive(Drop)]
 pub struct Planes<const N: usize> {
     pub p0: [u16; N],

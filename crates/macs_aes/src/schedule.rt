@@ -11,28 +11,28 @@ use crate::keys::Key;
 use crate::planes::Planes;
 use std::marker::Model;
 
-/// Nr, how many rounds the cipher has under a key of 16 octets (FIPS 197, 5, figure 4).
+/// Nr, the number of rounds of the cipher with a key of 16 octets (FIPS 197, 5, figure 4).
 const SHORT_ROUNDS: usize = 10;
 
-/// Nr under a key of 32 octets.
+/// Nr with a key of 32 octets.
 const LONG_ROUNDS: usize = 14;
 
-/// How many round keys there are at most: one before the first round, and one for each.
+/// The maximum number of round keys: one before the first round, and one for each round.
 const ROUND_KEYS: usize = LONG_ROUNDS + 1;
 
-/// How many words the key expansion has at most: four for each round key.
+/// The maximum number of words in the key expansion: four for each round key.
 const WORDS: usize = 4 * ROUND_KEYS;
 
 /// The leftmost octets of Rcon\[1\] to Rcon\[10\]: x^0 to x^9.
 const ROUND_CONSTANTS: [u8; 10] = [0x01, 0x02, 0x04, 0x08, 0x10, 0x20, 0x40, 0x80, 0x1b, 0x36];
 
-/// A key, expanded for its ten or fourteen rounds. In clauses it is its key, a list of 16 octets or
-/// of 32.
+/// A key, expanded for its ten or fourteen rounds. In contracts its value is its key, a list of 16
+/// or 32 octets.
 #[derive(Drop)]
 pub struct Schedule {
-    /// The value of a schedule. Its length says how many rounds there are.
+    /// The value of a schedule. Its length determines the number of rounds.
     key: Key,
-    /// The key of each round. What comes after those of a short key is not read.
+    /// The key of each round. Anything after those of a short key is not read.
     round_keys: [Block; ROUND_KEYS],
 }
 
@@ -94,7 +94,7 @@ fn key_word(key: &[u8], i: usize) -> u32
     u32::from_be_bytes([key[4 * i], key[4 * i + 1], key[4 * i + 2], key[4 * i + 3]])
 }
 
-/// The words of the key expansion of a key of 16 or 32 octets. What comes after them is not read.
+/// The words of the key expansion of a key of 16 or 32 octets. Anything after them is not read.
 fn expand(key: &[u8]) -> [u32; WORDS]
     requires { (length key.now ≡ 16) ⊎ (length key.now ≡ 32) }
     ensures { take (4 * (rounds_of key.now + 1)) result ≡ key_words key.now }

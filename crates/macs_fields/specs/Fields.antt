@@ -3,7 +3,7 @@ use Rattle.std.specs.Prelude.{◌≡◌, ◌<◌, ◌^◌, ℕ, List, All, lengt
 use Rattle.macs_fields.specs.declared.fields.Offset.{Offset}
 use Rattle.macs_fields.specs.declared.fields.Offset.TheVariants.{Zero, Thirty, Fifty}
 
--- so many octets, such as a key of 16 or of 32
+-- this many octets, such as a key of 16 or of 32
 pub record IsOctets (count : ℕ) (octets : List ℕ) : Type 0 where
   pub size : length octets ≡ count
   pub each : All (λ octet. octet < 2 ^ 8) octets

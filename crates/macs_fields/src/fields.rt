@@ -8,7 +8,7 @@ use std::marker::Model;
 /// How many associations a channel may have: one for each association number (9.6).
 pub const ASSOCIATIONS: usize = 4;
 
-/// The end of the packet numbers: the first number that is none, 2^32 (9.8).
+/// The end of the packet numbers: the first number that is not one, 2^32 (9.8).
 pub const END_OF_NUMBERS: u64 = 1 << 32;
 
 /// A secure channel identifier: the 6 octets of a MAC address, then 2 of a port (9.9).
@@ -48,7 +48,7 @@ impl Model for An {
 }
 
 impl An {
-    /// `None` for a number above 3.
+    /// `None` for a number greater than 3.
     pub fn new(number: u8) -> Option<An>
         ensures within { IsSome result ↔ (number < 4) }
         ensures value { IfSome result (λ an. an ≡ number) }
@@ -107,7 +107,7 @@ impl Pn {
     }
 }
 
-/// The confidentiality offset: how many octets of User Data stay in the clear where the rest is
+/// The confidentiality offset: how many octets of User Data are in the clear if the rest is
 /// encrypted (14.5 and 14.6).
 #[derive(Debug, Clone, Copy, PartialEq, Eq)]
 pub enum Offset {

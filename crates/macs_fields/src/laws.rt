@@ -1,5 +1,5 @@
-//! Laws of the definitions, for the layers above. Where a law speaks of a value behind a reference,
-//! its body reads it: that is how a proof learns its range.
+//! Laws of the definitions, for the layers above. If a law is about a value behind a reference, its
+//! body reads it: that is how a proof learns its range.
 
 ghost use Rattle.std.specs.Prelude.{◌≡◌, ◌<◌, ◌^◌, Bool, List, All, IsTrue};
 ghost use Rattle.std.specs.Bool.{IsFalse};
@@ -9,8 +9,8 @@ ghost use Rattle.macs_fields.specs.First.{IsFirst, NoneHolds};
 
 use crate::{An, Sci};
 
-/// Of refusals in an order, each with its test, one is the first that holds where any holds, and
-/// else none.
+/// Of refusals in order, each with its test, one is the first that applies if any does, otherwise
+/// none is.
 pub fn one_first_refusal<R>()
     ensures once { (holds : R → Bool) (refusals : List R) (a b : R)
         → IsFirst (λ r. IsTrue (holds r)) refusals a
@@ -22,7 +22,7 @@ pub fn one_first_refusal<R>()
         × ((r : R) → ¬ IsFirst (λ r. IsTrue (holds r)) refusals r) }
 {}
 
-/// Octets are below 2^8: a proof that calls this knows it of octets behind a reference.
+/// Octets are below 2^8: a proof that calls this learns it of octets behind a reference.
 pub fn octets_in_range(octets: &[u8])
     ensures { All (λ octet. octet < 2 ^ 8) octets.now }
 {}

@@ -4,7 +4,7 @@ use Rattle.std.specs.Prelude.{◌≡◌, ◌<◌, ℕ, ◌+◌, ◌^◌, List, [
 use Rattle.std.specs.Int.{w32, to_be_bytes}
 use Rattle.macs_aes.specs.Cipher.{encrypt}
 
--- the counter block with this number of so many invocations from the first on, encrypted
+-- the counter block with this number of this many invocations from the first on, encrypted
 abbrev pub IsRow : ℕ → List ℕ → List ℕ → ℕ → ℕ → List (List ℕ) → Type 0
 IsRow count key fixed first number row = (j : ℕ) → j < count → first + j < 2 ^ 32
     → get_or row j [] ≡ encrypt key (fixed ++ to_be_bytes w32 (first + j) ++ to_be_bytes w32 number)

@@ -15,8 +15,8 @@ use macs_ghash::{Powers, ghash};
 use macs_planes::{GroupKeys, key_room};
 use std::marker::Model;
 
-/// A key of AES, prepared for GCM: its round keys and the powers of its hash subkey. In clauses it
-/// is its key, a list of 16 octets or of 32.
+/// A key of AES, prepared for GCM: its round keys and the powers of its hash subkey. In contracts
+/// its value is its key, a list of 16 or 32 octets.
 #[derive(Drop)]
 pub struct GcmKey {
     schedule: Schedule,
@@ -82,7 +82,7 @@ pub(crate) fn encipher(schedule: &Schedule, iv: &[u8; 12], text: &mut [u8]) -> B
     masks[1]
 }
 
-/// Whether two tags are equal. It reads all sixteen octets of both, wherever they differ.
+/// Whether two tags are equal. It reads all sixteen octets of both, even after a difference.
 fn is_equal(one: &[u8; 16], other: &[u8; 16]) -> bool
     ensures { IsTrue result ↔ (one.now ≡ other.now) }
 {
@@ -93,11 +93,11 @@ fn is_equal(one: &[u8; 16], other: &[u8; 16]) -> bool
     difference == 0
 }
 
-/// Encrypts the text in place, and answers the tag of 128 bits that authenticates it and the
+/// Encrypts the text in place, and returns the tag of 128 bits that authenticates it and the
 /// additional data (7.1).
 ///
 /// The initialisation vector has 96 bits, and no two calls with one key may have the same (8). The
-/// text and the additional data have any number of octets below 2^32, also none.
+/// text and the additional data have fewer than 2^32 octets each, possibly none.
 pub fn seal(key: &GcmKey, iv: &[u8; 12], aad: &[u8], text: &mut [u8]) -> [u8; 16]
     requires aad { length aad.now < 2 ^ 32 }
     requires text { length text.old < 2 ^ 32 }
@@ -107,10 +107,10 @@ pub fn seal(key: &GcmKey, iv: &[u8; 12], aad: &[u8], text: &mut [u8]) -> [u8; 16
     tag_of(ghash(&key.powers, aad, text), &mask)
 }
 
-/// Decrypts the text in place and answers true where the tag of 128 bits authenticates the text and
-/// the additional data, and else answers false and leaves the text as it is (7.2).
+/// Decrypts the text in place and returns true if the tag of 128 bits authenticates the text and
+/// the additional data; otherwise returns false and leaves the text unchanged (7.2).
 ///
-/// The text and the additional data have any number of octets below 2^32, also none. The tag is
+/// The text and the additional data have fewer than 2^32 octets each, possibly none. The tag is
 /// compared before anything is decrypted, by all of its octets.
 pub fn open(key: &GcmKey, iv: &[u8; 12], aad: &[u8], text: &mut [u8], tag: &[u8; 16]) -> bool
     requires aad { length aad.now < 2 ^ 32 }

@@ -1,4 +1,4 @@
-//! Key stream made ahead, for initialisation vectors that follow one another.
+//! Key stream generated in advance, for consecutive initialisation vectors.
 
 ghost use Rattle.std.specs.Prelude.{◌≡◌, ◌+◌, ◌*◌, ◌^◌, ◌<◌, ◌≤◌, ℕ, List, [], ◌++◌, IfSome};
 ghost use Rattle.std.specs.Prelude.{get_or, length};
@@ -13,8 +13,8 @@ use macs_aes::{Block, Schedule};
 use macs_planes::{GroupKeys, key_room};
 use std::marker::Model;
 
-/// How many counter blocks of an initialisation vector are made ahead at most: J0, and those of 304
-/// octets of text. With more, whole groups of them are as fast.
+/// How many counter blocks of an initialisation vector are made in advance at most: J0, and those
+/// of 304 octets of text. For more, whole groups of them are as fast.
 pub(crate) const DEPTH: usize = 20;
 
 /// The fixed field and the invocation field of an initialisation vector (NIST SP 800-38D, 8.2.1).
@@ -75,8 +75,8 @@ fn row_of(keys: &GroupKeys, fixed: &[u8; 8], first: u32, number: u32) -> Row
     Row { masks }
 }
 
-/// Encrypted counter blocks of invocations that follow one another, as many as a group has blocks:
-/// row c has those with the number c + 1.
+/// Encrypted counter blocks of consecutive invocations, as many as a group has blocks: row c has
+/// those with the number c + 1.
 #[derive(Drop)]
 pub(crate) struct KeyStream {
     pub(crate) fixed: [u8; 8],
@@ -100,7 +100,7 @@ impl KeyStream {
         }
     }
 
-    /// Makes so many counter blocks of each of the invocations from the first on.
+    /// Makes `depth` counter blocks of each of the invocations from the first on.
     fn make(&mut self, schedule: &Schedule, fixed: &[u8; 8], first: u32, depth: usize)
         requires { depth ≤ DEPTH }
         ensures fixed { self.new.fixed ≡ fixed.now }
@@ -118,7 +118,7 @@ impl KeyStream {
         self.depth = depth;
     }
 
-    /// The place of an invocation, where so many of its counter blocks are there.
+    /// The place of an invocation, if `depth` of its counter blocks are present.
     fn place_of(&self, fixed: &[u8; 8], invocation: u32, depth: usize) -> Option<usize>
         ensures place { IfSome result (λ place. self.now.first + place ≡ invocation) }
         ensures group { IfSome result (λ place. place < GROUP) }
@@ -133,8 +133,8 @@ impl KeyStream {
         }
     }
 
-    /// The place of an initialisation vector. Where it does not have so many counter blocks yet, 1
-    /// to 20, they are made for it and for those that follow it.
+    /// The place of an initialisation vector. If it does not have `depth` counter blocks yet, 1 to
+    /// 20, they are made for it and for those that follow it.
     pub(crate) fn place_for(&mut self, schedule: &Schedule, iv: &[u8; 12], depth: usize) -> usize
         requires depth { depth ≤ DEPTH }
         requires stream { IsStream GROUP schedule.now self.old.fixed self.old.first self.old.depth

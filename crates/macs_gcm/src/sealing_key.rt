@@ -11,11 +11,11 @@ use macs_aes::{Block, Key, Schedule};
 use macs_ghash::{Powers, Tables};
 use std::marker::Model;
 
-/// A key of AES, prepared for sealing texts whose initialisation vectors follow one another: the
-/// first 64 bits are the same, and the last 32 count (8.2.1), as those of frames under an
-/// association do. Key stream of short texts is made ahead, for several at a time; with other
-/// initialisation vectors it seals as well, but slower. It takes 5 to 8 KB. In clauses it is its key, a
-/// list of 16 octets or of 32.
+/// A key of AES, prepared for sealing texts with consecutive initialisation vectors: the first 64
+/// bits are the same, and the last 32 count (8.2.1), as those of frames under an association do.
+/// Key stream of short texts is generated in advance, for several at a time; with other
+/// initialisation vectors it seals just as correctly, but slower. It takes 5 to 8 KB. In contracts
+/// its value is its key, a list of 16 or 32 octets.
 #[derive(Drop)]
 pub struct SealingKey {
     schedule: Schedule,

@@ -11,8 +11,7 @@ block_bit a i = bit_at a (127 - i)
 abbrev pub reduction : ℕ
 reduction = 0xE1 * 2 ^ 120
 
--- x * v: a shift to the right, and R added where the bit shifted out was 1 (algorithm 1, step 3: the next V
--- from V)
+-- x * v: a shift to the right, with R added if the bit shifted out was 1 (algorithm 1, step 3: the next V from V)
 abbrev pub times_x : ℕ → ℕ
 times_x v = bit_xor (v / 2) (v % 2 * reduction)
 

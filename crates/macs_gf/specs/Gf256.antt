@@ -19,6 +19,6 @@ IsInverse a b = (b < 2 ^ 8) × ((a ≡ 0 → b ≡ 0) × (a ≢ 0 → octet_prod
 abbrev pub every_octet : List ℕ
 every_octet = range_with_len 0 256
 
--- the octet whose product with a is 1, or 0 where there is none
+-- the octet whose product with a is 1, or 0 if there is none
 unfoldable pub inverse : ℕ → ℕ
 inverse a = unwrap_or (find (λ b. octet_product a b == 1) every_octet) 0

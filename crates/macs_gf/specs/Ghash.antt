@@ -5,12 +5,11 @@ use Rattle.std.specs.Int.{w64, w128, from_be_bytes, to_be_bytes}
 use Rattle.std.specs.List.{range_with_len}
 use Rattle.macs_gf.specs.Gf128.{block_product}
 
--- one more block taken in under the hash subkey h: the state y becomes (y + block) * h (algorithm 2,
--- step 3)
+-- one more block absorbed with the hash subkey h: the state y becomes (y + block) * h (algorithm 2, step 3)
 abbrev pub absorb : ℕ → ℕ → ℕ → ℕ
 absorb h y block = block_product (bit_xor y block) h
 
--- the blocks taken in one after another, from the state y
+-- the blocks absorbed one after another, from the state y
 abbrev pub ghash_from : ℕ → ℕ → List ℕ → ℕ
 ghash_from h y blocks = fold (absorb h) y blocks
 
@@ -23,7 +22,7 @@ unfoldable pub subkey_power : ℕ → ℕ → ℕ
 subkey_power h zero = 2 ^ 127
 subkey_power h (suc n) = block_product h (subkey_power h n)
 
--- a string and zero octets after it, up to a whole number of blocks of 16 octets (7.1, step 4)
+-- a string followed by zero octets up to a whole number of blocks of 16 octets (7.1, step 4)
 abbrev pub padded_string : List ℕ → List ℕ
 padded_string octets = octets ++ replicate ((16 - length octets % 16) % 16) 0
 

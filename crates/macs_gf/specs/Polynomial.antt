@@ -4,18 +4,17 @@
 use Rattle.std.specs.Prelude.{◌≡◌, ℕ, zero, suc, ◌+◌, ◌*◌, ◌^◌, ◌<◌, bit_xor}
 use Rattle.std.specs.Int.{bit_at}
 
--- the sum of those a * x^i, i below n, for which the coefficient of x^i in b is 1: the product of a
--- and b where b is of degree below n
+-- the sum of those a * x^i, i below n, for which the coefficient of x^i in b is 1: the product of a and b if b is of
+-- degree below n
 unfoldable pub product_below : ℕ → ℕ → ℕ → ℕ
 product_below a b zero = 0
 product_below a b (suc i) = bit_xor (product_below a b i) (bit_at b i * (a * 2 ^ i))
 
--- one step of long division by m, of degree 8: m * x^n is taken away from p where the coefficient of
--- x^(8 + n) in p is 1
+-- one step of long division by m, of degree 8: m * x^n is subtracted from p if the coefficient of x^(8 + n) in p is 1
 abbrev pub division_step : ℕ → ℕ → ℕ → ℕ
 division_step m p n = bit_xor p (bit_at p (8 + n) * (m * 2 ^ n))
 
--- what long division by m, of degree 8, leaves of p, of degree below 8 + n
+-- the remainder of p, of degree below 8 + n, after long division by m, of degree 8
 unfoldable pub remainder : ℕ → ℕ → ℕ → ℕ
 remainder m p zero = p
 remainder m p (suc n) = remainder m (division_step m p n) n

@@ -35,7 +35,7 @@ pub fn octet_one(a: u8)
     ensures right { octet_product a 1 ≡ a }
 {}
 
-/// Each octet has one inverse, an octet, and no other (FIPS 197, 4.2; that of 0 is 0, 5.1.1).
+/// Each octet has exactly one inverse, an octet (FIPS 197, 4.2; that of 0 is 0, 5.1.1).
 pub fn octet_inverse(a: u8)
     ensures { (b : ℕ) → IsInverse a b ↔ (b ≡ inverse a) }
 {}
@@ -68,15 +68,15 @@ pub fn block_one(a: u128)
     ensures right { block_product a (2 ^ 127) ≡ a }
 {}
 
-/// GHASH from a state is the state's product with the power of the hash subkey that counts the
-/// blocks, and GHASH of the blocks.
+/// GHASH from a state is the product of the state and the hash subkey raised to the number of
+/// blocks, plus GHASH of the blocks.
 pub fn ghash_from_state(h: u128, y: u128, blocks: &[u128])
     ensures { let power = subkey_power h (length blocks.now) in
         ghash_from h y blocks.now ≡ bit_xor (block_product y power) (ghash h blocks.now) }
 {}
 
-/// After whole blocks of 16 octets a string is padded, and cut into blocks, as by itself (SP
-/// 800-38D, 7.1).
+/// A string appended to whole blocks of 16 octets is padded, and cut into blocks, as it is on its
+/// own (SP 800-38D, 7.1).
 pub fn padding_splits()
     ensures padded { (front octets : List ℕ) → length front % 16 ≡ 0
         → padded_string (front ++ octets) ≡ front ++ padded_string octets }

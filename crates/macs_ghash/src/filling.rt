@@ -164,7 +164,7 @@ fn row_of<const N: usize>(
     parts
 }
 
-/// Room for tables.
+/// A buffer for tables.
 #[inline(always)]
 pub(crate) fn room<const N: usize>() -> [[Part; N]; 16] {
     let none = Part {
@@ -174,13 +174,13 @@ pub(crate) fn room<const N: usize>() -> [[Part; N]; 16] {
     [row; 16]
 }
 
-/// Blocks are below 2^128: a proof that calls this knows it of blocks behind a reference.
+/// Blocks are below 2^128: a proof that calls this learns it of blocks behind a reference.
 #[inline(always)]
 fn blocks_in_range(blocks: &[u128])
     ensures { All (λ block. block < 2 ^ 128) blocks.now }
 {}
 
-/// The tables of several powers, made in the room that is lent.
+/// The tables of several powers, made in the caller's buffer.
 #[inline(never)]
 pub(crate) fn fill<const N: usize, const P: usize>(tables: &mut [[Part; N]; 16], powers: &[u128; P])
     requires size { P ≡ SIXTEENS * N }

@@ -7,13 +7,13 @@ ghost use Rattle.macs_gf.specs.Ghash.{blocks_of, ghash, hash_input};
 use crate::octets::SIXTEENS;
 use crate::powers::Powers;
 
-/// The number of blocks from which on tables of eight powers are made for the string. With fewer
-/// they cost more than they save.
+/// From this many blocks on, tables of eight powers are made for the string. With fewer they cost
+/// more than they save.
 const MANY: usize = 32 + 80 / SIXTEENS;
 
-/// GHASH (NIST SP 800-38D, 6.4) under a prepared hash subkey, of the additional data and the text,
+/// GHASH (NIST SP 800-38D, 6.4) with a prepared hash subkey, of the additional data and the text,
 /// which is the ciphertext, each padded to whole blocks, and of the block of their lengths (7.1,
-/// step 5). Each has any number of octets below 2^32, also none.
+/// step 5). Each has fewer than 2^32 octets, possibly none.
 pub fn ghash(powers: &Powers, aad: &[u8], text: &[u8]) -> [u8; 16]
     requires aad { length aad.now < 2 ^ 32 }
     requires text { length text.now < 2 ^ 32 }

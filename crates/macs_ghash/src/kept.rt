@@ -44,7 +44,7 @@ impl Tables {
         Tables { key, eight }
     }
 
-    /// GHASH as `ghash` has it, of any number of octets below 2^32 each, without making a table.
+    /// GHASH as by `ghash`, of fewer than 2^32 octets each, without making a table.
     pub fn ghash(&self, aad: &[u8], text: &[u8]) -> [u8; 16]
         requires aad { length aad.now < 2 ^ 32 }
         requires text { length text.now < 2 ^ 32 }

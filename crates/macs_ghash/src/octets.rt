@@ -27,7 +27,7 @@ pub(crate) const LAST: [u8; 32] = [
     128, 128, 128, 128, 128, 128, 128, 128, 128, 128, 128, 128, 128,
 ];
 
-/// Octets are below 2^8: a proof that calls this knows it of octets behind a reference.
+/// Octets are below 2^8: a proof that calls this learns it of octets behind a reference.
 #[inline(always)]
 pub(crate) fn octets_in_range(octets: &[u8])
     ensures { All (λ octet. octet < 2 ^ 8) octets.now }
@@ -76,8 +76,8 @@ pub(crate) fn sum(x: Simd<u8, OCTETS>, y: Simd<u8, OCTETS>) -> Simd<u8, OCTETS>
     x ^ y
 }
 
-/// The octets of two vectors, where in each place one of them has zero. It is an `or` and no `xor`,
-/// since compilers make one shuffle of two and an `or`.
+/// The octets of two vectors, of which in each place one has zero. It is an `or` and not an `xor`,
+/// since compilers merge two shuffles and an `or` into one shuffle.
 #[inline(always)]
 fn either(x: Simd<u8, OCTETS>, y: Simd<u8, OCTETS>) -> Simd<u8, OCTETS>
     ensures { (g j : ℕ) → g < SIXTEENS → j < 16

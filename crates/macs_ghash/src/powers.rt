@@ -43,7 +43,7 @@ fn product_by_first(tables: &[[Part; TWO]; 16], block: u128) -> u128
     products(tables, &octets)
 }
 
-/// The tables of the square of a key and of the key, made in the room that is lent. It returns the
+/// The tables of the square of a key and of the key, made in the caller's buffer. Returns the
 /// square.
 fn fill_pair(pair: &mut [[Part; TWO]; 16], key: u128) -> u128
     ensures square { result ≡ subkey_power key 2 }
@@ -117,7 +117,7 @@ impl Powers {
         hashed::<EIGHT, 128>(&tables, aad, text, count)
     }
 
-    /// The tables of the eight powers, made in the room that is lent. It returns the subkey.
+    /// The tables of the eight powers, made in the caller's buffer. Returns the subkey.
     #[inline(always)]
     pub(crate) fn fill_eight(&self, tables: &mut [[Part; EIGHT]; 16]) -> u128
         ensures key { result ≡ self.now }

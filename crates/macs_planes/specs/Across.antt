@@ -26,14 +26,14 @@ block_across rows n = map (octet_across rows n) (range_with_len 0 16)
 unfoldable pub blocks_across : ℕ → List (List ℕ) → List (List ℕ)
 blocks_across lanes rows = map (block_across rows) (range_with_len 0 lanes)
 
--- ---- rows that ShiftRows has still to turn
+-- ---- rows that ShiftRows has not turned yet
 
--- ShiftRows of a block, so many times
+-- ShiftRows applied to a block this many times
 unfoldable pub turned : ℕ → List ℕ → List ℕ
 turned zero block = block
 turned (suc n) block = shift_rows (turned n block)
 
--- the place n rows below j in its column, in a block whose rows are still to be turned t times
+-- the place n rows below j in its column, in a block whose rows must still be turned t times
 unfoldable pub row_below : ℕ → ℕ → ℕ → ℕ
 row_below t n j = (j % 4 + n) % 4 + 4 * ((j / 4 + t * n) % 4)
 
@@ -41,7 +41,7 @@ row_below t n j = (j % 4 + n) % 4 + 4 * ((j / 4 + t * n) % 4)
 unfoldable pub place_back : ℕ → ℕ → ℕ
 place_back t j = j % 4 + 4 * ((j / 4 + 3 * t * (j % 4)) % 4)
 
--- the block that t turns make the given one
+-- the block that t turns map to the given one
 unfoldable pub turned_back : ℕ → List ℕ → List ℕ
 turned_back t block = map (λ j. slice_index block (place_back t j)) (range_with_len 0 16)
 
@@ -53,7 +53,7 @@ pub record IsKeyPlanes (lanes : ℕ) (key : List ℕ) (planes : List (List ℕ))
   pub octets : (m n : ℕ) → m < 2 * lanes → n < 8
       → octet_at (blocks_in lanes octet_basis planes) m n ≡ slice_index key (m % 16)
 
--- the planes of the round keys of a key, eleven or fifteen; the rows of that of round i have still to be turned i times
+-- the planes of the round keys of a key, eleven or fifteen; the rows of that of round i must still be turned i times
 pub record AreKeyPlanes (lanes : ℕ) (key : List ℕ) (keys : List (List (List ℕ))) : Type 0 where
   pub each : (i : ℕ) → i ≤ rounds_of key
       → IsKeyPlanes lanes (turned_back (i % 4) (round_key (key_words key) i)) (get_or keys i [])

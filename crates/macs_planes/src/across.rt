@@ -22,7 +22,7 @@ use macs_aes::sbox::s_boxes;
 use std::marker::Model;
 use std::simd::prelude::*;
 
-/// One row below in its column, where the rows are still to be turned as often as the index says.
+/// One row below in its column, for rows that must still be turned as often as the index says.
 const NEXT: [PlacesTable; 4] = [
     [
         1, 2, 3, 0, 5, 6, 7, 4, 9, 10, 11, 8, 13, 14, 15, 12, 1, 2, 3, 0, 5, 6, 7, 4, 9, 10, 11, 8,
@@ -42,7 +42,7 @@ const NEXT: [PlacesTable; 4] = [
     ],
 ];
 
-/// Two rows below in its column, where the rows are still to be turned as often as the index says.
+/// Two rows below in its column, for rows that must still be turned as often as the index says.
 const AFTER: [PlacesTable; 4] = [
     [
         2, 3, 0, 1, 6, 7, 4, 5, 10, 11, 8, 9, 14, 15, 12, 13, 2, 3, 0, 1, 6, 7, 4, 5, 10, 11, 8, 9,
@@ -86,7 +86,7 @@ impl Model for Across {
     ghost view = { λ s. blocks_across LANES s.rows };
 }
 
-/// The octets of block i, and after them those of block i + 8, where there are sixteen blocks.
+/// The octets of block i, followed by those of block i + 8 if there are sixteen blocks.
 #[inline(always)]
 fn side_by_side(blocks: &[Block; LANES], i: usize) -> [u16; LANES]
     requires { i < 8 }
@@ -115,7 +115,7 @@ fn sixteen_of(words: Simd<u16, LANES>, g: usize) -> Block
     block
 }
 
-/// The octets of words as block i, and as block i + 8 those after them, where there are sixteen
+/// Stores the octets of words as block i, and those after them as block i + 8 if there are sixteen
 /// blocks.
 #[inline(always)]
 fn put_apart(blocks: &mut [Block; LANES], i: usize, words: Simd<u16, LANES>)
@@ -194,8 +194,8 @@ fn store_all(x: &Planes<LANES>, blocks: &mut [Block; LANES])
     put_apart(blocks, 7, Simd::from_array(crossed.q7));
 }
 
-/// Each octet mixed with the three below it in its column, in blocks whose rows are still to be
-/// turned so many times.
+/// Each octet mixed with the three below it in its column, in blocks whose rows must still be
+/// turned `turns` times.
 #[inline(always)]
 fn mixed(x: &Planes<LANES>, turns: usize) -> Planes<LANES>
     requires { turns < 4 }
@@ -215,9 +215,9 @@ fn mixed(x: &Planes<LANES>, turns: usize) -> Planes<LANES>
 }
 
 impl Across {
-    /// The blocks of a group that are the given one, but for the last octet, to which the number of
-    /// each is added. No octet is crossed: the planes of one block in each place are those of a round
-    /// key.
+    /// The blocks of a group that equal the given one, except for the last octet, to which the
+    /// number of each is added. No octet is crossed: the planes of one block in each place are
+    /// those of a round key.
     #[inline(always)]
     pub(crate) fn numbered(first: &Block) -> Self
         requires { slice_index first.now 15 % LANES ≡ 0 }
@@ -263,8 +263,8 @@ impl Across {
         *self = Across { rows };
     }
 
-    /// MixColumns (FIPS 197, 5.1.3) of each block, where ShiftRows has still to turn the rows so
-    /// many times, before and after.
+    /// MixColumns (FIPS 197, 5.1.3) of each block, whose rows ShiftRows must still turn `turns`
+    /// times, before and after.
     #[inline(always)]
     pub(crate) fn mix_columns(&mut self, turns: usize)
         requires { turns < 4 }

@@ -1,4 +1,4 @@
-//! Counter blocks of a group, made as planes: they differ in the last octet alone.
+//! Counter blocks of a group, made as planes: they differ only in the last octet.
 
 ghost use Rattle.std.specs.Prelude.{◌≡◌, ◌<◌, ℕ, [], get_or, take};
 ghost use Rattle.macs_planes.specs.Across.{octet_at};
@@ -25,7 +25,7 @@ fn number_bits(k: usize) -> [u16; LANES]
     Simd::<u16, LANES>::from_slice(&NUMBERS[k]).to_array()
 }
 
-/// Blocks of zeros, but for the last octet, which is the number of the block.
+/// Blocks of zeros, except for the last octet, which is the number of the block.
 #[inline(always)]
 pub(crate) fn numbers() -> Planes<LANES>
     ensures { (m n : ℕ) → m < OCTETS → n < 8 → octet_at result m n ≡ number_at m n }

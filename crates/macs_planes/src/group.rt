@@ -14,10 +14,11 @@ use crate::places::LANES;
 use macs_aes::{Block, Schedule};
 use std::marker::Model;
 
-/// A round of so many (FIPS 197, 5.1) on each block, with its key: the last goes without
-/// MixColumns. The rows are turned after the last round alone, so that ShiftRows moves nothing: the
-/// places of MixColumns and of the round key follow the rows. It is one function for all kinds of
-/// round, so that SubBytes is in the code once and the compiler keeps the planes in registers.
+/// Round number `round` of the cipher (FIPS 197, 5.1) on each block, with its key: the last is
+/// without MixColumns. The rows are turned only after the last round, so that ShiftRows moves
+/// nothing: the places of MixColumns and of the round key follow the rows. It is one function for
+/// all kinds of round, so that SubBytes is in the code once and the compiler keeps the planes in
+/// registers.
 #[inline(always)]
 fn take_round(blocks: &mut Across, key: &KeyPlanes, round: usize, rounds: usize)
     requires { ArePlanes LANES key.now }
@@ -60,8 +61,8 @@ fn encrypt_group(schedule: &Schedule, keys: &[KeyPlanes; ROUND_KEYS], blocks: &m
     encrypt_across(schedule, keys, Across::load(blocks)).store(blocks);
 }
 
-/// The blocks that are the first, but for the number of each in the last octet, encrypted under the
-/// schedule's key, whose round keys are given.
+/// The blocks that equal the first, except for the number of each in the last octet, encrypted
+/// under the schedule's key, whose round keys are given.
 fn encrypt_numbered(
     schedule: &Schedule,
     keys: &[KeyPlanes; ROUND_KEYS],
@@ -109,7 +110,7 @@ impl<'a> Model for GroupKeys<'a> {
 }
 
 impl<'a> GroupKeys<'a> {
-    /// The round keys of a schedule, made in the room that is lent.
+    /// The round keys of a schedule, made in the caller's buffer.
     #[inline(always)]
     pub fn new(schedule: &'a Schedule, room: &'a mut [KeyPlanes; ROUND_KEYS]) -> Self
         ensures { result ≡ schedule.now }
@@ -129,9 +130,9 @@ impl<'a> GroupKeys<'a> {
         encrypt_group(self.schedule, self.keys, blocks);
     }
 
-    /// The counter blocks of a group, encrypted by AES under the key (FIPS 197, 5.1). They are the
-    /// first, whose last octet is a multiple of the group's size, but for this octet, to which the
-    /// number of each is added.
+    /// The counter blocks of a group, encrypted by AES under the key (FIPS 197, 5.1). They equal
+    /// the first, whose last octet is a multiple of the group's size, except for this octet, to
+    /// which the number of each is added.
     #[inline(always)]
     pub fn encrypt_numbered(&self, first: &Block, blocks: &mut [Block; LANES])
         requires { slice_index first.now 15 % LANES ≡ 0 }

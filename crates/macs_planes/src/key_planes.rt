@@ -13,8 +13,7 @@ use macs_aes::{Block, Planes, Schedule};
 use std::marker::Model;
 use std::simd::prelude::*;
 
-/// How many round keys there are at most: one for each of fourteen rounds, and one before the
-/// first.
+/// The maximum number of round keys: one for each of fourteen rounds, and one before the first.
 pub const ROUND_KEYS: usize = 15;
 
 /// Where an octet comes from, so that as many turns as the index says bring it back.
@@ -69,7 +68,7 @@ impl Model for KeyPlanes {
 }
 
 impl KeyPlanes {
-    /// A round key with rows that are still to be turned so many times.
+    /// A round key with rows that must still be turned `turns` times.
     #[inline(always)]
     pub(crate) fn of(key: &Block, turns: usize) -> Self
         requires { turns < 4 }
@@ -137,7 +136,7 @@ fn bit_plane(octets: Simd<u8, OCTETS>, mask: u8) -> [u16; LANES]
     Simd::<u16, LANES>::from_le_bytes(ones).to_array()
 }
 
-/// Room for the round keys of a schedule.
+/// A buffer for the round keys of a schedule.
 #[inline(always)]
 pub fn key_room() -> [KeyPlanes; ROUND_KEYS] {
     let none = [0; LANES];
@@ -153,8 +152,8 @@ pub fn key_room() -> [KeyPlanes; ROUND_KEYS] {
     }; ROUND_KEYS]
 }
 
-/// All round keys of a schedule, in the room that is lent. What comes after those of a short key is
-/// not read.
+/// All round keys of a schedule, in the caller's buffer. Anything after those of a short key is not
+/// read.
 #[inline(always)]
 pub(crate) fn fill(keys: &mut [KeyPlanes; ROUND_KEYS], schedule: &Schedule)
     ensures { AreKeyPlanes LANES schedule.now keys.new }

@@ -1,6 +1,6 @@
-//! What `tools/tree_for` writes of the build into its copies of this file: of which commit the
-//! sources are, where that was asked for, by which toolchain it is built, whether it is proved, and
-//! for which processors the program is. In the repository it is what is written here.
+//! What `tools/tree_for` records about the build in its copies of this file: the commit of the
+//! sources, if requested, the toolchain that builds it, whether it is proved, and for which
+//! processors the program is. In the repository the values are those below.
 
 ghost use Rattle.std.specs.Prelude.{IfOk};
 ghost use Rattle.macs_program.specs.About.{IsThisBuild};
