@@ -1,4 +1,4 @@
-//! The state of a client of a relay: how many answers are due to it, and whether it keeps its place.
+//! The state of a client of a relay: how many answers are due, and whether it keeps its place.
 
 ghost use Rattle.std.specs.Prelude.{◌≡◌};
 ghost use Rattle.macs_control.specs.Standings.{new_standing};

@@ -36,8 +36,8 @@ fn take_round(blocks: &mut Across, key: &KeyPlanes, round: usize, rounds: usize)
     blocks.add_round_key(key);
 }
 
-/// Each block across planes encrypted under the schedule's key, whose round keys are given. It is in
-/// the code once, and has the planes as a value: so the compiler keeps them in registers.
+/// Each block across planes encrypted under the schedule's key, whose round keys are given. It is
+/// in the code once, and takes the planes by value, so that the compiler keeps them in registers.
 #[inline(never)]
 fn encrypt_across(schedule: &Schedule, keys: &[KeyPlanes; ROUND_KEYS], start: Across) -> Across
     requires { AreKeyPlanes LANES schedule.now keys.now }

@@ -117,7 +117,8 @@ lone_subcommands =
     ∷ subcommand_with (codes "about") []
     ∷ []
 
--- the words begin after the program's name, and the library's own help and version flags are disabled
+-- the words begin after the program's name, and the library's own help and version flags and its help subcommand are
+-- disabled
 abbrev pub bare_app : App
 bare_app = on_top (λ s. record s {
   no_binary_name = true;

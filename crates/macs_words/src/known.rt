@@ -13,7 +13,7 @@ use clap::Command;
 use std::alloc::{AllocError, Global};
 
 /// The words before any subcommand: they begin after the program's name, and the library's own help
-/// and version flags are disabled.
+/// and version flags and its help subcommand are disabled.
 fn bare_words<'a>(alloc: Global) -> Command<'a>
     ensures { app_of result ≡ bare_app }
 {
