@@ -3,8 +3,8 @@
 use macs_secrets::SecretText;
 use toml::{Table, Value};
 
-/// The table of a file. When it is let go, the texts in the tables of its arrays are overwritten,
-/// where keys are.
+/// The table of a file. When it is dropped, the texts in the tables of its arrays, among which are
+/// keys, are overwritten.
 pub struct SecretTable(pub Table);
 
 impl Drop for SecretTable {

@@ -70,7 +70,7 @@ fn powers_of(key: u128, square: u128, pair: &[[Part; TWO]; 16]) -> [u128; 8]
     [eighth, seventh, sixth, fifth, fourth, third, square, key]
 }
 
-/// The tables of the first four powers of a key, made in the room that is lent.
+/// The tables of the first four powers of a key, made in the caller's buffer.
 fn fill_four(four: &mut [[Part; FOUR]; 16], key: u128, powers: &[u128; 8])
     requires { AreEightPowers key powers.now }
     ensures { AreTables SIXTEENS FOUR (λ l. subkey_power key (4 - l)) four.new }

@@ -6,7 +6,7 @@ use Rattle.hex.specs.Hex.{decode_sized}
 use Rattle.macs_aes.specs.declared.keys.Key.{Key}
 use Rattle.macs_aes.specs.declared.keys.Key.TheVariants.{Long, Short}
 
--- so many octets, from a text of twice as many digits
+-- this many octets, from a text of twice as many digits
 abbrev pub octets_of : ℕ → List ℕ → Option (List ℕ)
 octets_of count text = result_ok (decode_sized text count)
 

@@ -1,5 +1,5 @@
-//! Hexadecimal digits of either case. No branch and no address depends on what a digit is: whether
-//! a text has anything else is asked once, of all of it.
+//! Hexadecimal digits of either case. No branch and no address depends on a digit's value: a text
+//! is checked once, as a whole, for anything that is not a digit.
 
 ghost use Rattle.std.specs.Prelude.{◌≡◌, ◌≤◌, ◌<◌, ◌*◌, ◌==◌, ◌&&◌, ℕ, IfOk, Ok, Some};
 ghost use Rattle.std.specs.Prelude.{if◌then◌else◌, length, nat_le, slice_index, string_bytes, true};
@@ -63,7 +63,7 @@ fn octet_of(high: u8, low: u8) -> u8
     value_of(high) * 16 + value_of(low)
 }
 
-/// The octets that a text says by twice as many digits.
+/// The octets in a text of twice as many digits, `None` if it is no such text.
 pub fn octets<const N: usize>(text: &[u8]) -> Option<[u8; N]>
     ensures { result ≡ octets_of N text.now }
 {
@@ -83,7 +83,7 @@ pub fn octets<const N: usize>(text: &[u8]) -> Option<[u8; N]>
     Some(octets)
 }
 
-/// The key that a text says, by 32 digits or by 64.
+/// The key in a text of 32 or 64 digits, `None` if it is no such text.
 pub fn key_of(text: &[u8]) -> Option<Key>
     ensures { result ≡ key_of text.now }
 {
@@ -116,7 +116,7 @@ pub fn write_digits(octets: &[u8], digits: &mut [u8])
     }
 }
 
-/// The lower-case digits of octets. It fails where memory is refused.
+/// The lower-case digits of octets. Fails if memory is refused.
 pub fn digits_of(alloc: Global, octets: &[u8]) -> Result<String, AllocError>
     ensures { IfOk result (λ text. string_bytes text ≡ encode_lower octets.now) }
 {

@@ -8,8 +8,8 @@ use std::fmt::Display;
 /// No file.
 const NO_FILE: i32 = -1;
 
-/// Overwrites octets with zeros. A call of the system is handed them then, which fails at once: what
-/// the system may read the compiler writes, also where the program does not read it any more.
+/// Overwrites octets with zeros. They are then passed to a system call that fails at once: the
+/// compiler keeps a write that the system may read, even if the program never reads it again.
 pub fn wipe(octets: &mut [u8])
     ensures { octets.new ≡ replicate (length octets.old) 0 }
 {
@@ -17,7 +17,7 @@ pub fn wipe(octets: &mut [u8])
     let _ = libc::write(NO_FILE, octets);
 }
 
-/// Octets that are overwritten when they are let go.
+/// Octets that are overwritten when they are dropped.
 pub struct SecretOctets(pub Vec<u8>);
 
 impl Drop for SecretOctets {
@@ -27,7 +27,7 @@ impl Drop for SecretOctets {
     }
 }
 
-/// A text that is overwritten when it is let go.
+/// A text that is overwritten when it is dropped.
 pub struct SecretText(pub String);
 
 impl Drop for SecretText {
@@ -37,8 +37,8 @@ impl Drop for SecretText {
     }
 }
 
-/// What a value is displayed as, in a text with room for so many octets: up to that it is never
-/// moved, so that it leaves no copy. It fails where memory is refused.
+/// The text that displays a value, with capacity for `room` octets: up to that it is never moved,
+/// so that it leaves no copy. Fails if memory is refused.
 pub fn text_of<D: Display + Drop>(
     alloc: Global,
     room: usize,
