@@ -8,3 +8,4 @@ pub mod OctetInverse
 pub mod Quotient
 pub mod GhashPowers
 pub mod GhashBlocks
+pub mod Sixteen

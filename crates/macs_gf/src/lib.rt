@@ -11,6 +11,8 @@
 mod block;
 pub mod laws;
 mod octet;
+mod registers;
 
 pub use block::{mul128, xtime128};
 pub use octet::mul8;
+pub use registers::REGISTER_BITS;

@@ -18,7 +18,7 @@ use lib.Bits.{or_zero_r, xor_zero_l}
 use Rattle.macs_gf.specs.Gf128.{times_power, times_x}
 use Rattle.macs_gf.proofs.Xor.{digit_scaled}
 use Rattle.macs_ghash.specs.Tables.{nibble_product, octet_from_left, octets_in, sum_of}
-use Rattle.macs_lanes.proofs.Sixteen.{below_sixteen}
+use Rattle.macs_gf.proofs.Sixteen.{below_sixteen}
 use Rattle.macs_ghash.specs.declared.filling.TheConstants.{NOWHERE}
 
 -- ---- an octet of sums

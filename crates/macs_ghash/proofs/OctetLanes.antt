@@ -11,7 +11,7 @@ use Rattle.std.proofs.lemmas.Simd.{Each1-from_get_or, SwzOk, SwzOk-from_below, g
 use Rattle.std.proofs.lemmas.Simd.{get_or-swz_l_below, get_or-zip2, length-replicate, swz_l}
 use mir.Val.{zeroes}
 use lib.Bits.{or_zero_l, or_zero_r}
-use Rattle.macs_lanes.proofs.Sixteen.{below_sixteen}
+use Rattle.macs_gf.proofs.Sixteen.{below_sixteen}
 use Rattle.macs_ghash.specs.Tables.{block_of_octets, octet_from_left, octets_in, pushed}
 use Rattle.macs_ghash.proofs.OctetSteps.{block_equal}
 use Rattle.macs_ghash.proofs.OctetSums.{octets_whole}

@@ -10,7 +10,7 @@ ghost use Rattle.macs_ghash.specs.Tables.{octet_from_left, octets_in};
 
 use crate::octets::{OCTETS, SIXTEENS, sum};
 use crate::tables::Part;
-use macs_lanes::REGISTER_BITS;
+use macs_gf::REGISTER_BITS;
 use std::simd::prelude::*;
 
 /// The remainder of x^128 (NIST SP 800-38D, 6.3).

@@ -6,7 +6,7 @@ ghost use Rattle.std.specs.Prelude.{length};
 ghost use Rattle.std.specs.List.{All};
 ghost use Rattle.macs_ghash.specs.Tables.{block_of_octets, octets_in, pushed, sum_of};
 
-use macs_lanes::REGISTER_BITS;
+use macs_gf::REGISTER_BITS;
 use std::simd::prelude::*;
 
 /// How many octets a vector register has.

@@ -6,7 +6,7 @@ ghost use Rattle.macs_planes.specs.Across.{octet_at, octet_of_words};
 ghost use Rattle.macs_aes.specs.Bits.{IsBlock};
 
 use macs_aes::{Block, Planes};
-use macs_lanes::REGISTER_BITS;
+use macs_gf::REGISTER_BITS;
 use std::simd::prelude::*;
 
 /// How many words of 16 bits a vector register has.

@@ -2,7 +2,7 @@ use Rattle.std.proofs.Common.{ℕ, List, [], ◌∷◌, arith, get_or}
 use Rattle.macs_aes.specs.Blocks.{zeros}
 use Rattle.macs_aes.specs.Columns.{IsExchanged}
 use Rattle.macs_aes.proofs.CrossMoves.{crossed}
-use Rattle.macs_lanes.proofs.Sixteen.{below_eight}
+use Rattle.macs_gf.proofs.Sixteen.{below_eight}
 use Rattle.macs_aes.proofs.columns.cross.Goals as goal
 
 pub returns-clause-q0 : goal.returns-clause-q0

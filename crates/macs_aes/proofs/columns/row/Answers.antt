@@ -1,7 +1,7 @@
 use Rattle.std.proofs.Common.{◌≡◌, ◌*◌, ◌/◌, ◌%◌, ◌^◌, ℕ, List, [], ◌∷◌, get_or, slice_index}
 use Rattle.macs_aes.specs.Blocks.{zeros}
 use Rattle.macs_aes.proofs.Bytes.{high_byte, low_byte}
-use Rattle.macs_lanes.proofs.Sixteen.{below_sixteen}
+use Rattle.macs_gf.proofs.Sixteen.{below_sixteen}
 use Rattle.macs_aes.proofs.columns.row.Goals as goal
 
 pub returns-clause-octets : goal.returns-clause-octets

@@ -1,6 +1,6 @@
 use Rattle.std.proofs.Common.{◌≡◌, ◌∙◌, ◌-◌, ◌^◌, ◌<◌, ℕ, List, [], ◌∷◌, arith, get_or, refl}
 use Rattle.macs_gf.specs.Ghash.{subkey_power}
-use Rattle.macs_lanes.proofs.Sixteen.{below_eight}
+use Rattle.macs_gf.proofs.Sixteen.{below_eight}
 use Rattle.macs_ghash.proofs.StrideSums.{first_power, power_after}
 use Rattle.macs_ghash.proofs.powers.powers_of.Goals as goal
 

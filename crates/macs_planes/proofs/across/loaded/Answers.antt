@@ -5,7 +5,7 @@ use Rattle.macs_aes.specs.Blocks.{octet, octet_basis, zeros, blocks_in}
 use Rattle.macs_planes.proofs.AcrossLanes.{across_blocks, below_eight_bit, bit_within, block_itself, blocks_whole}
 use Rattle.macs_planes.proofs.AcrossLanes.{lane_within, loaded_octet, place_of_block, place_within, sixteen_of_block}
 use Rattle.macs_aes.proofs.Circuit.{octet_of}
-use Rattle.macs_lanes.proofs.Sixteen.{below_eight}
+use Rattle.macs_gf.proofs.Sixteen.{below_eight}
 use Rattle.macs_planes.specs.declared.places.TheConstants.{LANES}
 use Rattle.macs_planes.proofs.across.loaded.Goals as goal
 

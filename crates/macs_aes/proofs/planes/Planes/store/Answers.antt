@@ -3,7 +3,7 @@ use Rattle.std.proofs.lemmas.List.{length-set}
 use Rattle.macs_aes.specs.Blocks.{octet_basis, zeros}
 use Rattle.macs_aes.specs.Columns.{IsCrossed}
 use Rattle.macs_aes.proofs.Bytes.{block_was, rows_all, rows_more, stored_row}
-use Rattle.macs_lanes.proofs.Sixteen.{below_eight}
+use Rattle.macs_gf.proofs.Sixteen.{below_eight}
 use Rattle.macs_aes.proofs.planes.Planes.store.Goals as goal
 
 pub loop-i-preserved : goal.loop-i-preserved
