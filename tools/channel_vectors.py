@@ -1,8 +1,8 @@
 #!/usr/bin/env python3
-"""Prints crates/macs_channel_tests/src/tests/long_frames.rt: frames under a key of 256 bits, by Python's
+"""Prints crates/macs_frame_tests/src/tests/long_frames.rt: frames under a key of 256 bits, by Python's
 `cryptography`. The key is that of FIPS 197, C.3.
 
-Run:  python3 -B tools/channel_vectors.py > crates/macs_channel_tests/src/tests/long_frames.rt
+Run:  python3 -B tools/channel_vectors.py > crates/macs_frame_tests/src/tests/long_frames.rt
 """
 
 from cryptography.hazmat.primitives.ciphers.aead import AESGCM

@@ -1,4 +1,4 @@
-//! Tests of tags and frames against frames from outside, through the public calls.
+//! Tests of frames and of both channels against frames from outside, through the public calls.
 #![tactic(auto)]
 
 #[cfg(test)]

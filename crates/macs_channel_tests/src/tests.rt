@@ -1,3 +1,0 @@
-mod long_frames;
-mod receiving;
-mod sending;
