@@ -1,7 +1,8 @@
 //! Commands on a configuration: what each one changes, when it is refused, and which keys it
-//! spends. Fingerprints are by Python's hashlib.
+//! spends; fingerprints are by Python's hashlib. Records, heads and gates, written out by hand.
 
 mod applying;
+mod records;
 mod refusing;
 mod restoring;
 mod spending;

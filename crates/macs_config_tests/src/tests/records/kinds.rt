@@ -1,6 +1,7 @@
 //! Each kind of record with its fields at the least and the greatest that they may be.
 
-use super::{KEY, LONG_KEY, SCI, an_of, ceiling_of, pn_of, stands_as};
+use super::{KEY, LONG_KEY, SCI, ceiling_of, pn_of, stands_as};
+use crate::tests::an_of;
 use macs_aes::{Key, KeyOctets};
 use macs_config::{Fingerprints, Protection, Replay, Role, RxSa, SciMode, TxSa, Validate};
 use macs_fields::{Offset, Sci};

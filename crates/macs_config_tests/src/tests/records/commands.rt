@@ -1,6 +1,7 @@
 //! Commands as records.
 
-use super::{KEY, LONG_KEY, SCI, an_of, sector_of};
+use super::{KEY, LONG_KEY, SCI, sector_of};
+use crate::tests::an_of;
 use macs_config::{Command, SciMode, Validate};
 use macs_record::{Record, encode};
 use std::process::Abort;

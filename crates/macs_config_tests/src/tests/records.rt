@@ -8,7 +8,7 @@ mod kinds;
 mod refused;
 
 use macs_aes::Key;
-use macs_fields::{An, Pn, Sci};
+use macs_fields::{Pn, Sci};
 use macs_record::{Ceiling, Record, RecordFault, SECTOR, decode, encode};
 use std::process::Abort;
 
@@ -40,10 +40,6 @@ fn are_refused(rt: &impl Abort, fronts: &[&[u8]], fault: RecordFault) {
     for &front in fronts {
         assert_eq!(rt; decode(&sector_of(rt, front)).err(), Some(fault));
     }
-}
-
-fn an_of(rt: &impl Abort, number: u8) -> An {
-    An::new(number).expect(rt, "association number")
 }
 
 fn pn_of(rt: &impl Abort, number: u32) -> Pn {
