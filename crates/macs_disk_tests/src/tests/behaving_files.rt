@@ -7,7 +7,7 @@ ghost use Rattle.macs_disk.specs.FileDisks.{IsFoundAgain, disk_in_file, layout_o
 
 use super::{full, seen};
 use macs_disk::{ClaimedFile, DeviceFault, DiskFile, FileDisk, Layout, SectorDisk};
-use macs_mem_file::{DeviceBlock, MemFile, MemFolder, open_disk};
+use macs_fixtures::{DeviceBlock, MemFile, MemFolder, open_disk};
 use std::alloc::Allocator;
 use std::process::Abort;
 use std::test::Fail;

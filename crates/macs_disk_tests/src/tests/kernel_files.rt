@@ -4,7 +4,7 @@
 
 use super::{fill, full, seen};
 use macs_disk::{FileDisk, FileFault, Layout, SectorDisk};
-use macs_mem_file::{
+use macs_fixtures::{
     DeviceBlock, FileCall, Left, MemFile, MemFolder, OpenMemFile, make_disk, open_disk,
 };
 use std::alloc::Global;

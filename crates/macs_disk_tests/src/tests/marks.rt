@@ -3,7 +3,7 @@
 use super::full;
 use super::kernel_files::{SPACED, folder, named};
 use macs_disk::{DiskFile, SectorDisk};
-use macs_mem_file::{MemFolder, open_disk};
+use macs_fixtures::{MemFolder, open_disk};
 use std::process::Abort;
 
 /// The octet at which the mark of a spaced file is.

@@ -11,8 +11,8 @@ use super::known::Known;
 use super::life::{command, protect, step, take};
 use super::script::{Asked, Part, command_of};
 use macs_endpoint::{Endpoint, format};
+use macs_fixtures::{Left, MemFolder};
 use macs_journal::JournalFault;
-use macs_mem_file::{Left, MemFolder};
 use std::alloc::Global;
 use std::process::Abort;
 

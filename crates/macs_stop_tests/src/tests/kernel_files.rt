@@ -1,7 +1,7 @@
 //! A disk in files that behave as those of a kernel do, and how a program comes to it.
 
 use macs_disk::{FileDisk, Layout};
-use macs_mem_file::{DeviceBlock, FileCall, MemFile, MemFolder, OpenMemFile};
+use macs_fixtures::{DeviceBlock, FileCall, MemFile, MemFolder, OpenMemFile};
 use std::alloc::Global;
 use std::cell::{RefCell, RefMut};
 use std::process::Abort;
@@ -81,10 +81,10 @@ pub(super) fn make_disk<'a>(rt: &impl Abort, folder: &'a MemFolder, ground: Grou
         Ground::Packed => Layout::Packed,
         Ground::Spaced => Layout::Spaced,
     };
-    if let Ok(disk) = macs_mem_file::make_disk(folder, layout) {
+    if let Ok(disk) = macs_fixtures::make_disk(folder, layout) {
         return disk;
     }
-    match macs_mem_file::make_disk(folder, layout) {
+    match macs_fixtures::make_disk(folder, layout) {
         Ok(disk) => disk,
         Err(_) => panic!(rt; "no disk"),
     }
@@ -92,7 +92,7 @@ pub(super) fn make_disk<'a>(rt: &impl Abort, folder: &'a MemFolder, ground: Grou
 
 /// The disk in the folder.
 pub(super) fn open_disk<'a>(rt: &impl Abort, folder: &'a MemFolder) -> Disk<'a> {
-    match macs_mem_file::open_disk(folder, 0) {
+    match macs_fixtures::open_disk(folder, 0) {
         Ok(disk) => disk,
         Err(_) => panic!(rt; "not opened"),
     }

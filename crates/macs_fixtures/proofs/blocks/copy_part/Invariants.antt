@@ -1,0 +1,11 @@
+use Rattle.std.proofs.Common.{◌≡◌, ◌<◌, ◌≤◌, ℕ, length}
+use Rattle.macs_fixtures.specs.Blocks.{octet_at}
+use Rattle.macs_fixtures.proofs.blocks.copy_part.Given as goal
+
+abbrev pub invariant-loop-p : goal.invariant-loop-p
+invariant-loop-p g l = record {
+  same_length : length l.to.items ≡ length l.fn.to.items;
+  copied : (k : ℕ) → l.at ≤ k → k < l.p → octet_at l.to.items k ≡ octet_at l.from k;
+  before : (k : ℕ) → k < l.at → octet_at l.to.items k ≡ octet_at l.fn.to.items k;
+  behind : (k : ℕ) → l.p ≤ k → octet_at l.to.items k ≡ octet_at l.fn.to.items k;
+}

@@ -1,5 +1,0 @@
-use Rattle.macs_mem_file.proofs.BlockFlags.{Copied}
-use Rattle.macs_mem_file.proofs.blocks.copy_blocks.Given as goal
-
-abbrev pub invariant-loop-n : goal.invariant-loop-n
-invariant-loop-n g l = Copied l.block l.n l.flags l.which l.fn.to.items l.from l.to.items

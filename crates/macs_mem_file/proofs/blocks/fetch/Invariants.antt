@@ -1,9 +1,0 @@
-use Rattle.std.proofs.Common.{◌≡◌, ◌<◌, ◌+◌, ℕ, length}
-use Rattle.macs_mem_file.specs.Blocks.{octet_at}
-use Rattle.macs_mem_file.proofs.blocks.fetch.Given as goal
-
-abbrev pub invariant-loop-i : goal.invariant-loop-i
-invariant-loop-i l = record {
-  same_length : length l.into ≡ length l.fn.into;
-  fetched : (k : ℕ) → k < l.i → octet_at l.into k ≡ octet_at l.from (l.at + k);
-}
