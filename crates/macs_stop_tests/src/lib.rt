@@ -1,6 +1,6 @@
 //! Tests of an endpoint and its store that no story can be: the power goes at each device call of a
-//! long script, a kernel's syncs fail, each bit of a head is changed, and a source and a sink
-//! report what they have.
+//! long script and of programs, a kernel's syncs fail, each bit of a head is changed, and a source
+//! and a sink report what they have.
 #![tactic(auto)]
 
 #[cfg(test)]

@@ -1,9 +1,11 @@
-//! Power is lost between two frames, and at each device call of a command. An endpoint is large,
-//! and the driver moves it: without optimisation, as by `rt try`, these need some 9 MB of stack.
+//! Programs that the theorem speaks of lose power between two frames, and at each device call of a
+//! command. An endpoint is large, and the driver moves it: without optimisation, as by `rt try`,
+//! these need some 9 MB of stack.
 
+use super::OWN;
 use macs_aes::Key;
 use macs_config::{Command, Identity};
-use macs_frame::{An, Sci};
+use macs_frame::An;
 use macs_theorem::{CutCommand, TwoNights, run_in_memory};
 use std::alloc::Global;
 use std::process::Abort;
@@ -12,7 +14,7 @@ use std::process::Abort;
 const MANY: u64 = 300;
 
 fn identity(rt: &impl Abort) -> Identity {
-    Identity::new(Sci([2, 0, 0, 0, 0, 1, 0, 1]), 1_024, 16).expect(rt, "identity")
+    Identity::new(OWN, 1_024, 16).expect(rt, "identity")
 }
 
 fn an(rt: &impl Abort) -> An {
