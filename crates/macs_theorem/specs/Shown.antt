@@ -49,7 +49,7 @@ pub record Shown : Type 0 where
 
 -- ---- reading an endpoint
 
--- associations and settings, from a configuration
+-- a transmit association, of a configuration's
 abbrev pub tx_association : TxSa → TxAssociation
 tx_association sa = record {
   key = sa.key;
@@ -57,9 +57,11 @@ tx_association sa = record {
   offset = octets_of (offset_of sa.protection);
 }
 
+-- a receive association, of a configuration's
 abbrev pub rx_association : RxSa → RxAssociation
 rx_association sa = record { key = sa.key; offset = octets_of sa.offset }
 
+-- the settings of a configuration
 abbrev pub settings_of : Config → Settings
 settings_of c = record {
   validate = c.validate;
