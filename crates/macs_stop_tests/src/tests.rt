@@ -1,7 +1,7 @@
 //! A script is played on a disk in memory and stopped at each of its device calls. Then the power
 //! goes, pending sectors come out in each of several ways, and what an opening finds is judged. How
-//! many stops, runs and stopped openings there are is worked out in `docs/TESTING.md`. Programs that
-//! lose power are run, too.
+//! many stops, runs and stopped openings there are is worked out in `docs/TESTING.md`. Programs
+//! that lose power are run, too.
 
 mod calls;
 mod cutting;
