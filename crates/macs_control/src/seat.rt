@@ -74,8 +74,8 @@ impl<S: Connection> Seat<S> {
         let taken = self.connection.take_into(part);
         if let Taken::Octets(count) = taken {
             self.inbox.push(&part[..count]);
+            wipe(part);
         }
-        wipe(part);
         taken
     }
 

@@ -13,9 +13,10 @@ use std::marker::Model;
 
 /// A key of AES, prepared for sealing texts with consecutive initialisation vectors: the first 64
 /// bits are the same, and the last 32 count (8.2.1), as those of frames under an association do.
-/// Key stream of short texts is generated in advance, for several at a time; with other
-/// initialisation vectors it seals just as correctly, but slower. It takes 5 to 8 KB. In contracts
-/// its value is its key, a list of 16 or 32 octets.
+/// Key stream for texts of up to 304 octets is generated in advance, for 8 initialisation vectors
+/// (x86-64-v2) or 16 (x86-64-v3); longer texts are sealed as by `seal`. Vectors in another order
+/// are sealed just as correctly, but slower. It takes 5 to 8 KB. In contracts its value is its key,
+/// a list of 16 or 32 octets.
 #[derive(Drop)]
 pub struct SealingKey {
     schedule: Schedule,
@@ -52,8 +53,9 @@ impl SealingKey {
         }
     }
 
-    /// Seals a text in place as `seal` does, and returns the tag of 128 bits. Lengths and
-    /// initialisation vectors are as there.
+    /// Seals a text in place as `seal` does, and returns the tag of 128 bits. As there, no two calls
+    /// with one key may have the same initialisation vector (8), and the text and the additional
+    /// data have fewer than 2^32 octets each, possibly none.
     pub fn seal(&mut self, iv: &[u8; 12], aad: &[u8], text: &mut [u8]) -> [u8; 16]
         requires aad { length aad.now < 2 ^ 32 }
         requires text { length text.old < 2 ^ 32 }

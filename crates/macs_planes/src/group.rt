@@ -130,9 +130,9 @@ impl<'a> GroupKeys<'a> {
         encrypt_group(self.schedule, self.keys, blocks);
     }
 
-    /// The counter blocks of a group, encrypted by AES under the key (FIPS 197, 5.1). They equal
-    /// the first, whose last octet is a multiple of the group's size, except for this octet, to
-    /// which the number of each is added.
+    /// The counter blocks of a group, encrypted by AES under the key (FIPS 197, 5.1): block n is
+    /// the first with n added to its last octet. That octet is a multiple of the group's size, so
+    /// nothing is carried.
     #[inline(always)]
     pub fn encrypt_numbered(&self, first: &Block, blocks: &mut [Block; LANES])
         requires { slice_index first.now 15 % LANES ≡ 0 }

@@ -8,8 +8,8 @@ use std::fmt::Display;
 /// No file.
 const NO_FILE: i32 = -1;
 
-/// Overwrites octets with zeros. They are then passed to a system call that fails at once: the
-/// compiler keeps a write that the system may read, even if the program never reads it again.
+/// Overwrites octets with zeros, then hands them to a `write` without a file, which fails at once:
+/// so the compiler may not leave the zeros out.
 pub fn wipe(octets: &mut [u8])
     ensures { octets.new ≡ replicate (length octets.old) 0 }
 {

@@ -9,7 +9,7 @@ mod single_blocks;
 mod vectors;
 
 use macs_aes::Key;
-use macs_gcm::{GcmKey, open, seal};
+use macs_gcm::{GcmKey, SealingKey, open, seal};
 use std::process::Abort;
 use vectors::{BLOCKS, LONG_KEY_VECTORS, SHORT_KEY_VECTORS, Vector};
 
@@ -89,6 +89,15 @@ impl Sealing {
         seal(&GcmKey::new(&self.key), &self.iv, aad, text)
     }
 
+    /// Encrypts the text under a key that makes key stream ahead, and answers the tag.
+    fn seal_ahead(&mut self, rt: &impl Abort) -> [u8; 16] {
+        let aad = self.aad.as_slice();
+        let text = self.text.as_mut_slice();
+        assert!(rt; aad.len() < LIMIT);
+        assert!(rt; text.len() < LIMIT);
+        SealingKey::new(&self.key).seal(&self.iv, aad, text)
+    }
+
     /// Decrypts the text where the tag is right.
     fn open(&mut self, rt: &impl Abort, tag: &[u8; 16]) -> bool {
         let aad = self.aad.as_slice();
@@ -98,12 +107,15 @@ impl Sealing {
         open(&GcmKey::new(&self.key), &self.iv, aad, text, tag)
     }
 
-    /// Seals the text to this one and this tag, and opens it again.
+    /// Seals the text to this one and this tag, in both ways, and opens it again.
     fn check(&mut self, rt: &impl Abort, ciphertext: &Octets, tag: u128) {
         let plaintext = self.text;
+        let mut ahead = *self;
         let sealed = self.seal(rt);
         assert_eq!(rt; self.text.as_slice(), ciphertext.as_slice());
         assert_eq!(rt; u128::from_be_bytes(sealed), tag);
+        assert_eq!(rt; ahead.seal_ahead(rt), sealed);
+        assert_eq!(rt; ahead.text.as_slice(), ciphertext.as_slice());
         assert!(rt; self.open(rt, &sealed));
         assert_eq!(rt; self.text.as_slice(), plaintext.as_slice());
     }
