@@ -53,9 +53,9 @@ impl SealingKey {
         }
     }
 
-    /// Seals a text in place as `seal` does, and returns the tag of 128 bits. As there, no two calls
-    /// with one key may have the same initialisation vector (8), and the text and the additional
-    /// data have fewer than 2^32 octets each, possibly none.
+    /// Seals a text in place as `seal` does, and returns the tag of 128 bits. As there, no two
+    /// calls with one key may have the same initialisation vector (8), and the text and the
+    /// additional data have fewer than 2^32 octets each, possibly none.
     pub fn seal(&mut self, iv: &[u8; 12], aad: &[u8], text: &mut [u8]) -> [u8; 16]
         requires aad { length aad.now < 2 ^ 32 }
         requires text { length text.old < 2 ^ 32 }
