@@ -8,7 +8,7 @@ pub returns-in-Ok-clause-said : goal.returns-in-Ok-clause-said
 returns-in-Ok-clause-said g c =
     IfOk-weaker c.commands_said.result _ _
     (λ told says. says-read (g.R.Read.remaining c.args.file.now) _ told.end told.commands.items
-    (rw (c.take.ensures.limit, c.take.ensures.inner, c.new-octets.ensures.items) at c.in-Ok.ensures.bytes)
+    (rw (c.take.ensures.limit, c.take.ensures.inner, c.in_ok-with_capacity.ensures.items) at c.in-Ok.ensures.bytes)
     (rw c.as_slice.ensures.value at says))
     c.commands_said.ensures.said
 
@@ -16,7 +16,7 @@ pub returns-in-Ok-clause-fault : goal.returns-in-Ok-clause-fault
 returns-in-Ok-clause-fault g c =
     IfErr-weaker c.commands_said.result _ _
     (λ failure complains. inr (complains-read (g.R.Read.remaining c.args.file.now) _ failure
-    (rw (c.take.ensures.limit, c.take.ensures.inner, c.new-octets.ensures.items) at c.in-Ok.ensures.bytes)
+    (rw (c.take.ensures.limit, c.take.ensures.inner, c.in_ok-with_capacity.ensures.items) at c.in-Ok.ensures.bytes)
     (rw c.as_slice.ensures.value at complains)))
     c.commands_said.ensures.fault
 

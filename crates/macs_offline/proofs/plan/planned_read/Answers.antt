@@ -8,7 +8,7 @@ pub returns-in-Ok-clause-planned : goal.returns-in-Ok-clause-planned
 returns-in-Ok-clause-planned g c =
     IfOk-weaker c.planned_said.result _ _
     (λ text plans. plans-read c.args.end c.args.stage (g.R.Read.remaining c.args.file.now) _ (string_bytes text)
-    (rw (c.take.ensures.limit, c.take.ensures.inner, c.new-octets.ensures.items) at c.in-Ok.ensures.bytes)
+    (rw (c.take.ensures.limit, c.take.ensures.inner, c.in_ok-with_capacity.ensures.items) at c.in-Ok.ensures.bytes)
     (rw c.as_slice.ensures.value at plans))
     c.planned_said.ensures.planned
 
@@ -16,7 +16,7 @@ pub returns-in-Ok-clause-fault : goal.returns-in-Ok-clause-fault
 returns-in-Ok-clause-fault g c =
     IfErr-weaker c.planned_said.result _ _
     (λ failure says. inr (why-read c.args.end c.args.stage (g.R.Read.remaining c.args.file.now) _ failure
-    (rw (c.take.ensures.limit, c.take.ensures.inner, c.new-octets.ensures.items) at c.in-Ok.ensures.bytes)
+    (rw (c.take.ensures.limit, c.take.ensures.inner, c.in_ok-with_capacity.ensures.items) at c.in-Ok.ensures.bytes)
     (rw c.as_slice.ensures.value at says)))
     c.planned_said.ensures.fault
 
