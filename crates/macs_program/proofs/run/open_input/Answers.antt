@@ -25,7 +25,7 @@ pub returns-in_err-answer-clause-ended : goal.returns-in_err-answer-clause-ended
 returns-in_err-answer-clause-ended g c =
     let p = err_from_is_err_and c.from_residual-in_err-answer.result c.from_residual-in_err-answer.ensures.1 in
     let fault = c.in_err-answer.field-0.0 in
-    let first = (c.answer_of.ensures.fault fault).0 c.in_err-answer.was in
+    let first = (c.answer_of-answer.ensures.fault fault).0 c.in_err-answer.was in
     rw p.1 (inr (inl (
       fault,
       p.2,
