@@ -6,7 +6,7 @@ mod runs;
 
 use super::expect;
 use super::stand_in::Broken;
-use crate::Outcome;
+use macsecd_fixtures::Outcome;
 pub use relays::{Frames, Relayed};
 use std::alloc::Global;
 use std::fs;
