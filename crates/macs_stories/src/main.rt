@@ -9,7 +9,6 @@
 
 mod counting;
 mod desks;
-mod disk;
 mod endpoint;
 mod files;
 mod frames;
@@ -21,12 +20,11 @@ mod shelf;
 mod stage;
 mod stories;
 mod talks;
-mod text;
 mod tools;
 mod wires;
 
 use crate::stories::{Source, play};
-use crate::text::{Report, Telling};
+use macs_story_text::{Report, Telling};
 use std::process::ExitCode;
 use std::{env, fs};
 

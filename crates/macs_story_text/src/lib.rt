@@ -1,5 +1,6 @@
 //! The text of stories: their blocks and rows, their acts and the words of these, the words of an
 //! answer, and what is printed of a file. docs/STORIES.md says how a story is written.
+#![tactic(auto)]
 
 mod answer;
 mod blocks;

@@ -1,11 +1,11 @@
 //! The operator's commands, in the words of command files; their keys are in the order of
 //! OPERATIONS.md, without names.
 
-use crate::disk::names::{an_of, key_of, sci_of};
-use crate::text::{Answer, Words};
+use crate::names::{an_of, key_of, sci_of};
 use macs_aes::Key;
 use macs_config::{Command, SciMode, Validate};
 use macs_fields::{An, Sci};
+use macs_story_text::{Answer, Words};
 
 /// The command of this word with the words that follow; `None` where there is none.
 pub fn command_of(name: &str, words: &mut Words<'_>) -> Option<Command> {

@@ -1,9 +1,10 @@
 //! What stories do with a disk, a journal and a store, and what they ask of them: the words of
 //! their acts, and the disk of a story.
+#![tactic(auto)]
 
 mod commands;
 mod controls;
-mod device;
+mod disk;
 mod journal;
 mod names;
 mod questions;
@@ -14,7 +15,7 @@ mod store;
 
 pub use commands::{command_of, tell_command};
 pub use controls::{Controls, Fuse};
-pub use device::StoryDisk;
+pub use disk::StoryDisk;
 pub use journal::JournalLife;
 pub use names::{an_of, key_of, pn_of, sci_of};
 pub use questions::{ask_config, tell_identity};

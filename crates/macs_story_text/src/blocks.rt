@@ -1,7 +1,7 @@
 //! The stories and setups of a file, and the rows of a story.
 
-use crate::text::values::{Row, Values, first_word};
-use crate::text::words::is_wanted;
+use crate::values::{Row, Values, first_word};
+use crate::words::is_wanted;
 use std::alloc::Global;
 
 /// Where a file is read: what is left of it, and the number of its next line, from 1 on.

@@ -1,15 +1,15 @@
 //! What is done with a store, and what is asked of it.
 
-use crate::disk::commands::command_of;
-use crate::disk::device::StoryDisk;
-use crate::disk::names::{an_of, pn_of, sci_of};
-use crate::disk::questions::{ask_config, tell_identity};
-use crate::text::{Answer, Words, whole};
+use crate::commands::command_of;
+use crate::disk::StoryDisk;
+use crate::names::{an_of, pn_of, sci_of};
+use crate::questions::{ask_config, tell_identity};
 use macs_config::Command;
 use macs_fields::{An, Pn, Sci};
 use macs_journal::JournalFault;
 use macs_record::Ceiling;
 use macs_store::{CommitFault, JournalStep, Store};
+use macs_story_text::{Answer, Words, whole};
 
 type Played = Store<StoryDisk>;
 

@@ -1,6 +1,6 @@
 //! The words of a line.
 
-use crate::text::values::{Values, first_word};
+use crate::values::{Values, first_word};
 
 /// The words of a line that are left.
 #[derive(Clone, Copy)]

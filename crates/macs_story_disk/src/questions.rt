@@ -1,9 +1,9 @@
 //! What is asked of a configuration.
 
-use crate::disk::names::{an_of, key_of, sci_of};
-use crate::text::{Answer, Words, whole};
+use crate::names::{an_of, key_of, sci_of};
 use macs_config::{Config, Identity, Protection, RxSa, TxSa};
 use macs_fields::{An, Offset};
+use macs_story_text::{Answer, Words, whole};
 
 /// Reports an SCI, and the blocks of either side.
 pub fn tell_identity(identity: Identity, answer: &mut Answer) {

@@ -1,9 +1,9 @@
 //! What is printed of a file.
 
-use crate::text::answer::Answer;
-use crate::text::script::Line;
-use crate::text::values::{Row, Values};
-use crate::text::words::is_wanted;
+use crate::answer::Answer;
+use crate::script::Line;
+use crate::values::{Row, Values};
+use crate::words::is_wanted;
 
 /// What is reported of the acts.
 #[derive(Clone, Copy, PartialEq, Eq)]

@@ -1,9 +1,9 @@
 //! Words that name an association, a packet number, a channel, a key or a spent key.
 
-use crate::text::Words;
 use hex::FromHex;
 use macs_aes::Key;
 use macs_fields::{An, Pn, Sci};
+use macs_story_text::Words;
 
 /// The next word as the number of an association.
 pub fn an_of(words: &mut Words<'_>) -> Option<An> {

@@ -1,7 +1,7 @@
 //! Frames in words: octets that are all the same, and lists of frames.
 
-use crate::text::answer::Answer;
-use crate::text::words::{Words, whole};
+use crate::answer::Answer;
+use crate::words::{Words, whole};
 use std::alloc::Global;
 
 /// The longest frame that a story makes, in octets.

@@ -4,7 +4,7 @@
 ghost use Rattle.std.specs.Prelude.{◌≡◌, ◌<◌, ◌≤◌, ◌+◌, ◌-◌, ◌^◌, ◌↔◌};
 ghost use Rattle.std.specs.Prelude.{IsErr, OnErr, OnOk};
 
-use crate::disk::controls::{Controls, Fuse};
+use crate::controls::{Controls, Fuse};
 use macs_disk::{DeviceFault, FileDisk, MemDisk, SectorDisk};
 use std::alloc::Global;
 use std::rc::Rc;
@@ -210,7 +210,7 @@ impl StoryDisk {
 
 impl SectorDisk for StoryDisk {
     ghost use Rattle.macs_disk.specs.Evidence.{full-clock, no-claim};
-    ghost use Rattle.macs_stories.specs.Disks.{story_disk};
+    ghost use Rattle.macs_story_disk.specs.Disks.{story_disk};
 
     ghost disk = { story_disk };
 

@@ -3,14 +3,14 @@
 ghost use Rattle.std.specs.Prelude.{IsTrue};
 ghost use Rattle.macs_journal.specs.Stepping.{FitsWork};
 
-use crate::disk::device::StoryDisk;
-use crate::disk::questions::tell_identity;
-use crate::disk::records::{record_of, records_of, tell_record, tell_records};
-use crate::disk::store::tell_step;
-use crate::text::{Answer, Words};
+use crate::disk::StoryDisk;
+use crate::questions::tell_identity;
+use crate::records::{record_of, records_of, tell_record, tell_records};
+use crate::store::tell_step;
 use macs_config::Identity;
 use macs_journal::{Journal, Records, Recovered, Work};
 use macs_record::{Format, Record};
+use macs_story_text::{Answer, Words};
 
 type Played = Journal<StoryDisk>;
 

@@ -2,7 +2,7 @@
 use Rattle.std.specs.Prelude.{◌-◌, ◌^◌, ◌==◌, false}
 use Rattle.macs_disk.specs.States.{settled_state, zero_sector}
 use Rattle.macs_disk.specs.Disk.{Disk}
-use Rattle.macs_stories.specs.declared.disk.device.StoryDisk.{StoryDisk}
+use Rattle.macs_story_disk.specs.declared.disk.StoryDisk.{StoryDisk}
 
 -- the disk of a story, by its counts. It claims no honesty.
 abbrev pub story_disk : StoryDisk → Disk

@@ -1,13 +1,13 @@
 //! Records of a journal, in words.
 
-use crate::disk::commands::{command_of, is_on, sci_mode_of, validate_of};
-use crate::disk::names::{an_of, fingerprint_of, key_of, sci_of};
-use crate::text::{Answer, Words};
+use crate::commands::{command_of, is_on, sci_mode_of, validate_of};
+use crate::names::{an_of, fingerprint_of, key_of, sci_of};
 use macs_aes::KeyOctets;
 use macs_config::{Fingerprints, Protection, Replay, Role, RxSa, TxSa};
 use macs_fields::Offset;
 use macs_journal::Records;
 use macs_record::{Ceiling, Record, encode};
+use macs_story_text::{Answer, Words};
 
 /// The record that all words say: a command, or what else a journal keeps.
 pub fn record_of(words: &mut Words<'_>) -> Option<Record> {

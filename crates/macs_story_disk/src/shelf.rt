@@ -1,11 +1,11 @@
 //! What is done with a disk that nothing has.
 
-use crate::disk::device::StoryDisk;
-use crate::disk::sectors::{
+use crate::disk::StoryDisk;
+use crate::sectors::{
     are_zeros, contents_of, is_pending, lose_power, pending, tear, tell_sector, write,
 };
-use crate::text::{Answer, Words, whole};
 use macs_disk::{MemDisk, MemFault, SectorDisk};
+use macs_story_text::{Answer, Words, whole};
 use std::alloc::Global;
 
 /// A new disk in the place of another.

@@ -1,8 +1,8 @@
 //! The acts of a story, one after the other.
 
-use crate::text::blocks::{Place, Play, is_no_act, setup_of};
-use crate::text::values::{Values, first_word};
-use crate::text::words::Words;
+use crate::blocks::{Place, Play, is_no_act, setup_of};
+use crate::values::{Values, first_word};
+use crate::words::Words;
 use arrayvec::ArrayVec;
 
 /// How deep setups may use setups.

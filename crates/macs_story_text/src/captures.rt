@@ -1,9 +1,9 @@
 //! Captures: the octets that come after an act, and those that are written.
 
-use crate::text::answer::Answer;
-use crate::text::frames::{filled, octets_of, tell_frame, tell_number};
-use crate::text::script::Line;
-use crate::text::words::{Words, whole};
+use crate::answer::Answer;
+use crate::frames::{filled, octets_of, tell_frame, tell_number};
+use crate::script::Line;
+use crate::words::{Words, whole};
 use std::alloc::Global;
 
 /// The header of a capture whose stamps are in nanoseconds, as another program writes it.

@@ -1,12 +1,12 @@
 //! The sectors of a story's disk: what is put into them, what a power loss leaves there, and what
 //! is found.
 
-use crate::disk::names::sci_of;
-use crate::disk::records::record_of;
-use crate::text::{Answer, Words};
+use crate::names::sci_of;
+use crate::records::record_of;
 use macs_config::Identity;
 use macs_disk::{DeviceFault, MemDisk, SectorDisk};
 use macs_record::{Format, Head, SECTOR, encode, encode_head, open_gate};
+use macs_story_text::{Answer, Words};
 use std::alloc::Global;
 
 type Sector = [u8; SECTOR];
