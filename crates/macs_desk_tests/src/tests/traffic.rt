@@ -1,15 +1,14 @@
 //! What is reported of frames that pass.
 
 use super::clients::{Asker, expect_told};
-use super::program;
-use crate::tests::endpoints::{OWN, command, formatted, number_of, opened};
+use super::{formatted_as, opened, program};
 use macs_aes::Key;
 use macs_config::Command;
 use macs_desk::{ControlDesk, Dropped, KeyNotes, NoteFault, Overruns, Time};
 use macs_disk::MemDisk;
 use macs_edge::{MemWire, attend};
 use macs_endpoint::Endpoint;
-use macs_frame::{FrameBuf, Sci};
+use macs_frame::{An, FrameBuf, Sci};
 use macs_requests::NoMetrics;
 use std::alloc::Global;
 use std::process::Abort;
@@ -39,10 +38,20 @@ impl KeyNotes for AtTen {
     }
 }
 
+const HERE: Sci = Sci([2, 0, 0, 0, 0, 1, 0, 1]);
+
 const THERE: Sci = Sci([2, 0, 0, 0, 0, 2, 0, 1]);
 
 /// A frame with 48 octets of User Data.
 const PLAIN: [u8; 60] = [9; 60];
+
+fn an(rt: &impl Abort, number: u8) -> An {
+    An::new(number).expect(rt, "an association number")
+}
+
+fn apply(rt: &impl Abort, endpoint: &mut Endpoint<MemDisk>, command: Command) {
+    assert!(rt; endpoint.command(command).is_ok());
+}
 
 /// Sends under this association number from now on.
 fn send_under(
@@ -52,7 +61,7 @@ fn send_under(
     key: u8,
     confidential: bool,
 ) {
-    let an = number_of(rt, number);
+    let an = an(rt, number);
     let install = Command::TxInstall {
         an,
         key: Key::Short([key; 16]),
@@ -60,20 +69,20 @@ fn send_under(
         confidential,
         offset: 0,
     };
-    command(rt, endpoint, install);
-    command(rt, endpoint, Command::TxUse { an });
+    apply(rt, endpoint, install);
+    apply(rt, endpoint, Command::TxUse { an });
 }
 
 /// Receives from the other endpoint under this association number from now on.
 fn receive_under(rt: &impl Abort, endpoint: &mut Endpoint<MemDisk>, number: u8, key: u8) {
     let install = Command::RxInstall {
         sci: THERE,
-        an: number_of(rt, number),
+        an: an(rt, number),
         key: Key::Short([key; 16]),
         start: 1,
         offset: 0,
     };
-    command(rt, endpoint, install);
+    apply(rt, endpoint, install);
 }
 
 /// Puts a frame that the endpoint protects on a wire.
@@ -89,11 +98,11 @@ fn carried(
     alloc: Global,
     desk: &mut ControlDesk<Asker<'_, impl Abort>, NoMetrics, AtTen>,
 ) {
-    let mut there = opened(rt, formatted(rt, alloc, THERE, 4));
-    let mut here = opened(rt, formatted(rt, alloc, OWN, 4));
+    let mut there = opened(rt, formatted_as(rt, alloc, THERE));
+    let mut here = opened(rt, formatted_as(rt, alloc, HERE));
     let mut controlled = MemWire::new(alloc);
     let mut common = MemWire::new(alloc);
-    command(rt, &mut here, Command::RxAdd { sci: THERE });
+    apply(rt, &mut here, Command::RxAdd { sci: THERE });
     receive_under(rt, &mut here, 1, 7);
     receive_under(rt, &mut here, 3, 8);
     send_under(rt, &mut here, 2, 9, false);

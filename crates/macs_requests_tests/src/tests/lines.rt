@@ -1,9 +1,8 @@
 //! Each request, and its line.
 
-use crate::tests::endpoints::number_of;
 use macs_aes::Key;
 use macs_config::{Command, SciMode, Validate};
-use macs_fields::Sci;
+use macs_fields::{An, Sci};
 use macs_requests::{Request, line_of_request, request_of_line};
 use std::alloc::Global;
 use std::process::Abort;
@@ -27,6 +26,10 @@ fn stands_as(rt: &impl Abort, alloc: Global, request: Request, line: &str) {
 
 fn command_stands_as(rt: &impl Abort, alloc: Global, command: Command, line: &str) {
     stands_as(rt, alloc, Request::Apply(command), line);
+}
+
+fn an_of(rt: &impl Abort, number: u8) -> An {
+    An::new(number).expect(rt, "association number")
 }
 
 #[test]
@@ -66,7 +69,7 @@ fn settings(rt: HostRuntime) {
 #[test]
 fn places(rt: HostRuntime) {
     let alloc = rt.alloc();
-    let an = number_of(&rt, 3);
+    let an = an_of(&rt, 3);
     command_stands_as(&rt, alloc, Command::TxUse { an }, "tx-use 3");
     command_stands_as(&rt, alloc, Command::TxRemove { an }, "tx-remove 3");
     let add = Command::RxAdd { sci: SCI };
@@ -81,7 +84,7 @@ fn places(rt: HostRuntime) {
 fn installs(rt: HostRuntime) {
     let alloc = rt.alloc();
     let tx = Command::TxInstall {
-        an: number_of(&rt, 0),
+        an: an_of(&rt, 0),
         key: KEY,
         start: 1,
         confidential: true,
@@ -91,7 +94,7 @@ fn installs(rt: HostRuntime) {
     command_stands_as(&rt, alloc, tx, line);
     let rx = Command::RxInstall {
         sci: SCI,
-        an: number_of(&rt, 1),
+        an: an_of(&rt, 1),
         key: KEY,
         start: 4_294_967_295,
         offset: 255,
@@ -103,7 +106,7 @@ fn installs(rt: HostRuntime) {
 #[test]
 fn long_keys(rt: HostRuntime) {
     let tx = Command::TxInstall {
-        an: number_of(&rt, 2),
+        an: an_of(&rt, 2),
         key: LONG_KEY,
         start: 0,
         confidential: false,

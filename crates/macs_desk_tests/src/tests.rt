@@ -6,10 +6,11 @@ mod refusals;
 mod reports;
 mod traffic;
 
-use super::endpoints::{OWN, formatted, opened};
-use macs_disk::MemDisk;
+use macs_config::Identity;
+use macs_disk::{MemDisk, SectorDisk};
 use macs_edge::{Desk, MemWire, attend};
-use macs_endpoint::Endpoint;
+use macs_endpoint::{Endpoint, format};
+use macs_frame::Sci;
 use macs_texts::{Build, Program};
 use std::alloc::Global;
 use std::process::Abort;
@@ -23,6 +24,29 @@ fn program(rt: &impl Abort, alloc: Global) -> Program {
     }
 }
 
+/// The disk of a new endpoint.
+fn formatted(rt: &impl Abort, alloc: Global) -> MemDisk {
+    formatted_as(rt, alloc, Sci([2, 0, 0, 0, 0, 1, 0, 1]))
+}
+
+/// The same of the endpoint with this SCI.
+fn formatted_as(rt: &impl Abort, alloc: Global, sci: Sci) -> MemDisk {
+    let identity = Identity::new(sci, 4, 4).expect(rt, "identity");
+    let mut disk = match MemDisk::new(alloc, 1_028) {
+        Ok(disk) => disk,
+        Err(_) => panic!(rt; "no disk"),
+    };
+    assert!(rt; format(&mut disk, &identity).is_ok());
+    disk
+}
+
+fn opened<D: SectorDisk + Drop>(rt: &impl Abort, disk: D) -> Endpoint<D> {
+    match Endpoint::open(disk) {
+        Ok(endpoint) => endpoint,
+        Err(_) => panic!(rt; "not opened"),
+    }
+}
+
 /// A relay of a new endpoint of so many turns, between two wires on which nothing waits, with this
 /// desk.
 fn attended<K: Desk<MemDisk, MemWire<Global>, MemWire<Global>>>(
@@ -31,7 +55,7 @@ fn attended<K: Desk<MemDisk, MemWire<Global>, MemWire<Global>>>(
     desk: &mut K,
     turns: u64,
 ) {
-    let endpoint = opened(rt, formatted(rt, alloc, OWN, 4));
+    let endpoint = opened(rt, formatted(rt, alloc));
     relay_between(rt, alloc, endpoint, desk, turns);
 }
 
