@@ -1,13 +1,17 @@
-//! Command files with each wrong value, captures that are cut or fail in mid-stream, want of
-//! memory, and wires of the system.
+//! Captures as files and through an endpoint, command files with each wrong value, want of memory,
+//! wires, the lines of a control socket and the desk that answers them.
 
+mod capture_files;
 mod captures;
 mod datagrams;
+mod desk;
+mod endpoints;
 mod fault_wires;
 mod hostile_files;
 mod hostile_texts;
 mod memory;
 mod relaying;
+mod requests;
 mod resting;
 mod sockets;
 mod wires;

@@ -1,11 +1,11 @@
 //! What an endpoint counted.
 
+use crate::disk::sci_of;
 use crate::passing::tell_verdict;
+use crate::text::{Answer, Words, whole};
 use macs_endpoint::Counters;
 use macs_frame::Sci;
 use macs_rxsc::Verdict;
-use macs_story_disk::sci_of;
-use macs_story_text::{Answer, Words, whole};
 use macs_texts::RX_VERDICTS;
 use macs_txsc::TxFault;
 

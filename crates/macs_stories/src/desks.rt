@@ -1,12 +1,12 @@
 //! The desk of a story: what it wants before each turn of a relay, and what was reported to it.
 
+use crate::disk::command_of;
 use crate::endpoint::tell_ran;
+use crate::text::{Answer, Line, Words, whole};
 use macs_config::Command;
 use macs_disk::SectorDisk;
 use macs_edge::{CommandEnd, Desk, Order, Wire};
 use macs_endpoint::{Endpoint, SubmitFault, Ticket};
-use macs_story_disk::command_of;
-use macs_story_text::{Answer, Line, Words, whole};
 use std::alloc::Global;
 use std::collections::VecDeque;
 

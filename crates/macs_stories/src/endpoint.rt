@@ -1,12 +1,12 @@
 //! What is done with an endpoint, and what is asked of it.
 
 use crate::counting::ask_counters;
+use crate::disk::{StoryDisk, an_of, ask_config, command_of, sci_of, tell_identity};
 use crate::passing::pass;
+use crate::text::{Answer, Words, whole};
 use macs_config::Command;
 use macs_endpoint::{CommandFault, Endpoint, RefillFault, Step, StepFault, SubmitFault, Ticket};
 use macs_rxsc::RxNumbers;
-use macs_story_disk::{StoryDisk, an_of, ask_config, command_of, sci_of, tell_identity};
-use macs_story_text::{Answer, Words, whole};
 use std::alloc::Global;
 
 /// An endpoint over the disk of a story.

@@ -1,10 +1,10 @@
 //! Command files: the text that is after an act, and the commands that it says.
 
+use crate::disk::tell_command;
 use crate::endpoint::{Played, give, tell_ran};
+use crate::text::{Answer, Line, Words, whole};
 use macs_config::Command;
 use macs_edge::{ConfigFault, commands_of};
-use macs_story_disk::tell_command;
-use macs_story_text::{Answer, Line, Words, whole};
 use std::alloc::Global;
 use toml::Table;
 

@@ -1,12 +1,12 @@
 //! What has the disk from an opening to a power loss or an orderly end: an endpoint, a store or a
 //! journal.
 
+use crate::disk::{JournalLife, StoryDisk, act_with_store, power_loss};
 use crate::stage::Stage;
+use crate::text::{Answer, Line, Words};
 use crate::tools::{self, Tools};
 use macs_endpoint::Endpoint;
 use macs_store::Store;
-use macs_story_disk::{JournalLife, StoryDisk, act_with_store, power_loss};
-use macs_story_text::{Answer, Line, Words};
 use std::alloc::Global;
 
 /// What has the disk.

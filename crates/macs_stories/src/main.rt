@@ -9,6 +9,7 @@
 
 mod counting;
 mod desks;
+mod disk;
 mod endpoint;
 mod files;
 mod frames;
@@ -20,11 +21,12 @@ mod shelf;
 mod stage;
 mod stories;
 mod talks;
+mod text;
 mod tools;
 mod wires;
 
 use crate::stories::{Source, play};
-use macs_story_text::{Report, Telling};
+use crate::text::{Report, Telling};
 use std::process::ExitCode;
 use std::{env, fs};
 

@@ -1,12 +1,12 @@
 //! Frames that an endpoint is given, from either side.
 
+use crate::disk::{an_of, key_of, offset_of, pn_of, sci_of};
 use crate::endpoint::Played;
 use crate::frames::{Form, Sealed, clear_octets, frame_of, sevens};
+use crate::text::{Answer, Words, octets_of, whole};
 use macs_endpoint::{ProtectFault, Stopped};
 use macs_frame::{FrameBuf, Offset, Pn};
 use macs_rxsc::Verdict;
-use macs_story_disk::{an_of, key_of, offset_of, pn_of, sci_of};
-use macs_story_text::{Answer, Words, octets_of, whole};
 use std::alloc::Global;
 
 fn protected(endpoint: &mut Played, plain: &[u8], out: &mut FrameBuf) -> Result<Pn, ProtectFault> {

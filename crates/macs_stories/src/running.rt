@@ -1,9 +1,9 @@
 //! Captures that run through an endpoint.
 
 use crate::endpoint::Played;
+use crate::text::{Answer, Captures, Words};
 use macs_edge::{RunFault, Summary, run_protect, run_validate};
 use macs_pcap::{ReaderSource, WriterSink};
-use macs_story_text::{Answer, Captures, Words};
 use std::alloc::Global;
 
 /// Which way a capture runs.

@@ -2,13 +2,13 @@
 
 ghost use Rattle.std.specs.Prelude.{false, []};
 
+use crate::disk::command_of;
 use crate::endpoint::{Played, tell_step, tell_submitted};
 use crate::frames::sevens;
 use crate::passing::{tell_protected, tell_received};
+use crate::text::{Answer, Line, Words, whole};
 use macs_endpoint::{Answer as Reply, AnswerSink, Event, EventSource, ServeEnd};
 use macs_frame::FrameBuf;
-use macs_story_disk::command_of;
-use macs_story_text::{Answer, Line, Words, whole};
 use std::alloc::Global;
 use std::collections::VecDeque;
 

@@ -1,9 +1,9 @@
 //! What is done with a disk that nothing has.
 
+use crate::disk::{StoryDisk, act_with_disk, identity_of};
+use crate::text::{Answer, Line};
 use macs_config::Identity;
 use macs_endpoint::format;
-use macs_story_disk::{StoryDisk, act_with_disk, identity_of};
-use macs_story_text::{Answer, Line};
 use std::alloc::Global;
 
 fn format_disk(disk: &mut StoryDisk, identity: &Identity, answer: &mut Answer) {

@@ -1,8 +1,8 @@
 //! What the acts of a story share.
 
+use crate::disk::{Controls, Fuse};
+use crate::text::{Answer, Line, Report, Script, Words};
 use crate::tools::Tools;
-use macs_story_disk::{Controls, Fuse};
-use macs_story_text::{Answer, Line, Report, Script, Words};
 use std::alloc::Global;
 use std::rc::Rc;
 

@@ -1,14 +1,14 @@
 //! The stories of a file, each played on a new disk.
 
+use crate::disk::{Controls, JournalLife, StoryDisk};
 use crate::life::live;
 use crate::shelf;
 use crate::stage::Stage;
+use crate::text::{Block, BlockKind, Line, Place, Play, Report, Script};
 use macs_disk::FileDisk;
 use macs_endpoint::Endpoint;
 use macs_journal::{JournalFault, recover};
 use macs_store::Store;
-use macs_story_disk::{Controls, JournalLife, StoryDisk};
-use macs_story_text::{Block, BlockKind, Line, Place, Play, Report, Script};
 use std::alloc::Global;
 use std::fs::File;
 use std::rc::Rc;

@@ -4,10 +4,10 @@ use crate::desks::{self, Orders};
 use crate::endpoint::{Played, act_with_endpoint};
 use crate::serving::{self, Service};
 use crate::talks::{self, Talks};
+use crate::text::{Answer, Captures, Line, Words, act_with_captures};
 use crate::wires::{self, Wires};
 use crate::{files, running};
 use macs_config::Command;
-use macs_story_text::{Answer, Captures, Line, Words, act_with_captures};
 use std::alloc::Global;
 
 /// What an act has at hand besides the disk, or besides what has the disk.

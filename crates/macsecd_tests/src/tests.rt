@@ -27,8 +27,8 @@ mod trying;
 mod waiting;
 mod wires;
 
+use crate::{Outcome, wrong_part};
 use macs_program::CaptureFile;
-use macsecd_fixtures::{Outcome, wrong_part};
 use std::alloc::Global;
 use std::fs::File;
 use std::net::Net;

@@ -15,7 +15,7 @@ mod relay_words;
 mod streams;
 mod words;
 
-use macsecd_fixtures::{Outcome, status_of, wrong_part};
+use macsecd_tests::{Outcome, status_of, wrong_part};
 use std::alloc::{AllocError, Global};
 use std::fs::File;
 use std::io::Read;

@@ -6,13 +6,14 @@ mod faults;
 mod frames;
 mod memory;
 
+use super::endpoints::{OWN, command, formatted, number_of, opened, sending};
 use macs_aes::Key;
-use macs_config::{Command, Identity};
+use macs_config::Command;
 use macs_disk::{MemDisk, SectorDisk};
 use macs_edge::{RunFault, Summary, run_protect, run_validate};
-use macs_endpoint::{Endpoint, format};
+use macs_endpoint::Endpoint;
 use macs_fixtures::{NarrowReader, NarrowWriter};
-use macs_frame::{An, FrameBuf, Sci};
+use macs_frame::{FrameBuf, Sci};
 use macs_pcap::{ReaderSource, Sink, Source, WriterSink};
 use std::alloc::{Allocator, Global};
 use std::process::Abort;
@@ -27,9 +28,6 @@ const HEADER: [u8; 24] = [
 const WRITTEN: [u8; 24] = [
     0xa1, 0xb2, 0x3c, 0x4d, 0, 2, 0, 4, 0, 0, 0, 0, 0, 0, 0, 0, 0, 4, 0, 0, 0, 0, 0, 1,
 ];
-
-/// The SCI of most endpoints here.
-const OWN: Sci = Sci([2, 0, 0, 0, 0, 1, 0, 1]);
 
 /// The SCI of the sender of the published frame, and the key of its association 2.
 const PEER: Sci = Sci([0x12, 0x15, 0x35, 0x24, 0xc0, 0x89, 0x5e, 0x81]);
@@ -135,32 +133,6 @@ fn plain_capture(alloc: Global, sizes: [usize; 10]) -> Result<Vec<u8>, Fail> {
     Ok(octets)
 }
 
-pub(super) fn number_of(rt: &impl Abort, association: u8) -> An {
-    An::new(association).expect(rt, "association number")
-}
-
-/// A disk in memory with the journal of a new endpoint, whose blocks have so many packet numbers.
-pub(super) fn formatted(rt: &impl Abort, alloc: Global, sci: Sci, block: u32) -> MemDisk {
-    let identity = Identity::new(sci, block, block).expect(rt, "identity");
-    let mut disk = match MemDisk::new(alloc, 1_028) {
-        Ok(disk) => disk,
-        Err(_) => panic!(rt; "no disk"),
-    };
-    assert!(rt; format(&mut disk, &identity).is_ok());
-    disk
-}
-
-fn opened<D: SectorDisk + Drop>(rt: &impl Abort, disk: D) -> Endpoint<D> {
-    match Endpoint::open(disk) {
-        Ok(endpoint) => endpoint,
-        Err(_) => panic!(rt; "not opened"),
-    }
-}
-
-fn command<D: SectorDisk>(rt: &impl Abort, endpoint: &mut Endpoint<D>, command: Command) {
-    assert!(rt; endpoint.command(command).is_ok());
-}
-
 fn protect<D: SectorDisk>(endpoint: &mut Endpoint<D>, plain: &[u8], out: &mut FrameBuf) -> bool {
     endpoint.protect(plain, out).is_ok()
 }
@@ -169,23 +141,7 @@ fn next_number<D: SectorDisk>(rt: &impl Abort, endpoint: &Endpoint<D>) -> Option
     endpoint.next_number(number_of(rt, 0))
 }
 
-/// The endpoint of a disk, sending under association 0 from packet number 1 on.
-pub(super) fn sending<D: SectorDisk + Drop>(rt: &impl Abort, disk: D) -> Endpoint<D> {
-    let an = number_of(rt, 0);
-    let mut endpoint = opened(rt, disk);
-    let install = Command::TxInstall {
-        an,
-        key: Key::Short([7; 16]),
-        start: 1,
-        confidential: true,
-        offset: 0,
-    };
-    command(rt, &mut endpoint, install);
-    command(rt, &mut endpoint, Command::TxUse { an });
-    endpoint
-}
-
-/// A new endpoint that sends so.
+/// A new endpoint that sends under association 0.
 fn sender(rt: &impl Abort, alloc: Global) -> Endpoint<MemDisk> {
     sending(rt, formatted(rt, alloc, OWN, 4))
 }

@@ -1,17 +1,13 @@
 //! Frames that a wire does not send for want of memory.
 
-use super::captures::{formatted, number_of, sending};
+use super::endpoints::{OWN, formatted, number_of, sending};
 use super::wires::{filled, push};
 use linked_list_allocator::LocalHeap;
 use macs_disk::SectorDisk;
 use macs_edge::{MemWire, RelaySummary, Wire, relay};
 use macs_endpoint::{Endpoint, RefillFault};
-use macs_frame::Sci;
 use std::alloc::{Allocator, Global};
 use std::process::Abort;
-
-/// The SCI of the endpoint.
-const LEFT: Sci = Sci([2, 0, 0, 0, 0, 1, 0, 1]);
 
 fn relayed<D: SectorDisk, P: Wire, C: Wire>(
     endpoint: &mut Endpoint<D>,
@@ -68,7 +64,7 @@ fn expect_rising<A: Allocator + Copy>(rt: &impl Abort, wire: &MemWire<A>) {
 /// Six frames to a wire in this heap: how many were sent. Each of the others is lost with its
 /// number, which stays used.
 fn sent_in(rt: &impl Abort, alloc: Global, heap: &LocalHeap) -> u64 {
-    let mut endpoint = sending(rt, formatted(rt, alloc, LEFT, 4));
+    let mut endpoint = sending(rt, formatted(rt, alloc, OWN, 4));
     let mut controlled = MemWire::new(alloc);
     let mut common = MemWire::new(heap);
     push_plain(rt, alloc, &mut controlled, 6);

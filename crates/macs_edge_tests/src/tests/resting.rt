@@ -2,7 +2,7 @@
 
 ghost use Rattle.std.specs.Prelude.{Some, length};
 
-use super::captures::{formatted, number_of, sending};
+use super::endpoints::{OWN, formatted, number_of, sending};
 use super::relaying::push_plain;
 use macs_config::Command;
 use macs_disk::{MemDisk, SectorDisk};
@@ -10,13 +10,10 @@ use macs_edge::{
     CommandEnd, Desk, DeskEvent, Got, Idle, MemWire, Order, Wire, WireFault, attend, relay_resting,
 };
 use macs_endpoint::{Endpoint, SubmitFault, Ticket};
-use macs_frame::{FrameBuf, Sci};
+use macs_frame::FrameBuf;
 use std::alloc::Global;
 use std::cell::Cell;
 use std::process::Abort;
-
-/// The SCI of the endpoint.
-const LEFT: Sci = Sci([2, 0, 0, 0, 0, 1, 0, 1]);
 
 /// What was called, a digit for each call, the first in front.
 type Notes = Cell<u64>;
@@ -89,7 +86,7 @@ fn it_sleeps_after_quiet_turns(rt: HostRuntime) {
         notes: &notes,
         slept: Vec::new(rt.alloc()),
     };
-    let mut endpoint = sending(&rt, formatted(&rt, rt.alloc(), LEFT, 64));
+    let mut endpoint = sending(&rt, formatted(&rt, rt.alloc(), OWN, 64));
     let told = relay_resting(&mut endpoint, &mut controlled, &mut common, &mut idle, 5);
     assert!(rt; told.is_ok());
     assert!(rt; notes.get() == 142_142_129_129_129);
@@ -165,7 +162,7 @@ fn submit<D: SectorDisk>(rt: &impl Abort, endpoint: &mut Endpoint<D>, command: C
 
 /// An endpoint with two commands that wait.
 fn with_two_commands(rt: &impl Abort, alloc: Global) -> Endpoint<MemDisk> {
-    let mut endpoint = sending(rt, formatted(rt, alloc, LEFT, 64));
+    let mut endpoint = sending(rt, formatted(rt, alloc, OWN, 64));
     let an = number_of(rt, 0);
     submit(rt, &mut endpoint, Command::TxUse { an });
     submit(rt, &mut endpoint, Command::TxUse { an });

@@ -7,7 +7,7 @@ use super::stories::Step::{
     Zeros,
 };
 use super::stories::{Step, play};
-use macsecd_fixtures::Outcome;
+use crate::Outcome;
 use std::test::Fail;
 
 const FORMATTED: Outcome = Outcome::Done("formatted\n");

@@ -5,7 +5,7 @@ use super::stories::Step::{
     Failing, Filled, Folder, HasOctets, Hex, Keeping, Patch, Run, Symbolic, Zeros,
 };
 use super::stories::{Step, play};
-use macsecd_fixtures::Outcome;
+use crate::Outcome;
 use std::io::ErrorKind;
 use std::test::Fail;
 

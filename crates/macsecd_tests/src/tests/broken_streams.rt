@@ -6,7 +6,7 @@ use super::stand_in::Broken;
 use super::stand_in::Broken::{Flush, Printed, Read, Special, Unreadable, Write};
 use super::stories::Step::{Failing, Filled, HasOctets, Hex, Holds, Run, Text};
 use super::stories::{Step, play};
-use macsecd_fixtures::Outcome;
+use crate::Outcome;
 use std::io::ErrorKind;
 use std::test::Fail;
 

@@ -3,7 +3,7 @@
 
 use super::stories::Step::{Hex, Holds, IsMissing, Run, Text};
 use super::stories::{Step, play};
-use macsecd_fixtures::Outcome;
+use crate::Outcome;
 use std::test::Fail;
 
 /// Three plain frames, of 22, 60 and 74 octets.

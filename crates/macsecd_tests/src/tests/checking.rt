@@ -4,7 +4,7 @@ use super::captures::SENDER;
 use super::stand_in::Broken::{Opening, Read};
 use super::stories::Step::{Closing, Failing, Filled, Hex, Keeping, Mode, Run, Text};
 use super::stories::{Step, play};
-use macsecd_fixtures::Outcome;
+use crate::Outcome;
 use std::io::ErrorKind;
 use std::test::Fail;
 

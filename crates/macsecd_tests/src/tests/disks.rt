@@ -2,7 +2,7 @@
 
 use super::stories::Step::{Closing, Filled, Folder, HasOctets, IsMissing, Patch, Run};
 use super::stories::{Step, play};
-use macsecd_fixtures::Outcome;
+use crate::Outcome;
 use std::test::Fail;
 
 const FORMATTED: Outcome = Outcome::Done("formatted\n");

@@ -8,7 +8,7 @@ use super::stories::Step::{
     Shared, Symbolic, Text, Zeros,
 };
 use super::stories::{Step, play};
-use macsecd_fixtures::Outcome;
+use crate::Outcome;
 use std::io::ErrorKind::{
     FilesystemLoop, IsADirectory, NotADirectory, NotFound, Other, OutOfMemory, PermissionDenied,
     TooManyLinks, WouldBlock,

@@ -5,7 +5,7 @@ use super::stand_in::Broken;
 use super::stand_in::Broken::{Read, Sync, Write};
 use super::stories::Step::{Failing, Hex, Run, Text};
 use super::stories::{Step, play};
-use macsecd_fixtures::Outcome;
+use crate::Outcome;
 use std::io::ErrorKind;
 use std::test::Fail;
 

@@ -5,7 +5,7 @@
 use super::stand_in::Broken::{Opening, Read};
 use super::stories::Step::{Claimed, Closing, Failing, Hex, Keeping, Run};
 use super::stories::{Step, play};
-use macsecd_fixtures::Outcome;
+use crate::Outcome;
 use std::io::ErrorKind;
 use std::test::Fail;
 

@@ -4,7 +4,7 @@
 use super::captures::{CAPTURE_FAULT, RECEIVER};
 use super::stories::Step::{Closing, Hex, Holds, Run, Text};
 use super::stories::{Step, play};
-use macsecd_fixtures::Outcome;
+use crate::Outcome;
 use std::test::Fail;
 
 /// A good frame, one without a SecTAG, the first once more, one of which the last octet was

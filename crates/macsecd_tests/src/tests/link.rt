@@ -3,7 +3,7 @@
 use super::link_files::{LEFT, PLAIN, PROTECTED, RIGHT};
 use super::stories::Step::{Hex, Holds, Run, Text};
 use super::stories::{Step, play};
-use macsecd_fixtures::Outcome;
+use crate::Outcome;
 use std::test::Fail;
 
 const LINK: &[Step] = &[

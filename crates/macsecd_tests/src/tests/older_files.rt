@@ -3,7 +3,7 @@
 use super::stand_in::Broken::{Sync, Write};
 use super::stories::Step::{Failing, Keeping, Patch, Run, Text, Zeros};
 use super::stories::{Step, play};
-use macsecd_fixtures::Outcome;
+use crate::Outcome;
 use std::test::Fail;
 
 pub const HEAD: &str =

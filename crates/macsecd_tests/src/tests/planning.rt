@@ -3,7 +3,7 @@
 
 use super::stories::Step::{Closing, Filled, Hex, Keeping, Run, Text};
 use super::stories::{Step, play};
-use macsecd_fixtures::{ONE_PAIR, Outcome};
+use crate::{ONE_PAIR, Outcome};
 use std::test::Fail;
 
 /// The link of one pair of keys with a newer pair, of a long key and a short one.

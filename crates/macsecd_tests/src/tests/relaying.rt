@@ -2,7 +2,7 @@
 
 use super::stories::Step::{IsMissing, Keeping, Run, Text};
 use super::stories::{Step, play};
-use macsecd_fixtures::Outcome::{Disk, Done, Fault, Usage};
+use crate::Outcome::{Disk, Done, Fault, Usage};
 use std::test::Fail;
 
 const FORMAT: &[&str] = &["format", "story-relay/disk", "12153524c0895e81", "4", "4"];

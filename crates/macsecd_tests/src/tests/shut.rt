@@ -5,7 +5,7 @@ use super::stand_in::Broken;
 use super::stand_in::Broken::Opening;
 use super::stories::Step::{Failing, Hex, Holds, IsMissing, Run};
 use super::stories::{Step, play};
-use macsecd_fixtures::Outcome;
+use crate::Outcome;
 use std::io::ErrorKind;
 use std::test::Fail;
 

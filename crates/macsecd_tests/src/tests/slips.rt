@@ -6,7 +6,7 @@ use super::stories::Step::{
     Text, Zeros,
 };
 use super::stories::{Step, play};
-use macsecd_fixtures::Outcome;
+use crate::Outcome;
 use std::test::Fail;
 
 const FORMATTED: Outcome = Outcome::Done("formatted\n");

@@ -4,7 +4,7 @@
 use super::link_files::{LEFT, PLAIN, PROTECTED, RIGHT};
 use super::stories::Step::{HasOctets, Hex, Holds, Patch, Run, Text};
 use super::stories::{Step, play};
-use macsecd_fixtures::Outcome;
+use crate::Outcome;
 use std::test::Fail;
 
 const LEFT_DISK: &str = "story-spaced/left.disk";

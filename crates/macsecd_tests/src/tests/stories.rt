@@ -6,7 +6,7 @@ mod runs;
 
 use super::expect;
 use super::stand_in::Broken;
-use macsecd_fixtures::Outcome;
+use crate::Outcome;
 pub use relays::{Frames, Relayed};
 use std::alloc::Global;
 use std::fs;

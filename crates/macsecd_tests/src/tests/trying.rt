@@ -9,7 +9,7 @@ use super::stories::Step::{
     Text, Zeros,
 };
 use super::stories::{Step, play};
-use macsecd_fixtures::Outcome;
+use crate::Outcome;
 use std::io::ErrorKind::{NotFound, Other, OutOfMemory};
 use std::test::Fail;
 

@@ -4,7 +4,7 @@ use super::link_files::RIGHT;
 use super::stories::Step::{Relay, Run, Text};
 use super::stories::{Frames, Relayed, Step, play};
 use super::wires::FRAMES;
-use macsecd_fixtures::Outcome::Done;
+use crate::Outcome::Done;
 use std::test::Fail;
 use std::time::{Duration, Instant};
 

@@ -4,7 +4,7 @@
 use super::link_files::RIGHT;
 use super::stories::Step::{Relay, Run, Text};
 use super::stories::{Frames, Relayed, Step, play};
-use macsecd_fixtures::Outcome;
+use crate::Outcome;
 use std::test::Fail;
 
 /// The plain frame goes out under packet number 1,025; the other one is the first of the left end.

@@ -1,7 +1,7 @@
 //! Command files that cannot be read: the line that says where and why.
 
 use super::expect;
-use macsecd_fixtures::Outcome;
+use macsecd_tests::Outcome;
 use std::alloc::Global;
 use std::fs;
 use std::fs::File;

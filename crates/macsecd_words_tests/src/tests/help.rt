@@ -6,7 +6,7 @@ use super::help_text::{
     VALIDATE_TEXT,
 };
 use super::{INPUT, OPENED, expect, printed};
-use macsecd_fixtures::Outcome;
+use macsecd_tests::Outcome;
 use std::alloc::Global;
 use std::fs::File;
 use std::net::Net;

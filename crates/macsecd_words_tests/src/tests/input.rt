@@ -4,7 +4,7 @@ use super::{
     FourLines, INTEGRITY, KEY, OPENED, SCI, expect, expect_lines_and, expect_openings,
     expect_texts, joined,
 };
-use macsecd_fixtures::Outcome;
+use macsecd_tests::Outcome;
 use std::test::Fail;
 
 const INPUT_FAULT: Outcome = Outcome::Fault("macsecd: input\n");

@@ -1,7 +1,7 @@
 //! Files of a link of which nothing is planned: the line that says why.
 
 use super::expect;
-use macsecd_fixtures::{ONE_PAIR, Outcome};
+use macsecd_tests::{ONE_PAIR, Outcome};
 use std::alloc::Global;
 use std::fs;
 use std::fs::File;

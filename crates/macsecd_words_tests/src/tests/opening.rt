@@ -4,7 +4,7 @@ use super::{
     FourLines, INTEGRITY, INTEGRITY_LINE, KEY, OPENED, SCI, expect_lines_and, expect_openings,
     joined,
 };
-use macsecd_fixtures::Outcome;
+use macsecd_tests::Outcome;
 use std::alloc::Global;
 use std::fs::File;
 use std::net::Net;

@@ -1,7 +1,7 @@
 //! Words that are refused, and the line that says why.
 
 use super::{Row, expect, expect_each};
-use macsecd_fixtures::Outcome;
+use macsecd_tests::Outcome;
 use std::alloc::Global;
 use std::fs::File;
 use std::net::Net;

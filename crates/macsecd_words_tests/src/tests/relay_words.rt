@@ -1,7 +1,7 @@
 //! Words that are no relay, and the line that says why. No file is made.
 
 use super::{Row, expect_each};
-use macsecd_fixtures::Outcome::Usage;
+use macsecd_tests::Outcome::Usage;
 use std::fs;
 use std::test::Fail;
 

@@ -6,7 +6,7 @@ use linked_list_allocator::LocalHeap;
 use macs_fixtures::{Failure, NarrowWriter};
 use macs_offline::{Opened, answer_of};
 use macs_program::run::line_of;
-use macsecd_fixtures::{Closing, Outcome, status_of};
+use macsecd_tests::{Closing, Outcome, status_of};
 use std::alloc::Global;
 use std::fs::File;
 use std::io::{self, Read, Write};

@@ -1,9 +1,10 @@
 //! Frames that pass, and frames that are left out.
 
 use super::{
-    OWN, PEER, PEER_KEY, WRITTEN, Way, command, formatted, next_number, number_of, opened, plain,
-    plain_capture, protect, push_frame, run_whole, sender, sending, summary,
+    PEER, PEER_KEY, WRITTEN, Way, next_number, plain, plain_capture, protect, push_frame,
+    run_whole, sender, summary,
 };
+use crate::tests::endpoints::{OWN, command, formatted, number_of, opened, sending};
 use macs_config::Command;
 use macs_disk::MemDisk;
 use macs_endpoint::Endpoint;

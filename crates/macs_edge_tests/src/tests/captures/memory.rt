@@ -1,10 +1,8 @@
 //! Want of memory for a frame.
 
 use super::frames::protected_capture;
-use super::{
-    OWN, PEER, WRITTEN, Way, command, formatted, number_of, opened, plain_capture, run_in, sender,
-    summary,
-};
+use super::{PEER, WRITTEN, Way, plain_capture, run_in, sender, summary};
+use crate::tests::endpoints::{OWN, command, formatted, number_of, opened};
 use linked_list_allocator::LocalHeap;
 use macs_aes::Key;
 use macs_config::Command;

@@ -4,7 +4,7 @@ use super::super::expect_over;
 use super::super::peers::{OWN1, OWN2, Peers};
 use super::super::stand_in::{Broken, StandIn};
 use super::files::octets_of;
-use macsecd_fixtures::Outcome;
+use crate::Outcome;
 use std::alloc::Global;
 use std::fs::File;
 use std::net::Net;

@@ -4,7 +4,7 @@
 use super::super::stand_in::{Broken, StandIn};
 use super::super::{expect, expect_over};
 use super::files::{expect_octets, octets_in};
-use macsecd_fixtures::{Closing, Outcome, status_of};
+use crate::{Closing, Outcome, status_of};
 use std::alloc::Global;
 use std::fs::{File, OpenOptions};
 use std::net::Net;
