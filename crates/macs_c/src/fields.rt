@@ -64,7 +64,7 @@ pub(crate) fn offset_of(octets: u8) -> Option<Offset>
 }
 
 /// The SecTAG and the offset, `None` if a field is out of its range.
-pub(crate) fn fields_of(tag: &MacsTag) -> Option<(SecTag, Offset)>
+pub(crate) fn tag_from_c(tag: &MacsTag) -> Option<(SecTag, Offset)>
     ensures some { IsSome result ↔ (is_in_range tag.now ≡ true) }
     ensures fields { IfSome result
         (λ found. (found.0 ≡ sec_tag tag.now) × (octets_of found.1 ≡ tag.now.offset)) }

@@ -8,7 +8,7 @@ ghost use Rattle.macs_frame.specs.Protection.{overhead, protected_frame};
 ghost use Rattle.macs_c.specs.Refusals.{seal_refusal, sealed_frame};
 ghost use Rattle.macs_c.specs.declared.refusals.Refusal.TheVariants.{Room};
 
-use crate::fields::{MacsTag, fields_of};
+use crate::fields::{MacsTag, tag_from_c};
 use crate::keys::{MacsKey, key_of};
 use crate::refusals::Refusal;
 use macs_aes::Key;
@@ -82,7 +82,7 @@ pub(crate) fn seal_into(
     let Some(octets) = key_of(key) else {
         return Err(Refusal::Key);
     };
-    let Some((written, offset)) = fields_of(tag) else {
+    let Some((written, offset)) = tag_from_c(tag) else {
         return Err(Refusal::Field);
     };
     if plain.len() < MIN_FRAME {

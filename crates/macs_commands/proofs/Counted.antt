@@ -3,7 +3,7 @@ use Rattle.std.proofs.Common.{◌≡◌, List, [], ◌∷◌, length, refl, ap, 
 use Rattle.std.specs.declared.alloc.Global.{Global}
 use Rattle.toml.specs.declared.value.Value.{Value}
 use Rattle.toml.specs.View.{members_view}
-use Rattle.macs_commands.specs.CommandFiles.{count}
+use Rattle.macs_commands.specs.Tables.{count}
 
 pub counted : (es : List (String Global × Value)) → length es ≡ count (members_view es)
 counted [] = refl

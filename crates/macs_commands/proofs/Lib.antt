@@ -1,3 +1,22 @@
 mod Counted
 mod KeysBeside
 pub mod Reading
+mod Undecoded
+mod Pairs
+mod Inserted
+mod KeyDigits
+mod Readable
+mod FileText
+mod Distinct
+mod Sound
+mod Taken
+mod Stages
+mod LinkWords
+mod PlanWords
+mod Keyed
+mod Blanks
+mod Values
+mod Told
+mod Whole
+mod Lengths
+mod Feeds

@@ -2,14 +2,14 @@
 use Rattle.std.proofs.Common.{◌≡◌, ◌<◌, ◌≤◌, ◌+◌, ℕ, List, [], ◌∷◌, ◌++◌, length, drop, get_or, refl, ap, sym, ◌∙◌}
 use Rattle.std.proofs.Common.{append_assoc, append-nil, subst, IfErr, Result, Ok, Err, Some, None}
 use Rattle.std.proofs.Common.{drop_of_length-le}
-use Rattle.macs_commands.specs.declared.config_fault.ConfigFault.TheVariants.{Memory, Shape}
+use Rattle.macs_commands.specs.declared.files.config_fault.ConfigFault.TheVariants.{Memory, Shape}
 use Rattle.toml.specs.Data.{Data, string, integer, float, boolean, datetime, array, table, Items, no_items, item}
 use Rattle.toml.specs.Data.{Members, as_table}
 use Rattle.toml.specs.declared.value.Value.{Value}
 use Rattle.toml.specs.View.{items_view, view}
 use Rattle.toml.proofs.Views.{items_view-drop}
 use Rattle.macs_config.specs.declared.command.Command.{Command}
-use Rattle.macs_commands.specs.declared.config_fault.ConfigFault.{ConfigFault}
+use Rattle.macs_commands.specs.declared.files.config_fault.ConfigFault.{ConfigFault}
 use Rattle.macs_commands.specs.CommandFiles.{table_command, table_commands, before}
 
 abbrev pub joined : List Command → Result (List Command) ConfigFault → Result (List Command) ConfigFault

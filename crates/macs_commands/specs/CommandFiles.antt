@@ -4,14 +4,10 @@ use Rattle.std.specs.Prelude.{None, Result, Ok, Err}
 use Rattle.toml.specs.Data.{Data, Items, Members, array, get_member, item, member, no_items, no_members, table}
 use Rattle.macs_config.specs.declared.command.Command.{Command}
 use Rattle.macs_commands.specs.Lines.{command_of, key_beside, keys_of, word_in}
-use Rattle.macs_commands.specs.declared.config_fault.ConfigFault.{ConfigFault}
-use Rattle.macs_commands.specs.declared.config_fault.ConfigFault.TheVariants as fault
-use Rattle.macs_commands.specs.declared.config_fault.KeyName.{KeyName}
-
--- how many keys a table has
-abbrev pub count : Members → ℕ
-count no_members = 0
-count (member key value members) = suc (count members)
+use Rattle.macs_commands.specs.Tables.{are_tables, count}
+use Rattle.macs_commands.specs.declared.files.config_fault.ConfigFault.{ConfigFault}
+use Rattle.macs_commands.specs.declared.files.config_fault.ConfigFault.TheVariants as fault
+use Rattle.macs_commands.specs.declared.files.config_fault.KeyName.{KeyName}
 
 -- ---- one table
 
@@ -29,12 +25,6 @@ table_command at members = elim (word_in members) [
 ]
 
 -- ---- all tables
-
--- each of these values is a table
-abbrev pub are_tables : Items → Bool
-are_tables no_items = true
-are_tables (item (table _) items) = are_tables items
-are_tables (item other items) = false
 
 -- a command, and those after it
 abbrev pub before : Result Command ConfigFault → Result (List Command) ConfigFault → Result (List Command) ConfigFault

@@ -2,11 +2,12 @@
 use Rattle.std.specs.Prelude.{◌≡◌, ◌-◌, ℕ, codes, List, Option, Some, None, Result, Ok, Err}
 use Rattle.toml.specs.Data.{Members, get_member}
 use Rattle.macs_config.specs.declared.command.Command.{Command}
-use Rattle.macs_commands.specs.CommandFiles.{commands_among, count}
-use Rattle.macs_commands.specs.Fields.{sci_in}
-use Rattle.macs_commands.specs.declared.ends.CommandFileFault.{CommandFileFault}
-use Rattle.macs_commands.specs.declared.ends.CommandFileFault.TheVariants as file
-use Rattle.macs_commands.specs.declared.config_fault.ConfigFault.{ConfigFault}
+use Rattle.macs_commands.specs.CommandFiles.{commands_among}
+use Rattle.macs_commands.specs.Tables.{count}
+use Rattle.macs_commands.specs.Tables.{sci_in}
+use Rattle.macs_commands.specs.declared.files.ends.CommandFileFault.{CommandFileFault}
+use Rattle.macs_commands.specs.declared.files.ends.CommandFileFault.TheVariants as file
+use Rattle.macs_commands.specs.declared.files.config_fault.ConfigFault.{ConfigFault}
 
 -- ---- the end
 

@@ -1,4 +1,16 @@
-pub mod Fields
+pub mod Words
+pub mod Tables
 pub mod Lines
 pub mod CommandFiles
 pub mod Ends
+pub mod Digits
+pub mod Planning
+pub mod Reading
+pub mod Writing
+pub mod Accepting
+pub mod LinkWords
+pub mod Cutting
+pub mod CommandLines
+pub mod Requests
+pub mod Inboxes
+pub mod Talks

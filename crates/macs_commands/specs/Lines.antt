@@ -1,4 +1,4 @@
--- The words of the commands, and the keys of each command's table in order.
+-- The table of a command: its word, its keys, and its values in the order of its line.
 use Rattle.std.specs.Prelude.{ℕ, codes, if◌then◌else◌, Bool, List, [], ◌∷◌, Option, Some, None}
 use Rattle.std.specs.Prelude.{option_and_then, Result, Ok, Err}
 use Rattle.std.specs.List.{list_any}
@@ -7,49 +7,25 @@ use Rattle.toml.specs.Data.{Members, member, no_members}
 use Rattle.macs_config.specs.declared.command.Command.{Command}
 use Rattle.macs_config.specs.declared.command.Command.TheVariants.{SetValidate, SetReplay, SetSciMode, TxInstall, TxUse}
 use Rattle.macs_config.specs.declared.command.Command.TheVariants.{TxRemove, RxAdd, RxDrop, RxInstall, RxRemove}
-use Rattle.macs_commands.specs.Fields.{an_in, confidential_in, key_in, offset_in, on_in, sci_in, sci_mode_in, start_in}
-use Rattle.macs_commands.specs.Fields.{text_at, validate_in, window_in}
-use Rattle.macs_commands.specs.declared.config_fault.KeyName.{KeyName}
-use Rattle.macs_commands.specs.declared.config_fault.KeyName.TheVariants.{Mode, On, Window, An, Key, Start}
-use Rattle.macs_commands.specs.declared.config_fault.KeyName.TheVariants.{Confidential, Offset, Sci}
-use Rattle.macs_commands.specs.declared.word.Word.{Word}
-use Rattle.macs_commands.specs.declared.word.Word.TheVariants as word
+use Rattle.macs_commands.specs.Tables.{an_in, confidential_in, key_in, offset_in, on_in, sci_in, sci_mode_in, start_in}
+use Rattle.macs_commands.specs.Tables.{text_at, validate_in, window_in}
+use Rattle.macs_commands.specs.declared.files.config_fault.KeyName.{KeyName}
+use Rattle.macs_commands.specs.declared.files.config_fault.KeyName.TheVariants.{Mode, On, Window, An, Key, Start}
+use Rattle.macs_commands.specs.declared.files.config_fault.KeyName.TheVariants.{Confidential, Offset, Sci}
+use Rattle.macs_commands.specs.Words.{word_spelled}
+use Rattle.macs_commands.specs.declared.command_word.CommandWord.{CommandWord}
+use Rattle.macs_commands.specs.declared.command_word.CommandWord.TheVariants as word
 
 -- ---- words
 
--- the receive command word in a text
-abbrev pub rx_word_of : List ℕ → Option Word
-rx_word_of text =
-    if bytes_eq text (codes "rx-add") then Some word.RxAdd
-    else if bytes_eq text (codes "rx-drop") then Some word.RxDrop
-    else if bytes_eq text (codes "rx-install") then Some word.RxInstall
-    else if bytes_eq text (codes "rx-remove") then Some word.RxRemove
-    else None
-
--- the transmit or receive command word in a text
-abbrev pub channel_word_of : List ℕ → Option Word
-channel_word_of text =
-    if bytes_eq text (codes "tx-install") then Some word.TxInstall
-    else if bytes_eq text (codes "tx-use") then Some word.TxUse
-    else if bytes_eq text (codes "tx-remove") then Some word.TxRemove
-    else rx_word_of text
-
--- the command word in a text
-abbrev pub word_of : List ℕ → Option Word
-word_of text =
-    if bytes_eq text (codes "set-validate") then Some word.SetValidate
-    else if bytes_eq text (codes "set-replay") then Some word.SetReplay
-    else if bytes_eq text (codes "set-sci-mode") then Some word.SetSciMode
-    else channel_word_of text
-
 -- the word of a table
-abbrev pub word_in : Members → Option Word
-word_in members = option_and_then word_of (text_at (codes "do") members)
+abbrev pub word_in : Members → Option CommandWord
+word_in members = option_and_then word_spelled (text_at (codes "do") members)
 
 -- ---- keys
 
 -- the keys of the table of a command
-abbrev pub keys_of : Word → List (List ℕ)
+abbrev pub keys_of : CommandWord → List (List ℕ)
 keys_of word.SetValidate = codes "do" ∷ codes "mode" ∷ []
 keys_of word.SetReplay = codes "do" ∷ codes "on" ∷ codes "window" ∷ []
 keys_of word.SetSciMode = codes "do" ∷ codes "mode" ∷ []
@@ -91,7 +67,7 @@ Err name >>= f = Err name
 
 -- the command of a table with this word, or the first key in the order of the line that is missing, of another type or
 -- out of range
-abbrev pub command_of : Word → Members → Result Command KeyName
+abbrev pub command_of : CommandWord → Members → Result Command KeyName
 command_of word.SetValidate members = do
   mode ← required Mode (validate_in members)
   Ok (SetValidate mode)

@@ -1,18 +1,19 @@
-//! Command files: an operator's commands, in TOML. The functions that read their tables also read
-//! those of a link file.
+//! An operator's commands as text: in command files, in the files that describe a link, and in the
+//! requests of a control socket. Each word is spelled once.
 #![tactic(auto)]
 
-mod command_files;
-mod config_fault;
-mod ends;
-mod fields;
-mod lines;
+mod command_word;
+mod files;
+pub mod links;
 mod modes;
-mod secret_table;
-mod word;
+pub mod requests;
+pub mod secrets;
+mod tables;
 
-pub use command_files::{are_tables, commands_of, extra_key, keys};
-pub use config_fault::{ConfigFault, KeyName};
-pub use ends::{CommandFile, CommandFileFault, command_file};
-pub use fields::{text, value};
-pub use secret_table::SecretTable;
+pub use command_word::CommandWord;
+pub use files::{
+    CommandFile, CommandFileFault, ConfigFault, KeyName, command_file, command_file_text,
+    commands_of, extra_key,
+};
+pub use modes::{replay_word, sci_mode_word, validate_word};
+pub use tables::value;

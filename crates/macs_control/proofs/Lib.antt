@@ -3,3 +3,9 @@ pub mod Called
 pub mod Placed
 pub mod Marks
 mod StandingWords
+pub mod EndTexts
+pub mod Talking
+pub mod Looking
+pub mod Reported
+pub mod Queued
+pub mod Served

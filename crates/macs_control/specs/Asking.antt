@@ -1,7 +1,7 @@
 -- A client of a relay: the lines of the relay, and its answer.
 use Rattle.std.specs.Prelude.{◌≡◌, ◌++◌, ⊤, ℕ, List, [], ◌∷◌, Option, Some, None}
-use Rattle.macs_requests.specs.Inboxes.{HasNoFeed}
-use Rattle.macs_requests.specs.Requests.{end_line}
+use Rattle.macs_commands.specs.Inboxes.{HasNoFeed}
+use Rattle.macs_commands.specs.Requests.{end_line}
 use Rattle.macs_control.specs.Links.{Link}
 use Rattle.macs_control.specs.declared.asking.Asker.{Asker}
 use Rattle.macs_control.specs.declared.seat.Seat.{Seat}

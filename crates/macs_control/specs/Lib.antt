@@ -11,3 +11,8 @@ pub mod MetricsFiles
 pub mod Buffers
 pub mod Asking
 pub mod StandingWords
+pub mod UnderWay
+pub mod Replies
+pub mod Listening
+pub mod Serving
+pub mod LastGood

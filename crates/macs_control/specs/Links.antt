@@ -4,7 +4,7 @@ use Rattle.macs_control.specs.declared.connection.Taken.{Taken}
 use Rattle.macs_control.specs.declared.connection.Taken.TheVariants.{Octets, Nothing, Ended, Gone}
 use Rattle.macs_control.specs.declared.seat.Hearing.{Hearing}
 use Rattle.macs_control.specs.declared.seat.Hearing.TheVariants as hears
-use Rattle.macs_requests.specs.Inboxes.{HasNoFeed}
+use Rattle.macs_commands.specs.Inboxes.{HasNoFeed}
 
 -- what is known about a connection: the octets that the other side sent and that were not taken yet, and those sent to
 -- it, both in order

@@ -1,7 +1,7 @@
 -- Clients with their connections.
 use Rattle.std.specs.Prelude.{ℕ, List, length}
-use Rattle.macs_requests.specs.Inboxes.{octets_in}
-use Rattle.macs_requests.specs.declared.clients.Client.{Client}
+use Rattle.macs_commands.specs.Inboxes.{octets_in}
+use Rattle.macs_commands.specs.declared.requests.clients.Client.{Client}
 use Rattle.macs_control.specs.declared.seat.Seat.{Seat}
 use Rattle.macs_control.specs.declared.seats.Seats.{Seats}
 

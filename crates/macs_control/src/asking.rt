@@ -1,12 +1,12 @@
 //! The client side: a line is sent, and the lines of the answer are read up to its end.
 
 ghost use Rattle.std.specs.Prelude.{◌≡◌, ◌∷◌, ◌++◌, [], IfOk, IfSome, OnOk};
-ghost use Rattle.macs_requests.specs.Requests.{end_line};
+ghost use Rattle.macs_commands.specs.Requests.{end_line};
 
 use crate::connection::Connection;
 use crate::seat::{Hearing, Seat};
-use macs_requests::{Client, Line, MAX_LINE, end_of_line};
-use macs_secrets::{SecretText, text_of};
+use macs_commands::requests::{Client, Line, MAX_LINE, end_of_line};
+use macs_commands::secrets::{SecretText, text_of};
 use std::alloc::{AllocError, Global};
 use std::str;
 
@@ -89,7 +89,7 @@ impl<S: Connection> Asker<S> {
         ensures held { held_by (seat_of self.new) ≡ held_by (seat_of self.old) }
     {
         let text = SecretText(text_of(alloc, MAX_LINE, format_args!("{line}\n"))?);
-        if self.relay.give(text.0.as_str().as_bytes()) {
+        if self.relay.try_send(text.0.as_str().as_bytes()) {
             return Ok(());
         }
         Err(AskFault::Gone)

@@ -33,7 +33,7 @@ pub trait Connection: Drop {
         ensures taken { TakesOctets (link self.old) (link self.new) into.new result };
 
     /// Sends octets, and returns whether all of them were taken at once.
-    fn give(&mut self, octets: &[u8]) -> bool
+    fn try_send(&mut self, octets: &[u8]) -> bool
         ensures given { GivesOctets (link self.old) (link self.new) octets.now result };
 }
 
@@ -49,7 +49,7 @@ impl Connection for UnixStream {
         }
     }
 
-    fn give(&mut self, octets: &[u8]) -> bool {
+    fn try_send(&mut self, octets: &[u8]) -> bool {
         match self.write(octets) {
             Ok(count) => count == octets.len(),
             Err(_) => false,

@@ -5,7 +5,7 @@ use crate::seats::{MAX_CLIENTS, Seats};
 use crate::second::EachSecond;
 use crate::signals::is_told_to_end;
 use crate::watch::{NO_SOCKET, Watch, Wires};
-use macs_requests::{Client, Clients, Heard};
+use macs_commands::requests::{Client, Clients, Heard};
 use std::alloc::{AllocError, Global};
 use std::net::Net;
 use std::os::fd::{AsRawFd, RawFd};

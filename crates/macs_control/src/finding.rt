@@ -5,7 +5,7 @@ ghost use Rattle.macs_control.specs.Places.{gives_way};
 
 use crate::connection::Connection;
 use crate::place::Place;
-use macs_requests::Client;
+use macs_commands::requests::Client;
 
 /// The place of a client, if it has one.
 pub(crate) fn at_client<S: Connection>(places: &[Place<S>], client: Client) -> Option<usize>

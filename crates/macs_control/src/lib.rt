@@ -1,4 +1,5 @@
-//! The control socket of a relay: the system calls for it, and its clients.
+//! The control socket of a relay: the system calls for it, its clients, and the desk that serves
+//! them.
 #![tactic(auto)]
 
 mod asking;
@@ -6,6 +7,7 @@ mod binding;
 mod buffers;
 mod connection;
 mod control_socket;
+pub mod desk;
 mod ending;
 mod finding;
 pub mod laws;

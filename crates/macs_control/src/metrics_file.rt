@@ -4,7 +4,7 @@ ghost use Rattle.std.specs.Prelude.{◌≡◌, [], ◌∷◌, IfOk, string_bytes
 ghost use Rattle.macs_control.specs.MetricsFiles.{Replaces};
 
 use crate::second::EachSecond;
-use macs_requests::Metrics;
+use macs_commands::requests::Metrics;
 use std::alloc::{AllocError, Global};
 use std::fs::File;
 use std::io::{ErrorKind, Write};

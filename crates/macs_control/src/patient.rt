@@ -49,7 +49,7 @@ impl Connection for PatientStream {
         }
     }
 
-    fn give(&mut self, octets: &[u8]) -> bool {
+    fn try_send(&mut self, octets: &[u8]) -> bool {
         self.stream.write_all(octets).is_ok()
     }
 }

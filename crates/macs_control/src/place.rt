@@ -6,7 +6,7 @@ use crate::connection::Connection;
 use crate::ending::ends_answer;
 use crate::seat::{Hearing, Seat};
 use crate::standing::Standing;
-use macs_requests::Client;
+use macs_commands::requests::Client;
 
 /// A client with its connection and its state.
 #[derive(Drop)]
@@ -82,7 +82,7 @@ impl<S: Connection> Place<S> {
             (S.link (connection_of (seat_in self.new))) text.now whole
             × (result ≡ (whole && not (is_over (standing_in self.new)))) }
     {
-        let is_whole = self.seat.give(text);
+        let is_whole = self.seat.try_send(text);
         if ends_answer(text) {
             self.standing = self.standing.after_answer(now);
         }

@@ -3,8 +3,8 @@
 ghost use Rattle.std.specs.Prelude.{◌≡◌, ◌≤◌, length};
 
 use crate::connection::{Connection, Taken};
-use macs_requests::{Client, Inbox, Line, MAX_LINE};
-use macs_secrets::wipe;
+use macs_commands::requests::{Client, Inbox, Line, MAX_LINE};
+use macs_commands::secrets::wipe;
 
 /// The result of hearing a client.
 #[derive(Drop)]
@@ -101,12 +101,12 @@ impl<S: Connection> Seat<S> {
     }
 
     /// Sends a text to the client, and returns whether it took all of it at once.
-    pub fn give(&mut self, text: &[u8]) -> bool
+    pub fn try_send(&mut self, text: &[u8]) -> bool
         ensures client { client_of self.new ≡ client_of self.old }
         ensures held { held_by self.new ≡ held_by self.old }
         ensures given { GivesOctets (S.link (connection_of self.old))
             (S.link (connection_of self.new)) text.now result }
     {
-        self.connection.give(text)
+        self.connection.try_send(text)
     }
 }

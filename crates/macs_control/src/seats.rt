@@ -7,7 +7,7 @@ use crate::connection::Connection;
 use crate::finding::{at_client, at_idle};
 use crate::place::Place;
 use crate::seat::Hearing;
-use macs_requests::{Client, Heard};
+use macs_commands::requests::{Client, Heard};
 use std::alloc::{AllocError, Global};
 
 /// How many clients are served at a time.

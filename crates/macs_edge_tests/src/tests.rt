@@ -9,6 +9,7 @@ mod endpoints;
 mod fault_wires;
 mod hostile_files;
 mod hostile_texts;
+mod links;
 mod memory;
 mod relaying;
 mod requests;

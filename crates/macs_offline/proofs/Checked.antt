@@ -5,23 +5,23 @@ use Rattle.std.proofs.Common.{◌≢◌, Result, Ok, Err, IfErr}
 use Rattle.toml.specs.Data.{Members}
 use Rattle.toml.specs.Parse.{parse_document}
 use Rattle.macs_commands.specs.Ends.{HasFileFault}
-use Rattle.macs_commands.specs.declared.config_fault.ConfigFault.{ConfigFault}
-use Rattle.macs_commands.specs.declared.config_fault.ConfigFault.TheVariants as config
-use Rattle.macs_commands.specs.declared.ends.CommandFileFault.{CommandFileFault}
-use Rattle.macs_commands.specs.declared.ends.CommandFileFault.TheVariants as told
+use Rattle.macs_commands.specs.declared.files.config_fault.ConfigFault.{ConfigFault}
+use Rattle.macs_commands.specs.declared.files.config_fault.ConfigFault.TheVariants as config
+use Rattle.macs_commands.specs.declared.files.ends.CommandFileFault.{CommandFileFault}
+use Rattle.macs_commands.specs.declared.files.ends.CommandFileFault.TheVariants as told
 use Rattle.std.proofs.lemmas.List.{take_all}
 use Rattle.macs_config.specs.declared.command.Command.{Command}
 use Rattle.macs_offline.specs.Applying.{SaidByFile, longest_file}
 use Rattle.macs_offline.specs.Checking.{ComplainsOfFile, HasFault, IsSaidOfFile, IsSaidOfText, fault_text}
 use Rattle.macs_offline.specs.Checking.{file_fault_text}
-use Rattle.macs_offline.specs.Reasons.{Complains, IsUnread, Tells, TellsOfFile, reason_text}
+use Rattle.macs_cli.specs.Reasons.{Complains, IsUnread, Tells, TellsOfFile, reason_text}
 use Rattle.macs_offline.specs.TomlPlaces.{not_toml_text, place_in}
 use Rattle.toml.specs.Errors.{IsMemory, IsWithin}
 use Rattle.toml.specs.declared.de.error.Error.{Error}
 use Rattle.std.proofs.Common.{codes}
-use Rattle.macs_offline.specs.declared.file_reason.FileReason.{FileReason}
-use Rattle.macs_offline.specs.declared.failure.Failure.{Failure}
-use Rattle.macs_offline.specs.declared.failure.Failure.TheVariants.{Memory}
+use Rattle.macs_cli.specs.declared.file_reason.FileReason.{FileReason}
+use Rattle.macs_cli.specs.declared.failure.Failure.{Failure}
+use Rattle.macs_cli.specs.declared.failure.Failure.TheVariants.{Memory}
 
 -- what holds of what is said holds of what a failure says
 pub complains-weaker : (P Q : List ℕ → Type 0) (failure : Failure) → ((said : List ℕ) → P said → Q said)

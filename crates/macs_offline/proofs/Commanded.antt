@@ -5,12 +5,12 @@ use Rattle.std.proofs.lemmas.List.{take_all}
 use Rattle.toml.specs.Data.{Members}
 use Rattle.macs_config.specs.declared.command.Command.{Command}
 use Rattle.macs_commands.specs.Ends.{HasFileFault, end_commands, end_in}
-use Rattle.macs_commands.specs.declared.config_fault.ConfigFault.{ConfigFault}
-use Rattle.macs_commands.specs.declared.config_fault.ConfigFault.TheVariants as config
-use Rattle.macs_commands.specs.declared.ends.CommandFileFault.{CommandFileFault}
-use Rattle.macs_commands.specs.declared.ends.CommandFileFault.TheVariants as told
-use Rattle.macs_offline.specs.Failing.{failure_of_commands}
-use Rattle.macs_offline.specs.declared.failure.Failure.TheVariants.{Commands, Memory}
+use Rattle.macs_commands.specs.declared.files.config_fault.ConfigFault.{ConfigFault}
+use Rattle.macs_commands.specs.declared.files.config_fault.ConfigFault.TheVariants as config
+use Rattle.macs_commands.specs.declared.files.ends.CommandFileFault.{CommandFileFault}
+use Rattle.macs_commands.specs.declared.files.ends.CommandFileFault.TheVariants as told
+use Rattle.macs_cli.specs.Failing.{failure_of_commands}
+use Rattle.macs_cli.specs.declared.failure.Failure.TheVariants.{Commands, Memory}
 use Rattle.macs_offline.specs.Applying.{SaysCommands}
 
 -- a file that says commands was read whole

@@ -27,14 +27,14 @@ use Rattle.macs_store.specs.Standing.{Standing}
 use Rattle.macs_offline.specs.Copying.{CopyFails, IsCopy}
 use Rattle.macs_offline.specs.Examining.{ExaminationFails, ExamineFails, ExaminesIn, IsJournalOf, IsLaidCopy}
 use Rattle.macs_offline.specs.Examining.{IsNotExamined, IsNotOpened, PrintsExamined, Says, figures_of, said_text}
-use Rattle.macs_offline.specs.Failing.{failure_status}
+use Rattle.macs_cli.specs.Failing.{failure_status}
 use Rattle.macs_offline.specs.Trying.{failure_in_memory}
-use Rattle.macs_offline.specs.declared.failure.DiskFault.TheVariants as disk
-use Rattle.macs_offline.specs.declared.failure.Failure.{Failure}
-use Rattle.macs_offline.specs.declared.failure.Failure.TheVariants as failures
-use Rattle.macs_offline.specs.declared.status.Status.{Status}
-use Rattle.macs_offline.specs.declared.status.Status.TheVariants.{Done, Refused, Usage}
-use Rattle.macs_offline.specs.declared.status.Status.TheVariants as statuses
+use Rattle.macs_cli.specs.declared.failure.DiskFault.TheVariants as disk
+use Rattle.macs_cli.specs.declared.failure.Failure.{Failure}
+use Rattle.macs_cli.specs.declared.failure.Failure.TheVariants as failures
+use Rattle.macs_cli.specs.declared.status.Status.{Status}
+use Rattle.macs_cli.specs.declared.status.Status.TheVariants.{Done, Refused, Usage}
+use Rattle.macs_cli.specs.declared.status.Status.TheVariants as statuses
 use Rattle.macs_offline.proofs.Failures.{IsOfCopy, IsOfDisk, copy-no-usage, of-file, of-unread}
 use Rattle.macs_offline.proofs.Looks.{carried}
 

@@ -5,16 +5,16 @@ use Rattle.macs_disk.specs.declared.file_fault.FileFault.TheVariants as file_fau
 use Rattle.macs_disk.specs.Files.{FileState}
 use Rattle.macs_journal.specs.declared.fault.JournalFault.TheVariants as journal
 use Rattle.macs_offline.specs.Openings.{OpeningFails}
-use Rattle.macs_offline.specs.Failing.{failure_of_file, failure_status}
-use Rattle.macs_offline.specs.declared.failure.DiskFault.{DiskFault}
-use Rattle.macs_offline.specs.declared.failure.DiskFault.TheVariants as disk_faults
-use Rattle.macs_offline.specs.declared.failure.Failure.{Failure}
-use Rattle.macs_offline.specs.declared.failure.Failure.TheVariants.{Capture, Commands, Disk, DiskFile, Memory}
-use Rattle.macs_offline.specs.declared.failure.Failure.TheVariants.{Output}
-use Rattle.macs_offline.specs.Reasons.{ComplainsOfDisk, IsNotRead, Tells, reason_text}
-use Rattle.macs_offline.specs.declared.file_reason.FileReason.{FileReason}
+use Rattle.macs_cli.specs.Failing.{failure_of_file, failure_status}
+use Rattle.macs_cli.specs.declared.failure.DiskFault.{DiskFault}
+use Rattle.macs_cli.specs.declared.failure.DiskFault.TheVariants as disk_faults
+use Rattle.macs_cli.specs.declared.failure.Failure.{Failure}
+use Rattle.macs_cli.specs.declared.failure.Failure.TheVariants.{Capture, Commands, Disk, DiskFile, Memory}
+use Rattle.macs_cli.specs.declared.failure.Failure.TheVariants.{Output}
+use Rattle.macs_cli.specs.Reasons.{ComplainsOfDisk, IsNotRead, Tells, reason_text}
+use Rattle.macs_cli.specs.declared.file_reason.FileReason.{FileReason}
 use Rattle.std.proofs.Common.{codes}
-use Rattle.macs_offline.specs.declared.status.Status.TheVariants.{Usage}
+use Rattle.macs_cli.specs.declared.status.Status.TheVariants.{Usage}
 
 -- ---- want of memory, or one other failure
 

@@ -18,12 +18,12 @@ use Rattle.macs_offline.specs.Inspecting.{AreLinesOf, FailsSo, HasInspected, Ins
 use Rattle.macs_offline.specs.Inspecting.{IsLineOf, IsOfInspecting, IsSaidOf, PrintsFrames}
 use Rattle.macs_offline.specs.Inspecting.{PrintsLines, RunsCapture, RunsRecords, StopsCapture, StopsNext}
 use Rattle.macs_offline.specs.Inspecting.{tag_text}
-use Rattle.macs_offline.specs.declared.failure.Failure.{Failure}
-use Rattle.macs_offline.specs.declared.failure.Failure.TheVariants as failures
-use Rattle.macs_offline.specs.declared.status.Status.{Status}
+use Rattle.macs_cli.specs.declared.failure.Failure.{Failure}
+use Rattle.macs_cli.specs.declared.failure.Failure.TheVariants as failures
+use Rattle.macs_cli.specs.declared.status.Status.{Status}
 use Rattle.macs_offline.specs.declared.stop.Stop.{Stop}
 use Rattle.macs_offline.specs.declared.stop.Stop.TheVariants as stops
-use Rattle.macs_offline.specs.Reasons.{Complains, Tells}
+use Rattle.macs_cli.specs.Reasons.{Complains, Tells}
 use Rattle.macs_offline.specs.CaptureReasons.{capture_text, header_reason, record_reason}
 use Rattle.std.proofs.Common.{codes}
 

@@ -13,8 +13,8 @@ use Rattle.std.specs.Str.Pattern.{HasTextAt, LacksTextAt}
 use Rattle.macs_config.specs.declared.command.Command.{Command}
 use Rattle.macs_offline.specs.KeyLists.{HasSpent, IsFirstSpent, IsSpentIn, SaysSpent, digits_of, formatted, key_line}
 use Rattle.macs_offline.specs.KeyLists.{lines_text, spent_text}
-use Rattle.macs_offline.specs.Reasons.{Complains}
-use Rattle.macs_offline.specs.declared.failure.Failure.{Failure}
+use Rattle.macs_cli.specs.Reasons.{Complains}
+use Rattle.macs_cli.specs.declared.failure.Failure.{Failure}
 
 module _ (list digits behind : List ℕ) (i j : ℕ) (has : HasTextAt digits list i j) (is : behind ≡ drop j list) where
   -- what is behind the first place is what is behind any later one, and something before it

@@ -5,7 +5,6 @@ pub mod Commanded
 pub mod Examined
 pub mod Failures
 pub mod Faults
-pub mod FirstFault
 pub mod HexDigits
 pub mod Holes
 pub mod Inspected
@@ -14,11 +13,7 @@ pub mod Looks
 pub mod NoneWaits
 pub mod OpenedFrames
 pub mod Planned
-pub mod Printing
 pub mod RecordWords
-pub mod SpelledWires
-pub mod Spelling
-pub mod TextLines
 pub mod TomlPlaces
 pub mod Tried
 pub mod KeyLists

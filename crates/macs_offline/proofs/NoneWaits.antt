@@ -35,7 +35,7 @@ use Rattle.macs_pcap.specs.Records.{CaptureRecord}
 use Rattle.macs_pcap.specs.declared.fault.PcapFault.{PcapFault}
 use Rattle.macs_pcap.specs.declared.fault.PcapFault.TheVariants.{Write}
 use Rattle.macs_offline.specs.Applying.{Applies, answer_of}
-use Rattle.macs_offline.specs.Failing.{IsNotBusyRun}
+use Rattle.macs_cli.specs.Failing.{IsNotBusyRun}
 
 -- ---- commands
 

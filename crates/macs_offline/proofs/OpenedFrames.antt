@@ -8,8 +8,8 @@ use Rattle.macs_frame.specs.Tag.{tag_of}
 use Rattle.macs_frame.specs.declared.opening.OpenFault.{OpenFault}
 use Rattle.macs_offline.specs.Opened.{AnswersRequest, OpensRequest}
 use Rattle.macs_offline.specs.declared.opened.Opened.TheVariants.{Refused}
-use Rattle.macs_offline.specs.declared.open_input.OpenInput.{OpenInput}
-use Rattle.macs_offline.proofs.FirstFault.{nothing_first}
+use Rattle.macs_cli.specs.declared.open_input.OpenInput.{OpenInput}
+use Rattle.macs_cli.proofs.FirstFault.{nothing_first}
 
 -- what holds at a key and a frame holds at equal ones
 at_same : (P : List ℕ → List ℕ → Type 0) (key other_key frame other_frame : List ℕ) → key ≡ other_key

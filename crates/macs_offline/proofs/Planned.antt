@@ -5,23 +5,23 @@ use Rattle.std.proofs.lemmas.List.{take_all}
 use Rattle.std.specs.Str.{IsUtf8}
 use Rattle.toml.specs.Data.{Members}
 use Rattle.toml.specs.Parse.{parse_document}
-use Rattle.macs_plan.specs.Planning.{file_planned}
-use Rattle.macs_plan.specs.Reading.{◌>>=◌}
-use Rattle.macs_plan.specs.declared.link.End.{End}
-use Rattle.macs_plan.specs.declared.plan_fault.PlanFault.{PlanFault}
-use Rattle.macs_plan.specs.declared.planning.Stage.{Stage}
+use Rattle.macs_commands.specs.Planning.{file_planned}
+use Rattle.macs_commands.specs.Reading.{◌>>=◌}
+use Rattle.macs_commands.specs.declared.links.link.End.{End}
+use Rattle.macs_commands.specs.declared.links.plan_fault.PlanFault.{PlanFault}
+use Rattle.macs_commands.specs.declared.links.planning.Stage.{Stage}
 use Rattle.macs_offline.specs.Applying.{longest_file}
 use Rattle.macs_offline.specs.Plans.{IsSaidOfLink, IsSaidOfLinkText, PlanFails, PlansFile, RefusesLink}
 use Rattle.macs_offline.specs.Plans.{RefusesLinkText, RefusesSo, SaysWhy, SaysWhyOfFile, SaysWhyOfText}
 use Rattle.macs_offline.specs.Plans.{link_refusal, plan_fault_text}
-use Rattle.macs_offline.specs.Reasons.{Complains, IsLinkUnread}
+use Rattle.macs_cli.specs.Reasons.{Complains, IsLinkUnread}
 use Rattle.macs_offline.specs.TomlPlaces.{not_toml_text, place_in}
 use Rattle.toml.specs.Errors.{IsMemory, IsWithin}
 use Rattle.toml.specs.declared.de.error.Error.{Error}
 use Rattle.std.proofs.Common.{codes}
-use Rattle.macs_offline.specs.declared.failure.Failure.{Failure}
-use Rattle.macs_offline.specs.declared.failure.Failure.TheVariants.{Memory}
-use Rattle.macs_offline.specs.declared.failure.LinkRefusal.{LinkRefusal}
+use Rattle.macs_cli.specs.declared.failure.Failure.{Failure}
+use Rattle.macs_cli.specs.declared.failure.Failure.TheVariants.{Memory}
+use Rattle.macs_cli.specs.declared.failure.LinkRefusal.{LinkRefusal}
 use Rattle.macs_offline.proofs.Checked.{complains-weaker, short-whole}
 
 module _ (end : End) (stage : Stage) where

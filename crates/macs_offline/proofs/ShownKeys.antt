@@ -4,7 +4,7 @@ use Rattle.std.specs.Str.{IsUtf8, chars, encode_utf8_all}
 use Rattle.std.proofs.Math.Utf8.{scalar, scalars}
 use Rattle.std.proofs.lemmas.Bool.{and_parts}
 use Rattle.std.proofs.lemmas.Str.{chars-encodes, encodes-chars, scalars-chars}
-use Rattle.macs_words.specs.Controls.{printable_char}
+use Rattle.macs_cli.specs.Controls.{printable_char}
 
 scalars-take : (n : ℕ) (characters : List ℕ) → scalars characters ≡ true → scalars (take n characters) ≡ true
 scalars-take zero characters all = refl

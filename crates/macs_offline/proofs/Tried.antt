@@ -24,15 +24,15 @@ use Rattle.macs_offline.proofs.Checked.{EndsOfFile}
 use Rattle.macs_offline.specs.Copying.{CopyFails}
 use Rattle.macs_offline.specs.Trying.{EndsOn, EndsTrial, LookFails, TrialEnds, TrialFails, failure_in_memory}
 use Rattle.macs_offline.specs.Trying.{trial_line, trial_lines, trial_report}
-use Rattle.macs_offline.specs.declared.failure.DiskFault.{DiskFault}
-use Rattle.macs_offline.specs.declared.failure.DiskFault.TheVariants as disk
-use Rattle.macs_offline.specs.declared.failure.Failure.{Failure}
-use Rattle.macs_offline.specs.declared.failure.Failure.TheVariants.{Memory, OtherEnd, Output}
+use Rattle.macs_cli.specs.declared.failure.DiskFault.{DiskFault}
+use Rattle.macs_cli.specs.declared.failure.DiskFault.TheVariants as disk
+use Rattle.macs_cli.specs.declared.failure.Failure.{Failure}
+use Rattle.macs_cli.specs.declared.failure.Failure.TheVariants.{Memory, OtherEnd, Output}
 use Rattle.macs_offline.proofs.Applied.{applies-more, parted, status-more}
-use Rattle.macs_offline.specs.declared.status.Status.{Status}
-use Rattle.macs_offline.specs.declared.status.Status.TheVariants.{Refused, Usage}
+use Rattle.macs_cli.specs.declared.status.Status.{Status}
+use Rattle.macs_cli.specs.declared.status.Status.TheVariants.{Refused, Usage}
 use Rattle.macs_offline.proofs.Failures.{IsOfCopy, IsOfDisk, copy-no-output, copy-no-usage, of-file, of-unread}
-use Rattle.macs_offline.specs.Failing.{failure_status}
+use Rattle.macs_cli.specs.Failing.{failure_status}
 
 -- ---- one command more
 

@@ -19,12 +19,12 @@ use Rattle.macs_endpoint.specs.declared.fault.CommandFault.TheVariants as ran
 use Rattle.macs_journal.specs.declared.fault.JournalFault.TheVariants as journal
 use Rattle.macs_texts.specs.Lines.{line}
 use Rattle.macs_texts.specs.Refusals.{refusal_name}
-use Rattle.macs_offline.specs.declared.failure.DiskFault.{DiskFault}
-use Rattle.macs_offline.specs.declared.failure.DiskFault.TheVariants as disk
-use Rattle.macs_offline.specs.declared.failure.Failure.{Failure}
-use Rattle.macs_offline.specs.declared.failure.Failure.TheVariants as failures
-use Rattle.macs_offline.specs.declared.status.Status.{Status}
-use Rattle.macs_offline.specs.declared.status.Status.TheVariants as ends
+use Rattle.macs_cli.specs.declared.failure.DiskFault.{DiskFault}
+use Rattle.macs_cli.specs.declared.failure.DiskFault.TheVariants as disk
+use Rattle.macs_cli.specs.declared.failure.Failure.{Failure}
+use Rattle.macs_cli.specs.declared.failure.Failure.TheVariants as failures
+use Rattle.macs_cli.specs.declared.status.Status.{Status}
+use Rattle.macs_cli.specs.declared.status.Status.TheVariants as ends
 
 -- ---- the file
 

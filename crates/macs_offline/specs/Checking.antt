@@ -11,23 +11,23 @@ use Rattle.toml.specs.Parse.{parse_document}
 use Rattle.macs_config.specs.declared.command.Command.{Command}
 use Rattle.macs_commands.specs.Ends.{HasFileFault}
 use Rattle.macs_commands.specs.Lines.{extra_key}
-use Rattle.macs_commands.specs.declared.config_fault.ConfigFault.{ConfigFault}
-use Rattle.macs_commands.specs.declared.config_fault.ConfigFault.TheVariants as config
-use Rattle.macs_commands.specs.declared.config_fault.KeyName.{KeyName}
-use Rattle.macs_commands.specs.declared.config_fault.KeyName.TheVariants as name
-use Rattle.macs_commands.specs.declared.ends.CommandFileFault.{CommandFileFault}
-use Rattle.macs_commands.specs.declared.ends.CommandFileFault.TheVariants as told
+use Rattle.macs_commands.specs.declared.files.config_fault.ConfigFault.{ConfigFault}
+use Rattle.macs_commands.specs.declared.files.config_fault.ConfigFault.TheVariants as config
+use Rattle.macs_commands.specs.declared.files.config_fault.KeyName.{KeyName}
+use Rattle.macs_commands.specs.declared.files.config_fault.KeyName.TheVariants as name
+use Rattle.macs_commands.specs.declared.files.ends.CommandFileFault.{CommandFileFault}
+use Rattle.macs_commands.specs.declared.files.ends.CommandFileFault.TheVariants as told
 use Rattle.macs_disk.specs.Files.{FileState}
 use Rattle.macs_texts.specs.Lines.{line}
 use Rattle.macs_offline.specs.Applying.{SaidByFile, SaysCommands, longest_file}
-use Rattle.macs_offline.specs.FileModes.{mode_warning}
-use Rattle.macs_offline.specs.Reasons.{Complains, IsUnread}
+use Rattle.macs_cli.specs.FileModes.{mode_warning}
+use Rattle.macs_cli.specs.Reasons.{Complains, IsUnread}
 use Rattle.macs_offline.specs.ShownKeys.{shown_key}
 use Rattle.macs_offline.specs.TomlPlaces.{SaysNotToml}
-use Rattle.macs_offline.specs.declared.failure.Failure.{Failure}
-use Rattle.macs_offline.specs.declared.failure.Failure.TheVariants as failures
-use Rattle.macs_offline.specs.declared.status.Status.{Status}
-use Rattle.macs_offline.specs.declared.status.Status.TheVariants as ends
+use Rattle.macs_cli.specs.declared.failure.Failure.{Failure}
+use Rattle.macs_cli.specs.declared.failure.Failure.TheVariants as failures
+use Rattle.macs_cli.specs.declared.status.Status.{Status}
+use Rattle.macs_cli.specs.declared.status.Status.TheVariants as ends
 use Rattle.macs_offline.specs.Trying.{PrintsTrial, TrialStops}
 
 -- ---- texts

@@ -8,8 +8,8 @@ use Rattle.macs_disk.specs.declared.file_fault.FileFault.TheVariants as file_fau
 use Rattle.macs_journal.specs.Areas.{least_sectors}
 use Rattle.macs_journal.specs.declared.fault.JournalFault.TheVariants as journal
 use Rattle.macs_offline.specs.Contents.{number_of, sector_in}
-use Rattle.macs_offline.specs.Failing.{failure_of_file, failure_of_journal}
-use Rattle.macs_offline.specs.declared.failure.Failure.{Failure}
+use Rattle.macs_cli.specs.Failing.{failure_of_file, failure_of_journal}
+use Rattle.macs_cli.specs.declared.failure.Failure.{Failure}
 
 -- each sector of a journal's two areas is the same as in the file, packed or spaced
 pub record IsCopy (file : FileState) (copy : Disk) : Type 0 where

@@ -25,19 +25,19 @@ use Rattle.macs_record.specs.declared.record.Record.{Record}
 use Rattle.macs_store.specs.Found.{IsUnfitTo}
 use Rattle.macs_store.specs.Replay.{meaning_of}
 use Rattle.macs_store.specs.Standing.{Standing}
-use Rattle.macs_json.specs.Objects.{in_form}
+use Rattle.macs_cli.specs.Objects.{in_form}
 use Rattle.macs_texts.specs.Lines.{line}
 use Rattle.macs_texts.specs.Showing.{association_numbers}
 use Rattle.macs_offline.specs.Copying.{CopyFails, IsCopy}
-use Rattle.macs_offline.specs.Failing.{failure_of_journal}
+use Rattle.macs_cli.specs.Failing.{failure_of_journal}
 use Rattle.macs_offline.specs.FirstFault.{IsFirstFault}
-use Rattle.macs_offline.specs.Reasons.{IsNotRead}
+use Rattle.macs_cli.specs.Reasons.{IsNotRead}
 use Rattle.macs_offline.specs.RecordLines.{records_text}
 use Rattle.macs_offline.specs.declared.examined_text.Figures.{Figures}
-use Rattle.macs_offline.specs.declared.failure.Failure.{Failure}
-use Rattle.macs_offline.specs.declared.failure.Failure.TheVariants as failures
-use Rattle.macs_offline.specs.declared.status.Status.{Status}
-use Rattle.macs_offline.specs.declared.status.Status.TheVariants as ends
+use Rattle.macs_cli.specs.declared.failure.Failure.{Failure}
+use Rattle.macs_cli.specs.declared.failure.Failure.TheVariants as failures
+use Rattle.macs_cli.specs.declared.status.Status.{Status}
+use Rattle.macs_cli.specs.declared.status.Status.TheVariants as ends
 
 -- ---- lines
 

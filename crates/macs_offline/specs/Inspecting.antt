@@ -22,13 +22,13 @@ use Rattle.macs_pcap.specs.declared.header.Header.{Header}
 use Rattle.macs_texts.specs.Lines.{line}
 use Rattle.macs_offline.specs.Opened.{refusal_text}
 use Rattle.macs_offline.specs.CaptureReasons.{capture_text, header_reason, record_reason}
-use Rattle.macs_offline.specs.Reasons.{Complains, Tells, TellsOfFile}
-use Rattle.macs_offline.specs.declared.failure.Failure.{Failure}
-use Rattle.macs_offline.specs.declared.failure.Failure.TheVariants as failures
+use Rattle.macs_cli.specs.Reasons.{Complains, Tells, TellsOfFile}
+use Rattle.macs_cli.specs.declared.failure.Failure.{Failure}
+use Rattle.macs_cli.specs.declared.failure.Failure.TheVariants as failures
 use Rattle.macs_offline.specs.declared.stop.Stop.{Stop}
 use Rattle.macs_offline.specs.declared.stop.Stop.TheVariants as stops
-use Rattle.macs_offline.specs.declared.status.Status.{Status}
-use Rattle.macs_offline.specs.declared.status.Status.TheVariants as ends
+use Rattle.macs_cli.specs.declared.status.Status.{Status}
+use Rattle.macs_cli.specs.declared.status.Status.TheVariants as ends
 
 -- ---- the line of a frame
 

@@ -10,9 +10,9 @@ use Rattle.macs_config.specs.declared.command.Command.{Command}
 use Rattle.macs_config.specs.declared.command.Command.TheVariants.{TxInstall, RxInstall}
 use Rattle.macs_texts.specs.KeyTexts.{key_digest}
 use Rattle.macs_texts.specs.Lines.{line}
-use Rattle.macs_offline.specs.Reasons.{Complains}
-use Rattle.macs_offline.specs.declared.failure.Failure.{Failure}
-use Rattle.macs_offline.specs.declared.failure.Failure.TheVariants as failures
+use Rattle.macs_cli.specs.Reasons.{Complains}
+use Rattle.macs_cli.specs.declared.failure.Failure.{Failure}
+use Rattle.macs_cli.specs.declared.failure.Failure.TheVariants as failures
 use Rattle.macs_offline.specs.declared.key_list.KeyFault.{KeyFault}
 use Rattle.macs_offline.specs.declared.key_list.KeyFault.TheVariants as key
 

@@ -3,8 +3,8 @@ use Rattle.std.specs.Prelude.{◌≡◌, if◌then◌else◌, ⊤, ℕ, Bool, Li
 use Rattle.std.specs.Io.KnownBytes.{Appends}
 use Rattle.hex.specs.Hex.{encode_lower}
 use Rattle.macs_texts.specs.Lines.{line}
-use Rattle.macs_offline.specs.declared.failure.Failure.{Failure}
-use Rattle.macs_offline.specs.declared.failure.Failure.TheVariants as failures
+use Rattle.macs_cli.specs.declared.failure.Failure.{Failure}
+use Rattle.macs_cli.specs.declared.failure.Failure.TheVariants as failures
 
 -- the length of a key in octets: for GCM-AES-256, or for GCM-AES-128
 abbrev pub key_octets : Bool → ℕ

@@ -1,11 +1,5 @@
-pub mod Lines
-pub mod OpenInput
 pub mod Opened
-pub mod Values
-pub mod Addresses
 pub mod Contents
-pub mod Failing
-pub mod Reasons
 pub mod CaptureReasons
 pub mod TomlPlaces
 pub mod Applying
@@ -13,7 +7,6 @@ pub mod Keys
 pub mod Inspecting
 pub mod Copying
 pub mod Trying
-pub mod FileModes
 pub mod FirstFault
 pub mod RecordLines
 pub mod Examining
@@ -21,5 +14,4 @@ pub mod ShownKeys
 pub mod Checking
 pub mod Plans
 pub mod Openings
-pub mod Statuses
 pub mod KeyLists

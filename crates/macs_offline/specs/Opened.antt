@@ -11,12 +11,12 @@ use Rattle.macs_frame.specs.Tag.{tag_of}
 use Rattle.macs_frame.specs.declared.opening.OpenFault.{OpenFault}
 use Rattle.macs_frame.specs.declared.opening.OpenFault.TheVariants.{Tag, OtherSci, NotValid}
 use Rattle.macs_frame.specs.declared.tag.TagFault.TheVariants.{Runt, Oversize, NoTag, BadTag, ForKay}
-use Rattle.macs_offline.specs.OpenInput.{Spells}
-use Rattle.macs_offline.specs.declared.open_input.OpenInput.{OpenInput}
+use Rattle.macs_cli.specs.OpenInput.{Spells}
+use Rattle.macs_cli.specs.declared.open_input.OpenInput.{OpenInput}
 use Rattle.macs_offline.specs.declared.opened.Opened.{Opened}
 use Rattle.macs_offline.specs.declared.opened.Opened.TheVariants.{Valid, Refused}
-use Rattle.macs_offline.specs.declared.status.Status.{Status}
-use Rattle.macs_offline.specs.declared.status.Status.TheVariants as ends
+use Rattle.macs_cli.specs.declared.status.Status.{Status}
+use Rattle.macs_cli.specs.declared.status.Status.TheVariants as ends
 
 -- ---- the answer
 

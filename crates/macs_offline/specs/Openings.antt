@@ -8,8 +8,8 @@ use Rattle.macs_endpoint.specs.Opening.{IsOpening, Opens, RefusesOpening}
 use Rattle.macs_endpoint.specs.Value.{EndpointValue}
 use Rattle.macs_journal.specs.declared.fault.JournalFault.{JournalFault}
 use Rattle.macs_journal.specs.declared.recovery.RecoverRefused.{RecoverRefused}
-use Rattle.macs_offline.specs.Failing.{failure_of_file, failure_of_journal}
-use Rattle.macs_offline.specs.declared.failure.Failure.{Failure}
+use Rattle.macs_cli.specs.Failing.{failure_of_file, failure_of_journal}
+use Rattle.macs_cli.specs.declared.failure.Failure.{Failure}
 
 -- a disk was opened in a copy of a file with this state, the same length, and no call of it has been made yet
 pub record IsDiskIn {F : Type 0} (file : F → FileState) (disk : FileDisk F) : Type 0 where

@@ -6,29 +6,29 @@ use Rattle.std.specs.Io.KnownBytes.{Appends}
 use Rattle.std.specs.Str.{IsUtf8}
 use Rattle.toml.specs.Data.{Members}
 use Rattle.toml.specs.Parse.{parse_document}
-use Rattle.macs_plan.specs.Planning.{file_planned}
-use Rattle.macs_plan.specs.Writing.{PlansText}
-use Rattle.macs_plan.specs.declared.link.End.{End}
-use Rattle.macs_plan.specs.declared.link.End.TheVariants as side
-use Rattle.macs_plan.specs.declared.plan_fault.Place.{Place}
-use Rattle.macs_plan.specs.declared.plan_fault.Place.TheVariants as place
-use Rattle.macs_plan.specs.declared.plan_fault.PlanFault.{PlanFault}
-use Rattle.macs_plan.specs.declared.plan_fault.PlanFault.TheVariants as plan
-use Rattle.macs_plan.specs.declared.plan_fault.ValueName.{ValueName}
-use Rattle.macs_plan.specs.declared.plan_fault.ValueName.TheVariants as name
-use Rattle.macs_plan.specs.declared.planning.Stage.{Stage}
-use Rattle.macs_plan.specs.declared.planning.Stage.TheVariants as stage
-use Rattle.macs_words.specs.declared.plan_words.PlanEnd.{PlanEnd}
-use Rattle.macs_words.specs.declared.plan_words.PlanEnd.TheVariants as plan_end
-use Rattle.macs_words.specs.declared.plan_words.PlanStage.{PlanStage}
-use Rattle.macs_words.specs.declared.plan_words.PlanStage.TheVariants as plan_stage
+use Rattle.macs_commands.specs.Planning.{file_planned}
+use Rattle.macs_commands.specs.Writing.{PlansText}
+use Rattle.macs_commands.specs.declared.links.link.End.{End}
+use Rattle.macs_commands.specs.declared.links.link.End.TheVariants as side
+use Rattle.macs_commands.specs.declared.links.plan_fault.Place.{Place}
+use Rattle.macs_commands.specs.declared.links.plan_fault.Place.TheVariants as place
+use Rattle.macs_commands.specs.declared.links.plan_fault.PlanFault.{PlanFault}
+use Rattle.macs_commands.specs.declared.links.plan_fault.PlanFault.TheVariants as plan
+use Rattle.macs_commands.specs.declared.links.plan_fault.ValueName.{ValueName}
+use Rattle.macs_commands.specs.declared.links.plan_fault.ValueName.TheVariants as name
+use Rattle.macs_commands.specs.declared.links.planning.Stage.{Stage}
+use Rattle.macs_commands.specs.declared.links.planning.Stage.TheVariants as stage
+use Rattle.macs_cli.specs.declared.words.plan_words.PlanEnd.{PlanEnd}
+use Rattle.macs_cli.specs.declared.words.plan_words.PlanEnd.TheVariants as plan_end
+use Rattle.macs_cli.specs.declared.words.plan_words.PlanStage.{PlanStage}
+use Rattle.macs_cli.specs.declared.words.plan_words.PlanStage.TheVariants as plan_stage
 use Rattle.macs_offline.specs.Applying.{longest_file}
-use Rattle.macs_offline.specs.Reasons.{Complains, IsLinkUnread}
+use Rattle.macs_cli.specs.Reasons.{Complains, IsLinkUnread}
 use Rattle.macs_offline.specs.TomlPlaces.{SaysNotToml}
-use Rattle.macs_offline.specs.declared.failure.Failure.{Failure}
-use Rattle.macs_offline.specs.declared.failure.Failure.TheVariants as failures
-use Rattle.macs_offline.specs.declared.failure.LinkRefusal.{LinkRefusal}
-use Rattle.macs_offline.specs.declared.failure.LinkRefusal.TheVariants as wrong
+use Rattle.macs_cli.specs.declared.failure.Failure.{Failure}
+use Rattle.macs_cli.specs.declared.failure.Failure.TheVariants as failures
+use Rattle.macs_cli.specs.declared.failure.LinkRefusal.{LinkRefusal}
+use Rattle.macs_cli.specs.declared.failure.LinkRefusal.TheVariants as wrong
 
 -- ---- the request
 

@@ -1,7 +1,7 @@
 -- A key of a file, as it is displayed.
 use Rattle.std.specs.Prelude.{◌++◌, if◌then◌else◌, ℕ, nat_lt, List, [], length, map, take, codes}
 use Rattle.std.specs.Str.{chars, encode_utf8_all}
-use Rattle.macs_words.specs.Controls.{printable_char}
+use Rattle.macs_cli.specs.Controls.{printable_char}
 
 -- what comes after its first 64 characters
 abbrev pub more_mark : List ℕ → List ℕ

@@ -23,14 +23,14 @@ use Rattle.macs_texts.specs.Refusals.{refusal_name}
 use Rattle.macs_offline.specs.Applying.{Applies, SaidByFile, SaysCommands, commit_fault, is_for, outcomes_status}
 use Rattle.macs_offline.specs.Applying.{own_sci}
 use Rattle.macs_offline.specs.Copying.{CopyFails, IsCopy}
-use Rattle.macs_offline.specs.FileModes.{mode_warning}
-use Rattle.macs_offline.specs.Reasons.{IsNotRead}
+use Rattle.macs_cli.specs.FileModes.{mode_warning}
+use Rattle.macs_cli.specs.Reasons.{IsNotRead}
 use Rattle.macs_offline.specs.KeyLists.{SaysSpent}
-use Rattle.macs_offline.specs.declared.failure.DiskFault.{DiskFault}
-use Rattle.macs_offline.specs.declared.failure.DiskFault.TheVariants as disk
-use Rattle.macs_offline.specs.declared.failure.Failure.{Failure}
-use Rattle.macs_offline.specs.declared.failure.Failure.TheVariants as failures
-use Rattle.macs_offline.specs.declared.status.Status.{Status}
+use Rattle.macs_cli.specs.declared.failure.DiskFault.{DiskFault}
+use Rattle.macs_cli.specs.declared.failure.DiskFault.TheVariants as disk
+use Rattle.macs_cli.specs.declared.failure.Failure.{Failure}
+use Rattle.macs_cli.specs.declared.failure.Failure.TheVariants as failures
+use Rattle.macs_cli.specs.declared.status.Status.{Status}
 
 -- ---- lines
 

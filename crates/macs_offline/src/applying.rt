@@ -17,12 +17,10 @@ ghost use Rattle.macs_offline.specs.Applying.{AppliesAll, AppliesSome, EndsRun, 
 ghost use Rattle.macs_offline.specs.Applying.{IsNotBusyCommand, answer_of, commit_fault, is_for};
 ghost use Rattle.macs_offline.specs.Applying.{outcome_line, own_sci};
 
-use crate::failure::{DiskFault, Failure};
-use crate::output::{Line, print_octets};
-use crate::status::Status;
-use crate::stream::Stream;
 use itoa::Buffer;
-use macs_commands::{CommandFile, SecretTable, command_file};
+use macs_cli::{DiskFault, Failure, Line, Status, Stream, print_octets};
+use macs_commands::secrets::SecretTable;
+use macs_commands::{CommandFile, command_file};
 use macs_config::{Command, Refusal};
 use macs_disk::SectorDisk;
 use macs_endpoint::{CommandFault, Endpoint};

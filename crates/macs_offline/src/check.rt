@@ -10,8 +10,8 @@ ghost use Rattle.toml.specs.View.{table_view};
 ghost use Rattle.toml.specs.Parse.{parse_document};
 ghost use Rattle.macs_config.specs.declared.refusal.Refusal.{Refusal};
 ghost use Rattle.macs_commands.specs.Ends.{end_commands, end_in};
-ghost use Rattle.macs_commands.specs.declared.config_fault.ConfigFault.TheVariants as config;
-ghost use Rattle.macs_commands.specs.declared.ends.CommandFileFault.TheVariants as told;
+ghost use Rattle.macs_commands.specs.declared.files.config_fault.ConfigFault.TheVariants as config;
+ghost use Rattle.macs_commands.specs.declared.files.ends.CommandFileFault.TheVariants as told;
 ghost use Rattle.std.specs.Prelude.{Ok, Some};
 ghost use Rattle.macs_offline.specs.Applying.{SaidByFile, SaysCommands, outcomes_status};
 ghost use Rattle.macs_offline.specs.Checking.{CheckEnds, Checks, ComplainsOfFile};
@@ -19,30 +19,26 @@ ghost use Rattle.macs_offline.specs.Checking.{HasFault, IsSaidOfFile, IsSaidOfTe
 ghost use Rattle.macs_offline.specs.Checking.{count_line, extra_key_at, fault_text};
 ghost use Rattle.macs_offline.specs.Checking.{file_fault_text, key_fault, key_reason, key_word};
 ghost use Rattle.macs_offline.specs.Checking.{lacks};
-ghost use Rattle.macs_offline.specs.FileModes.{mode_warning};
-ghost use Rattle.macs_offline.specs.Reasons.{Complains, IsUnread};
+ghost use Rattle.macs_cli.specs.FileModes.{mode_warning};
+ghost use Rattle.macs_cli.specs.Reasons.{Complains, IsUnread};
 ghost use Rattle.macs_offline.specs.KeyLists.{SaysSpent, spent_text};
 ghost use Rattle.macs_offline.specs.Trying.{TrialFails, TriesIn, trial_report};
 
 use crate::applying::{MAX_FILE, MAX_READ};
-use crate::capture_file::CaptureFile;
-use crate::failure::Failure;
-use crate::file_mode::{mode_of, print_mode};
-use crate::file_reason::failure_at;
 use crate::key_list::{KeyFault, KeyList};
-use crate::output::{Line, append_count, print, print_octets};
 use crate::shown_keys::shown_key;
-use crate::status::Status;
-use crate::stream::Stream;
 use crate::toml_place::failure_of_toml;
 use crate::trial::{outcomes_status, trial_report, try_in};
+use macs_cli::{
+    CaptureFile, Failure, Line, Status, Stream, append_count, failure_at, mode_of, print,
+    print_mode, print_octets,
+};
+use macs_commands::secrets::{SecretOctets, SecretTable};
 use macs_commands::{
-    CommandFile, CommandFileFault, ConfigFault, KeyName, SecretTable, command_file, extra_key,
-    value,
+    CommandFile, CommandFileFault, ConfigFault, KeyName, command_file, extra_key, value,
 };
 use macs_config::Command;
 use macs_fields::Sci;
-use macs_secrets::SecretOctets;
 use std::alloc::{AllocError, Global};
 use std::fs;
 use std::io::Read;

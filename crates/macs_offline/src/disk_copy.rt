@@ -13,11 +13,10 @@ ghost use Rattle.macs_disk.specs.declared.file_fault.FileFault.{FileFault};
 ghost use Rattle.macs_journal.specs.Areas.{least_sectors};
 ghost use Rattle.macs_offline.specs.Contents.{number_of, sector_in};
 ghost use Rattle.macs_offline.specs.Copying.{CopyFails, IsCopy};
-ghost use Rattle.macs_offline.specs.Failing.{failure_of_file};
+ghost use Rattle.macs_cli.specs.Failing.{failure_of_file};
 
-use crate::capture_file::CaptureFile;
 use crate::contents::{BLOCK_SECTORS, SPACED_MARK_SECTOR, begins, read_sector};
-use crate::failure::Failure;
+use macs_cli::{CaptureFile, Failure};
 use macs_disk::{DiskFile, FileFault, Layout, MemDisk, SectorDisk};
 use macs_journal::JournalFault;
 use macs_record::{CLOSED_GATE, SECTOR};

@@ -25,21 +25,17 @@ ghost use Rattle.macs_offline.specs.RecordLines.{records_text};
 ghost use Rattle.macs_offline.specs.Examining.{PrintsExamined, Says, SaysFault, examined_text};
 ghost use Rattle.macs_offline.specs.Examining.{fault_line, figures_of, said_text};
 ghost use Rattle.macs_offline.specs.Trying.{failure_in_memory};
-ghost use Rattle.macs_offline.specs.declared.failure.DiskFault.TheVariants.{Journal};
+ghost use Rattle.macs_cli.specs.declared.failure.DiskFault.TheVariants.{Journal};
 
-use crate::capture_file::CaptureFile;
 use crate::disk_copy::{copy_of, find_layout, measure};
 use crate::examined_text::{Figures, examined_text, fault_line};
-use crate::failure::{DiskFault, Failure};
-use crate::file_reason::failure_at_disk;
 use crate::files::open_shared;
 use crate::first_fault::fault_of;
-use crate::json_output::print_report;
-use crate::output::print_last;
 use crate::record_lines::records_text;
-use crate::status::Status;
-use crate::stream::Stream;
 use crate::trial::failure_in_memory;
+use macs_cli::{
+    CaptureFile, DiskFault, Failure, Status, Stream, failure_at_disk, print_last, print_report,
+};
 use macs_disk::{FileFault, Layout, MemDisk};
 use macs_journal::{JournalFault, RecoverRefused, Room, new_room, recover_into};
 use macs_store::{OpenRefused, Store};

@@ -7,11 +7,8 @@ ghost use Rattle.hex.specs.Hex.{encode_lower};
 ghost use Rattle.macs_offline.specs.Keys.{GivesKey, IsOfKey, PrintsKey, key_octets};
 ghost use Rattle.macs_texts.specs.Lines.{line};
 
-use crate::failure::Failure;
-use crate::output::{Line, print_octets};
-use crate::status::Status;
-use crate::stream::Stream;
-use macs_secrets::{wipe, write_digits};
+use macs_cli::{Failure, Line, Status, Stream, print_octets};
+use macs_commands::secrets::{wipe, write_digits};
 use std::random::RandomSource;
 
 /// The longest key, in octets.

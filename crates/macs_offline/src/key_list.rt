@@ -11,7 +11,7 @@ ghost use Rattle.std.specs.Option.{option_map};
 ghost use Rattle.macs_offline.specs.KeyLists.{HasSpent, IsFirstSpent, IsSpentIn, digits_of, key_in};
 ghost use Rattle.macs_offline.specs.KeyLists.{key_line, lines_text};
 
-use crate::failure::Failure;
+use macs_cli::Failure;
 use macs_config::Command;
 use macs_texts::key_digest;
 use std::alloc::{AllocError, Global};

@@ -2,12 +2,11 @@
 
 ghost use Rattle.std.specs.Prelude.{◌≡◌, ◌↔◌, IfOk};
 ghost use Rattle.macs_fields.specs.First.{IsFirst};
-ghost use Rattle.macs_offline.specs.OpenInput.{InputFaultHolds, input_faults};
+ghost use Rattle.macs_cli.specs.OpenInput.{InputFaultHolds, input_faults};
 ghost use Rattle.macs_offline.specs.Opened.{Answers, AnswersRequest, refusal_text};
 
 use crate::hex_text::HexText;
-use crate::open_input::{InputFault, OpenInput, request_of};
-use crate::status::Status;
+use macs_cli::{InputFault, OpenInput, Status, request_of};
 use macs_frame::{An, FrameBuf, OpenFault, Pn, TagFault, open_frame};
 use macs_gcm::GcmKey;
 use std::fmt;

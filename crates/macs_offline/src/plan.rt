@@ -6,25 +6,19 @@ ghost use Rattle.std.specs.Prelude.{string_bytes};
 ghost use Rattle.toml.specs.Data.{Members};
 ghost use Rattle.toml.specs.View.{table_view};
 ghost use Rattle.toml.specs.Parse.{parse_document};
-ghost use Rattle.macs_plan.specs.Writing.{PlansText};
+ghost use Rattle.macs_commands.specs.Writing.{PlansText};
 ghost use Rattle.macs_offline.specs.Plans.{IsPlanOfFile, PlanFails, PlansFile, PrintsPlan};
 ghost use Rattle.macs_offline.specs.Plans.{RefusesSo, SaysWhy, SaysWhyOfFile, SaysWhyOfText};
 ghost use Rattle.macs_offline.specs.Plans.{end_of, extra_text, link_refusal, name_reason};
 ghost use Rattle.macs_offline.specs.Plans.{name_word, plan_fault_text, stage_of, value_text};
-ghost use Rattle.macs_offline.specs.Reasons.{Complains, IsLinkUnread};
+ghost use Rattle.macs_cli.specs.Reasons.{Complains, IsLinkUnread};
 
 use crate::applying::{MAX_FILE, MAX_READ};
 use crate::check::failure_saying;
-use crate::failure::{Failure, LinkRefusal};
-use crate::file_reason::failure_at;
-use crate::output::print;
-use crate::status::Status;
-use crate::stream::Stream;
 use crate::toml_place::failure_of_toml;
-use macs_commands::SecretTable;
-use macs_plan::{End, Place, PlanFault, Stage, ValueName};
-use macs_secrets::{SecretOctets, SecretText};
-use macs_words::{PlanEnd, PlanStage};
+use macs_cli::{Failure, LinkRefusal, PlanEnd, PlanStage, Status, Stream, failure_at, print};
+use macs_commands::links::{End, Place, PlanFault, Stage, ValueName};
+use macs_commands::secrets::{SecretOctets, SecretTable, SecretText};
 use std::alloc::{AllocError, Global};
 use std::fs;
 use std::io::Read;
@@ -153,7 +147,7 @@ fn planned_in_table(alloc: Global, table: &Table, end: End, stage: Stage) -> Res
     ensures fault { (text : List ℕ) → parse_document text ≡ Some (table_view table.now)
         → IfErr result (SaysWhyOfText end stage text) }
 {
-    match macs_plan::plan(alloc, table, end, stage) {
+    match macs_commands::links::plan(alloc, table, end, stage) {
         Ok(text) => Ok(text),
         Err(fault) => match fault {
             PlanFault::Memory => Err(Failure::Memory),

@@ -4,7 +4,7 @@ ghost use Rattle.std.specs.Prelude.{◌≡◌, IfOk, length, string_bytes, take}
 ghost use Rattle.std.specs.Str.{chars, encode_utf8_all};
 ghost use Rattle.macs_offline.specs.ShownKeys.{more_mark, shown_key};
 
-use macs_words::printable;
+use macs_cli::printable;
 use std::alloc::{AllocError, Global};
 
 /// How many characters of a key are displayed.

@@ -1,6 +1,6 @@
 //! What ends the inspection of a capture, and why.
 
-use crate::stream::PrintFailed;
+use macs_cli::PrintFailed;
 use macs_pcap::PcapFault;
 use std::alloc::AllocError;
 

@@ -15,12 +15,9 @@ ghost use Rattle.macs_offline.specs.Trying.{failure_in_memory, trial_line, trial
 ghost use Rattle.macs_offline.specs.Trying.{trial_report, trial_text};
 
 use crate::applying::{give, is_own, status_after};
-use crate::capture_file::CaptureFile;
 use crate::disk_copy::copy_of;
-use crate::failure::{DiskFault, Failure};
-use crate::file_reason::failure_at_disk;
 use crate::files::{failure_of, open_shared};
-use crate::status::Status;
+use macs_cli::{CaptureFile, DiskFault, Failure, Status, failure_at_disk};
 use macs_config::{Command, Refusal};
 use macs_disk::{MemDisk, SectorDisk};
 use macs_endpoint::{Endpoint, OpenRefused};

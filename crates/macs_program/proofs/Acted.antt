@@ -5,20 +5,20 @@ use Rattle.std.specs.Io.KnownBytes.{Appends}
 use Rattle.std.proofs.lemmas.Result.{IfErr-weaker, IfOk-weaker}
 use Rattle.clap.specs.Words.{Text, subcommand_of, takes}
 use Rattle.macs_disk.specs.Files.{FileState}
-use Rattle.macs_offline.specs.Failing.{failure_of_words, failure_status}
+use Rattle.macs_cli.specs.Failing.{failure_of_words, failure_status}
 use Rattle.macs_program.specs.Inputs.{read_of}
 use Rattle.macs_program.specs.Run.{Acts, Performs}
-use Rattle.macs_offline.specs.declared.failure.Failure.{Failure}
-use Rattle.macs_offline.specs.declared.failure.Failure.TheVariants.{Output}
-use Rattle.macs_offline.specs.declared.status.Status.{Status}
-use Rattle.macs_offline.specs.declared.status.Status.TheVariants as ends
-use Rattle.macs_words.specs.Help.{topic_text}
-use Rattle.macs_words.specs.Words.{AreRefused, AsksFor, AsksForNothing, Names, macsecd}
-use Rattle.macs_words.specs.declared.action.Action.{Action}
-use Rattle.macs_words.specs.declared.action.Action.TheVariants.{Open}
-use Rattle.macs_words.specs.declared.action.UsageFault.{UsageFault}
-use Rattle.macs_words.specs.declared.action.UsageFault.TheVariants as words
-use Rattle.macs_words.specs.declared.help.Topic.{Topic}
+use Rattle.macs_cli.specs.declared.failure.Failure.{Failure}
+use Rattle.macs_cli.specs.declared.failure.Failure.TheVariants.{Output}
+use Rattle.macs_cli.specs.declared.status.Status.{Status}
+use Rattle.macs_cli.specs.declared.status.Status.TheVariants as ends
+use Rattle.macs_cli.specs.Help.{topic_text}
+use Rattle.macs_cli.specs.Words.{AreRefused, AsksFor, AsksForNothing, Names, macsecd}
+use Rattle.macs_cli.specs.declared.words.action.Action.{Action}
+use Rattle.macs_cli.specs.declared.words.action.Action.TheVariants.{Open}
+use Rattle.macs_cli.specs.declared.words.action.UsageFault.{UsageFault}
+use Rattle.macs_cli.specs.declared.words.action.UsageFault.TheVariants as words
+use Rattle.macs_cli.specs.declared.words.help.Topic.{Topic}
 
 -- refused words are no fault of the disk, and none of the output
 no-disk : (fault : UsageFault) → failure_status (failure_of_words fault) ≢ ends.Disk

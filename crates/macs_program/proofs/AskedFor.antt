@@ -2,8 +2,8 @@
 use Rattle.std.proofs.Common.{◌≡◌, ◌⊎◌, ◌∙◌, ℕ, true, false, List, [], ◌∷◌, ap, append_assoc, subst, sym, Option, Some}
 use Rattle.std.proofs.Common.{None, Result, Ok, Err, inl, inr}
 use Rattle.macs_program.specs.CaptureFiles.{Asked, Asks, AsksInOrder, Makes, Opens}
-use Rattle.macs_offline.specs.declared.failure.Failure.{Failure}
-use Rattle.macs_offline.specs.declared.status.Status.{Status}
+use Rattle.macs_cli.specs.declared.failure.Failure.{Failure}
+use Rattle.macs_cli.specs.declared.status.Status.{Status}
 
 -- one, and then another one
 pub asked-both : (before between after : Option (List Asked)) (first second : Asked) → Asks before between (first ∷ [])

@@ -14,7 +14,7 @@ use Rattle.macs_pcap.specs.declared.sink.WriteFailed.{WriteFailed}
 use Rattle.macs_rxsc.specs.declared.verdict.Verdict.{Verdict}
 use Rattle.macs_program.specs.Capturing.{EndsFlushed, FailsToFlush, IsFlushed, PassesCapture}
 use Rattle.macs_program.specs.Judging.{JudgesCapture}
-use Rattle.macs_offline.specs.declared.failure.Failure.{Failure}
+use Rattle.macs_cli.specs.declared.failure.Failure.{Failure}
 
 pub flushed-or-not : (before after : SinkState) (answer : Result (Unit {0}) WriteFailed) → Keeps before.held after.held
     → OnOk answer (after.flushed ≡ true)

@@ -1,12 +1,12 @@
 -- The status of the process.
 use Rattle.std.proofs.Common.{◌≡◌, ◌≢◌, ◌⊎◌, ◌∙◌, inl, inr, ℕ, ap, refl, subst, sym}
-use Rattle.macs_offline.specs.Failing.{failure_status}
-use Rattle.macs_offline.specs.Statuses.{code_of}
-use Rattle.macs_offline.specs.declared.failure.Failure.{Failure}
-use Rattle.macs_offline.specs.declared.failure.Failure.TheVariants as failures
-use Rattle.macs_offline.specs.declared.failure.LinkRefusal.{LinkRefusal}
-use Rattle.macs_offline.specs.declared.status.Status.{Status}
-use Rattle.macs_offline.specs.declared.status.Status.TheVariants as ends
+use Rattle.macs_cli.specs.Failing.{failure_status}
+use Rattle.macs_cli.specs.Statuses.{code_of}
+use Rattle.macs_cli.specs.declared.failure.Failure.{Failure}
+use Rattle.macs_cli.specs.declared.failure.Failure.TheVariants as failures
+use Rattle.macs_cli.specs.declared.failure.LinkRefusal.{LinkRefusal}
+use Rattle.macs_cli.specs.declared.status.Status.{Status}
+use Rattle.macs_cli.specs.declared.status.Status.TheVariants as ends
 
 pub code-usage : (status : Status) → code_of status ≡ 2 → status ≡ ends.Usage
 code-usage ends.Done is = cc

@@ -21,10 +21,10 @@ use Rattle.macs_program.specs.Judging.{verdict_line}
 use Rattle.macs_program.specs.Judging.{verdict_lines}
 use Rattle.macs_program.specs.Summing.{pass_status, summary_line}
 use Rattle.macs_edge.specs.declared.settling.Side.TheVariants.{Common}
-use Rattle.macs_offline.specs.declared.failure.Failure.{Failure}
-use Rattle.macs_offline.specs.declared.failure.Failure.TheVariants.{Output}
+use Rattle.macs_cli.specs.declared.failure.Failure.{Failure}
+use Rattle.macs_cli.specs.declared.failure.Failure.TheVariants.{Output}
 use Rattle.macs_program.specs.declared.judging.VerdictLines.{VerdictLines}
-use Rattle.macs_offline.specs.declared.status.Status.{Status}
+use Rattle.macs_cli.specs.declared.status.Status.{Status}
 
 -- ---- words
 

@@ -4,12 +4,12 @@ use Rattle.macs_edge.specs.declared.capture_runs.RunFault.{RunFault}
 use Rattle.macs_edge.specs.declared.capture_runs.RunFault.TheVariants.{Device, Pcap}
 use Rattle.macs_endpoint.specs.declared.fault.RefillFault.TheVariants as refill
 use Rattle.macs_pcap.specs.declared.fault.PcapFault.TheVariants as pcap
-use Rattle.macs_offline.specs.Failing.{failure_of_run, failure_of_words, failure_status}
-use Rattle.macs_words.specs.declared.action.UsageFault.{UsageFault}
-use Rattle.macs_words.specs.declared.action.UsageFault.TheVariants as words
-use Rattle.macs_offline.specs.declared.failure.Failure.{Failure}
-use Rattle.macs_offline.specs.declared.failure.Failure.TheVariants.{Capture, Output}
-use Rattle.macs_offline.specs.declared.status.Status.TheVariants.{Usage}
+use Rattle.macs_cli.specs.Failing.{failure_of_run, failure_of_words, failure_status}
+use Rattle.macs_cli.specs.declared.words.action.UsageFault.{UsageFault}
+use Rattle.macs_cli.specs.declared.words.action.UsageFault.TheVariants as words
+use Rattle.macs_cli.specs.declared.failure.Failure.{Failure}
+use Rattle.macs_cli.specs.declared.failure.Failure.TheVariants.{Capture, Output}
+use Rattle.macs_cli.specs.declared.status.Status.TheVariants.{Usage}
 
 fault-status : (fault : RunFault) → failure_status (failure_of_run fault) ≢ Usage
 fault-status (Pcap pcap.Read) is = cc

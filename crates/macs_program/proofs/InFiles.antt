@@ -26,13 +26,13 @@ use Rattle.macs_program.specs.Capturing.{EndsPass, PassesCapture}
 use Rattle.macs_program.specs.Endpoints.{AppliesIn, BreaksOff, BreaksOffIn}
 use Rattle.macs_offline.specs.Openings.{IsDiskIn, IsOpeningIn, OpeningFails}
 use Rattle.macs_program.specs.Endpoints.{PassEndsIn, PassesIn, ShowsIn, shown_text}
-use Rattle.macs_offline.specs.Failing.{failure_of_file, failure_of_journal, failure_status}
+use Rattle.macs_cli.specs.Failing.{failure_of_file, failure_of_journal, failure_status}
 use Rattle.macs_program.specs.Summing.{pass_status, summary_line}
 use Rattle.macs_program.specs.Tasks.{DoesApply, DoesPass, DoesShow, Doing, IsRunIn}
-use Rattle.macs_offline.specs.declared.failure.Failure.{Failure}
-use Rattle.macs_offline.specs.declared.failure.Failure.TheVariants.{Capture, Commands, Memory, Output}
-use Rattle.macs_offline.specs.declared.status.Status.{Status}
-use Rattle.macs_offline.specs.declared.status.Status.TheVariants as ends
+use Rattle.macs_cli.specs.declared.failure.Failure.{Failure}
+use Rattle.macs_cli.specs.declared.failure.Failure.TheVariants.{Capture, Commands, Memory, Output}
+use Rattle.macs_cli.specs.declared.status.Status.{Status}
+use Rattle.macs_cli.specs.declared.status.Status.TheVariants as ends
 
 -- ---- opening
 

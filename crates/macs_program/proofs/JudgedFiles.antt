@@ -16,17 +16,17 @@ use Rattle.macs_program.proofs.Failed.{run-no-output, run-status}
 use Rattle.macs_offline.proofs.Failures.{MemoryOr, capture-no-output, capture-no-usage, disk-no-output, disk-no-usage}
 use Rattle.macs_offline.proofs.Failures.{of-opening}
 use Rattle.macs_offline.specs.Openings.{OpeningFails}
-use Rattle.macs_offline.specs.Failing.{failure_status}
+use Rattle.macs_cli.specs.Failing.{failure_status}
 use Rattle.macs_program.specs.Judging.{DoesJudge, EndsEach, JudgesIn, JudgingEndsIn, PrintsVerdicts, StopsEach}
 use Rattle.macs_program.specs.Judging.{ValidatesEach}
 use Rattle.macs_program.specs.Judging.{verdict_lines}
 use Rattle.macs_program.specs.Summing.{pass_status, summary_line}
 use Rattle.macs_program.specs.Tasks.{IsRunIn}
 use Rattle.macs_edge.specs.declared.settling.Side.TheVariants.{Common}
-use Rattle.macs_offline.specs.declared.failure.Failure.{Failure}
-use Rattle.macs_offline.specs.declared.failure.Failure.TheVariants.{Capture, Memory, Output}
-use Rattle.macs_offline.specs.declared.status.Status.{Status}
-use Rattle.macs_offline.specs.declared.status.Status.TheVariants as ends
+use Rattle.macs_cli.specs.declared.failure.Failure.{Failure}
+use Rattle.macs_cli.specs.declared.failure.Failure.TheVariants.{Capture, Memory, Output}
+use Rattle.macs_cli.specs.declared.status.Status.{Status}
+use Rattle.macs_cli.specs.declared.status.Status.TheVariants as ends
 
 module _ {D W : Type 0} (disk_of : D → Disk) (contents : W → Option (List ℕ)) (has_failed : W → Bool) (is_all : Bool)
     (old : EndpointValue D)

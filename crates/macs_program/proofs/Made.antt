@@ -10,19 +10,19 @@ use Rattle.macs_disk.specs.declared.file_fault.FileFault.TheVariants as file_fau
 use Rattle.macs_disk.specs.declared.layout.Layout.{Layout}
 use Rattle.macs_fields.specs.First.{IsFirst}
 use Rattle.macs_journal.specs.declared.fault.JournalFault.TheVariants as journal
-use Rattle.macs_offline.proofs.FirstFault.{first-holds}
+use Rattle.macs_cli.proofs.FirstFault.{first-holds}
 use Rattle.macs_offline.proofs.Failures.{IsOfDisk, disk-no-output}
-use Rattle.macs_offline.specs.Failing.{failure_of_file, failure_status}
+use Rattle.macs_cli.specs.Failing.{failure_of_file, failure_status}
 use Rattle.macs_program.specs.NewDisks.{EndpointFails, FormatFails, Formats, IsAfterValues, IsTaken, MakesDisk, Permits}
 use Rattle.macs_texts.specs.Lines.{line}
-use Rattle.macs_offline.specs.Values.{value_faults}
-use Rattle.macs_offline.specs.declared.failure.DiskFault.{DiskFault}
-use Rattle.macs_offline.specs.declared.failure.DiskFault.TheVariants as disk
-use Rattle.macs_offline.specs.declared.failure.Failure.{Failure}
-use Rattle.macs_offline.specs.declared.failure.Failure.TheVariants as failures
-use Rattle.macs_offline.specs.declared.status.Status.{Status}
-use Rattle.macs_offline.specs.declared.status.Status.TheVariants as ends
-use Rattle.macs_offline.specs.declared.values.ValueFault.{ValueFault}
+use Rattle.macs_cli.specs.Values.{value_faults}
+use Rattle.macs_cli.specs.declared.failure.DiskFault.{DiskFault}
+use Rattle.macs_cli.specs.declared.failure.DiskFault.TheVariants as disk
+use Rattle.macs_cli.specs.declared.failure.Failure.{Failure}
+use Rattle.macs_cli.specs.declared.failure.Failure.TheVariants as failures
+use Rattle.macs_cli.specs.declared.status.Status.{Status}
+use Rattle.macs_cli.specs.declared.status.Status.TheVariants as ends
+use Rattle.macs_cli.specs.declared.values.ValueFault.{ValueFault}
 
 -- what is not written over, whether the file is claimed or not
 pub taken : (is_over : Bool) (file claimed : FileState) (sectors : ℕ) (fault : DiskFault)

@@ -11,7 +11,7 @@ use Rattle.macs_program.specs.About.{about_text}
 use Rattle.macs_offline.specs.Applying.{outcome_lines, outcomes_status}
 use Rattle.macs_program.specs.Asking.{AskFails, PrintsAnswer, PrintsFront}
 use Rattle.macs_offline.specs.Examining.{ExamineFails, PrintsExamined}
-use Rattle.macs_offline.specs.Failing.{failure_status}
+use Rattle.macs_cli.specs.Failing.{failure_status}
 use Rattle.macs_offline.specs.Checking.{CheckEnds, CheckFails, Checks}
 use Rattle.macs_program.specs.Inputs.{InputRead}
 use Rattle.macs_offline.specs.Inspecting.{InspectFails, Inspects, IsOfInspecting, PrintsFrames}
@@ -20,23 +20,23 @@ use Rattle.macs_offline.specs.Keys.{GivesKey, IsOfKey}
 use Rattle.macs_offline.specs.Plans.{PlanFails, PrintsPlan, end_of, stage_of}
 use Rattle.macs_program.specs.Run.{Does, FailsAs, Performs, Prints, WrongValues}
 use Rattle.macs_edge.specs.declared.capture_runs.Summary.{Summary}
-use Rattle.macs_plan.specs.declared.link.End.{End}
-use Rattle.macs_plan.specs.declared.planning.Stage.{Stage}
+use Rattle.macs_commands.specs.declared.links.link.End.{End}
+use Rattle.macs_commands.specs.declared.links.planning.Stage.{Stage}
 use Rattle.macs_program.specs.Summing.{pass_status}
-use Rattle.macs_offline.specs.declared.failure.Failure.{Failure}
-use Rattle.macs_offline.specs.declared.failure.Failure.TheVariants as failures
-use Rattle.macs_offline.specs.declared.failure.Failure.TheVariants.{Output}
-use Rattle.macs_offline.specs.declared.status.Status.{Status}
-use Rattle.macs_offline.specs.declared.status.Status.TheVariants as ends
-use Rattle.macs_words.specs.declared.action.Action.{Action}
-use Rattle.macs_words.specs.declared.action.Action.TheVariants.{Open, Format, Apply, Show, Protect, Validate, Relay}
-use Rattle.macs_words.specs.declared.action.Action.TheVariants.{Ask, Key, Inspect, Check, Plan, Examine, About}
-use Rattle.macs_words.specs.declared.action.WireEnds.{WireEnds}
-use Rattle.macs_words.specs.declared.plan_words.PlanEnd.{PlanEnd}
-use Rattle.macs_words.specs.declared.plan_words.PlanStage.{PlanStage}
-use Rattle.macs_words.specs.declared.action.Question.{Question}
-use Rattle.macs_words.specs.declared.action.Question.TheVariants as question
-use Rattle.macs_words.specs.declared.pace.Running.{Running}
+use Rattle.macs_cli.specs.declared.failure.Failure.{Failure}
+use Rattle.macs_cli.specs.declared.failure.Failure.TheVariants as failures
+use Rattle.macs_cli.specs.declared.failure.Failure.TheVariants.{Output}
+use Rattle.macs_cli.specs.declared.status.Status.{Status}
+use Rattle.macs_cli.specs.declared.status.Status.TheVariants as ends
+use Rattle.macs_cli.specs.declared.words.action.Action.{Action}
+use Rattle.macs_cli.specs.declared.words.action.Action.TheVariants.{Open, Format, Apply, Show, Protect, Validate, Relay}
+use Rattle.macs_cli.specs.declared.words.action.Action.TheVariants.{Ask, Key, Inspect, Check, Plan, Examine, About}
+use Rattle.macs_cli.specs.declared.words.action.WireEnds.{WireEnds}
+use Rattle.macs_cli.specs.declared.words.plan_words.PlanEnd.{PlanEnd}
+use Rattle.macs_cli.specs.declared.words.plan_words.PlanStage.{PlanStage}
+use Rattle.macs_cli.specs.declared.words.action.Question.{Question}
+use Rattle.macs_cli.specs.declared.words.action.Question.TheVariants as question
+use Rattle.macs_cli.specs.declared.words.pace.Running.{Running}
 use Rattle.macs_offline.proofs.Examined.{examining-no-usage, said-status}
 use Rattle.macs_offline.proofs.Failures.{output-no-usage}
 use Rattle.macs_offline.proofs.Tried.{of-trial, spent-no-usage, trial-no-usage}

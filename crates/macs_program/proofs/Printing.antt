@@ -5,14 +5,14 @@ use Rattle.std.proofs.lemmas.List.{take_all}
 use Rattle.std.specs.Io.KnownBytes.{Appends}
 use Rattle.macs_fields.specs.First.{IsFirst}
 use Rattle.macs_offline.specs.Opened.{Answers, answer_status, answer_text}
-use Rattle.macs_offline.specs.OpenInput.{InputFaultHolds, input_faults}
+use Rattle.macs_cli.specs.OpenInput.{InputFaultHolds, input_faults}
 use Rattle.macs_program.specs.Run.{Prints}
-use Rattle.macs_offline.proofs.Printing.{prints-text}
+use Rattle.macs_cli.proofs.Printing.{prints-text}
 use Rattle.macs_offline.specs.declared.opened.Opened.{Opened}
 use Rattle.macs_offline.specs.declared.opened.Opened.TheVariants as answers
-use Rattle.macs_offline.specs.declared.open_input.InputFault.{InputFault}
-use Rattle.macs_offline.specs.declared.status.Status.{Status}
-use Rattle.macs_offline.specs.declared.status.Status.TheVariants.{Done, Refused}
+use Rattle.macs_cli.specs.declared.open_input.InputFault.{InputFault}
+use Rattle.macs_cli.specs.declared.status.Status.{Status}
+use Rattle.macs_cli.specs.declared.status.Status.TheVariants.{Done, Refused}
 
 -- what was appended to nothing is what was read
 pub appended-read : (remaining : Option (List ℕ)) (limit : ℕ) (text : List ℕ)

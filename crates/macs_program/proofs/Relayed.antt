@@ -15,25 +15,25 @@ use Rattle.macs_endpoint.specs.Value.{EndpointValue}
 use Rattle.macs_endpoint.specs.declared.fault.RefillFault.{RefillFault}
 use Rattle.macs_endpoint.specs.declared.fault.RefillFault.TheVariants as refill
 use Rattle.macs_fields.specs.First.{IsFirst}
-use Rattle.macs_words.specs.declared.action.WireEnds.{WireEnds}
-use Rattle.macs_words.specs.declared.pace.Running.{Running}
-use Rattle.macs_offline.proofs.FirstFault.{first-holds}
+use Rattle.macs_cli.specs.declared.words.action.WireEnds.{WireEnds}
+use Rattle.macs_cli.specs.declared.words.pace.Running.{Running}
+use Rattle.macs_cli.proofs.FirstFault.{first-holds}
 use Rattle.macs_offline.proofs.Failures.{disk-no-output, of-opening}
 use Rattle.macs_offline.proofs.Tried.{of-look}
-use Rattle.macs_offline.specs.Addresses.{AddressFaultHolds, SpellsBoth, address_faults}
+use Rattle.macs_cli.specs.Addresses.{AddressFaultHolds, SpellsBoth, address_faults}
 use Rattle.macs_offline.specs.Openings.{OpeningFails}
-use Rattle.macs_offline.specs.Failing.{failure_of_refill, failure_status}
+use Rattle.macs_cli.specs.Failing.{failure_of_refill, failure_status}
 use Rattle.macs_program.specs.Relaying.{ComesTo, Course, EndsRelay, IsAfterAddresses, IsOfRelay, IsRun, IsUnbound}
 use Rattle.macs_program.specs.Relaying.{RelayEndsIn, Relays, StopsRelay, attended, course_of, is_attended, new_wire}
 use Rattle.macs_program.specs.Relaying.{turns_of}
 use Rattle.macs_program.specs.Summing.{relay_line}
 use Rattle.macs_program.specs.Tasks.{DoesRelay, IsRunIn}
-use Rattle.macs_offline.specs.declared.addresses.AddressFault.{AddressFault}
-use Rattle.macs_offline.specs.declared.failure.Failure.{Failure}
-use Rattle.macs_offline.specs.declared.failure.Failure.TheVariants as failures
-use Rattle.macs_offline.specs.declared.failure.Failure.TheVariants.{Address}
-use Rattle.macs_offline.specs.declared.status.Status.{Status}
-use Rattle.macs_offline.specs.declared.status.Status.TheVariants as ends
+use Rattle.macs_cli.specs.declared.addresses.AddressFault.{AddressFault}
+use Rattle.macs_cli.specs.declared.failure.Failure.{Failure}
+use Rattle.macs_cli.specs.declared.failure.Failure.TheVariants as failures
+use Rattle.macs_cli.specs.declared.failure.Failure.TheVariants.{Address}
+use Rattle.macs_cli.specs.declared.status.Status.{Status}
+use Rattle.macs_cli.specs.declared.status.Status.TheVariants as ends
 
 between-new : {D : Type 0} (disk_of : D → Disk) (course : Course) (summary : RelaySummary) (old new : EndpointValue D)
     (first second controlled common : WireState)

@@ -15,20 +15,20 @@ use Rattle.macs_program.specs.Asking.{IsForOther, IsOfAsking, IsUnanswered, Says
 use Rattle.macs_program.specs.Asking.{SaysOfSocket, TellsOfSocket, failure_in, failure_of_other, is_of_endpoint}
 use Rattle.macs_program.specs.Asking.{sci_line}
 use Rattle.macs_offline.specs.Checking.{IsSaidOfFile}
-use Rattle.macs_offline.specs.Reasons.{Complains, IsUnread, Tells, TellsOfFile}
+use Rattle.macs_cli.specs.Reasons.{Complains, IsUnread, Tells, TellsOfFile}
 use Rattle.macs_program.specs.Sockets.{socket_text}
 use Rattle.macs_program.specs.declared.socket_reason.SocketReason.{SocketReason}
 use Rattle.macs_program.specs.declared.socket_reason.SocketReason.TheVariants as reason
 use Rattle.std.proofs.Common.{codes, string_bytes}
-use Rattle.macs_words.specs.declared.action.Question.{Question}
-use Rattle.macs_words.specs.declared.action.Question.TheVariants as question
+use Rattle.macs_cli.specs.declared.words.action.Question.{Question}
+use Rattle.macs_cli.specs.declared.words.action.Question.TheVariants as question
 use Rattle.macs_journal.specs.declared.fault.JournalFault.TheVariants as journal
-use Rattle.macs_offline.specs.declared.failure.DiskFault.TheVariants as disk
-use Rattle.macs_offline.specs.declared.failure.Failure.TheVariants as failures
-use Rattle.macs_offline.specs.declared.failure.Failure.{Failure}
-use Rattle.macs_offline.specs.declared.failure.Failure.TheVariants.{Commands, Control, Memory, Output}
-use Rattle.macs_offline.specs.declared.status.Status.{Status}
-use Rattle.macs_offline.specs.declared.status.Status.TheVariants.{Refused}
+use Rattle.macs_cli.specs.declared.failure.DiskFault.TheVariants as disk
+use Rattle.macs_cli.specs.declared.failure.Failure.TheVariants as failures
+use Rattle.macs_cli.specs.declared.failure.Failure.{Failure}
+use Rattle.macs_cli.specs.declared.failure.Failure.TheVariants.{Commands, Control, Memory, Output}
+use Rattle.macs_cli.specs.declared.status.Status.{Status}
+use Rattle.macs_cli.specs.declared.status.Status.TheVariants.{Refused}
 use Rattle.macs_offline.proofs.Applied.{lines-more, status-more}
 use Rattle.macs_record.specs.Sectors.{Begins}
 

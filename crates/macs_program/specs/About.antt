@@ -2,8 +2,8 @@
 use Rattle.std.specs.Prelude.{◌≡◌, ◌++◌, ℕ, List, codes, string_bytes}
 use Rattle.macs_texts.specs.Programs.{word_line}
 use Rattle.macs_texts.specs.declared.build.Build.{Build}
-use Rattle.macs_words.specs.Help.{topic_text}
-use Rattle.macs_words.specs.declared.help.Topic.TheVariants.{Version}
+use Rattle.macs_cli.specs.Help.{topic_text}
+use Rattle.macs_cli.specs.declared.words.help.Topic.TheVariants.{Version}
 use Rattle.macs_program.specs.declared.build.TheConstants.{COMMIT, LEVEL, PROVED, TOOLCHAIN, VERSION}
 
 -- the formats of the journal that it writes and reads

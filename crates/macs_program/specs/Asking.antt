@@ -11,22 +11,22 @@ use Rattle.macs_control.specs.Asking.{BeginsWithAnswer, seat_of, unread}
 use Rattle.macs_control.specs.Links.{Link}
 use Rattle.macs_control.specs.Seats.{connection_of, held_by}
 use Rattle.macs_control.specs.declared.asking.Asker.{Asker}
-use Rattle.macs_json.specs.Objects.{in_form}
+use Rattle.macs_cli.specs.Objects.{in_form}
 use Rattle.macs_record.specs.Sectors.{Begins}
-use Rattle.macs_words.specs.Words.{is_report}
-use Rattle.macs_words.specs.declared.action.Question.{Question}
-use Rattle.macs_words.specs.declared.action.Question.TheVariants.{Apply}
+use Rattle.macs_cli.specs.Words.{is_report}
+use Rattle.macs_cli.specs.declared.words.action.Question.{Question}
+use Rattle.macs_cli.specs.declared.words.action.Question.TheVariants.{Apply}
 use Rattle.macs_offline.specs.Applying.{SaidByFile, outcome_lines, outcomes_status}
 use Rattle.macs_offline.specs.Checking.{IsSaidOfFile}
-use Rattle.macs_offline.specs.Reasons.{Complains, Tells, TellsOfFile}
+use Rattle.macs_cli.specs.Reasons.{Complains, Tells, TellsOfFile}
 use Rattle.macs_program.specs.Sockets.{socket_text}
 use Rattle.macs_program.specs.declared.socket_reason.SocketReason.{SocketReason}
 use Rattle.macs_program.specs.declared.socket_reason.SocketReason.TheVariants as reason
-use Rattle.macs_offline.specs.declared.failure.DiskFault.TheVariants as disk
-use Rattle.macs_offline.specs.declared.failure.Failure.{Failure}
-use Rattle.macs_offline.specs.declared.failure.Failure.TheVariants as failures
-use Rattle.macs_offline.specs.declared.status.Status.{Status}
-use Rattle.macs_offline.specs.declared.status.Status.TheVariants as ends
+use Rattle.macs_cli.specs.declared.failure.DiskFault.TheVariants as disk
+use Rattle.macs_cli.specs.declared.failure.Failure.{Failure}
+use Rattle.macs_cli.specs.declared.failure.Failure.TheVariants as failures
+use Rattle.macs_cli.specs.declared.status.Status.{Status}
+use Rattle.macs_cli.specs.declared.status.Status.TheVariants as ends
 use Rattle.macs_journal.specs.declared.fault.JournalFault.TheVariants as journal
 use Rattle.macs_texts.specs.Lines.{line}
 

@@ -1,8 +1,8 @@
 -- Which captures a run asks for, and in which order.
 use Rattle.std.specs.Prelude.{◌≡◌, ◌⊎◌, ◌++◌, ⊤, ℕ, Bool, true, false, List, [], ◌∷◌, Option, Some, None, Result, OnErr}
 use Rattle.std.specs.Prelude.{OnOk}
-use Rattle.macs_offline.specs.declared.failure.Failure.{Failure}
-use Rattle.macs_offline.specs.declared.status.Status.{Status}
+use Rattle.macs_cli.specs.declared.failure.Failure.{Failure}
+use Rattle.macs_cli.specs.declared.status.Status.{Status}
 
 -- the capture with this name is opened for reading, or created for writing; and whether that succeeds
 pub data Asked : Type 0 where

@@ -7,9 +7,9 @@ use Rattle.macs_edge.specs.declared.capture_runs.RunFault.{RunFault}
 use Rattle.macs_edge.specs.declared.capture_runs.Summary.{Summary}
 use Rattle.macs_edge.specs.declared.settling.Side.{Side}
 use Rattle.macs_pcap.specs.States.{SinkState}
-use Rattle.macs_offline.specs.Failing.{failure_of_run}
-use Rattle.macs_offline.specs.declared.failure.Failure.{Failure}
-use Rattle.macs_offline.specs.declared.failure.Failure.TheVariants as failures
+use Rattle.macs_cli.specs.Failing.{failure_of_run}
+use Rattle.macs_cli.specs.declared.failure.Failure.{Failure}
+use Rattle.macs_cli.specs.declared.failure.Failure.TheVariants as failures
 
 -- all that a sink took is flushed, and nothing else about it changes
 pub record IsFlushed (before after : SinkState) : Type 0 where

@@ -16,9 +16,9 @@ use Rattle.macs_offline.specs.Applying.{AppliesAll, AppliesSome, SaidByFile, Say
 use Rattle.macs_program.specs.Capturing.{EndsPass, PassesCapture}
 use Rattle.macs_offline.specs.Openings.{IsEndpointIn}
 use Rattle.macs_texts.specs.Showing.{show_text}
-use Rattle.macs_offline.specs.declared.failure.Failure.{Failure}
-use Rattle.macs_offline.specs.declared.failure.Failure.TheVariants as failures
-use Rattle.macs_offline.specs.declared.status.Status.{Status}
+use Rattle.macs_cli.specs.declared.failure.Failure.{Failure}
+use Rattle.macs_cli.specs.declared.failure.Failure.TheVariants as failures
+use Rattle.macs_cli.specs.declared.status.Status.{Status}
 
 -- ---- the commands of a file, whose unread octets `left_in` gives, where known
 

@@ -21,13 +21,13 @@ use Rattle.macs_texts.specs.Counting.{verdict_words}
 use Rattle.macs_texts.specs.Lines.{line}
 use Rattle.macs_program.specs.Capturing.{EndsWith, IsFlushed}
 use Rattle.macs_offline.specs.Openings.{IsEndpointIn}
-use Rattle.macs_offline.specs.Failing.{failure_of_run, failure_status}
+use Rattle.macs_cli.specs.Failing.{failure_of_run, failure_status}
 use Rattle.macs_program.specs.Summing.{pass_status, summary_line}
-use Rattle.macs_offline.specs.declared.failure.Failure.{Failure}
-use Rattle.macs_offline.specs.declared.failure.Failure.TheVariants as failures
+use Rattle.macs_cli.specs.declared.failure.Failure.{Failure}
+use Rattle.macs_cli.specs.declared.failure.Failure.TheVariants as failures
 use Rattle.macs_program.specs.declared.judging.VerdictLines.{VerdictLines}
-use Rattle.macs_offline.specs.declared.status.Status.{Status}
-use Rattle.macs_offline.specs.declared.status.Status.TheVariants as ends
+use Rattle.macs_cli.specs.declared.status.Status.{Status}
+use Rattle.macs_cli.specs.declared.status.Status.TheVariants as ends
 
 -- ---- lines
 

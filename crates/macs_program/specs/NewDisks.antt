@@ -12,16 +12,16 @@ use Rattle.macs_endpoint.specs.Formatting.{IsFormat}
 use Rattle.macs_journal.specs.declared.fault.JournalFault.{JournalFault}
 use Rattle.macs_journal.specs.declared.fault.JournalFault.TheVariants as journal
 use Rattle.macs_offline.specs.Contents.{ContentsAre}
-use Rattle.macs_offline.specs.Failing.{failure_of_file, failure_of_journal}
+use Rattle.macs_cli.specs.Failing.{failure_of_file, failure_of_journal}
 use Rattle.macs_texts.specs.Lines.{line}
 use Rattle.macs_offline.specs.declared.contents.Contents.{Contents}
 use Rattle.macs_offline.specs.declared.contents.Contents.TheVariants as contents
-use Rattle.macs_offline.specs.declared.failure.DiskFault.{DiskFault}
-use Rattle.macs_offline.specs.declared.failure.DiskFault.TheVariants as disk
-use Rattle.macs_offline.specs.declared.failure.Failure.{Failure}
-use Rattle.macs_offline.specs.declared.failure.Failure.TheVariants as failures
-use Rattle.macs_offline.specs.declared.status.Status.{Status}
-use Rattle.macs_offline.specs.declared.status.Status.TheVariants as ends
+use Rattle.macs_cli.specs.declared.failure.DiskFault.{DiskFault}
+use Rattle.macs_cli.specs.declared.failure.DiskFault.TheVariants as disk
+use Rattle.macs_cli.specs.declared.failure.Failure.{Failure}
+use Rattle.macs_cli.specs.declared.failure.Failure.TheVariants as failures
+use Rattle.macs_cli.specs.declared.status.Status.{Status}
+use Rattle.macs_cli.specs.declared.status.Status.TheVariants as ends
 
 -- why a file with these contents is not overwritten, if it is not
 abbrev pub refusal_of : Contents → Bool → Option DiskFault

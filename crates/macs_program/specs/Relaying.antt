@@ -13,14 +13,14 @@ use Rattle.macs_edge.specs.Wires.{WireState}
 use Rattle.macs_edge.specs.declared.relaying.RelaySummary.{RelaySummary}
 use Rattle.macs_endpoint.specs.Value.{EndpointValue}
 use Rattle.macs_endpoint.specs.declared.fault.RefillFault.{RefillFault}
-use Rattle.macs_words.specs.declared.pace.Pace.{Pace}
-use Rattle.macs_words.specs.declared.pace.Running.{Running}
-use Rattle.macs_words.specs.declared.pace.Pace.TheVariants.{Sleepless, Waiting}
+use Rattle.macs_cli.specs.declared.words.pace.Pace.{Pace}
+use Rattle.macs_cli.specs.declared.words.pace.Running.{Running}
+use Rattle.macs_cli.specs.declared.words.pace.Pace.TheVariants.{Sleepless, Waiting}
 use Rattle.macs_offline.specs.Openings.{IsEndpointIn}
-use Rattle.macs_offline.specs.Failing.{failure_of_refill}
+use Rattle.macs_cli.specs.Failing.{failure_of_refill}
 use Rattle.macs_offline.specs.Trying.{LookFails, TriesIn}
-use Rattle.macs_offline.specs.declared.failure.Failure.{Failure}
-use Rattle.macs_offline.specs.declared.failure.Failure.TheVariants as failures
+use Rattle.macs_cli.specs.declared.failure.Failure.{Failure}
+use Rattle.macs_cli.specs.declared.failure.Failure.TheVariants as failures
 
 -- the state of a new UDP wire: no call of it failed, and its frames are not known
 abbrev pub new_wire : WireState

@@ -12,7 +12,7 @@ use Rattle.macs_rxsc.specs.declared.verdict.Verdict.{Verdict}
 use Rattle.macs_edge.specs.declared.relaying.RelaySummary.{RelaySummary}
 use Rattle.macs_edge.specs.declared.settling.Side.TheVariants.{Common, Controlled}
 use Rattle.macs_program.specs.About.{about_text}
-use Rattle.macs_offline.specs.Addresses.{AddressFaultHolds, SpellsBoth, address_faults}
+use Rattle.macs_cli.specs.Addresses.{AddressFaultHolds, SpellsBoth, address_faults}
 use Rattle.macs_offline.specs.Opened.{Answers, answer_status, answer_text}
 use Rattle.macs_program.specs.Asking.{AskFails, PrintsAnswer, PrintsFront}
 use Rattle.macs_offline.specs.Applying.{outcome_lines}
@@ -21,34 +21,34 @@ use Rattle.macs_fields.specs.First.{IsFirst}
 use Rattle.macs_program.specs.Endpoints.{AppliesIn, BreaksOffIn, PassEndsIn, PassesIn, ShowsIn}
 use Rattle.macs_offline.specs.Openings.{OpeningFails}
 use Rattle.macs_offline.specs.Examining.{ExamineFails, PrintsExamined}
-use Rattle.macs_offline.specs.Failing.{failure_of_words, failure_status, failure_text}
+use Rattle.macs_cli.specs.Failing.{failure_of_words, failure_status, failure_text}
 use Rattle.macs_offline.specs.Inspecting.{InspectFails, Inspects, PrintsFrames}
 use Rattle.macs_program.specs.Judging.{JudgesIn, JudgingEndsIn, PrintsVerdicts, verdict_lines}
 use Rattle.macs_offline.specs.Keys.{GivesKey, IsOfKey}
 use Rattle.macs_offline.specs.Plans.{PlanFails, PrintsPlan, end_of, stage_of}
-use Rattle.macs_words.specs.Help.{topic_text}
+use Rattle.macs_cli.specs.Help.{topic_text}
 use Rattle.macs_program.specs.Inputs.{InputRead, read_of}
 use Rattle.macs_program.specs.NewDisks.{FormatFails, Formats}
 use Rattle.macs_program.specs.Relaying.{ComesTo, IsUnbound, RelayEndsIn, course_of}
-use Rattle.macs_offline.specs.OpenInput.{InputFaultHolds, input_faults}
+use Rattle.macs_cli.specs.OpenInput.{InputFaultHolds, input_faults}
 use Rattle.macs_texts.specs.Lines.{line}
 use Rattle.macs_program.specs.Summing.{pass_status, relay_line, summary_line}
-use Rattle.macs_offline.specs.Values.{SpellsIdentity, SpellsLayout, ValueFaultHolds, value_faults}
-use Rattle.macs_words.specs.Words.{AreRefused, AsksFor, AsksForNothing, Names, macsecd}
-use Rattle.macs_words.specs.declared.action.Action.{Action}
-use Rattle.macs_words.specs.declared.action.Action.TheVariants.{Open, Format, Apply, Show, Protect, Validate, Relay}
-use Rattle.macs_words.specs.declared.action.Action.TheVariants.{Ask, Key, Inspect, Check, Plan, Examine, About}
-use Rattle.macs_offline.specs.declared.addresses.AddressFault.{AddressFault}
+use Rattle.macs_cli.specs.Values.{SpellsIdentity, SpellsLayout, ValueFaultHolds, value_faults}
+use Rattle.macs_cli.specs.Words.{AreRefused, AsksFor, AsksForNothing, Names, macsecd}
+use Rattle.macs_cli.specs.declared.words.action.Action.{Action}
+use Rattle.macs_cli.specs.declared.words.action.Action.TheVariants.{Open, Format, Apply, Show, Protect, Validate, Relay}
+use Rattle.macs_cli.specs.declared.words.action.Action.TheVariants.{Ask, Key, Inspect, Check, Plan, Examine, About}
+use Rattle.macs_cli.specs.declared.addresses.AddressFault.{AddressFault}
 use Rattle.macs_offline.specs.declared.opened.Opened.{Opened}
-use Rattle.macs_offline.specs.declared.failure.Failure.{Failure}
-use Rattle.macs_offline.specs.declared.failure.Failure.TheVariants.{Address, Input, Memory, Output, Value}
-use Rattle.macs_offline.specs.declared.open_input.InputFault.{InputFault}
-use Rattle.macs_offline.specs.declared.open_input.InputFault.TheVariants as request_faults
-use Rattle.macs_words.specs.declared.action.UsageFault.{UsageFault}
-use Rattle.macs_words.specs.declared.help.Topic.{Topic}
-use Rattle.macs_offline.specs.declared.status.Status.{Status}
-use Rattle.macs_offline.specs.declared.status.Status.TheVariants as ends
-use Rattle.macs_offline.specs.declared.values.ValueFault.{ValueFault}
+use Rattle.macs_cli.specs.declared.failure.Failure.{Failure}
+use Rattle.macs_cli.specs.declared.failure.Failure.TheVariants.{Address, Input, Memory, Output, Value}
+use Rattle.macs_cli.specs.declared.open_input.InputFault.{InputFault}
+use Rattle.macs_cli.specs.declared.open_input.InputFault.TheVariants as request_faults
+use Rattle.macs_cli.specs.declared.words.action.UsageFault.{UsageFault}
+use Rattle.macs_cli.specs.declared.words.help.Topic.{Topic}
+use Rattle.macs_cli.specs.declared.status.Status.{Status}
+use Rattle.macs_cli.specs.declared.status.Status.TheVariants as ends
+use Rattle.macs_cli.specs.declared.values.ValueFault.{ValueFault}
 
 -- `open`: the answer for the input is printed as one line, and the run ends with its status
 abbrev pub Prints : List ℕ → Option (List ℕ) → Option (List ℕ) → Status → Type 0

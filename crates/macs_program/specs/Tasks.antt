@@ -11,13 +11,13 @@ use Rattle.macs_endpoint.specs.Value.{EndpointValue}
 use Rattle.macs_program.specs.Endpoints.{AppliesFile, BreaksOff, PassEnds, PassesBetween}
 use Rattle.macs_offline.specs.Openings.{IsEndpointIn, OpeningFails}
 use Rattle.macs_program.specs.Endpoints.{shown_text}
-use Rattle.macs_offline.specs.Failing.{failure_status}
+use Rattle.macs_cli.specs.Failing.{failure_status}
 use Rattle.macs_program.specs.Relaying.{Course, IsAfterAddresses, RelayEnds, Relays}
 use Rattle.macs_program.specs.Summing.{pass_status, relay_line, summary_line}
-use Rattle.macs_offline.specs.declared.failure.Failure.{Failure}
-use Rattle.macs_offline.specs.declared.failure.Failure.TheVariants.{Memory, Output}
-use Rattle.macs_offline.specs.declared.status.Status.{Status}
-use Rattle.macs_offline.specs.declared.status.Status.TheVariants as ends
+use Rattle.macs_cli.specs.declared.failure.Failure.{Failure}
+use Rattle.macs_cli.specs.declared.failure.Failure.TheVariants.{Memory, Output}
+use Rattle.macs_cli.specs.declared.status.Status.{Status}
+use Rattle.macs_cli.specs.declared.status.Status.TheVariants as ends
 
 -- what is done with an endpoint and a stream: both before, the answer, both after
 abbrev pub Doing : Type 0 → Type 0 → Type 1

@@ -5,9 +5,8 @@ ghost use Rattle.std.specs.Io.KnownBytes.{Appends};
 ghost use Rattle.macs_program.specs.About.{about_text, formats_text};
 
 use crate::build::{COMMIT, LEVEL, TOOLCHAIN};
-use macs_offline::{Failure, Status, Stream, print_last};
+use macs_cli::{Failure, Status, Stream, Topic, print_last};
 use macs_texts::{joined, word_line};
-use macs_words::Topic;
 use std::alloc::{AllocError, Global};
 
 /// Which formats of the journal the program writes and reads.

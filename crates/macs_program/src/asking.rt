@@ -7,9 +7,9 @@ ghost use Rattle.std.specs.Io.KnownBytes.{Appends};
 ghost use Rattle.std.specs.IoError.{error_kind};
 ghost use Rattle.macs_config.specs.declared.refusal.Refusal.{Refusal};
 ghost use Rattle.macs_control.specs.Asking.{BeginsWithAnswer};
-ghost use Rattle.macs_json.specs.Objects.{in_form, json_text};
+ghost use Rattle.macs_cli.specs.Objects.{in_form, json_text};
 ghost use Rattle.macs_offline.specs.Applying.{outcome_line};
-ghost use Rattle.macs_offline.specs.Reasons.{Complains, Tells};
+ghost use Rattle.macs_cli.specs.Reasons.{Complains, Tells};
 ghost use Rattle.macs_program.specs.Asking.{AskFails, AsksForText, BeginsWithEnd, BeginsWithOwn};
 ghost use Rattle.macs_program.specs.Asking.{HandsCommands, IsBeforeCommands, IsForOther};
 ghost use Rattle.macs_program.specs.Asking.{IsForRelay};
@@ -23,19 +23,18 @@ ghost use Rattle.macs_record.specs.Sectors.{Begins};
 ghost use Rattle.macs_texts.specs.Refusals.{refusal_name};
 
 use crate::socket_reason::{SocketReason, socket_reason};
+use macs_cli::{
+    DiskFault, Failure, Question, Status, Stream, failure_told, print_json, print_octets,
+};
+use macs_commands::requests::{Request, line_of_request};
+use macs_commands::secrets::SecretText;
 use macs_config::{Command, Refusal};
 use macs_control::{Answer, Asker, Connection, PatientStream};
 use macs_fields::Sci;
 use macs_journal::JournalFault;
 use macs_offline::check::commands_told;
-use macs_offline::{
-    DiskFault, Failure, Status, Stream, failure_told, outcome_line, print_json, print_octets,
-    status_after,
-};
-use macs_requests::{Request, line_of_request};
-use macs_secrets::SecretText;
+use macs_offline::{outcome_line, status_after};
 use macs_texts::{ended, refusal_name};
-use macs_words::Question;
 use std::alloc::{AllocError, Global};
 use std::io;
 use std::net::Net;

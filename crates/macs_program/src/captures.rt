@@ -4,7 +4,8 @@ ghost use Rattle.std.specs.Prelude.{◌≡◌, ◌⊎◌, List, Option, [], ◌�
 ghost use Rattle.std.specs.Prelude.{OnErr, OnOk};
 ghost use Rattle.macs_program.specs.CaptureFiles.{Asked, Asks, Makes, Opens};
 
-use macs_offline::{CaptureFile, CaptureSink, CaptureSource, Failure, make_capture, open_capture};
+use macs_cli::{CaptureFile, Failure};
+use macs_offline::{CaptureSink, CaptureSource, make_capture, open_capture};
 use macs_pcap::{Sink, Source};
 use std::alloc::Global;
 use std::rt::Files;

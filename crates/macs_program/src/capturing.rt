@@ -6,13 +6,13 @@ ghost use Rattle.macs_edge.specs.CaptureRuns.{RunsOver, run_of};
 ghost use Rattle.macs_edge.specs.declared.capture_runs.RunFault.{RunFault};
 ghost use Rattle.macs_edge.specs.declared.capture_runs.Summary.{Summary};
 ghost use Rattle.macs_program.specs.Capturing.{EndsFlushed, EndsPass, PassesCapture};
-ghost use Rattle.macs_offline.specs.Failing.{IsNotBusyRun, failure_of_run, failure_status};
+ghost use Rattle.macs_cli.specs.Failing.{IsNotBusyRun, failure_of_run, failure_status};
 ghost use Rattle.macs_program.specs.Summing.{pass_status, summary_line};
 
+use macs_cli::{Failure, Line, Status, Stream, append_count, failure_of_run, print_octets};
 use macs_disk::SectorDisk;
 use macs_edge::{RunFault, Side, Summary, run_protect, run_validate};
 use macs_endpoint::Endpoint;
-use macs_offline::{Failure, Line, Status, Stream, append_count, failure_of_run, print_octets};
 use macs_pcap::{Sink, Source};
 use std::alloc::Global;
 

@@ -2,7 +2,7 @@
 
 ghost use Rattle.std.specs.Prelude.{◌≡◌, ◌⊎◌, IfErr};
 
-use macs_offline::Failure;
+use macs_cli::Failure;
 use std::alloc::Global;
 use std::fs;
 use std::io::{ErrorKind, Read};

@@ -9,10 +9,10 @@ ghost use Rattle.macs_rxsc.specs.declared.verdict.Verdict.{Verdict};
 ghost use Rattle.macs_texts.specs.Counting.{verdict_words};
 
 use crate::capturing::{handed_on, pass_status, summary_line};
+use macs_cli::{Failure, Line, Status, Stream, append_count, append_text, print_octets};
 use macs_disk::SectorDisk;
 use macs_edge::{Side, Summary, Verdicts, run_validate_each};
 use macs_endpoint::Endpoint;
-use macs_offline::{Failure, Line, Status, Stream, append_count, append_text, print_octets};
 use macs_pcap::{Sink, Source};
 use macs_rxsc::Verdict;
 use macs_texts::verdict_words;

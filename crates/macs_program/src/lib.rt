@@ -21,4 +21,4 @@ mod socket_reason;
 mod watch;
 
 pub use input::{Input, InputText, ReadFailed, ReaderInput};
-pub use macs_offline::{CaptureFile, Failure, WriterStream};
+pub use macs_cli::{CaptureFile, Failure, WriterStream};

@@ -7,18 +7,17 @@ ghost use Rattle.std.specs.declared.io.ErrorKind.TheVariants.{OutOfMemory};
 ghost use Rattle.macs_disk.specs.Files.{Behaves};
 ghost use Rattle.macs_disk.specs.declared.file_fault.FileFault.{FileFault};
 ghost use Rattle.macs_journal.specs.declared.fault.JournalFault.TheVariants as journal;
-ghost use Rattle.macs_offline.specs.Failing.{failure_of_file};
+ghost use Rattle.macs_cli.specs.Failing.{failure_of_file};
 ghost use Rattle.macs_program.specs.NewDisks.{BlankFails, EndpointFails, FormatFails, Formats};
 ghost use Rattle.macs_program.specs.NewDisks.{IsFree, MakesEndpoint, Permits, refusal_of};
-ghost use Rattle.macs_offline.specs.declared.failure.DiskFault.{DiskFault};
-ghost use Rattle.macs_offline.specs.declared.failure.DiskFault.TheVariants as disk;
+ghost use Rattle.macs_cli.specs.declared.failure.DiskFault.{DiskFault};
+ghost use Rattle.macs_cli.specs.declared.failure.DiskFault.TheVariants as disk;
 
+use macs_cli::{DiskFault, Failure};
 use macs_config::Identity;
 use macs_disk::{ClaimedFile, DiskFile, FileDisk, FileFault, Layout, Renewal, make_file};
 use macs_journal::JournalFault;
-use macs_offline::{
-    Contents, DiskFault, Failure, KeyFault, KeyList, contents_of, failure_of, is_printed_to,
-};
+use macs_offline::{Contents, KeyFault, KeyList, contents_of, failure_of, is_printed_to};
 use std::alloc::Global;
 use std::fs::OpenFile;
 use std::io;

@@ -16,14 +16,14 @@ ghost use Rattle.macs_edge.specs.UdpWires.{peer_of};
 ghost use Rattle.macs_edge.specs.declared.capture_runs.Summary.{Summary};
 ghost use Rattle.macs_edge.specs.declared.relaying.RelaySummary.{RelaySummary};
 ghost use Rattle.macs_fields.specs.First.{IsFirst};
-ghost use Rattle.macs_offline.specs.Addresses.{AddressFaultHolds, SpellsBoth, address_faults};
+ghost use Rattle.macs_cli.specs.Addresses.{AddressFaultHolds, SpellsBoth, address_faults};
 ghost use Rattle.macs_offline.specs.Applying.{outcome_lines};
 ghost use Rattle.macs_program.specs.CaptureFiles.{Asks, AsksInOrder, Makes, Opens};
 ghost use Rattle.macs_program.specs.Endpoints.{AppliesIn, BreaksOffIn};
 ghost use Rattle.macs_offline.specs.Openings.{IsDiskIn, IsOpeningIn};
 ghost use Rattle.macs_offline.specs.Openings.{OpeningFails};
 ghost use Rattle.macs_program.specs.Endpoints.{PassEndsIn, PassesIn, ShowsIn};
-ghost use Rattle.macs_offline.specs.Failing.{failure_status};
+ghost use Rattle.macs_cli.specs.Failing.{failure_status};
 ghost use Rattle.macs_program.specs.Judging.{DoesJudge, JudgesIn, JudgingEndsIn, PrintsVerdicts};
 ghost use Rattle.macs_program.specs.Judging.{verdict_lines};
 ghost use Rattle.macs_program.specs.NewDisks.{FormatFails, Formats, MakesDisk};
@@ -33,11 +33,11 @@ ghost use Rattle.macs_program.specs.Relaying.{is_attended, left_out, new_wire, t
 ghost use Rattle.macs_program.specs.Summing.{pass_status, relay_line, summary_line};
 ghost use Rattle.macs_program.specs.Tasks.{DoesApply, DoesPass, DoesRelay, DoesShow, Doing};
 ghost use Rattle.macs_program.specs.Tasks.{IsRunIn};
-ghost use Rattle.macs_offline.specs.Values.{SpellsIdentity, SpellsLayout, ValueFaultHolds};
-ghost use Rattle.macs_offline.specs.Values.{value_faults};
-ghost use Rattle.macs_offline.specs.declared.addresses.AddressFault.{AddressFault};
+ghost use Rattle.macs_cli.specs.Values.{SpellsIdentity, SpellsLayout, ValueFaultHolds};
+ghost use Rattle.macs_cli.specs.Values.{value_faults};
+ghost use Rattle.macs_cli.specs.declared.addresses.AddressFault.{AddressFault};
 ghost use Rattle.macs_edge.specs.declared.settling.Side.TheVariants as sides;
-ghost use Rattle.macs_offline.specs.declared.values.ValueFault.{ValueFault};
+ghost use Rattle.macs_cli.specs.declared.values.ValueFault.{ValueFault};
 ghost use Rattle.macs_rxsc.specs.declared.verdict.Verdict.{Verdict};
 ghost use Rattle.macs_texts.specs.Lines.{line};
 
@@ -48,16 +48,16 @@ use crate::judging::judge_frames;
 use crate::new_disk::{NewFile, format_disk};
 use crate::relaying::{bind, relay_frames, relay_frames_attended, relay_frames_resting};
 use crate::watch::Watch;
+use macs_cli::{
+    Addresses, CaptureFile, Failure, Given, Milliseconds, Pace, Running, Status, Stream,
+    WireAddresses, WireEnds, addresses_of, given_by, print,
+};
 use macs_control::{Notifier, Wires as Sockets, ask_for_buffer};
 use macs_disk::{DiskFile, FileDisk, SectorDisk};
 use macs_edge::{Side, UdpWire, Wire};
 use macs_endpoint::{Endpoint, OpenRefused};
-use macs_offline::{
-    Addresses, CaptureFile, Failure, Given, Status, Stream, WireAddresses, addresses_of,
-    apply_commands, commands_of_file, given_by, is_own, look_at, note_keys, open_disk, print,
-};
+use macs_offline::{apply_commands, commands_of_file, is_own, look_at, note_keys, open_disk};
 use macs_texts::show_lines;
-use macs_words::{Milliseconds, Pace, Running, WireEnds};
 use std::alloc::Global;
 use std::net::{Net, UdpSocket};
 use std::os::fd::AsRawFd;

@@ -4,7 +4,7 @@ use crate::build::seconds_now;
 use crate::overruns::dropped_at;
 use macs_config::Command;
 use macs_control::Wires;
-use macs_desk::{Dropped, KeyNotes, NoteFault, Overruns, Time};
+use macs_control::desk::{Dropped, KeyNotes, NoteFault, Overruns, Time};
 use macs_offline::{KeyFault, KeyList};
 use std::alloc::Global;
 use std::rt::{Clock, Files};

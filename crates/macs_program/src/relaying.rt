@@ -9,16 +9,16 @@ ghost use Rattle.macs_edge.specs.UdpWires.{peer_of};
 ghost use Rattle.macs_edge.specs.declared.attending.DeskEvent.{DeskEvent};
 ghost use Rattle.macs_edge.specs.declared.relaying.RelaySummary.{RelaySummary};
 ghost use Rattle.macs_endpoint.specs.declared.fault.RefillFault.{RefillFault};
-ghost use Rattle.macs_offline.specs.Failing.{failure_status};
+ghost use Rattle.macs_cli.specs.Failing.{failure_status};
 ghost use Rattle.macs_program.specs.Relaying.{EndsRelay, attended, new_wire, unattended};
 ghost use Rattle.macs_program.specs.Summing.{relay_line};
 
+use macs_cli::{
+    Failure, Line, Status, Stream, WireAddresses, append_count, failure_of_refill, print_octets,
+};
 use macs_disk::SectorDisk;
 use macs_edge::{Desk, Idle, RelaySummary, UdpWire, Wire, attend, relay, relay_resting};
 use macs_endpoint::Endpoint;
-use macs_offline::{
-    Failure, Line, Status, Stream, WireAddresses, append_count, failure_of_refill, print_octets,
-};
 use std::alloc::Global;
 use std::net::{Net, UdpSocket};
 

@@ -5,34 +5,35 @@ ghost use Rattle.std.specs.Prelude.{IfErr, IfOk, IfSome, OnErr, OnOk, string_byt
 ghost use Rattle.std.specs.Io.KnownBytes.{Appends};
 ghost use Rattle.clap.specs.Words.{subcommand_of, takes};
 ghost use Rattle.macs_offline.specs.Opened.{answer_text};
-ghost use Rattle.macs_offline.specs.Failing.{failure_status};
+ghost use Rattle.macs_cli.specs.Failing.{failure_status};
 ghost use Rattle.macs_program.specs.Inputs.{InputRead, read_of};
 ghost use Rattle.macs_program.specs.Run.{Acts, FailsFor, HasPrinted, HasWrongValues, OpenFails};
 ghost use Rattle.macs_program.specs.Run.{Performs, PrintedBefore, Prints};
 ghost use Rattle.macs_program.specs.Run.{PrintsUnlessFailed, Replies, complaint};
-ghost use Rattle.macs_offline.specs.Statuses.{code_of};
+ghost use Rattle.macs_cli.specs.Statuses.{code_of};
 ghost use Rattle.macs_program.specs.Run.{is_apart, is_on_disk, is_on_frames};
-ghost use Rattle.macs_words.specs.Words.{AreRefused, AsksForNothing, Names, macsecd, texts};
-ghost use Rattle.macs_words.specs.declared.action.Action.{Action};
-ghost use Rattle.macs_offline.specs.declared.failure.Failure.{Failure};
-ghost use Rattle.macs_offline.specs.declared.failure.LinkRefusal.{LinkRefusal};
-ghost use Rattle.macs_offline.specs.declared.status.Status.{Status};
+ghost use Rattle.macs_cli.specs.Words.{AreRefused, AsksForNothing, Names, macsecd, texts};
+ghost use Rattle.macs_cli.specs.declared.words.action.Action.{Action};
+ghost use Rattle.macs_cli.specs.declared.failure.Failure.{Failure};
+ghost use Rattle.macs_cli.specs.declared.failure.LinkRefusal.{LinkRefusal};
+ghost use Rattle.macs_cli.specs.declared.status.Status.{Status};
 
 use crate::about::about;
 use crate::asking::ask;
 use crate::input::{Input, InputText};
 use crate::on_disk::{apply, format, judge, pass, relay, show};
+use macs_cli::{
+    Action, CaptureFile, Failure, InputFault, PrintFailed, Status, Stream, action_of, print,
+    topic_of,
+};
+use macs_commands::secrets::wipe;
 use macs_edge::Side;
 use macs_offline::check::check;
 use macs_offline::examine::examine;
 use macs_offline::inspect::inspect;
 use macs_offline::key::key;
 use macs_offline::plan::plan;
-use macs_offline::{
-    CaptureFile, Failure, InputFault, Opened, PrintFailed, Status, Stream, answer_of, print,
-};
-use macs_secrets::wipe;
-use macs_words::{Action, action_of, topic_of};
+use macs_offline::{Opened, answer_of};
 use std::alloc::{AllocError, Allocator, Global};
 use std::net::Net;
 use std::random::RandomSource;

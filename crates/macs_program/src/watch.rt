@@ -5,8 +5,8 @@ ghost use Rattle.macs_program.specs.Watching.{asks};
 
 use libc::net::{POLLIN, poll};
 use libc::types::pollfd;
+use macs_cli::Milliseconds;
 use macs_edge::Idle;
-use macs_words::Milliseconds;
 use std::os::fd::RawFd;
 
 /// What is watched: the sockets of both wires, and how long each sleep may be.

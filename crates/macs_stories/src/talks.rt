@@ -1,7 +1,7 @@
 //! The clients of a story: what they do each time that a desk listens, and what was said to them.
 
 use crate::text::{Answer, Line, Words, whole};
-use macs_requests::{Client, Clients, Heard, Line as Octets};
+use macs_commands::requests::{Client, Clients, Heard, Line as Octets};
 use std::alloc::{AllocError, Global};
 use std::collections::VecDeque;
 

@@ -5,13 +5,13 @@ use crate::desks::Orders;
 use crate::endpoint::Played;
 use crate::talks::Talks;
 use crate::text::{Answer, Words, filled, frame_at, octets_of, tell_frame, tell_sent, whole};
-use macs_desk::{ControlDesk, NoSystem};
+use macs_commands::requests::NoMetrics;
+use macs_control::desk::{ControlDesk, NoSystem};
 use macs_edge::{
     FaultWire, Got, Idle, MemWire, RelaySummary, Wire, WireFault, attend, relay, relay_resting,
 };
 use macs_endpoint::RefillFault;
 use macs_frame::FrameBuf;
-use macs_requests::NoMetrics;
 use macs_texts::Program;
 use std::alloc::Global;
 use std::mem::replace;

@@ -1,5 +1,5 @@
 -- The output of `show` for an endpoint.
-use Rattle.std.specs.Prelude.{ℕ, List, [], ◌∷◌, ◌++◌, length, map, codes, if◌then◌else◌, Option, Some, None}
+use Rattle.std.specs.Prelude.{ℕ, List, [], ◌∷◌, ◌++◌, length, map, codes, Option, Some, None}
 use Rattle.std.specs.Fmt.{decimal}
 use Rattle.std.specs.List.{concat}
 use Rattle.hex.specs.Hex.{encode_lower}
@@ -11,12 +11,11 @@ use Rattle.macs_config.specs.declared.association.RxSa.{RxSa}
 use Rattle.macs_config.specs.declared.association.TxSa.{TxSa}
 use Rattle.macs_config.specs.declared.command.Replay.{Replay}
 use Rattle.macs_config.specs.declared.command.SciMode.{SciMode}
-use Rattle.macs_config.specs.declared.command.SciMode.TheVariants as mode
 use Rattle.macs_config.specs.declared.command.Validate.{Validate}
-use Rattle.macs_config.specs.declared.command.Validate.TheVariants as validate
 use Rattle.macs_fields.specs.Fields.{octets_of}
 use Rattle.macs_rxsc.specs.Receive.{Numbers}
 use Rattle.macs_endpoint.specs.State.{State}
+use Rattle.macs_commands.specs.Words.{replay_word, sci_mode_word, validate_word}
 use Rattle.macs_texts.specs.Lines.{line}
 
 -- ---- single lines
@@ -31,28 +30,16 @@ blocks_line identity =
     line (codes "blocks tx " ++ (decimal identity.tx_block ++ (codes " rx " ++ decimal identity.rx_block)))
 
 -- how received frames are validated
-abbrev pub validate_word : Validate → List ℕ
-validate_word validate.Strict = codes "strict"
-validate_word validate.Check = codes "check"
-
--- its line
 abbrev pub validate_line : Validate → List ℕ
 validate_line validate = line (codes "validate " ++ validate_word validate)
 
 -- replay protection and its window
 abbrev pub replay_line : Replay → List ℕ
-replay_line replay = line (codes "replay "
-    ++ ((if replay.on then codes "on" else codes "off") ++ (codes " window " ++ decimal replay.window)))
+replay_line replay = line (codes "replay " ++ (replay_word replay.on ++ (codes " window " ++ decimal replay.window)))
 
 -- how the SecTAG names the channel
-abbrev pub mode_word : SciMode → List ℕ
-mode_word mode.Explicit = codes "explicit"
-mode_word mode.EndStation = codes "end-station"
-mode_word mode.Implicit = codes "implicit"
-
--- its line
 abbrev pub mode_line : SciMode → List ℕ
-mode_line mode = line (codes "sci-mode " ++ mode_word mode)
+mode_line mode = line (codes "sci-mode " ++ sci_mode_word mode)
 
 -- the association that frames are sent under, if any
 abbrev pub encoding_word : Option ℕ → List ℕ

@@ -1,18 +1,18 @@
 //! `show`: the configuration of an endpoint and its packet numbers, as text.
 
-ghost use Rattle.std.specs.Prelude.{◌≡◌, ◌++◌, if◌then◌else◌, map, codes, IfOk, string_bytes};
+ghost use Rattle.std.specs.Prelude.{◌≡◌, ◌++◌, map, codes, IfOk, string_bytes};
 ghost use Rattle.std.specs.List.{concat};
 ghost use Rattle.macs_config.specs.Value.{config_of};
 ghost use Rattle.macs_rxsc.specs.Receive.{Numbers};
 ghost use Rattle.macs_endpoint.specs.State.{no_logs};
 ghost use Rattle.macs_endpoint.specs.Value.{state_of};
 ghost use Rattle.macs_texts.specs.Showing.{association_numbers, blocks_line, channel_line};
-ghost use Rattle.macs_texts.specs.Showing.{channel_text, encoding_line, mode_line, mode_word};
+ghost use Rattle.macs_texts.specs.Showing.{channel_text, encoding_line, mode_line};
 ghost use Rattle.macs_texts.specs.Showing.{replay_line, rx_line, rx_text, sci_line, show_text};
 ghost use Rattle.macs_texts.specs.Showing.{spent_line, tx_line, tx_text, validate_line};
-ghost use Rattle.macs_texts.specs.Showing.{validate_word};
 
 use crate::lines::{ended, joined};
+use macs_commands::{replay_word, sci_mode_word, validate_word};
 use macs_config::{Config, Identity, Protection, Replay, RxSa, SciMode, TxSa, Validate};
 use macs_disk::SectorDisk;
 use macs_endpoint::Endpoint;
@@ -36,26 +36,11 @@ fn blocks_line(alloc: Global, identity: &Identity) -> Result<String, AllocError>
     ended(format!(in alloc; "blocks tx {tx} rx {rx}")?)
 }
 
-fn validate_word(validate: Validate) -> &'static str
-    ensures { result.now ≡ validate_word validate }
-{
-    match validate {
-        Validate::Strict => "strict",
-        Validate::Check => "check",
-    }
-}
-
 fn validate_line(alloc: Global, validate: Validate) -> Result<String, AllocError>
     ensures { IfOk result (λ text. string_bytes text ≡ validate_line validate) }
 {
     let word = validate_word(validate);
     ended(format!(in alloc; "validate {word}")?)
-}
-
-fn replay_word(on: bool) -> &'static str
-    ensures { result.now ≡ (if on then codes "on" else codes "off") }
-{
-    if on { "on" } else { "off" }
 }
 
 fn replay_line(alloc: Global, replay: Replay) -> Result<String, AllocError>
@@ -66,20 +51,10 @@ fn replay_line(alloc: Global, replay: Replay) -> Result<String, AllocError>
     ended(format!(in alloc; "replay {word} window {window}")?)
 }
 
-fn mode_word(mode: SciMode) -> &'static str
-    ensures { result.now ≡ mode_word mode }
-{
-    match mode {
-        SciMode::Explicit => "explicit",
-        SciMode::EndStation => "end-station",
-        SciMode::Implicit => "implicit",
-    }
-}
-
 fn mode_line(alloc: Global, mode: SciMode) -> Result<String, AllocError>
     ensures { IfOk result (λ text. string_bytes text ≡ mode_line mode) }
 {
-    let word = mode_word(mode);
+    let word = sci_mode_word(mode);
     ended(format!(in alloc; "sci-mode {word}")?)
 }
 

@@ -12,6 +12,7 @@ mod link_faults;
 mod opening;
 mod refused_words;
 mod relay_words;
+mod report_json;
 mod streams;
 mod words;
 

@@ -1,7 +1,7 @@
 //! Fresh keys.
 
 use super::printed;
-use macs_offline::WriterStream;
+use macs_cli::WriterStream;
 use macs_offline::key::{SystemOctets, print_key};
 use macs_program::run::report;
 use std::alloc::Global;

@@ -1,7 +1,7 @@
 //! Words that are taken: the action that they name.
 
 use super::{INPUT, OPENED, expect};
-use macs_words::{Action, Pace, PlanEnd, PlanStage, Question, Running, WireEnds, action_of};
+use macs_cli::{Action, Pace, PlanEnd, PlanStage, Question, Running, WireEnds, action_of};
 use std::alloc::Global;
 use std::process::Abort;
 

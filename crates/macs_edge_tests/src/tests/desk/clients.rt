@@ -1,7 +1,7 @@
 //! A client that asks, and keeps what is said to it.
 
-use macs_desk::{ControlDesk, NoSystem};
-use macs_requests::{Client, Clients, Heard, Line, NoMetrics};
+use macs_commands::requests::{Client, Clients, Heard, Line, NoMetrics};
+use macs_control::desk::{ControlDesk, NoSystem};
 use std::alloc::Global;
 use std::process::Abort;
 

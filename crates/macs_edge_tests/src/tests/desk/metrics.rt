@@ -2,9 +2,9 @@
 
 use super::clients::Asker;
 use super::{attended, program};
+use macs_commands::requests::Metrics;
 use macs_config::Command;
-use macs_desk::{ControlDesk, Dropped, KeyNotes, NoteFault, Overruns, Time};
-use macs_requests::Metrics;
+use macs_control::desk::{ControlDesk, Dropped, KeyNotes, NoteFault, Overruns, Time};
 use std::process::Abort;
 
 /// What was written. It is due `left` times more, and claims nothing.

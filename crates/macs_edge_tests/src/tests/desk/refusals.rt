@@ -2,12 +2,12 @@
 
 use super::clients::{Asker, expect_told};
 use super::{attended, program};
+use macs_commands::requests::NoMetrics;
 use macs_config::Command;
-use macs_desk::{ControlDesk, Dropped, KeyNotes, NoSystem, NoteFault, Overruns, Time};
+use macs_control::desk::{ControlDesk, Dropped, KeyNotes, NoSystem, NoteFault, Overruns, Time};
 use macs_disk::MemDisk;
 use macs_edge::{Desk, MemWire};
 use macs_endpoint::SubmitFault;
-use macs_requests::NoMetrics;
 use std::alloc::Global;
 use std::process::Abort;
 

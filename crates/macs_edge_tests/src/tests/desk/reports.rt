@@ -2,8 +2,8 @@
 
 use super::clients::{Asker, expect_told};
 use super::{attended, program};
-use macs_desk::{ControlDesk, NoSystem};
-use macs_requests::NoMetrics;
+use macs_commands::requests::NoMetrics;
+use macs_control::desk::{ControlDesk, NoSystem};
 use std::alloc::Global;
 use std::process::Abort;
 

@@ -4,13 +4,13 @@ use super::clients::{Asker, expect_told};
 use super::program;
 use crate::tests::endpoints::{OWN, command, formatted, number_of, opened};
 use macs_aes::Key;
+use macs_commands::requests::NoMetrics;
 use macs_config::Command;
-use macs_desk::{ControlDesk, Dropped, KeyNotes, NoteFault, Overruns, Time};
+use macs_control::desk::{ControlDesk, Dropped, KeyNotes, NoteFault, Overruns, Time};
 use macs_disk::MemDisk;
 use macs_edge::{MemWire, attend};
 use macs_endpoint::Endpoint;
 use macs_frame::{FrameBuf, Sci};
-use macs_requests::NoMetrics;
 use std::alloc::Global;
 use std::process::Abort;
 

@@ -1,6 +1,6 @@
 //! The last line of an answer.
 
-use macs_requests::{end_of_line, line_of_end};
+use macs_commands::requests::{end_of_line, line_of_end};
 
 #[test]
 fn stand_as(rt: HostRuntime) {

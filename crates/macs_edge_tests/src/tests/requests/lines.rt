@@ -2,9 +2,9 @@
 
 use crate::tests::endpoints::number_of;
 use macs_aes::Key;
+use macs_commands::requests::{Request, line_of_request, request_of_line};
 use macs_config::{Command, SciMode, Validate};
 use macs_fields::Sci;
-use macs_requests::{Request, line_of_request, request_of_line};
 use std::alloc::Global;
 use std::process::Abort;
 

@@ -1,7 +1,7 @@
 //! Texts that are the line of no request.
 
+use macs_commands::requests::{Request, command_of_line, request_of_line};
 use macs_config::Command;
-use macs_requests::{Request, command_of_line, request_of_line};
 use std::alloc::Global;
 use std::process::Abort;
 

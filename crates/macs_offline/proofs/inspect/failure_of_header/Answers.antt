@@ -1,6 +1,6 @@
 use Rattle.std.proofs.Common.{◌∙◌, List, ℕ, ap, codes, subst}
 use Rattle.macs_offline.specs.CaptureReasons.{capture_text}
-use Rattle.macs_offline.specs.Reasons.{Complains, Tells}
+use Rattle.macs_cli.specs.Reasons.{Complains, Tells}
 use Rattle.macs_offline.proofs.inspect.failure_of_header.Goals as goal
 
 pub returns : goal.returns

@@ -1,7 +1,7 @@
 use Rattle.std.proofs.Common.{◌+◌, ◌∙◌, string_bytes, subst}
 use Rattle.macs_edge.proofs.Behind.{read_as}
 use Rattle.macs_offline.specs.Inspecting.{IsLineOf}
-use Rattle.macs_offline.proofs.Printing.{prints-text}
+use Rattle.macs_cli.proofs.Printing.{prints-text}
 use Rattle.macs_offline.proofs.inspect.inspect_next.Goals as goal
 
 pub returns-clause-next : goal.returns-clause-next

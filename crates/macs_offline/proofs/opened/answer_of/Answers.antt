@@ -1,6 +1,6 @@
 use Rattle.std.proofs.lemmas.Result.{err_from_is_err_and}
-use Rattle.macs_offline.specs.OpenInput.{InputFaultHolds, input_faults}
-use Rattle.macs_offline.proofs.FirstFault.{handed_on}
+use Rattle.macs_cli.specs.OpenInput.{InputFaultHolds, input_faults}
+use Rattle.macs_cli.proofs.FirstFault.{handed_on}
 use Rattle.macs_offline.proofs.opened.answer_of.Goals as goal
 
 pub returns-in_err-request-clause-fault : goal.returns-in_err-request-clause-fault

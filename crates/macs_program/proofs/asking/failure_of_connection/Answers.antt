@@ -1,5 +1,5 @@
 use Rattle.std.proofs.Common.{◌∙◌, List, ℕ, ap, codes, subst}
-use Rattle.macs_offline.specs.Reasons.{Complains, Tells}
+use Rattle.macs_cli.specs.Reasons.{Complains, Tells}
 use Rattle.macs_program.specs.Sockets.{socket_reason, socket_text}
 use Rattle.macs_program.proofs.asking.failure_of_connection.Goals as goal
 

@@ -1,5 +1,5 @@
 use Rattle.std.proofs.Common.{List, ℕ, codes, subst}
-use Rattle.macs_offline.specs.Reasons.{Complains, Tells}
+use Rattle.macs_cli.specs.Reasons.{Complains, Tells}
 use Rattle.macs_program.proofs.asking.unanswered.Goals as goal
 
 pub returns : goal.returns

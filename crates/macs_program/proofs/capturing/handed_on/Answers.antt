@@ -3,7 +3,7 @@ use Rattle.std.proofs.lemmas.Result.{err_from_is_err_and}
 use Rattle.macs_edge.specs.declared.capture_runs.RunFault.{RunFault}
 use Rattle.macs_edge.specs.declared.capture_runs.Summary.{Summary}
 use Rattle.macs_program.specs.Capturing.{EndsWith}
-use Rattle.macs_offline.specs.declared.failure.Failure.TheVariants as failures
+use Rattle.macs_cli.specs.declared.failure.Failure.TheVariants as failures
 use Rattle.macs_program.proofs.Captured.{flushed-or-not}
 use Rattle.macs_program.proofs.capturing.handed_on.Goals as goal
 

@@ -1,7 +1,7 @@
 use Rattle.std.proofs.Common.{Bor, List, ℕ, option_map}
 use Rattle.std.proofs.lemmas.Result.{err_from_is_err_and}
 use Rattle.macs_program.proofs.Made.{formatted-by, value-refused}
-use Rattle.macs_offline.specs.Values.{SpellsIdentity, SpellsLayout, ValueFaultHolds}
+use Rattle.macs_cli.specs.Values.{SpellsIdentity, SpellsLayout, ValueFaultHolds}
 use Rattle.macs_program.proofs.on_disk.format.Goals as goal
 
 pub returns-in_err-given : goal.returns-in_err-given

@@ -2,9 +2,9 @@ use Rattle.std.proofs.Common.{◌∙◌}
 use Rattle.std.proofs.lemmas.Result.{err_from_is_err_and}
 use Rattle.macs_program.proofs.Acted.{asks_nothing, help-fails, helps, obeys, refuses}
 use Rattle.macs_program.proofs.Failed.{not-taken}
-use Rattle.macs_offline.proofs.Printing.{prints-text}
-use Rattle.macs_words.proofs.Subcommands.{taken_without_fault}
-use Rattle.macs_words.specs.Words.{texts}
+use Rattle.macs_cli.proofs.Printing.{prints-text}
+use Rattle.macs_cli.proofs.Subcommands.{taken_without_fault}
+use Rattle.macs_cli.specs.Words.{texts}
 use Rattle.macs_program.proofs.run.act.Goals as goal
 
 pub returns-in_err-print : goal.returns-in_err-print

@@ -1,5 +1,5 @@
 use Rattle.std.proofs.Common.{rules}
-use Rattle.macs_offline.specs.Failing.{failure_text}
+use Rattle.macs_cli.specs.Failing.{failure_text}
 use Rattle.macs_program.proofs.Complaining.{three-printed}
 use Rattle.macs_program.proofs.run.complain.Goals as goal
 

@@ -1,9 +1,9 @@
 use Rattle.std.proofs.Common.{inl, inr, refl, sym, ◌∙◌}
 use Rattle.macs_program.proofs.Codes.{code-disk, code-usage, no-success, not-failed, refused-link}
-use Rattle.macs_offline.specs.Failing.{failure_status}
+use Rattle.macs_cli.specs.Failing.{failure_status}
 use Rattle.macs_program.specs.Inputs.{read_of}
 use Rattle.macs_program.specs.Run.{FailsFor, PrintsUnlessFailed, complaint}
-use Rattle.macs_words.specs.Words.{texts}
+use Rattle.macs_cli.specs.Words.{texts}
 use Rattle.macs_program.proofs.run.run.Goals as goal
 
 pub returns-in-Err-clause-usage : goal.returns-in-Err-clause-usage

@@ -1,0 +1,15 @@
+pub mod Controls
+pub mod GivenWords
+pub mod Paces
+pub mod PlannedWords
+pub mod Questions
+pub mod Subcommands
+pub mod Taken
+pub mod Cut
+pub mod Made
+pub mod Back
+pub mod FirstFault
+pub mod Printing
+pub mod SpelledWires
+pub mod Spelling
+pub mod TextLines

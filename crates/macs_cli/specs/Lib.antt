@@ -1,0 +1,15 @@
+pub mod Controls
+pub mod Waits
+pub mod Words
+pub mod Help
+pub mod Cutting
+pub mod Parts
+pub mod Objects
+pub mod Lines
+pub mod OpenInput
+pub mod Values
+pub mod Addresses
+pub mod Failing
+pub mod Reasons
+pub mod FileModes
+pub mod Statuses

@@ -1,0 +1,67 @@
+-- Why a named file cannot be used, and the message about it.
+use Rattle.std.specs.Prelude.{◌≡◌, ◌⊎◌, ◌++◌, ℕ, List, codes, map, string_bytes}
+use Rattle.std.specs.Str.{chars}
+use Rattle.std.specs.declared.io.ErrorKind.{ErrorKind}
+use Rattle.std.specs.declared.io.ErrorKind.TheVariants as system
+use Rattle.macs_cli.specs.Controls.{printable_char}
+use Rattle.macs_cli.specs.declared.failure.Failure.{Failure}
+use Rattle.macs_cli.specs.declared.failure.Failure.TheVariants as failures
+use Rattle.macs_cli.specs.declared.file_reason.FileReason.{FileReason}
+use Rattle.macs_cli.specs.declared.file_reason.FileReason.TheVariants as reason
+
+-- the reason for an error of the system, by its kind
+abbrev pub reason_of : ErrorKind → FileReason
+reason_of system.NotFound = reason.Missing
+reason_of system.NotADirectory = reason.Missing
+reason_of system.PermissionDenied = reason.NoPermission
+reason_of system.IsADirectory = reason.Folder
+reason_of system.FilesystemLoop = reason.Links
+reason_of system.TooManyLinks = reason.Links
+reason_of system.WouldBlock = reason.InUse
+reason_of system.InvalidInput = reason.NotRegular
+reason_of kind = reason.Unreadable
+
+-- its text
+abbrev pub reason_text : FileReason → List ℕ
+reason_text reason.Missing = codes "no such file"
+reason_text reason.NoPermission = codes "no permission"
+reason_text reason.Folder = codes "a folder"
+reason_text reason.Links = codes "too many links"
+reason_text reason.InUse = codes "in use by another program"
+reason_text reason.NotRegular = codes "not a regular file, or standard output goes there"
+reason_text reason.Unreadable = codes "cannot be read"
+
+-- a name as it is displayed: `?` replaces each control character
+abbrev pub IsShown : List ℕ → List ℕ → Type 0
+IsShown name shown = chars shown ≡ map printable_char (chars name)
+
+-- the message about something with a name: a word, the name and a reason
+abbrev pub Tells : List ℕ → List ℕ → List ℕ → List ℕ → Type 0
+Tells word name why said =
+    (shown : List ℕ) × IsShown name shown × (said ≡ word ++ (codes ": " ++ (shown ++ (codes ": " ++ why))))
+
+-- the message about a file with this name, for some reason
+abbrev pub TellsOfFile : List ℕ → List ℕ → List ℕ → Type 0
+TellsOfFile word name said = (why : FileReason) × Tells word name (reason_text why) said
+
+-- a failure has a message that satisfies this predicate, or memory runs out
+abbrev pub Complains : (List ℕ → Type 0) → Failure → Type 0
+Complains Holds failure =
+    (failure ≡ failures.Memory) ⊎ ((text : _) × (failure ≡ failures.Said text) × Holds (string_bytes text))
+
+-- the same for a disk file
+abbrev pub ComplainsOfDisk : (List ℕ → Type 0) → Failure → Type 0
+ComplainsOfDisk Holds failure =
+    (failure ≡ failures.Memory) ⊎ ((text : _) × (failure ≡ failures.DiskFile text) × Holds (string_bytes text))
+
+-- a command file cannot be read
+abbrev pub IsUnread : List ℕ → Failure → Type 0
+IsUnread name failure = Complains (TellsOfFile (codes "commands") name) failure
+
+-- a link file cannot be read
+abbrev pub IsLinkUnread : List ℕ → Failure → Type 0
+IsLinkUnread name failure = Complains (TellsOfFile (codes "link file") name) failure
+
+-- the file of a disk cannot be opened for reading
+abbrev pub IsNotRead : List ℕ → Failure → Type 0
+IsNotRead name failure = ComplainsOfDisk (TellsOfFile (codes "disk file") name) failure

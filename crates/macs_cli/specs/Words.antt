@@ -1,0 +1,353 @@
+-- The words that the program knows, the action that they name, and those that ask for help.
+use Rattle.std.specs.Prelude.{◌≡◌, ◌≢◌, ◌↔◌, ◌⊎◌, ◌<◌, ◌-◌, ◌^◌, ℕ, ⊤, map, Bool, true, false, List, [], ◌∷◌, ◌++◌}
+use Rattle.std.specs.Prelude.{Option, Some, None, codes, IfSome, option_map, string_bytes}
+use Rattle.std.specs.Str.Parse.{IsNumeral, digits_value, without_leading_plus}
+use Rattle.std.specs.Borrow.{Bor}
+use Rattle.clap.specs.Simple.{new_shape, on_top}
+use Rattle.clap.specs.Words.{App, Row, Rule, Shape, Text, app_of, first_of, kind_of, new_app, new_rule, subcommand_of}
+use Rattle.clap.specs.Words.{takes}
+use Rattle.clap.specs.declared.builder.action.ArgAction.TheVariants.{Set, SetTrue}
+use Rattle.clap.specs.declared.builder.value_parser.ValueParser.TheVariants as vp
+use Rattle.clap.specs.declared.builder.command.Command.{Command}
+use Rattle.clap.specs.declared.builder.command.Command.TheViews.{out-Command as fields_of}
+use Rattle.clap.specs.declared.error.Error.{Error}
+use Rattle.clap.specs.declared.error.kind.ErrorKind.TheVariants.{OutOfMemory}
+use Rattle.macs_cli.specs.Controls.{IsPrintable}
+use Rattle.macs_cli.specs.Waits.{IsRoom, IsWaitLimit}
+use Rattle.macs_cli.specs.declared.words.action.UsageFault.{UsageFault}
+use Rattle.macs_cli.specs.declared.words.action.UsageFault.TheVariants.{Usage, Memory}
+use Rattle.macs_cli.specs.declared.words.action.Action.{Action}
+use Rattle.macs_cli.specs.declared.words.action.Action.TheVariants.{Open, Format, Apply, Show, Protect, Validate, Relay}
+use Rattle.macs_cli.specs.declared.words.action.Action.TheVariants.{Ask, Key, Inspect, Check, Plan, Examine, About}
+use Rattle.macs_cli.specs.declared.words.plan_words.PlanEnd.{PlanEnd}
+use Rattle.macs_cli.specs.declared.words.plan_words.PlanEnd.TheVariants as plan_end
+use Rattle.macs_cli.specs.declared.words.plan_words.PlanStage.{PlanStage}
+use Rattle.macs_cli.specs.declared.words.plan_words.PlanStage.TheVariants as plan_stage
+use Rattle.macs_cli.specs.declared.words.action.Question.{Question}
+use Rattle.macs_cli.specs.declared.words.action.Question.TheVariants as question
+use Rattle.macs_cli.specs.declared.words.pace.Pace.{Pace}
+use Rattle.macs_cli.specs.declared.words.pace.Pace.TheVariants.{Sleepless, Waiting}
+use Rattle.macs_cli.specs.declared.words.help.Topic.{Topic}
+use Rattle.macs_cli.specs.declared.words.help.Topic.TheVariants.{Help, HelpOn, Version}
+use Rattle.macs_cli.specs.declared.words.help.Subcommand.{Subcommand}
+use Rattle.macs_cli.specs.declared.words.help.Subcommand.TheVariants as subcommand
+
+-- the texts of borrowed words
+abbrev pub texts : List (Bor Text) → List Text
+texts = map (λ word. word.now)
+
+-- ---- the words that are known
+
+-- a required value
+abbrev pub value_rule : Text → Rule
+value_rule name = record (new_rule name) { action = Some Set; required = true }
+
+-- a required number: 0 to 2^32 - 1, in decimal
+abbrev pub number_rule : Text → Rule
+number_rule name = record (value_rule name) { parser = Some (vp.Unsigned 0 (2 ^ 32 - 1)) }
+
+-- an optional text with this name
+abbrev pub option_rule : Text → Rule
+option_rule name = record (new_rule name) { long = Some name; action = Some Set }
+
+-- an optional number with this name: 0 to 2^64 - 1, in decimal
+abbrev pub count_rule : Text → Rule
+count_rule name = record (option_rule name) { parser = Some (vp.Unsigned 0 (2 ^ 64 - 1)) }
+
+-- an optional time with this name: milliseconds, 1 to 60,000, in decimal
+abbrev pub wait_rule : Text → Rule
+wait_rule name = record (option_rule name) { parser = Some (vp.Unsigned 1 60000) }
+
+-- an optional buffer size with this name: octets, 1 to 1,073,741,823, in decimal
+abbrev pub room_rule : Text → Rule
+room_rule name = record (option_rule name) { parser = Some (vp.Unsigned 1 1073741823) }
+
+-- an optional last value
+abbrev pub last_rule : Text → Rule
+last_rule name = record (new_rule name) { action = Some Set }
+
+-- an option with this name and no value
+abbrev pub flag_rule : Text → Rule
+flag_rule name = record (new_rule name) { long = Some name; action = Some SetTrue }
+
+-- a subcommand with its values, in order
+abbrev pub subcommand_with : Text → List Rule → Shape
+subcommand_with name rules = record (new_shape name) { rules = rules }
+
+-- the subcommands without frames, plus `open`, each with its values; `open` has none
+abbrev pub first_subcommands : List Shape
+first_subcommands =
+    subcommand_with (codes "open") []
+    ∷ subcommand_with (codes "format")
+    (value_rule (codes "DISK") ∷ value_rule (codes "SCI") ∷ number_rule (codes "TX") ∷ number_rule (codes "RX")
+    ∷ option_rule (codes "block") ∷ flag_rule (codes "over") ∷ [])
+    ∷ subcommand_with (codes "apply") (value_rule (codes "DISK") ∷ value_rule (codes "FILE") ∷ [])
+    ∷ subcommand_with (codes "show") (value_rule (codes "DISK") ∷ [])
+    ∷ []
+
+-- those that pass frames through an endpoint
+abbrev pub frame_subcommands : List Shape
+frame_subcommands =
+    subcommand_with (codes "protect")
+    (value_rule (codes "DISK") ∷ value_rule (codes "INPUT") ∷ value_rule (codes "OUTPUT")
+    ∷ flag_rule (codes "all") ∷ [])
+    ∷ subcommand_with (codes "validate")
+    (value_rule (codes "DISK") ∷ value_rule (codes "INPUT") ∷ value_rule (codes "OUTPUT")
+    ∷ flag_rule (codes "all") ∷ flag_rule (codes "each") ∷ [])
+    ∷ subcommand_with (codes "relay")
+    (value_rule (codes "DISK") ∷ value_rule (codes "OWN1") ∷ value_rule (codes "PEER1")
+    ∷ value_rule (codes "OWN2") ∷ value_rule (codes "PEER2") ∷ count_rule (codes "turns") ∷ wait_rule (codes "wait")
+    ∷ room_rule (codes "buffer") ∷ option_rule (codes "control") ∷ option_rule (codes "metrics") ∷ [])
+    ∷ []
+
+-- the one that asks a running relay
+abbrev pub ask_subcommand : Shape
+ask_subcommand = subcommand_with (codes "ask")
+    (value_rule (codes "PATH") ∷ value_rule (codes "WORD") ∷ last_rule (codes "FILE") ∷ flag_rule (codes "json") ∷ [])
+
+-- those that change no endpoint
+abbrev pub lone_subcommands : List Shape
+lone_subcommands =
+    subcommand_with (codes "key") (flag_rule (codes "long") ∷ [])
+    ∷ subcommand_with (codes "inspect") (value_rule (codes "INPUT") ∷ [])
+    ∷ subcommand_with (codes "check") (value_rule (codes "FILE") ∷ last_rule (codes "DISK") ∷ [])
+    ∷ subcommand_with (codes "plan")
+    (value_rule (codes "FILE") ∷ value_rule (codes "END") ∷ value_rule (codes "STAGE") ∷ [])
+    ∷ subcommand_with (codes "examine") (value_rule (codes "DISK") ∷ flag_rule (codes "json") ∷ [])
+    ∷ subcommand_with (codes "about") []
+    ∷ []
+
+-- the words begin after the program's name, and the library's own help and version flags and its help subcommand are
+-- disabled
+abbrev pub bare_app : App
+bare_app = on_top (λ s. record s {
+  no_binary_name = true;
+  disable_help_flag = true;
+  disable_help_subcommand = true;
+  disable_version_flag = true;
+}) (new_app (codes "macsecd"))
+
+-- and these subcommands
+abbrev pub app_with : List Shape → App
+app_with shapes = record { top = record bare_app.top { is_leaf = false }; subs = shapes }
+
+-- the words that the program accepts
+abbrev pub macsecd : App
+macsecd = app_with (first_subcommands ++ frame_subcommands ++ ask_subcommand ∷ lone_subcommands)
+
+-- ---- actions
+
+-- the value with this name is this text
+abbrev pub HasText : List Row → Text → Text → Type 0
+HasText values name text = first_of name values ≡ Some text
+
+-- the value with this name is this number in decimal digits, optionally with a leading plus
+abbrev pub HasNumber : List Row → Text → ℕ → Type 0
+HasNumber values name number =
+    (text : Text) × (first_of name values ≡ Some text)
+    × IsNumeral 10 (without_leading_plus text) × (number ≡ digits_value 10 (without_leading_plus text))
+
+-- the value with this name is this text, if it is given
+abbrev pub MayHaveText : List Row → Text → Option (Bor Text) → Type 0
+MayHaveText values name text = option_map (λ t. t.now) text ≡ first_of name values
+
+-- the value with this name is this number in decimal digits, if it is given
+abbrev pub MayHaveNumber : List Row → Text → Option ℕ → Type 0
+MayHaveNumber values name None = first_of name values ≡ None
+MayHaveNumber values name (Some number) = HasNumber values name number
+
+-- How a relay takes its turns: a number of turns is given, and no wait; or a maximum wait is given, 1 to 60,000 ms, and
+-- maybe a number of turns
+abbrev pub HasPace : List Row → Pace → Type 0
+HasPace values (Sleepless turns) = HasNumber values (codes "turns") turns × (first_of (codes "wait") values ≡ None)
+HasPace values (Waiting limit turns) =
+    HasNumber values (codes "wait") limit.0 × IsWaitLimit limit.0 × MayHaveNumber values (codes "turns") turns
+
+-- the value with this name is this many octets, 1 to 1,073,741,823, if it is given
+abbrev pub MayHaveRoom : List Row → Text → Option ℕ → Type 0
+MayHaveRoom values name None = first_of name values ≡ None
+MayHaveRoom values name (Some octets) = HasNumber values name octets × IsRoom octets
+
+-- the word of a question that consists of one word
+abbrev pub plain_word : Question → Option Text
+plain_word question.Show = Some (codes "show")
+plain_word question.Counters = Some (codes "counters")
+plain_word question.Keys = Some (codes "keys")
+plain_word question.Traffic = Some (codes "traffic")
+plain_word question.About = Some (codes "about")
+plain_word question.Stop = Some (codes "stop")
+plain_word (question.Apply file) = None
+
+-- the words of `ask` ask this question: one word, or `apply` and the file
+abbrev pub HasQuestion : List Row → Question → Type 0
+HasQuestion values (question.Apply file) = HasText values (codes "WORD") (codes "apply")
+    × HasText values (codes "FILE") file.now
+HasQuestion values asked = (first_of (codes "WORD") values ≡ plain_word asked) × (first_of (codes "FILE") values ≡ None)
+
+-- the answer to a question is a report
+abbrev pub is_report : Question → Bool
+is_report question.Show = true
+is_report question.Counters = true
+is_report question.Keys = true
+is_report question.Traffic = true
+is_report question.About = true
+is_report question.Stop = false
+is_report (question.Apply file) = false
+
+-- the word of an end of a link
+abbrev pub end_word : PlanEnd → Text
+end_word plan_end.Left = codes "left"
+end_word plan_end.Right = codes "right"
+
+-- the word of a stage of its keys
+abbrev pub stage_word : PlanStage → Text
+stage_word plan_stage.First = codes "first"
+stage_word plan_stage.Receive = codes "receive"
+stage_word plan_stage.Send = codes "send"
+stage_word plan_stage.Remove = codes "remove"
+
+-- the words of `plan` name this end and this stage
+abbrev pub HasPlan : List Row → PlanEnd → PlanStage → Type 0
+HasPlan values end stage = HasText values (codes "END") (end_word end)
+    × HasText values (codes "STAGE") (stage_word stage)
+
+-- whether the option without a value is given
+abbrev pub IsFlagged : List Row → Text → Bool → Type 0
+IsFlagged values name is = (is ≡ true) ↔ HasText values name (codes "true")
+
+-- the subcommand with its values names the action; no subcommand is `open`
+abbrev pub Names : Option (Text × List Row) → Action → Type 0
+Names None action = action ≡ Open
+Names (Some found) Open = found.0 ≡ codes "open"
+Names (Some found) (Format disk sci tx_block rx_block block is_over) =
+    (found.0 ≡ codes "format") × HasText found.1 (codes "DISK") disk.now × HasText found.1 (codes "SCI") sci.now
+    × HasNumber found.1 (codes "TX") tx_block × HasNumber found.1 (codes "RX") rx_block
+    × MayHaveText found.1 (codes "block") block × IsFlagged found.1 (codes "over") is_over
+Names (Some found) (Apply disk file) =
+    (found.0 ≡ codes "apply") × HasText found.1 (codes "DISK") disk.now × HasText found.1 (codes "FILE") file.now
+Names (Some found) (Show disk) = (found.0 ≡ codes "show") × HasText found.1 (codes "DISK") disk.now
+Names (Some found) (Protect disk input output is_all) =
+    (found.0 ≡ codes "protect") × HasText found.1 (codes "DISK") disk.now
+    × HasText found.1 (codes "INPUT") input.now × HasText found.1 (codes "OUTPUT") output.now
+    × IsFlagged found.1 (codes "all") is_all
+Names (Some found) (Validate disk input output is_all is_each) =
+    (found.0 ≡ codes "validate") × HasText found.1 (codes "DISK") disk.now
+    × HasText found.1 (codes "INPUT") input.now × HasText found.1 (codes "OUTPUT") output.now
+    × IsFlagged found.1 (codes "all") is_all × IsFlagged found.1 (codes "each") is_each
+Names (Some found) (Relay disk controlled common running) =
+    (found.0 ≡ codes "relay") × HasText found.1 (codes "DISK") disk.now
+    × HasText found.1 (codes "OWN1") controlled.own.now × HasText found.1 (codes "PEER1") controlled.peer.now
+    × HasText found.1 (codes "OWN2") common.own.now × HasText found.1 (codes "PEER2") common.peer.now
+    × HasPace found.1 running.pace × MayHaveRoom found.1 (codes "buffer") running.buffer
+    × MayHaveText found.1 (codes "control") running.control × MayHaveText found.1 (codes "metrics") running.metrics
+Names (Some found) (Ask path asked is_json) = (found.0 ≡ codes "ask") × HasText found.1 (codes "PATH") path.now
+    × HasQuestion found.1 asked × IsFlagged found.1 (codes "json") is_json × (is_json ≡ true → is_report asked ≡ true)
+Names (Some found) (Key is_long) = (found.0 ≡ codes "key") × IsFlagged found.1 (codes "long") is_long
+Names (Some found) (Inspect input) = (found.0 ≡ codes "inspect") × HasText found.1 (codes "INPUT") input.now
+Names (Some found) (Check file disk) =
+    (found.0 ≡ codes "check") × HasText found.1 (codes "FILE") file.now × MayHaveText found.1 (codes "DISK") disk
+Names (Some found) (Plan file end stage) =
+    (found.0 ≡ codes "plan") × HasText found.1 (codes "FILE") file.now × HasPlan found.1 end stage
+Names (Some found) (Examine disk is_json) = (found.0 ≡ codes "examine") × HasText found.1 (codes "DISK") disk.now
+    × IsFlagged found.1 (codes "json") is_json
+Names (Some found) About = found.0 ≡ codes "about"
+
+-- a relay with neither turns nor a wait: it names no action
+abbrev pub LacksPace : Option (Text × List Row) → Type 0
+LacksPace None = ⊥
+LacksPace (Some found) =
+    (found.0 ≡ codes "relay") × (first_of (codes "turns") found.1 ≡ None) × (first_of (codes "wait") found.1 ≡ None)
+
+-- an `ask` whose words are not a question for a relay: it names no action
+abbrev pub LacksQuestion : Option (Text × List Row) → Type 0
+LacksQuestion None = ⊥
+LacksQuestion (Some found) = (found.0 ≡ codes "ask") × ((asked : Question) → ¬ HasQuestion found.1 asked)
+
+-- an `ask` for JSON whose question is not answered with a report: it names no action
+abbrev pub LacksReport : Option (Text × List Row) → Type 0
+LacksReport None = ⊥
+LacksReport (Some found) = (found.0 ≡ codes "ask") × HasText found.1 (codes "json") (codes "true")
+    × ((asked : Question) → HasQuestion found.1 asked → is_report asked ≡ false)
+
+-- a `plan` whose words name no end or no stage: it names no action
+abbrev pub LacksPlan : Option (Text × List Row) → Type 0
+LacksPlan None = ⊥
+LacksPlan (Some found) =
+    (found.0 ≡ codes "plan") × ((end : PlanEnd) (stage : PlanStage) → ¬ HasPlan found.1 end stage)
+
+-- words that clap accepts and that name no action
+abbrev pub NamesNothing : Option (Text × List Row) → Type 0
+NamesNothing found = LacksPace found ⊎ LacksQuestion found ⊎ LacksReport found ⊎ LacksPlan found
+
+-- the words are not accepted: clap refuses them, or they name no action
+abbrev pub AreRefused : List Text → Type 0
+AreRefused words = (takes macsecd words ≢ true) ⊎ NamesNothing (subcommand_of macsecd words)
+
+-- the number of turns fits in 64 bits
+abbrev pub FitsPace : Pace → Type 0
+FitsPace (Sleepless turns) = turns < 2 ^ 64
+FitsPace (Waiting limit turns) = IfSome turns (λ count. count < 2 ^ 64)
+
+-- the numbers of the action, if it has any, fit in their types
+abbrev pub FitsNumbers : Action → Type 0
+FitsNumbers (Format disk sci tx_block rx_block block is_over) = (tx_block < 2 ^ 32) × (rx_block < 2 ^ 32)
+FitsNumbers (Relay disk controlled common running) = FitsPace running.pace
+FitsNumbers action = ⊤
+
+-- no action is named whose numbers fit in their types
+abbrev pub NamesNoAction : Option (Text × List Row) → Type 0
+NamesNoAction found = (action : Action) → Names found action → ¬ FitsNumbers action
+
+-- the command is this one, and has no global argument
+pub record IsClapCommand (command : Command) (app : App) : Type 0 where
+  pub app_is : app_of command ≡ app
+  pub local : (fields_of command).has_globals ≡ false
+
+-- out of memory is one fault, and every other refusal is wrong usage
+abbrev pub IsFaultOf : Error → UsageFault → Type 0
+IsFaultOf error Memory = kind_of error ≡ OutOfMemory
+IsFaultOf error (Usage cause) = kind_of error ≢ OutOfMemory
+
+-- the cause, if the fault has one, has no control characters
+abbrev pub HasPrintableCause : UsageFault → Type 0
+HasPrintableCause (Usage cause) = IsPrintable (string_bytes cause)
+HasPrintableCause Memory = ⊤
+
+-- ---- help
+
+-- the word that asks for help, long or short
+abbrev pub IsHelpFlag : Text → Type 0
+IsHelpFlag word = (word ≡ codes "--help") ⊎ (word ≡ codes "-h")
+
+-- the word that asks for the version
+abbrev pub IsVersionFlag : Text → Type 0
+IsVersionFlag word = word ≡ codes "--version"
+
+-- the name of a subcommand
+abbrev pub name_of : Subcommand → Text
+name_of subcommand.Open = codes "open"
+name_of subcommand.Format = codes "format"
+name_of subcommand.Apply = codes "apply"
+name_of subcommand.Show = codes "show"
+name_of subcommand.Protect = codes "protect"
+name_of subcommand.Validate = codes "validate"
+name_of subcommand.Relay = codes "relay"
+name_of subcommand.Ask = codes "ask"
+name_of subcommand.Key = codes "key"
+name_of subcommand.Inspect = codes "inspect"
+name_of subcommand.Check = codes "check"
+name_of subcommand.Plan = codes "plan"
+name_of subcommand.Examine = codes "examine"
+name_of subcommand.About = codes "about"
+
+-- The words ask for the topic: only a help flag, the name of a subcommand followed by a help flag, or only the version
+-- flag
+abbrev pub AsksFor : List Text → Topic → Type 0
+AsksFor (word ∷ []) Help = IsHelpFlag word
+AsksFor (name ∷ word ∷ []) (HelpOn which) = (name ≡ name_of which) × IsHelpFlag word
+AsksFor (word ∷ []) Version = IsVersionFlag word
+AsksFor words topic = ⊥
+
+-- the words ask for no help
+abbrev pub AsksForNothing : List Text → Type 0
+AsksForNothing words = (topic : Topic) → ¬ AsksFor words topic

@@ -1,0 +1,25 @@
+//! The words of the program: the action that they request, parsed by `clap`, and the help.
+
+mod action;
+mod arguments;
+mod help;
+mod help_texts;
+mod known;
+mod pace;
+mod plain_text;
+mod plan_words;
+mod read_ask;
+mod read_plan;
+mod read_relay;
+mod read_subcommands;
+mod read_values;
+mod reading;
+mod subcommand_words;
+mod usage;
+
+pub use action::{Action, Question, UsageFault, WireEnds};
+pub use help::{Subcommand, Topic, topic_of};
+pub use pace::{Milliseconds, Pace, Running};
+pub use plain_text::printable;
+pub use plan_words::{PlanEnd, PlanStage};
+pub use usage::action_of;

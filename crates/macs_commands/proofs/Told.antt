@@ -1,0 +1,74 @@
+-- Commands by their words, and the texts of these.
+use Rattle.std.proofs.Common.{◌≡◌, ℕ, Bool, List, Some, codes, refl, subst}
+use Rattle.macs_aes.specs.declared.keys.Key.{Key}
+use Rattle.macs_config.specs.declared.command.Command.{Command}
+use Rattle.macs_config.specs.declared.command.Command.TheVariants.{SetValidate, SetReplay, SetSciMode}
+use Rattle.macs_config.specs.declared.command.Command.TheVariants.{TxInstall, TxUse, TxRemove}
+use Rattle.macs_config.specs.declared.command.Command.TheVariants.{RxAdd, RxDrop, RxInstall, RxRemove}
+use Rattle.macs_config.specs.declared.command.SciMode.{SciMode}
+use Rattle.macs_config.specs.declared.command.Validate.{Validate}
+use Rattle.macs_commands.specs.Words.{word_of, word_spelled, word_text}
+use Rattle.macs_commands.specs.declared.command_word.CommandWord.{CommandWord}
+use Rattle.macs_commands.specs.declared.command_word.CommandWord.TheVariants as words
+use Rattle.macs_commands.proofs.Blanks.{Lacks, lacks}
+
+-- ---- the word of a command
+
+-- it has no blank
+pub word_lacks : (command : Command) → Lacks 32 (word_text (word_of command))
+word_lacks (SetValidate mode) = lacks 32 (codes "set-validate") refl
+word_lacks (SetReplay on window) = lacks 32 (codes "set-replay") refl
+word_lacks (SetSciMode mode) = lacks 32 (codes "set-sci-mode") refl
+word_lacks (TxInstall an key start confidential offset) = lacks 32 (codes "tx-install") refl
+word_lacks (TxUse an) = lacks 32 (codes "tx-use") refl
+word_lacks (TxRemove an) = lacks 32 (codes "tx-remove") refl
+word_lacks (RxAdd sci) = lacks 32 (codes "rx-add") refl
+word_lacks (RxDrop sci) = lacks 32 (codes "rx-drop") refl
+word_lacks (RxInstall sci an key start offset) = lacks 32 (codes "rx-install") refl
+word_lacks (RxRemove sci an) = lacks 32 (codes "rx-remove") refl
+
+-- it names the word of the command
+pub named : (command : Command) → word_spelled (word_text (word_of command)) ≡ Some (word_of command)
+named (SetValidate mode) = refl
+named (SetReplay on window) = refl
+named (SetSciMode mode) = refl
+named (TxInstall an key start confidential offset) = refl
+named (TxUse an) = refl
+named (TxRemove an) = refl
+named (RxAdd sci) = refl
+named (RxDrop sci) = refl
+named (RxInstall sci an key start offset) = refl
+named (RxRemove sci an) = refl
+
+-- ---- the commands of a word
+
+-- what is so of each command with this word
+abbrev OfWord : CommandWord → (Command → Type 0) → Type 0
+OfWord words.SetValidate S = (mode : Validate) → S (SetValidate mode)
+OfWord words.SetReplay S = (on : Bool) (window : ℕ) → S (SetReplay on window)
+OfWord words.SetSciMode S = (mode : SciMode) → S (SetSciMode mode)
+OfWord words.TxInstall S = (an : ℕ) (key : Key) (start : ℕ) (confidential : Bool) (offset : ℕ)
+    → S (TxInstall an key start confidential offset)
+OfWord words.TxUse S = (an : ℕ) → S (TxUse an)
+OfWord words.TxRemove S = (an : ℕ) → S (TxRemove an)
+OfWord words.RxAdd S = (sci : List ℕ) → S (RxAdd sci)
+OfWord words.RxDrop S = (sci : List ℕ) → S (RxDrop sci)
+OfWord words.RxInstall S = (sci : List ℕ) (an : ℕ) (key : Key) (start offset : ℕ) → S (RxInstall sci an key start offset)
+OfWord words.RxRemove S = (sci : List ℕ) (an : ℕ) → S (RxRemove sci an)
+
+for_its_word : (S : Command → Type 0) (command : Command) → OfWord (word_of command) S → S command
+for_its_word S (SetValidate mode) each = each mode
+for_its_word S (SetReplay on window) each = each on window
+for_its_word S (SetSciMode mode) each = each mode
+for_its_word S (TxInstall an key start confidential offset) each = each an key start confidential offset
+for_its_word S (TxUse an) each = each an
+for_its_word S (TxRemove an) each = each an
+for_its_word S (RxAdd sci) each = each sci
+for_its_word S (RxDrop sci) each = each sci
+for_its_word S (RxInstall sci an key start offset) each = each sci an key start offset
+for_its_word S (RxRemove sci an) each = each sci an
+
+pub for_word : (word : CommandWord) (S : Command → Type 0) → OfWord word S → (command : Command)
+    → word ≡ word_of command → S command
+for_word word S each command same =
+    for_its_word S command (subst (λ (w : CommandWord). OfWord w S) same each)

@@ -1,6 +1,0 @@
-use Rattle.std.proofs.Common.{◌∙◌}
-use Rattle.macs_commands.proofs.Counted.{counted}
-use Rattle.macs_commands.proofs.command_files.keys.Goals as goal
-
-pub returns : goal.returns
-returns c = c.len.ensures.len ∙ counted c.args.table.now.entries

@@ -1,0 +1,17 @@
+use Rattle.std.proofs.Common.{◌∙◌, true, [], ◌∷◌, inr, refl}
+use Rattle.macs_commands.specs.Talks.{Asked, Put}
+use Rattle.macs_control.specs.Listening.{measured_of}
+use Rattle.macs_control.proofs.Talking.{written}
+use Rattle.macs_control.proofs.desk.metrics.measure.Goals as goal
+
+pub returns-in-Ok : goal.returns-in-Ok
+returns-in-Ok g c =
+    let told = c.measured.ensures in
+    let text = measured_of c.args.build.now c.args.endpoint.now c.args.controlled.now c.args.common.now told.0 in (
+      Asked true ∷ Put text ∷ [],
+      inr (inr (told.0, told.1, refl)),
+      written (g.M.Metrics.notes c.args.metrics.now) (g.M.Metrics.notes c.is_due.new.self)
+          (g.M.Metrics.notes c.put.new.self) c.as_bytes.result.now text
+          (c.as_bytes.ensures.value ∙ rw c.in-Ok.is at told.2)
+          c.if-not-is_due.ensures c.put.ensures,
+    )

@@ -1,0 +1,24 @@
+use Rattle.std.proofs.Common.{◌∙◌}
+use Rattle.std.proofs.lemmas.Result.{IfOk-weaker}
+use Rattle.macs_endpoint.specs.State.{no_logs}
+use Rattle.macs_endpoint.specs.Value.{state_of}
+use Rattle.macs_rxsc.specs.Value as rxsc
+use Rattle.macs_txsc.specs.Value as txsc
+use Rattle.macs_texts.specs.Counting.{reported}
+use Rattle.macs_texts.specs.Measuring.{metrics_text}
+use Rattle.macs_control.proofs.Reported.{of-both}
+use Rattle.macs_control.proofs.desk.metrics.measured.Goals as goal
+
+pub returns : goal.returns
+returns g c = (
+  c.dropped-first.result,
+  c.dropped-first.ensures,
+  IfOk-weaker c.metric_lines.result _ _ (λ text is. is ∙ of-both
+      (metrics_text c.args.build.now (state_of c.args.endpoint.now no_logs)
+      (txsc.counters_of c.args.endpoint.now.tx) (rxsc.counters_of c.args.endpoint.now.rx)
+      (rxsc.channel_counters_of c.args.endpoint.now.rx))
+      c.reported-controlled.result c.reported-common.result
+      (reported c.args.controlled.now c.dropped-first.result.controlled)
+      (reported c.args.common.now c.dropped-first.result.common) c.reported-controlled.ensures c.reported-common.ensures)
+      c.metric_lines.ensures,
+)

@@ -1,0 +1,89 @@
+-- What is reported to clients over a whole relay: the result of each command that one of them gave, once, in the order
+-- of tickets.
+use Rattle.std.specs.Prelude.{◌≡◌, ◌++◌, ℕ, Bool, List, [], ◌∷◌, flat_map, map, Some, Ok}
+use Rattle.macs_edge.specs.Commanding.{Ended, ended_by, tickets_taken}
+use Rattle.macs_edge.specs.declared.attending.CommandEnd.{CommandEnd}
+use Rattle.macs_edge.specs.declared.attending.DeskEvent.{DeskEvent}
+use Rattle.macs_edge.specs.declared.attending.DeskEvent.TheVariants.{Answered, Took, Wanted}
+use Rattle.macs_commands.specs.Talks.{Talk, Heard, Said}
+use Rattle.macs_commands.specs.declared.requests.clients.Client.{Client}
+use Rattle.macs_control.specs.Listening.{LooksIf, Reports, said_of_ending, said_of_taking, under_way_after}
+use Rattle.macs_control.specs.Replies.{ended_text}
+use Rattle.macs_control.specs.UnderWay.{is_full, without}
+use Rattle.macs_control.specs.declared.desk.under_way.UnderWay.{UnderWay as Entry}
+
+-- ---- a desk, from event to event
+
+-- the commands under way and their clients, and the client whose line was taken last
+pub record DeskState : Type 0 where
+  pub under_way : List Entry
+  pub asking : Client
+
+-- what is sent to clients at an event, and the commands under way after it: as each call of a desk ensures
+abbrev pub SpeaksAt : DeskState → DeskEvent → List Talk → DeskState → Type 0
+SpeaksAt old (Wanted was_quiet order) talk new = (is_time : Bool) × (reports : Reports)
+    × LooksIf is_time was_quiet (is_full old.under_way) reports old.asking talk order new.asking
+    × (new.under_way ≡ old.under_way)
+SpeaksAt old (Took answer) talk new = (talk ≡ said_of_taking old.asking answer)
+    × (new.under_way ≡ under_way_after old.under_way old.asking answer) × (new.asking ≡ old.asking)
+SpeaksAt old (Answered ticket end) talk new = (talk ≡ said_of_ending old.under_way ticket end)
+    × (new.under_way ≡ without old.under_way ticket) × (new.asking ≡ old.asking)
+
+-- the same at each of several events, one after another
+abbrev pub Speaks : DeskState → List DeskEvent → List (List Talk) → DeskState → Type 0
+Speaks old [] [] new = new ≡ old
+Speaks old (event ∷ events) (talk ∷ talks) new =
+    (between : DeskState) × SpeaksAt old event talk between × Speaks between events talks new
+Speaks old events talks new = ⊥
+
+-- ---- what is reported to clients
+
+-- a command that was taken: the client that gave it, its ticket, and its result
+pub record Told : Type 0 where
+  pub client : Client
+  pub ticket : ℕ
+  pub end : CommandEnd
+
+-- the result of a command, regardless of who gave it
+abbrev pub ended_in : Told → Ended
+ended_in told = record { ticket = told.ticket; end = told.end }
+
+-- the message about it: to its client, and to no other
+abbrev pub saying : Told → Talk
+saying told = Said told.client (ended_text told.end)
+
+-- the client whose line was taken last, after these messages
+abbrev pub asking_after : Client → List Talk → Client
+asking_after client [] = client
+asking_after client (Heard (Some heard) ∷ talk) = asking_after heard.client talk
+asking_after client (other ∷ talk) = asking_after client talk
+
+-- the client that gave a command which is taken: the one whose line was taken last
+abbrev pub giver : Client → DeskEvent → List Client
+giver client (Took (Ok ticket)) = client ∷ []
+giver client event = []
+
+-- the clients of all commands that are taken, in order
+abbrev pub givers : Client → List DeskEvent → List (List Talk) → List Client
+givers client (event ∷ events) (talk ∷ talks) = giver client event ++ givers (asking_after client talk) events talks
+givers client events talks = []
+
+-- the messages about a command that is taken: when it is taken, and when its result is known
+abbrev pub said_at : DeskEvent → List Talk → List Talk
+said_at (Took (Ok ticket)) talk = talk
+said_at (Answered ticket end) talk = talk
+said_at event talk = []
+
+-- all such messages, in order
+abbrev pub endings : List DeskEvent → List (List Talk) → List Talk
+endings (event ∷ events) (talk ∷ talks) = said_at event talk ++ endings events talks
+endings events talks = []
+
+-- Each command that was taken is listed once, in the order of tickets, with the client that gave it and its result. The
+-- result is sent to this client, in the same order, and nothing else is sent when commands are taken and answered
+pub record ClientsAreTold (asking : Client) (events : List DeskEvent) (talks : List (List Talk)) : Type 0 where
+  pub told : List Told
+  pub once : map (λ (t : Told). t.ticket) told ≡ tickets_taken events
+  pub ends : map ended_in told ≡ flat_map ended_by events
+  pub clients : map (λ (t : Told). t.client) told ≡ givers asking events talks
+  pub said : endings events talks ≡ map saying told

@@ -1,0 +1,20 @@
+//! A desk of a relay that serves the clients of a control socket.
+
+mod answering;
+mod control_desk;
+mod key_notes;
+mod last_good;
+pub mod laws;
+mod listening;
+mod metrics;
+mod no_system;
+mod overruns;
+mod replies;
+mod under_way;
+
+pub use control_desk::ControlDesk;
+pub use key_notes::{KeyNotes, NoteFault};
+pub use last_good::Time;
+pub use no_system::NoSystem;
+pub use overruns::{Dropped, Overruns};
+pub use under_way::{MOST_UNDER_WAY, Queue, UnderWay};

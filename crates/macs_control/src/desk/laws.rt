@@ -1,0 +1,27 @@
+//! Laws of the definitions, for the layers above.
+
+ghost use Rattle.std.specs.Prelude.{◌≡◌, ℕ, [], List, Result};
+ghost use Rattle.macs_edge.specs.Attending.{Attends};
+ghost use Rattle.macs_edge.specs.Relaying.{Relay, empty_lane};
+ghost use Rattle.macs_edge.specs.declared.attending.DeskEvent.{DeskEvent};
+ghost use Rattle.macs_edge.specs.declared.relaying.RelaySummary.{RelaySummary};
+ghost use Rattle.macs_endpoint.specs.declared.fault.RefillFault.{RefillFault};
+ghost use Rattle.macs_commands.specs.Talks.{Talk};
+ghost use Rattle.macs_control.specs.Serving.{ClientsAreTold, DeskState, Speaks};
+
+use macs_disk::SectorDisk;
+
+/// Over a whole relay that a desk attends, starting from an endpoint without pending commands: each
+/// command that was taken is answered once, in the order of tickets, to the client that gave it,
+/// with the result that the relay reported; and when the relay has ended no command is left. The
+/// results that a relay reports are those of the commands that steps completed
+/// (`macs_edge::laws::attended`), so `ok` is sent only after a step answered that the command is
+/// kept.
+pub fn clients_are_told<D: SectorDisk>()
+    ensures { (turns : ℕ) (old new : Relay D) (events : List DeskEvent) (talks : List (List Talk))
+        (before after : DeskState) (result : Result RelaySummary RefillFault)
+        → old.to_common ≡ empty_lane → old.to_controlled ≡ empty_lane → old.endpoint.waiting ≡ []
+        → before.under_way ≡ [] → Attends D.disk turns old events result new
+        → Speaks before events talks after
+        → ClientsAreTold before.asking events talks × (after.under_way ≡ []) }
+{}

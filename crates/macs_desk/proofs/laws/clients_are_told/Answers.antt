@@ -1,5 +1,0 @@
-use Rattle.macs_desk.proofs.Served.{clients-told}
-use Rattle.macs_desk.proofs.laws.clients_are_told.Goals as goal
-
-pub returns : goal.returns
-returns g c = clients-told g.D.SectorDisk.disk

@@ -1,6 +1,0 @@
-use Rattle.std.proofs.Common.{◌∙◌}
-use Rattle.macs_desk.proofs.EndTexts.{end-4}
-use Rattle.macs_desk.proofs.replies.ended.Goals as goal
-
-pub returns-in-Failed : goal.returns-in-Failed
-returns-in-Failed c = rw c.in-Failed.is (c.reply_of.ensures ∙ end-4)

@@ -1,5 +1,0 @@
-use Rattle.std.proofs.Common.{inr, refl}
-use Rattle.macs_offline.proofs.file_reason.failure_told.Goals as goal
-
-pub returns-in-Ok : goal.returns-in-Ok
-returns-in-Ok c = inr (c.in-Ok.text, refl, c.in-Ok.ensures)

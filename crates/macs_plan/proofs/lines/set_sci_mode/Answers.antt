@@ -1,5 +1,0 @@
-use Rattle.macs_plan.proofs.lines.set_sci_mode.Goals as goal
-
-pub returns : goal.returns
-returns c =
-    rw c.sci_mode_word.ensures at (c.with.ensures _ _ c.with_word-table.ensures c.string.ensures)

@@ -1,7 +1,0 @@
-use Rattle.std.proofs.Common.{ap}
-use Rattle.toml.specs.View.{members_view}
-use Rattle.macs_plan.proofs.lines.with_word.Goals as goal
-
-pub returns : goal.returns
-returns c =
-    c.with.ensures _ _ (ap members_view c.new.ensures.empty) c.string.ensures

@@ -1,6 +1,0 @@
-mod Blanks
-mod Values
-mod Told
-mod Whole
-mod Lengths
-mod Feeds

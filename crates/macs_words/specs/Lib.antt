@@ -1,4 +1,0 @@
-pub mod Controls
-pub mod Waits
-pub mod Words
-pub mod Help
