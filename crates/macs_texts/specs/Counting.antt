@@ -1,9 +1,7 @@
 -- The counters of an endpoint and of its wires, as text.
-use Rattle.std.specs.Prelude.{ℕ, ◌-◌, ◌^◌, List, [], ◌∷◌, ◌++◌, length, map, codes, Option}
+use Rattle.std.specs.Prelude.{ℕ, ◌-◌, ◌^◌, List, [], ◌∷◌, ◌++◌, length, flat_map, codes, Option, Some}
 use Rattle.std.specs.Fmt.{decimal}
-use Rattle.std.specs.List.{concat}
 use Rattle.std.specs.Option.{option_map}
-use Rattle.hex.specs.Hex.{encode_lower}
 use Rattle.macs_config.specs.Config.{Config, max_spent}
 use Rattle.macs_txsc.specs.Transmit.{fault_count}
 use Rattle.macs_txsc.specs.declared.counters.TxCounters.{TxCounters}
@@ -18,8 +16,10 @@ use Rattle.macs_rxsc.specs.declared.verdict.Verdict.{Verdict}
 use Rattle.macs_rxsc.specs.declared.verdict.Verdict.TheVariants.{Delivered, Discarded, HeldBack}
 use Rattle.macs_endpoint.specs.State.{State}
 use Rattle.macs_edge.specs.declared.counts.WireCounts.{WireCounts}
+use Rattle.macs_texts.specs.declared.wire_report.WireNumber.{WireNumber}
+use Rattle.macs_texts.specs.declared.wire_report.WireNumber.TheVariants as wire
 use Rattle.macs_texts.specs.declared.wire_report.WireReport.{WireReport}
-use Rattle.macs_texts.specs.Lines.{count_line, count_line_of}
+use Rattle.macs_texts.specs.Lines.{channel_name, count_line, count_line_of}
 use Rattle.macs_texts.specs.Showing.{association_numbers}
 
 -- ---- words
@@ -64,7 +64,7 @@ tx_line c fault = count_line (codes "tx") (fault_words fault) (fault_count fault
 
 -- how many plain frames were protected, and how many met each fault
 abbrev pub tx_text : TxCounters → List ℕ
-tx_text c = count_line (codes "tx") (codes "protected") c.protected ++ concat (map (tx_line c) tx_faults)
+tx_text c = count_line (codes "tx") (codes "protected") c.protected ++ flat_map (tx_line c) tx_faults
 
 -- the verdicts that are counted
 abbrev pub rx_verdicts : List Verdict
@@ -81,7 +81,7 @@ rx_line c verdict = count_line (codes "rx") (verdict_words verdict) (count_of ve
 
 -- how often each verdict was given
 abbrev pub rx_text : RxCounters → List ℕ
-rx_text c = concat (map (rx_line c) rx_verdicts)
+rx_text c = flat_map (rx_line c) rx_verdicts
 
 -- the verdicts that are counted for a channel
 abbrev pub channel_verdicts : List Verdict
@@ -92,33 +92,54 @@ channel_verdicts =
 -- how often this verdict was given on frames of a channel, if the channel exists
 abbrev pub channel_line : (List ℕ → Option ChannelCounters) → List ℕ → Verdict → List ℕ
 channel_line table sci verdict =
-    count_line_of (codes "channel " ++ encode_lower sci) (verdict_words verdict)
+    count_line_of (channel_name sci) (verdict_words verdict)
     (option_map (channel_count_of verdict) (table sci))
 
 -- how often each verdict was given on frames of a channel
 abbrev pub channel_text : (List ℕ → Option ChannelCounters) → List ℕ → List ℕ
-channel_text table sci = concat (map (channel_line table sci) channel_verdicts)
+channel_text table sci = flat_map (channel_line table sci) channel_verdicts
 
 -- ---- wires
-
--- the counters of a wire, by its number, and how many octets of datagrams the system buffers for it, if known
-abbrev pub wire_text : List ℕ → WireCounts → List ℕ
-wire_text side c =
-    count_line side (codes "taken") c.taken
-    ++ (count_line side (codes "too-long") c.too_long
-    ++ (count_line side (codes "sent") c.sent
-    ++ (count_line side (codes "strangers") c.strangers
-    ++ (count_line side (codes "failed-receives") c.failed_receives
-    ++ (count_line side (codes "failed-sends") c.failed_sends
-    ++ count_line_of side (codes "buffer") c.buffer)))))
 
 -- the report of a wire with these counts, of whose datagrams the system dropped `overrun`, if known
 abbrev pub reported : WireCounts → Option ℕ → WireReport
 reported counts overrun = record { counts = counts; overrun = overrun }
 
--- the report of a wire: its counters, and how many datagrams the system dropped before it could take them
+-- the numbers of a wire, in the order in which they are reported
+abbrev pub wire_numbers : List WireNumber
+wire_numbers =
+    wire.Taken ∷ wire.TooLong ∷ wire.Sent ∷ wire.Strangers ∷ wire.FailedReceives ∷ wire.FailedSends ∷ wire.Buffer
+    ∷ wire.Overrun ∷ []
+
+-- what a number counts; the buffer's is in octets
+abbrev pub wire_words : WireNumber → List ℕ
+wire_words wire.Taken = codes "taken"
+wire_words wire.TooLong = codes "too-long"
+wire_words wire.Sent = codes "sent"
+wire_words wire.Strangers = codes "strangers"
+wire_words wire.FailedReceives = codes "failed-receives"
+wire_words wire.FailedSends = codes "failed-sends"
+wire_words wire.Buffer = codes "buffer"
+wire_words wire.Overrun = codes "overrun"
+
+-- a number of a wire, if it is known
+abbrev pub wire_number : WireReport → WireNumber → Option ℕ
+wire_number report wire.Taken = Some report.counts.taken
+wire_number report wire.TooLong = Some report.counts.too_long
+wire_number report wire.Sent = Some report.counts.sent
+wire_number report wire.Strangers = Some report.counts.strangers
+wire_number report wire.FailedReceives = Some report.counts.failed_receives
+wire_number report wire.FailedSends = Some report.counts.failed_sends
+wire_number report wire.Buffer = report.counts.buffer
+wire_number report wire.Overrun = report.overrun
+
+-- the line of a number of a wire
+abbrev pub wire_line : List ℕ → WireReport → WireNumber → List ℕ
+wire_line side report number = count_line_of side (wire_words number) (wire_number report number)
+
+-- the report of a wire, by its number
 abbrev pub report_text : List ℕ → WireReport → List ℕ
-report_text side wire = wire_text side wire.counts ++ count_line_of side (codes "overrun") wire.overrun
+report_text side report = flat_map (wire_line side report) wire_numbers
 
 -- ---- what is left
 
@@ -128,7 +149,7 @@ left_line s an = count_line_of (codes "left tx") (decimal an) (option_map (λ ne
 
 -- how many are left under each
 abbrev pub left_text : State → List ℕ
-left_text s = concat (map (left_line s) association_numbers)
+left_text s = flat_map (left_line s) association_numbers
 
 -- how many keys may still be installed in each direction
 abbrev pub keys_text : Config → List ℕ
@@ -141,6 +162,6 @@ keys_text config = count_line (codes "left keys") (codes "tx") (max_spent - leng
 abbrev pub counters_text : State → TxCounters → RxCounters → (List ℕ → Option ChannelCounters) → WireReport
     → WireReport → List ℕ
 counters_text s sent received table controlled common =
-    tx_text sent ++ (rx_text received ++ (concat (map (channel_text table) s.config.channels)
+    tx_text sent ++ (rx_text received ++ (flat_map (channel_text table) s.config.channels
     ++ (report_text (codes "wire 1") controlled
     ++ (report_text (codes "wire 2") common ++ (left_text s ++ keys_text s.config)))))

@@ -1,4 +1,5 @@
 pub mod Lines
+pub mod Reports
 pub mod Refusals
 pub mod Showing
 pub mod Counting

@@ -1,7 +1,6 @@
 -- The output of `show` for an endpoint.
-use Rattle.std.specs.Prelude.{ℕ, List, [], ◌∷◌, ◌++◌, length, map, codes, Option, Some, None}
+use Rattle.std.specs.Prelude.{ℕ, List, [], ◌∷◌, ◌++◌, length, flat_map, codes, Option, Some, None}
 use Rattle.std.specs.Fmt.{decimal}
-use Rattle.std.specs.List.{concat}
 use Rattle.hex.specs.Hex.{encode_lower}
 use Rattle.macs_config.specs.Config.{Config}
 use Rattle.macs_config.specs.Identity.{Identity}
@@ -16,7 +15,7 @@ use Rattle.macs_fields.specs.Fields.{octets_of}
 use Rattle.macs_rxsc.specs.Receive.{Numbers}
 use Rattle.macs_endpoint.specs.State.{State}
 use Rattle.macs_commands.specs.Words.{replay_word, sci_mode_word, validate_word}
-use Rattle.macs_texts.specs.Lines.{line}
+use Rattle.macs_texts.specs.Lines.{channel_name, line, rx_name, tx_name}
 
 -- ---- single lines
 
@@ -28,6 +27,10 @@ sci_line identity = line (codes "sci " ++ encode_lower identity.sci)
 abbrev pub blocks_line : Identity → List ℕ
 blocks_line identity =
     line (codes "blocks tx " ++ (decimal identity.tx_block ++ (codes " rx " ++ decimal identity.rx_block)))
+
+-- the values given at formatting
+abbrev pub identity_lines : Identity → List ℕ
+identity_lines identity = sci_line identity ++ blocks_line identity
 
 -- how received frames are validated
 abbrev pub validate_line : Validate → List ℕ
@@ -50,6 +53,11 @@ encoding_word (Some an) = decimal an
 abbrev pub encoding_line : Option ℕ → List ℕ
 encoding_line encoding = line (codes "encoding " ++ encoding_word encoding)
 
+-- the settings
+abbrev pub setting_lines : Config → List ℕ
+setting_lines c =
+    validate_line c.validate ++ (replay_line c.replay ++ (mode_line c.mode ++ encoding_line c.encoding))
+
 -- what a transmit association does with User Data
 abbrev pub protection_words : Protection → List ℕ
 protection_words Integrity = codes "integrity"
@@ -57,18 +65,17 @@ protection_words (Confidentiality offset) = codes "confidential offset " ++ deci
 
 -- a transmit association and its next packet number
 abbrev pub tx_line : ℕ → TxSa → ℕ → List ℕ
-tx_line an sa next = line
-    (codes "tx " ++ (decimal an ++ (codes " " ++ (protection_words sa.protection ++ (codes " next " ++ decimal next)))))
+tx_line an sa next =
+    line (tx_name an ++ (codes " " ++ (protection_words sa.protection ++ (codes " next " ++ decimal next))))
 
 -- a receive channel
 abbrev pub channel_line : List ℕ → List ℕ
-channel_line sci = line (codes "channel " ++ encode_lower sci)
+channel_line sci = line (channel_name sci)
 
 -- a receive association, its next and its lowest acceptable packet number
-abbrev pub rx_line : List ℕ → ℕ → RxSa → Numbers → List ℕ
-rx_line sci an sa numbers = line (codes "rx "
-    ++ (encode_lower sci ++ (codes " " ++ (decimal an ++ (codes " offset " ++ (decimal (octets_of sa.offset)
-    ++ (codes " next " ++ (decimal numbers.next ++ (codes " lowest " ++ decimal numbers.lowest)))))))))
+abbrev pub rx_line : List ℕ → ℕ → RxSa → ℕ → ℕ → List ℕ
+rx_line sci an sa next lowest = line (rx_name sci an ++ (codes " offset " ++ (decimal (octets_of sa.offset)
+    ++ (codes " next " ++ (decimal next ++ (codes " lowest " ++ decimal lowest))))))
 
 -- how many keys are spent in each direction
 abbrev pub spent_line : Config → List ℕ
@@ -92,7 +99,7 @@ tx_text s an = tx_text_of an (s.config.tx an) (s.next an)
 
 -- the line of a receive association and its numbers, if they exist
 abbrev pub rx_text_of : List ℕ → ℕ → Option RxSa → Option Numbers → List ℕ
-rx_text_of sci an (Some sa) (Some numbers) = rx_line sci an sa numbers
+rx_text_of sci an (Some sa) (Some numbers) = rx_line sci an sa numbers.next numbers.lowest
 rx_text_of sci an sa numbers = []
 
 -- the same for the receive association with this number
@@ -101,16 +108,12 @@ rx_text s sci an = rx_text_of sci an (s.config.rx sci an) (s.numbers sci an)
 
 -- a channel, and its associations by number
 abbrev pub channel_text : State → List ℕ → List ℕ
-channel_text s sci = channel_line sci ++ concat (map (rx_text s sci) association_numbers)
+channel_text s sci = channel_line sci ++ flat_map (rx_text s sci) association_numbers
 
 -- ---- all of it
 
 -- the configuration, the associations and the channels, line by line
 abbrev pub show_text : State → List ℕ
-show_text s =
-    sci_line s.identity ++ (blocks_line s.identity
-    ++ (validate_line s.config.validate ++ (replay_line s.config.replay
-    ++ (mode_line s.config.mode ++ (encoding_line s.config.encoding
-    ++ (concat (map (tx_text s) association_numbers)
-    ++ (concat (map (channel_text s) s.config.channels)
-    ++ spent_line s.config)))))))
+show_text s = identity_lines s.identity ++ (setting_lines s.config
+    ++ (flat_map (tx_text s) association_numbers
+    ++ (flat_map (channel_text s) s.config.channels ++ spent_line s.config)))

@@ -1,101 +1,84 @@
 //! Which keys are installed, as text.
+#![tactic(auto, using(crate::proofs::Adding::one_more))]
 
-ghost use Rattle.std.specs.Prelude.{◌≡◌, ◌++◌, map, IfOk, string_bytes};
-ghost use Rattle.std.specs.List.{concat};
+ghost use Rattle.std.specs.Prelude.{◌≡◌, flat_map, IfOk, OnOk, string_bytes};
 ghost use Rattle.macs_config.specs.Value.{config_of};
-ghost use Rattle.macs_texts.specs.KeyTexts.{channel_keys, key_words, keys_text, rx_key_line};
-ghost use Rattle.macs_texts.specs.KeyTexts.{rx_key_text, tx_key_line, tx_key_text};
+ghost use Rattle.macs_texts.specs.KeyTexts.{channel_keys, key_line, keys_text, rx_key_text};
+ghost use Rattle.macs_texts.specs.KeyTexts.{tx_key_text};
+ghost use Rattle.macs_texts.specs.Reports.{Adds};
 ghost use Rattle.macs_texts.specs.Showing.{association_numbers};
 
 use crate::key_names::key_id;
-use crate::lines::{ended, joined};
+use crate::lines::{rx_name, tx_name};
+use crate::report::{Added, Report};
 use macs_aes::KeyOctets;
 use macs_config::Config;
 use macs_fields::{An, Sci};
 use std::alloc::{AllocError, Global};
 
-/// The length of a key, in bits, and its identifier.
-fn key_words(alloc: Global, key: KeyOctets) -> Result<String, AllocError>
-    ensures { IfOk result (λ text. string_bytes text ≡ key_words key) }
+/// The key of an association: its length, in bits, and its identifier.
+fn key_line(report: &mut Report, whose: &str, key: KeyOctets) -> Added
+    ensures { OnOk result (Adds report.old report.new (key_line whose.now key)) }
 {
     let octets = key.as_slice();
     let bits = 8 * octets.len();
-    let id = key_id(alloc, octets)?;
-    let text = format!(in alloc; "key {bits} id {id}")?;
-    Ok(text)
+    let id = key_id(report.alloc, octets)?;
+    report.line(format_args!("{whose} key {bits} id {id}"))
 }
 
-fn tx_key_line(alloc: Global, an: An, key: KeyOctets) -> Result<String, AllocError>
-    ensures { IfOk result (λ text. string_bytes text ≡ tx_key_line an key) }
+/// The key of a transmit association, if it exists.
+fn tx_key_text(report: &mut Report, config: &Config, an: An) -> Added
+    ensures { OnOk result (Adds report.old report.new (tx_key_text (config_of config.now) an)) }
 {
-    let an = an.get();
-    let words = key_words(alloc, key)?;
-    ended(format!(in alloc; "tx {an} {words}")?)
+    let Some(sa) = config.tx(an) else {
+        return Ok(());
+    };
+    let whose = tx_name(report.alloc, an)?;
+    key_line(report, whose.as_str(), sa.key)
 }
 
-fn rx_key_line(alloc: Global, sci: Sci, an: An, key: KeyOctets) -> Result<String, AllocError>
-    ensures { IfOk result (λ text. string_bytes text ≡ rx_key_line sci an key) }
+/// The key of a receive association, if it exists.
+fn rx_key_text(report: &mut Report, config: &Config, sci: Sci, an: An) -> Added
+    ensures { OnOk result (Adds report.old report.new (rx_key_text (config_of config.now) sci an)) }
 {
-    let sci = hex::encode(alloc, sci.get())?;
-    let an = an.get();
-    let words = key_words(alloc, key)?;
-    ended(format!(in alloc; "rx {sci} {an} {words}")?)
-}
-
-/// The line of a transmit association's key, if it exists.
-fn tx_key_text(alloc: Global, config: &Config, an: An) -> Result<String, AllocError>
-    ensures { IfOk result (λ text. string_bytes text ≡ tx_key_text (config_of config.now) an) }
-{
-    match config.tx(an) {
-        Some(sa) => tx_key_line(alloc, an, sa.key),
-        None => Ok(String::new(alloc)),
-    }
-}
-
-/// The line of a receive association's key, if it exists.
-fn rx_key_text(alloc: Global, config: &Config, sci: Sci, an: An) -> Result<String, AllocError>
-    ensures { IfOk result (λ text. string_bytes text ≡ rx_key_text (config_of config.now) sci an) }
-{
-    match config.rx(sci, an) {
-        Some(sa) => rx_key_line(alloc, sci, an, sa.key),
-        None => Ok(String::new(alloc)),
-    }
+    let Some(sa) = config.rx(sci, an) else {
+        return Ok(());
+    };
+    let whose = rx_name(report.alloc, sci, an)?;
+    key_line(report, whose.as_str(), sa.key)
 }
 
 /// The keys of the transmit associations, by number.
-fn tx_keys(alloc: Global, config: &Config) -> Result<String, AllocError>
-    ensures { IfOk result (λ text. string_bytes text
-        ≡ concat (map (tx_key_text (config_of config.now)) association_numbers)) }
+fn tx_keys(report: &mut Report, config: &Config) -> Added
+    ensures { OnOk result (Adds report.old report.new
+        (flat_map (tx_key_text (config_of config.now)) association_numbers)) }
 {
-    let mut text = String::new(alloc);
     for an in An::all() {
-        text.push_str(tx_key_text(alloc, config, an)?.as_str())?;
+        tx_key_text(report, config, an)?;
     }
-    Ok(text)
+    Ok(())
 }
 
 /// The keys of a channel's associations, by number.
-fn channel_keys(alloc: Global, config: &Config, sci: Sci) -> Result<String, AllocError>
-    ensures { IfOk result (λ text. string_bytes text ≡ channel_keys (config_of config.now) sci) }
+fn channel_keys(report: &mut Report, config: &Config, sci: Sci) -> Added
+    ensures { OnOk result (Adds report.old report.new (channel_keys (config_of config.now) sci)) }
 {
-    let mut text = String::new(alloc);
     for an in An::all() {
-        text.push_str(rx_key_text(alloc, config, sci, an)?.as_str())?;
+        rx_key_text(report, config, sci, an)?;
     }
-    Ok(text)
+    Ok(())
 }
 
 /// The keys of all channels.
-fn rx_keys(alloc: Global, config: &Config) -> Result<String, AllocError>
-    ensures { IfOk result (λ text. string_bytes text
-        ≡ concat (map (channel_keys (config_of config.now)) (config_of config.now).channels)) }
+fn rx_keys(report: &mut Report, config: &Config) -> Added
+    ensures { OnOk result (Adds report.old report.new
+        (flat_map (channel_keys (config_of config.now)) (config_of config.now).channels)) }
 {
-    let mut text = String::new(alloc);
     let channels = config.channels();
     for sci in channels.iter() {
-        text.push_str(channel_keys(alloc, config, *sci)?.as_str())?;
+        channel_keys(report, config, *sci)?;
     }
-    Ok(text)
+    Ok(())
 }
 
 /// A line for each installed key: its association, its length in bits, and its identifier. The keys
@@ -103,5 +86,8 @@ fn rx_keys(alloc: Global, config: &Config) -> Result<String, AllocError>
 pub fn keys_lines(alloc: Global, config: &Config) -> Result<String, AllocError>
     ensures { IfOk result (λ text. string_bytes text ≡ keys_text (config_of config.now)) }
 {
-    joined(tx_keys(alloc, config), rx_keys(alloc, config))
+    let mut report = Report::new(alloc);
+    tx_keys(&mut report, config)?;
+    rx_keys(&mut report, config)?;
+    Ok(report.into_text())
 }

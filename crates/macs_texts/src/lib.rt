@@ -9,6 +9,7 @@ mod lines;
 mod measuring;
 mod program;
 mod refusals;
+mod report;
 mod samples;
 mod showing;
 mod traffic;

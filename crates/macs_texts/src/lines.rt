@@ -1,8 +1,9 @@
-//! Lines of text.
+//! Lines of text, and the names of channels and associations in them.
 
 ghost use Rattle.std.specs.Prelude.{◌≡◌, ◌++◌, ℕ, List, IfOk, string_bytes};
-ghost use Rattle.macs_texts.specs.Lines.{count_line, count_line_of, line};
+ghost use Rattle.macs_texts.specs.Lines.{channel_name, line, rx_name, tx_name};
 
+use macs_fields::{An, Sci};
 use std::alloc::{AllocError, Global};
 
 /// A text with its line feed.
@@ -11,28 +12,6 @@ pub fn ended(mut text: String) -> Result<String, AllocError>
 {
     text.push('\n')?;
     Ok(text)
-}
-
-/// The line of a count: its side, its name, and the count.
-pub fn count_line(alloc: Global, side: &str, what: &str, count: u64) -> Result<String, AllocError>
-    ensures { IfOk result (λ text. string_bytes text ≡ count_line side.now what.now count) }
-{
-    ended(format!(in alloc; "{side} {what} {count}")?)
-}
-
-/// The line of a count that may be absent: empty if it is.
-pub fn count_line_of(
-    alloc: Global,
-    side: &str,
-    what: &str,
-    count: Option<u64>,
-) -> Result<String, AllocError>
-    ensures { IfOk result (λ text. string_bytes text ≡ count_line_of side.now what.now count) }
-{
-    match count {
-        Some(count) => count_line(alloc, side, what, count),
-        None => Ok(String::new(alloc)),
-    }
 }
 
 /// The concatenation of two texts, unless one of them failed.
@@ -46,5 +25,33 @@ pub fn joined(
 {
     let mut text = text?;
     text.push_str(more?.as_str())?;
+    Ok(text)
+}
+
+/// A receive channel, as lines name it.
+pub(crate) fn channel_name(alloc: Global, sci: Sci) -> Result<String, AllocError>
+    ensures { IfOk result (λ text. string_bytes text ≡ channel_name sci) }
+{
+    let sci = hex::encode(alloc, sci.get())?;
+    let text = format!(in alloc; "channel {sci}")?;
+    Ok(text)
+}
+
+/// A transmit association, as lines name it.
+pub(crate) fn tx_name(alloc: Global, an: An) -> Result<String, AllocError>
+    ensures { IfOk result (λ text. string_bytes text ≡ tx_name an) }
+{
+    let an = an.get();
+    let text = format!(in alloc; "tx {an}")?;
+    Ok(text)
+}
+
+/// A receive association, as lines name it.
+pub(crate) fn rx_name(alloc: Global, sci: Sci, an: An) -> Result<String, AllocError>
+    ensures { IfOk result (λ text. string_bytes text ≡ rx_name sci an) }
+{
+    let sci = hex::encode(alloc, sci.get())?;
+    let an = an.get();
+    let text = format!(in alloc; "rx {sci} {an}")?;
     Ok(text)
 }

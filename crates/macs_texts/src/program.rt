@@ -1,10 +1,11 @@
 //! A run of the program.
 
 ghost use Rattle.std.specs.Prelude.{◌≡◌, IfOk, string_bytes};
-ghost use Rattle.macs_texts.specs.Programs.{about_text, started_line, word_line};
+ghost use Rattle.macs_texts.specs.Programs.{about_text, word_line};
 
 use crate::build::Build;
-use crate::lines::{ended, joined};
+use crate::lines::ended;
+use crate::report::Report;
 use std::alloc::{AllocError, Global};
 
 /// A run of the program.
@@ -41,24 +42,19 @@ pub fn word_line(alloc: Global, name: &str, word: &str) -> Result<String, AllocE
     ended(format!(in alloc; "{name} {word}")?)
 }
 
-/// When a run began, if known.
-fn started_line(alloc: Global, started: Option<u64>) -> Result<String, AllocError>
-    ensures { IfOk result (λ text. string_bytes text ≡ started_line started) }
-{
-    match started {
-        Some(seconds) => ended(format!(in alloc; "started {seconds}")?),
-        None => Ok(String::new(alloc)),
-    }
-}
-
 /// Which program runs, and since when, one line each. Fails only if memory runs out.
 pub fn about_lines(alloc: Global, program: &Program) -> Result<String, AllocError>
     ensures { IfOk result
         (λ text. string_bytes text ≡ about_text program.now.build program.now.started) }
 {
     let build = &program.build;
-    let text = started_line(alloc, program.started);
-    let text = joined(word_line(alloc, "proved", build.proved.as_str()), text);
-    let text = joined(word_line(alloc, "commit", build.commit.as_str()), text);
-    joined(word_line(alloc, "macsecd", build.version.as_str()), text)
+    let version = build.version.as_str();
+    let commit = build.commit.as_str();
+    let proved = build.proved.as_str();
+    let mut report = Report::new(alloc);
+    report.line(format_args!("macsecd {version}"))?;
+    report.line(format_args!("commit {commit}"))?;
+    report.line(format_args!("proved {proved}"))?;
+    report.known("started", program.started)?;
+    Ok(report.into_text())
 }

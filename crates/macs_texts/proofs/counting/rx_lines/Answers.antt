@@ -1,13 +1,12 @@
-use Rattle.std.proofs.Common.{[], string_bytes, refl}
+use Rattle.std.proofs.Common.{refl, string_bytes}
 use Rattle.macs_rxsc.specs.Value.{counters_of}
 use Rattle.macs_texts.specs.Counting.{rx_line, rx_verdicts}
-use Rattle.macs_texts.proofs.Shown.{shown-more}
+use Rattle.macs_texts.proofs.Adding.{next-item}
 use Rattle.macs_texts.proofs.counting.rx_lines.Goals as goal
 
 pub loop-verdict-preserved : goal.loop-verdict-preserved
 loop-verdict-preserved g c =
-    shown-more (rx_line (counters_of c.args.endpoint.now.rx)) rx_verdicts 15 c.loop-verdict.verdict-index _ _ []
-    (string_bytes c.loop-verdict.text) (string_bytes c.push_str.new.self) c.as_str.result.now
-    (string_bytes c.in_ok-rx_line.field-0)
-    refl c.loop-verdict-test.true refl c.loop-verdict.invariant c.in_ok-push_str.ensures.bytes c.as_str.ensures.value
-    c.in_ok-rx_line.ensures
+    next-item (rx_line (counters_of c.args.endpoint.now.rx)) rx_verdicts 15 c.loop-verdict.verdict-index _ _
+    (string_bytes c.args.report.now.text) (string_bytes c.loop-verdict.report.text) (string_bytes c.count.new.self.text)
+    refl c.loop-verdict-test.true refl c.loop-verdict.invariant
+    (rw (c.verdict_words.ensures, c.verdict.ensures, c.counters-counters.ensures.rx) at c.in_ok-count.ensures)

@@ -1,16 +1,19 @@
-use Rattle.std.proofs.Common.{string_bytes, refl}
-use Rattle.std.specs.Prelude.{codes}
+use Rattle.std.proofs.Common.{refl, string_bytes}
 use Rattle.macs_txsc.specs.Value.{counters_of}
 use Rattle.macs_texts.specs.Counting.{tx_faults, tx_line}
-use Rattle.macs_texts.specs.Lines.{count_line}
-use Rattle.macs_texts.proofs.Shown.{shown-more}
+use Rattle.macs_texts.proofs.Adding.{looped, next-item}
 use Rattle.macs_texts.proofs.counting.tx_lines.Goals as goal
 
 pub loop-fault-preserved : goal.loop-fault-preserved
 loop-fault-preserved g c =
-    shown-more (tx_line (counters_of c.args.endpoint.now.tx)) tx_faults 6 c.loop-fault.fault-index _ _
-    (count_line (codes "tx") (codes "protected") (counters_of c.args.endpoint.now.tx).protected)
-    (string_bytes c.loop-fault.text) (string_bytes c.push_str.new.self) c.as_str.result.now
-    (string_bytes c.in_ok-tx_line.field-0)
-    refl c.loop-fault-test.true refl c.loop-fault.invariant c.in_ok-push_str.ensures.bytes c.as_str.ensures.value
-    c.in_ok-tx_line.ensures
+    next-item (tx_line (counters_of c.args.endpoint.now.tx)) tx_faults 6 c.loop-fault.fault-index _ _
+    (string_bytes c.count.new.self.text) (string_bytes c.loop-fault.report.text)
+    (string_bytes c.count-in-loop-fault.new.self.text) refl c.loop-fault-test.true refl c.loop-fault.invariant
+    (rw (c.fault_words.ensures, c.tx_fault.ensures, c.counters-counters.ensures.tx) at c.in_ok-count-2.ensures)
+
+pub returns : goal.returns
+returns g c =
+    looped (tx_line (counters_of c.args.endpoint.now.tx)) tx_faults 6 c.loop-fault.fault-index
+    (string_bytes c.args.report.now.text) (string_bytes c.count.new.self.text) (string_bytes c.loop-fault.report.text) _
+    refl c.loop-fault-test.false (rw (c.protected.ensures, c.counters-counters.ensures.tx) at c.in_ok-count.ensures)
+    c.loop-fault.invariant

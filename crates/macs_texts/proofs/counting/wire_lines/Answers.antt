@@ -1,10 +1,11 @@
+use Rattle.std.proofs.Common.{refl, string_bytes}
+use Rattle.macs_texts.specs.Counting.{wire_line, wire_numbers}
+use Rattle.macs_texts.proofs.Adding.{next-item}
 use Rattle.macs_texts.proofs.counting.wire_lines.Goals as goal
 
-pub returns : goal.returns
-returns c =
-    let with_sends = c.joined-text.ensures _ _ c.count_line-sends.ensures c.count_line_of-text.ensures in
-    let with_failed = c.joined-text-2.ensures _ _ c.count_line-receives.ensures with_sends in
-    let with_strangers = c.joined-text-3.ensures _ _ c.count_line.ensures with_failed in
-    let with_sent = c.joined-text-4.ensures _ _ c.count_line-2.ensures with_strangers in
-    let with_long = c.joined-text-5.ensures _ _ c.count_line-3.ensures with_sent in
-    c.joined.ensures _ _ c.count_line-4.ensures with_long
+pub loop-number-preserved : goal.loop-number-preserved
+loop-number-preserved c =
+    next-item (wire_line c.args.side.now c.args.wire.now) wire_numbers 8 c.loop-number.number-index _ _
+    (string_bytes c.args.report.now.text) (string_bytes c.loop-number.report.text)
+    (string_bytes c.count_of.new.self.text) refl c.loop-number-test.true refl c.loop-number.invariant
+    (rw (c.wire_words.ensures, c.wire_number.ensures) at c.in_ok-count_of.ensures)

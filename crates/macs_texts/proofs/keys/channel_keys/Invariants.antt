@@ -1,9 +1,10 @@
-use Rattle.std.proofs.Common.{◌≡◌, [], ◌++◌, take, map, string_bytes}
-use Rattle.std.specs.List.{concat}
+use Rattle.std.proofs.Common.{take}
+use Rattle.std.specs.Prelude.{flat_map}
 use Rattle.macs_config.specs.Value.{config_of}
 use Rattle.macs_texts.specs.KeyTexts.{rx_key_text}
+use Rattle.macs_texts.specs.Reports.{Adds}
 use Rattle.macs_texts.proofs.keys.channel_keys.Given as goal
 
 abbrev pub invariant-loop-an : goal.invariant-loop-an
 invariant-loop-an l =
-    string_bytes l.text ≡ [] ++ concat (map (rx_key_text (config_of l.config) l.sci) (take l.an-index l.an-items))
+    Adds l.initial.report l.report (flat_map (rx_key_text (config_of l.config) l.sci) (take l.an-index l.an-items))

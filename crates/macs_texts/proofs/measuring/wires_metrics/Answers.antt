@@ -1,7 +1,12 @@
+use Rattle.std.proofs.Common.{refl, string_bytes}
+use Rattle.macs_texts.specs.Counting.{wire_numbers}
+use Rattle.macs_texts.specs.Measuring.{wire_metric}
+use Rattle.macs_texts.proofs.Adding.{next-item}
 use Rattle.macs_texts.proofs.measuring.wires_metrics.Goals as goal
 
-pub returns : goal.returns
-returns c =
-    let with_sent = c.joined-text.ensures _ _ c.wire_metric-more.ensures c.trouble_metrics-text.ensures in
-    let with_long = c.joined-text-2.ensures _ _ c.wire_metric-more-2.ensures with_sent in
-    c.joined.ensures _ _ c.wire_metric-more-3.ensures with_long
+pub loop-number-preserved : goal.loop-number-preserved
+loop-number-preserved c =
+    next-item (wire_metric c.args.own.now c.args.controlled.now c.args.common.now) wire_numbers 8
+    c.loop-number.number-index _ _ (string_bytes c.args.report.now.text) (string_bytes c.loop-number.report.text)
+    (string_bytes c.wire_metric.new.report.text) refl c.loop-number-test.true refl c.loop-number.invariant
+    c.in_ok-wire_metric.ensures

@@ -1,10 +1,11 @@
-use Rattle.std.proofs.Common.{◌≡◌, ◌++◌, take, map, string_bytes}
-use Rattle.std.specs.List.{concat}
+use Rattle.std.proofs.Common.{take}
+use Rattle.std.specs.Prelude.{flat_map}
 use Rattle.macs_endpoint.specs.State.{no_logs}
 use Rattle.macs_endpoint.specs.Value.{state_of}
-use Rattle.macs_texts.specs.Showing.{channel_line, rx_text}
+use Rattle.macs_texts.specs.Showing.{rx_text}
+use Rattle.macs_texts.specs.Reports.{Adds}
 use Rattle.macs_texts.proofs.showing.channel_text.Given as goal
 
 abbrev pub invariant-loop-an : goal.invariant-loop-an
-invariant-loop-an g l = string_bytes l.text
-    ≡ channel_line l.sci ++ concat (map (rx_text (state_of l.endpoint no_logs) l.sci) (take l.an-index l.an-items))
+invariant-loop-an g l =
+    Adds l.initial.report l.report (flat_map (rx_text (state_of l.endpoint no_logs) l.sci) (take l.an-index l.an-items))

@@ -1,18 +1,23 @@
-use Rattle.std.proofs.Common.{string_bytes}
-use Rattle.std.proofs.lemmas.Result.{IfOk-weaker}
-use Rattle.macs_config.specs.Value.{config_of}
-use Rattle.macs_endpoint.specs.State.{State, no_logs}
-use Rattle.macs_endpoint.specs.Value.{state_of}
-use Rattle.macs_texts.proofs.Shown.{shown-parts}
+use Rattle.std.proofs.Common.{◌∙◌, ◌++◌, ap, string_bytes}
+use Rattle.macs_config.specs.Config.{Config}
+use Rattle.macs_config.specs.Identity.{Identity}
+use Rattle.macs_texts.specs.Showing.{identity_lines, setting_lines, spent_line}
+use Rattle.macs_texts.proofs.Adding.{and_then, whole}
 use Rattle.macs_texts.proofs.showing.show_lines.Goals as goal
 
 pub returns : goal.returns
-returns g c =
-    let s : State = state_of c.args.endpoint.now no_logs in
-    let with-1 = c.joined-text.ensures _ _ c.identity_lines.ensures c.setting_lines.ensures in
-    let with-2 = c.joined-text-2.ensures _ _ with-1 c.tx_texts.ensures in
-    let with-3 = c.joined-text-3.ensures _ _ with-2 c.channel_texts.ensures in
-    let with-4 = c.joined.ensures _ _ with-3 c.spent_line.ensures in
-    IfOk-weaker c.joined.result _ _
-    (λ text whole. shown-parts s c.identity.result (config_of c.config-config.result.now) (string_bytes text)
-    c.identity.ensures c.config-config.ensures.config whole) with-4
+returns g c = whole (string_bytes c.new-report.result.text) (string_bytes c.spent_line.new.report.text)
+    (string_bytes c.into_text.result) _ c.new-report.ensures
+    (and_then (string_bytes c.new-report.result.text) (string_bytes c.identity_lines.new.report.text) (string_bytes c.spent_line.new.report.text) _ _
+    (c.in_ok-identity_lines.ensures ∙ ap (λ (i : Identity). string_bytes c.new-report.result.text ++ identity_lines i)
+    c.identity.ensures)
+    (and_then (string_bytes c.identity_lines.new.report.text) (string_bytes c.setting_lines.new.report.text) (string_bytes c.spent_line.new.report.text) _ _
+    (c.in_ok-setting_lines.ensures ∙ ap (λ (k : Config). string_bytes c.identity_lines.new.report.text ++ setting_lines k)
+    c.config-config.ensures.config)
+    (and_then (string_bytes c.setting_lines.new.report.text) (string_bytes c.tx_texts.new.report.text) (string_bytes c.spent_line.new.report.text) _ _
+    c.in_ok-tx_texts.ensures
+    (and_then (string_bytes c.tx_texts.new.report.text) (string_bytes c.channel_texts.new.report.text) (string_bytes c.spent_line.new.report.text) _ _
+    c.in_ok-channel_texts.ensures
+    (c.in_ok-spent_line.ensures ∙ ap (λ (k : Config). string_bytes c.channel_texts.new.report.text ++ spent_line k)
+    c.config-config.ensures.config)))))
+    c.into_text.ensures

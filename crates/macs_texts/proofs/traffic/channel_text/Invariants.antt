@@ -1,9 +1,10 @@
-use Rattle.std.proofs.Common.{◌≡◌, [], ◌++◌, take, map, string_bytes}
-use Rattle.std.specs.List.{concat}
+use Rattle.std.proofs.Common.{take}
+use Rattle.std.specs.Prelude.{flat_map}
 use Rattle.macs_rxsc.specs.Value.{channel_counters_of}
 use Rattle.macs_texts.specs.TrafficTexts.{rx_text}
+use Rattle.macs_texts.specs.Reports.{Adds}
 use Rattle.macs_texts.proofs.traffic.channel_text.Given as goal
 
 abbrev pub invariant-loop-an : goal.invariant-loop-an
-invariant-loop-an g l = string_bytes l.text
-    ≡ [] ++ concat (map (rx_text (channel_counters_of l.endpoint.rx) l.sci) (take l.an-index l.an-items))
+invariant-loop-an g l = Adds l.initial.report l.report
+    (flat_map (rx_text (channel_counters_of l.endpoint.rx) l.sci) (take l.an-index l.an-items))

@@ -1,4 +1,0 @@
-use Rattle.macs_texts.proofs.measuring.wire_metric.Goals as goal
-
-pub returns : goal.returns
-returns c = c.joined.ensures _ _ c.metric_head.ensures c.wire_numbers.ensures
